@@ -1,0 +1,50 @@
+-- Lists: the few words about lists that the definitions use, beyond the library's (map, foldl, flatMap, range). A test is a function into Bool. Assumes nothing.
+--   every, some   all pass; one passes                has       a number stands in the list
+--   keep          those that pass, in order           count     how many pass
+--   place         how many stand before the first that passes (all, if none does)
+--   insertBy, sortBy   an insertion sort: x goes behind y where `before y x` says so, else in front of it
+--   distinct      the first of each kind
+use Prim.Native.Nat.{ℕ, suc}
+use mathlib.Core.Bool.{Bool, true, false, cond, _&&_, _||_}
+use mathlib.Core.List.{List, [], _∷_}
+use lib.Dec.{eqb}
+use lib.ListN.{length}
+
+module _ {A : Type 0} where
+  unfoldable pub every : (A → Bool) → List A → Bool
+  every p [] = true
+  every p (x ∷ xs) = p x && every p xs
+
+  unfoldable pub some : (A → Bool) → List A → Bool
+  some p [] = false
+  some p (x ∷ xs) = p x || some p xs
+
+  unfoldable pub keep : (A → Bool) → List A → List A
+  keep p [] = []
+  keep p (x ∷ xs) = let r = keep p xs in cond (p x) (x ∷ r) r
+
+  unfoldable pub place : (A → Bool) → List A → ℕ
+  place p [] = 0
+  place p (x ∷ xs) = let r = suc (place p xs) in cond (p x) 0 r
+
+  abbrev pub count : (A → Bool) → List A → ℕ
+  count p l = length (keep p l)
+
+  unfoldable pub insertBy : (A → A → Bool) → A → List A → List A
+  insertBy before x [] = x ∷ []
+  insertBy before x (y ∷ ys) = let r = y ∷ insertBy before x ys in cond (before y x) r (x ∷ y ∷ ys)
+
+  unfoldable pub sortBy : (A → A → Bool) → List A → List A
+  sortBy before [] = []
+  sortBy before (x ∷ xs) = insertBy before x (sortBy before xs)
+
+  -- those with none of their kind among `seen` or before them
+  unfoldable pub distinctFrom : (A → A → Bool) → List A → List A → List A
+  distinctFrom same seen [] = []
+  distinctFrom same seen (x ∷ xs) = let r = distinctFrom same (x ∷ seen) xs in cond (some (same x) seen) r (x ∷ r)
+
+  abbrev pub distinct : (A → A → Bool) → List A → List A
+  distinct same l = distinctFrom same [] l
+
+abbrev pub has : List ℕ → ℕ → Bool
+has l k = some (eqb k) l
