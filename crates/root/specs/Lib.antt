@@ -1,0 +1,3 @@
+pub mod Doubles
+pub mod Bounds
+pub mod Root

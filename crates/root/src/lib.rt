@@ -1,0 +1,1 @@
+// Doubles and their square root. The definitions stand in specs/.
