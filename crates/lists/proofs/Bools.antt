@@ -43,3 +43,11 @@ or-none-left false b e = refl
 pub or-none-right : (a b : Bool) → (a || b) ≡ false → b ≡ false
 or-none-right true b e = absurd (let z : _≡_ {A = ℕ} 0 1 = cc in omega arith)
 or-none-right false b e = e
+
+pub and-last : (a : Bool) → (a && true) ≡ a
+and-last true = refl
+and-last false = refl
+
+pub or-last : (a : Bool) → (a || false) ≡ a
+or-last true = refl
+or-last false = refl
