@@ -1,0 +1,59 @@
+-- Forest: the links of a union-find, which stand in a buffer from o on, one for each of n items; what its functions keep, and what they do. Assumes nothing.
+--   Link, Linked   an item's link goes to another; two items are in one tree
+--   Forest         every link goes to an item that is not larger, so that a tree's root is its least item
+--   Kept           the links changed, and neither the trees nor their roots did
+--   Found          the root of an item's tree was found
+--   United         two trees were made one
+--   Flat           every link was made to go to the root
+--   Entered        a label of an item was entered: the item is the first seen with it, or was joined to the first
+use Prim.Native.Nat.{ℕ, _+_, _≤_, _<_}
+use mathlib.Core.Path.{_≡_}
+use mathlib.Core.List.{List}
+use lib.ListN.{getD, set, length}
+use Rattle.lists.specs.Regions.{Outside}
+use Rattle.components.specs.Joined.{Joined}
+
+pub record Link (w : List ℕ) (o n i j : ℕ) : Type 0 where
+  pub i-in : i < n
+  pub to : getD w (o + i) 0 ≡ j
+
+abbrev pub Linked : List ℕ → ℕ → ℕ → ℕ → ℕ → Type 0
+Linked w o n = Joined (Link w o n)
+
+abbrev pub Forest : List ℕ → ℕ → ℕ → Type 0
+Forest w o n = (i : ℕ) → i < n → getD w (o + i) 0 ≤ i
+
+pub record Kept (w v : List ℕ) (o n : ℕ) : Type 0 where
+  pub long : length v ≡ length w
+  pub forest : Forest v o n
+  pub roots : (i : ℕ) → i < n → getD w (o + i) 0 ≡ i → getD v (o + i) 0 ≡ i
+  pub more : (i j : ℕ) → Linked w o n i j → Linked v o n i j
+  pub less : (i j : ℕ) → Linked v o n i j → Linked w o n i j
+  pub rest : (x : ℕ) → Outside x o n → getD v x 0 ≡ getD w x 0
+
+pub record Found (w v : List ℕ) (o n x r : ℕ) : Type 0 where
+  pub kept : Kept w v o n
+  pub small : r ≤ x
+  pub root : getD v (o + r) 0 ≡ r
+  pub tree : Linked v o n x r
+
+-- the links of w, and one between a and b
+pub data Added (w : List ℕ) (o n a b : ℕ) : ℕ → ℕ → Type 0 where
+  old : {i j : ℕ} → Link w o n i j → Added w o n a b i j
+  new : Added w o n a b a b
+
+pub record United (w v : List ℕ) (o n a b : ℕ) : Type 0 where
+  pub long : length v ≡ length w
+  pub forest : Forest v o n
+  pub more : (i j : ℕ) → Joined (Added w o n a b) i j → Linked v o n i j
+  pub less : (i j : ℕ) → Linked v o n i j → Joined (Added w o n a b) i j
+  pub rest : (x : ℕ) → Outside x o n → getD v x 0 ≡ getD w x 0
+
+pub record Flat (w v : List ℕ) (o n : ℕ) : Type 0 where
+  pub kept : Kept w v o n
+  pub flat : (i : ℕ) → i < n → getD v (o + getD v (o + i) 0) 0 ≡ getD v (o + i) 0
+
+-- s is the place where the label's first item stands, plus one, and 0 while there is none
+pub record Entered (w v : List ℕ) (o n s i : ℕ) : Type 0 where
+  pub unseen : getD w s 0 ≡ 0 → v ≡ set w s (i + 1)
+  pub seen : (f : ℕ) → getD w s 0 ≡ f + 1 → United w v o n i f

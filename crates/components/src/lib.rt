@@ -1,0 +1,1 @@
+// Components of joined items: union-find over a lent buffer.

@@ -1,0 +1,48 @@
+-- Laws of `keep` and `count`.
+use Prim.Native.Nat.{ℕ, zero, suc, _+_, _≤_, _<_}
+use native.Mathlib.Omega.{arith}
+use mathlib.Core.Path.{_≡_, refl, sym, ap, _∙_, subst}
+use mathlib.Core.Bool.{Bool, true, false, cond}
+use mathlib.Core.List.{List, [], _∷_, _++_, List·Memᴰ, List·Memᴰ·head, List·Memᴰ·tail}
+use lib.ListN.{length, length-append}
+use Rattle.lists.specs.Lists.{keep, count}
+
+module _ {A : Type 0} (p : A → Bool) where
+  pub keep-append : (l r : List A) → keep p (l ++ r) ≡ keep p l ++ keep p r
+  unfolding keep
+  keep-append [] r = refl
+  keep-append (x ∷ l) r = go (p x) (keep-append l r)
+    where
+      go : (b : Bool) → keep p (l ++ r) ≡ keep p l ++ keep p r → cond b (x ∷ keep p (l ++ r)) (keep p (l ++ r)) ≡ cond b (x ∷ keep p l) (keep p l) ++ keep p r
+      go true e = ap (λ (s : List A). x ∷ s) e
+      go false e = e
+
+  pub count-append : (l r : List A) → count p (l ++ r) ≡ count p l + count p r
+  count-append l r = ap (length {A = A}) (keep-append l r) ∙ length-append (keep p l) (keep p r)
+
+  pub count-one : (x : A) (b : Bool) → p x ≡ b → count p (x ∷ []) ≡ cond b 1 0
+  unfolding keep
+  count-one x true e = rw e refl
+  count-one x false e = rw e refl
+
+  pub count-nil : count p [] ≡ 0
+  unfolding keep
+  count-nil = refl
+
+  pub count-le : (l : List A) → count p l ≤ length l
+  unfolding keep
+  count-le [] = omega arith
+  count-le (x ∷ l) = go (p x) (count-le l)
+    where
+      go : (b : Bool) → count p l ≤ length l → length (cond b (x ∷ keep p l) (keep p l)) ≤ suc (length l)
+      go true h = omega arith
+      go false h = omega arith
+
+-- two tests that agree on the members keep the same
+pub keep-same : {A : Type 0} (p q : A → Bool) (l : List A) → ((x : A) → List·Memᴰ x l → p x ≡ q x) → keep p l ≡ keep q l
+unfolding keep
+keep-same p q [] h = refl
+keep-same {A} p q (x ∷ l) h =
+    let e = h x (List·Memᴰ·head refl) in
+    let r = keep-same p q l (λ y m. h y (List·Memᴰ·tail m)) in
+    ap (λ (b : Bool). cond b (x ∷ keep p l) (keep p l)) e ∙ ap (λ (s : List A). cond (q x) (x ∷ s) s) r

@@ -1,0 +1,17 @@
+-- Regions: parts of a list by where they begin and how long they are, for tables that stand in one lent buffer. Assumes nothing.
+--   view w o n        the n elements of w from o on, as a list
+--   Outside x o n     the place x is none of the n from o on
+--   Apart o n p k     the n places from o on and the k from p on have none in common
+use Prim.Native.Nat.{ℕ, _+_, _<_}
+use mathlib.Core.Path.{_≡_}
+use mathlib.Core.List.{List}
+use lib.ListN.{take, drop}
+
+abbrev pub view : List ℕ → ℕ → ℕ → List ℕ
+view w o n = take n (drop o w)
+
+abbrev pub Outside : ℕ → ℕ → ℕ → Type 0
+Outside x o n = (i : ℕ) → i < n → x ≡ o + i → ⊥
+
+abbrev pub Apart : ℕ → ℕ → ℕ → ℕ → Type 0
+Apart o n p k = (i : ℕ) → i < k → Outside (p + i) o n
