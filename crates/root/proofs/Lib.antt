@@ -7,3 +7,4 @@ pub mod Bounds
 pub mod Root
 pub mod RootAt
 pub mod Computed
+pub mod Powers
