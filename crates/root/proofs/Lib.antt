@@ -6,4 +6,5 @@ pub mod Nearest
 pub mod Bounds
 pub mod Root
 pub mod RootAt
+pub mod WholeRoot
 pub mod Computed
