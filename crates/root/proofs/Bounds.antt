@@ -1,12 +1,12 @@
 -- Sums, products and quotients of bounded doubles are bounded, and so finite. Assumes nothing.
 use mathlib.Core.Path.{_≡_, refl, sym, ap, _∙_, subst}
-use mathlib.Core.Logic.{_⊎_, inl, inr}
-use mathlib.Core.Bool.{Bool, true, false, not, _&&_, _||_, Bool·beq, cond, true≢false}
-use Prim.Native.Nat.{ℕ, zero, suc, _+_, _-_, _*_, _/_, _%_, _^_, _≤_, _<_, zero-le}
+use mathlib.Core.Logic.{inl, inr}
+use mathlib.Core.Bool.{Bool, true, false, _&&_, _||_, Bool·beq, cond, true≢false}
+use Prim.Native.Nat.{ℕ, zero, suc, _+_, _-_, _*_, _^_, _≤_, _<_, zero-le}
 use native.Mathlib.Nat.{mul-comm, mul-assoc, mul-one, one-mul, mul-right-comm, mul-mul-mul-comm, mul-pos, mul-le-mul, mul-le-mul-right, le-of-mul-le-mul-right, le-trans, le-of-eq, le-of-lt, div-le-of-le-mul, lt-of-le-of-lt, eq-zero-or-pos, add-mul, zero-lt-suc, zero-mul, mul-zero, mul-left-comm}
 use native.Mathlib.Omega.{arith}
-use lib.IntN.{ℤ, pos, negsuc}
-use lib.Dec.{T, ltb, eqb, ltb→lt, eqb·suc-zero, eqb→eq, lit<, lit≤}
+use lib.IntN.{ℤ, pos}
+use lib.Dec.{T, ltb, eqb, ltb→lt, eqb·suc-zero, eqb→eq, lit<}
 use lib.Pow.{pow-pos, pow-add, pow-lt}
 use lib.Ieee.{Float, nan, inf, fin, Format, binary64, prec, emax, low, up, down, unlike, odd, units, round, neg, sum, add, sub, mul, div, le, lt, eq, fits}
 use lib.Ieee.Fits.{round-is, down-pos, up-pos}
@@ -14,11 +14,11 @@ use lib.Ieee.Exact.{HasValue, round-exact, units-val, odd-sign}
 use lib.Ieee.Order.{round-mono, kept, drop}
 use lib.Ieee.Positive.{num, den, den-pos, values-of-le, positive-of-value}
 use lib.Ieee.Back.{round-whole}
-use Rattle.root.specs.Doubles.{finite, negative, one}
+use Rattle.root.specs.Doubles.{finite, negative}
 use Rattle.root.specs.Doubles as spec
 use Rattle.root.specs.Bounds.{Within, Ratio, AtLeast}
 use Rattle.root.specs.Root.{rootable}
-use Rattle.root.proofs.Patterns.{Is, pattern-of, units-is}
+use Rattle.root.proofs.Patterns.{pattern-of, units-is}
 
 pub within-finite : (B : ℕ) (x : Float) → Within B x → T (finite x)
 within-finite B x h = h .is-finite

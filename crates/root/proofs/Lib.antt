@@ -6,5 +6,6 @@ pub mod Nearest
 pub mod Bounds
 pub mod Root
 pub mod RootAt
+pub mod WholeRoot
 pub mod Computed
 pub mod Powers

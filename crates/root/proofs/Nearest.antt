@@ -1,19 +1,19 @@
 -- The logic's `round` gives a nearest double, in the words of units, and so do the product, the quotient and the sum. Assumes nothing.
 use mathlib.Core.Path.{_≡_, refl, sym, ap, _∙_, subst}
 use mathlib.Core.Logic.{_⊎_, inl, inr}
-use mathlib.Core.Bool.{Bool, true, false, not, _&&_, Bool·beq, cond, true≢false}
+use mathlib.Core.Bool.{Bool, true, false, not, _&&_, cond, true≢false}
 use Prim.Native.Nat.{ℕ, zero, suc, _+_, _-_, _*_, _/_, _%_, _^_, _≤_, _<_, compare, Ordering, Ordering·lt, Ordering·eq, Ordering·gt}
-use native.Mathlib.Nat.{mul-comm, mul-assoc, mul-left-comm, mul-right-comm, mul-one, one-mul, add-mul, mul-add, suc-mul, mul-pos, mul-le-mul-left, mul-le-mul-right, le-of-mul-le-mul-right, mul-lt-mul-of-pos-right, lt-of-mul-lt-mul-right, mul-mul-mul-comm, div-add-mod', mod-lt, div-div-eq-div-mul, le-div-iff-mul-le, le-trans, le-of-eq, le-of-lt, lt-of-lt-of-le, lt-of-le-of-lt, lt-irrefl, le-antisymm, eq-zero-or-pos, zero-lt-suc, zero-mul, zero-div, mul-sub}
+use native.Mathlib.Nat.{mul-comm, mul-assoc, mul-left-comm, mul-right-comm, mul-one, one-mul, add-mul, mul-add, suc-mul, mul-pos, mul-le-mul-left, mul-le-mul-right, le-of-mul-le-mul-right, mul-lt-mul-of-pos-right, mul-mul-mul-comm, div-add-mod', mod-lt, le-div-iff-mul-le, le-trans, le-of-eq, le-of-lt, lt-of-lt-of-le, lt-of-le-of-lt, lt-irrefl, le-antisymm, eq-zero-or-pos, zero-lt-suc, zero-mul, zero-div, mul-sub}
 use native.Mathlib.Omega.{arith}
 use lib.IntN.{ℤ}
 use lib.Dec.{T, isLe, isEq, ltb, eqb, ltb→lt, leb→le, nleb→lt, eqb→eq, eqb-refl, eqb·suc-zero, nltb→le}
 use lib.Arith.{lt-of-le-ne}
-use lib.Pow.{pow-pos, pow-add, pow-mono}
+use lib.Pow.{pow-pos, pow-add}
 use lib.Ieee.{Float, nan, inf, fin, binary64, up, down, unlike, size, nearest, odd, round, add, sum, mul, div, fits}
 use lib.Ieee as Ieee
 use lib.Ieee.Digits.{size-reaches}
 use lib.Ieee.Fits.{round-is, down-pos, up-pos}
-use lib.Ieee.Exact.{HasValue, units-val}
+use lib.Ieee.Exact.{units-val}
 use lib.Ieee.Nearest.{closest, nearest-ge}
 use lib.Ieee.Order.{kept, drop}
 use lib.Ieee.Positive.{first-pos}

@@ -6,7 +6,7 @@
 --   Rooted x r      both: what `sqrt` promises. That only one double meets IsRoot, and that it is `root x`, are laws (proofs/Root.antt)
 use Prim.Native.Nat.{ℕ, zero, suc, _+_, _*_, _/_, _<_}
 use mathlib.Core.Path.{_≡_}
-use mathlib.Core.Bool.{Bool, true, false, cond, not, _||_}
+use mathlib.Core.Bool.{Bool, false, cond, not, _||_}
 use lib.Dec.{T, leb, eqb}
 use lib.Ieee.{Float, nan, inf, fin, binary64, round, fits}
 use Rattle.root.specs.Doubles.{finite, negative, one, units}
