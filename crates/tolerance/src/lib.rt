@@ -1,7 +1,7 @@
 // The tolerance of a box (document 01, module 2; `bbox_eps` of aabb_clipping.rs).
 ghost use mathlib.Core.Path.{_≡_};
 ghost use Rattle.root.specs.Doubles.{larger, oneF};
-ghost use Rattle.tolerance.specs.Tolerance.{sides, toleranceReply, documentedTolerance};
+ghost use Rattle.tolerance.specs.Tolerance.{sides, Tolerated};
 use geometry::aabb::AABB;
 use geometry::point::Point;
 use refusals::boxes::box_in_range;
@@ -33,7 +33,7 @@ fn at_least_one(diag: f64) -> f64
 
 // "1e-10 times the larger of 1 and the root of the summed squares of the sides", after tests 4 and 5
 pub fn bbox_eps(extents: AABB) -> Tolerance
-    ensures { λ r. ⌜ documentedTolerance r ≡ toleranceReply extents ⌝ }
+    ensures { λ r. ⌜ Tolerated extents r ⌝ }
 {
     if !box_in_range(extents) {
         return Tolerance::Refused(Refusal::BadNumber);

@@ -1,3 +1,5 @@
+use Rattle.yongpham.proofs.Reports.{tolerance-done, tolerance-refused}
+use Rattle.refusals.proofs.Ranges.{eps-is-number}
 use borrow.Author.Needs.{needs}
 use Rattle.yongpham.proofs.tolerance_of_box.yongpham_tolerance.Statement.{statement}
 use Rattle.yongpham.proofs.tolerance_of_box.yongpham_tolerance.Tie as tie
@@ -17,7 +19,7 @@ enum-known-eps c = search needs
 
 -- src/tolerance_of_box.rt:27:51
 float-to-bits-report-done : tie.Need-float-to-bits-report-done
-float-to-bits-report-done c = ?
+float-to-bits-report-done c = eps-is-number _ (c .before .before .before .before .bbox-eps .ensures .admitted _ (c .before .before .eps .given .1))
 
 -- src/tolerance_of_box.rt:27:31
 report-done-requires : tie.Need-report-done-requires
@@ -33,11 +35,11 @@ report-refusal-requires c κs = search needs
 
 -- src/tolerance_of_box.rt:10:1
 returns : tie.Need-returns
-returns c = ?
+returns c = tolerance-done _ _ _ _ _ (c .before .before .before .before .before .bbox-eps .ensures) (c .before .before .before .eps .given .1) (c .report-done .ensures)
 
 -- src/tolerance_of_box.rt:10:1
 returns-2 : tie.Need-returns-2
-returns-2 c = ?
+returns-2 c = tolerance-refused _ _ _ _ _ (c .before .before .before .before .before .bbox-eps .ensures) (c .before .before .before .refusal .given .1) (c .report-refusal .ensures)
 
 pub yongpham-tolerance-spec : {M : Type 1} → statement M
 yongpham-tolerance-spec =
