@@ -7,13 +7,23 @@
 //! `--only NAME --first I --requests 1`. Exits 1 at any difference.
 
 mod boxes;
+mod clip;
+mod lent;
+mod meshes;
 mod numbers;
+mod operation;
 mod random;
 mod report;
+mod request;
 mod tolerance;
 
+use lent::Lent;
+use operation::Operation;
 use std::ops::Range;
 use std::process::ExitCode;
+
+/// The mesh operations. One joins by a file that makes its record.
+const OPERATIONS: &[Operation] = &[clip::OPERATION];
 
 pub struct Options {
     pub seed: u64,
@@ -71,9 +81,20 @@ fn main() -> ExitCode {
             return ExitCode::from(2);
         }
     };
-    let mut rows = numbers::rows(&options);
-    if !options.leaves_out("tolerance") {
-        rows.push(tolerance::row(&options));
+    let mut rows = Vec::new();
+    if !options.self_check {
+        rows.extend(numbers::rows(&options));
+        if !options.leaves_out("tolerance") {
+            rows.push(tolerance::row(&options));
+        }
+    }
+    // One work room for all requests: its pages are touched once.
+    let mut work = Lent::new(0);
+    for operation in OPERATIONS {
+        let linked = operation.ours.is_some() || options.self_check;
+        if linked && !options.leaves_out(operation.name) {
+            rows.push(operation::row(operation, &options, &mut work));
+        }
     }
     if report::print(&rows) {
         ExitCode::SUCCESS
