@@ -10,8 +10,15 @@ pub const OPERATION: Operation = Operation {
     name: "clip",
     generate,
     need: |r| oracle::need_words(r.vertices.len() / 3, r.facets.len() / 3, 0, 0),
-    // 28 corners a facet; a facet wholly inside has three.
-    bounds: |r| [28 * r.facets.len(), 26 * r.facets.len(), 0, 0],
+    lengths: |r| {
+        let (v, f) = oracle::reference::clip_mesh_to_aabb(
+            r.vertices.clone(),
+            r.wide_facets(),
+            &r.extents,
+            r.eps,
+        );
+        [v.len(), f.len(), 0, 0]
+    },
     oracle: |r, work| {
         mesh_answer(r, work, |work, v, f| {
             oracle::clip(&r.vertices, &r.facets, &r.extents, r.eps, work, v, f)

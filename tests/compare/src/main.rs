@@ -7,6 +7,8 @@
 //! `--only NAME --first I --requests 1`. Exits 1 at any difference.
 
 mod boxes;
+mod candidates;
+mod clean;
 mod clip;
 mod lent;
 mod meshes;
@@ -23,7 +25,7 @@ use std::ops::Range;
 use std::process::ExitCode;
 
 /// The mesh operations. One joins by a file that makes its record.
-const OPERATIONS: &[Operation] = &[clip::OPERATION];
+const OPERATIONS: &[Operation] = &[clip::OPERATION, clean::OPERATION, candidates::OPERATION];
 
 pub struct Options {
     pub seed: u64,

@@ -228,3 +228,32 @@ pub fn damage(random: &mut Random, request: &mut Request) {
         }
     }
 }
+
+/// What the reference leaves of a realistic surface after clipping: facets with
+/// vertices of their own, to be welded.
+pub fn clipped(random: &mut Random) -> Request {
+    let mut request = realistic(random);
+    let facets = request.wide_facets();
+    let (vertices, facets) = oracle::reference::clip_mesh_to_aabb(
+        request.vertices,
+        facets,
+        &request.extents,
+        request.eps,
+    );
+    request.family = "clipped";
+    request.vertices = vertices;
+    request.facets = facets.iter().map(|&id| id as u32).collect();
+    request
+}
+
+/// The same, cleaned: the mesh that candidates and caps are meant for.
+pub fn clipped_and_cleaned(random: &mut Random) -> Request {
+    let mut request = clipped(random);
+    let facets = request.wide_facets();
+    let (vertices, facets) =
+        oracle::reference::clean_mesh(request.vertices, facets, request.eps);
+    request.family = "clipped and cleaned";
+    request.vertices = vertices;
+    request.facets = facets.iter().map(|&id| id as u32).collect();
+    request
+}

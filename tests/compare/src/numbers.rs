@@ -52,10 +52,10 @@ mod machine {
     }
 }
 
-/// A double with the neighbours that rounding cares for.
+/// A double at most three steps of the format from x in magnitude, of either sign.
 pub fn near(random: &mut Random, x: f64) -> f64 {
     let step = random.below(7) as i64 - 3;
-    let moved = f64::from_bits((x.to_bits() as i64).wrapping_add(step) as u64);
+    let moved = f64::from_bits(x.abs().to_bits().saturating_add_signed(step));
     if random.one_in(2) {
         moved
     } else {

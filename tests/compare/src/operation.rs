@@ -14,8 +14,8 @@ pub struct Operation {
     pub generate: fn(&mut Random, u64) -> Request,
     /// Words of work room that test 7 asks for.
     pub need: fn(&Request) -> u64,
-    /// Lengths that no result exceeds.
-    pub bounds: fn(&Request) -> [usize; 4],
+    /// Lengths of the result, for a request that fails at most by test 12.
+    pub lengths: fn(&Request) -> [usize; 4],
     pub oracle: fn(&Request, &mut Lent<u64>) -> Answer,
     /// Our function; `None` where the feature is off.
     pub ours: Option<fn(&Request, &mut Lent<u64>) -> Answer>,
@@ -76,9 +76,11 @@ pub fn request(operation: &Operation, seed: u64, number: u64, work: &mut Lent<u6
     let mut request = (operation.generate)(&mut random, number);
     let need = (operation.need)(&request);
     request.choose_work(&mut random, need);
-    request.outputs = (operation.bounds)(&request);
-    let reply = (operation.oracle)(&request, work).reply;
-    let lengths = if reply.number == 0 { reply.values.map(|value| value as usize) } else { [3; 4] };
+    let lengths = match (operation.oracle)(&request, work).reply.number {
+        0 => [0; 4],
+        12 => (operation.lengths)(&request),
+        _ => [3; 4],
+    };
     request.choose_outputs(&mut random, lengths);
     request
 }

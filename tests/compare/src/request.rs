@@ -40,6 +40,11 @@ impl Request {
         }
     }
 
+    /// The facets as the reference takes them.
+    pub fn wide_facets(&self) -> Vec<usize> {
+        self.facets.iter().map(|&id| id as usize).collect()
+    }
+
     /// For choosing the smallest of several requests.
     pub fn size(&self) -> usize {
         self.vertices.len() + self.facets.len() + self.caps.len()

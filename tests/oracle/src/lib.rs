@@ -44,7 +44,7 @@ pub use candidates::candidates;
 pub use caps::caps;
 pub use clean::clean;
 pub use clip::clip;
-pub use refusals::{need_words, segments};
+pub use refusals::{grid_points, need_words, segments};
 pub use reply::Reply;
 pub use tolerance::tolerance;
 

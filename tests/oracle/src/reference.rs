@@ -20,17 +20,26 @@ pub fn clean_mesh(vertices: Vec<f64>, facets: Vec<usize>, eps: f64) -> (Vec<f64>
     mesh_cleanup::clean_mesh(vertices, facets, eps)
 }
 
-/// The first half of `cap_mesh_to_aabb`, constraints included; answers the number
-/// of candidates.
+/// The first half of `cap_mesh_to_aabb`, constraints included; answers the lengths
+/// of document 01's four lists of words.
 pub fn cap_candidates(
     vertices: &[f64],
     facets: &[usize],
     extents: &Extents,
     resolution: f64,
     eps: f64,
-) -> usize {
-    boundary_closure::candidate_lists(vertices, facets, aabb(extents), resolution, eps, true)
-        .map_or(0, |lists| lists.candidates.len())
+) -> [usize; 4] {
+    let lists =
+        boundary_closure::candidate_lists(vertices, facets, aabb(extents), resolution, eps, true);
+    lists.map_or([0; 4], |lists| {
+        let total = |lengths: [usize; 6]| lengths.iter().sum::<usize>();
+        [
+            5 * lists.candidates.len(),
+            6 + total(lists.faces.each_ref().map(Vec::len)),
+            3 * total(lists.constraints.each_ref().map(Vec::len)),
+            3 * lists.open_edges.len(),
+        ]
+    })
 }
 
 /// A supplied cap triangle: its face and its three candidates.
