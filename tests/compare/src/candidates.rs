@@ -158,12 +158,12 @@ fn resolution(random: &mut Random, extents: &Extents) -> f64 {
     let axis = random.below(3);
     let side = extents[axis + 3] - extents[axis];
     let segments = (1 + random.below(6)) as f64;
-    let spacing = match random.below(12) {
+    let spacing = match random.below(40) {
         0 => LARGEST,
-        1 => near(random, side / segments).abs(),
-        2 => side * random.between(0.2, 2.0),
-        3 => random.pick(&[1.0, 0.5, 0.3]),
-        4 => 5e-324,
+        1 => 5e-324,
+        2..=5 => near(random, side / segments).abs(),
+        6..=9 => side * random.between(0.2, 2.0),
+        10..=13 => random.pick(&[1.0, 0.5, 0.3]),
         _ => side / segments,
     };
     if spacing > 0.0 && spacing <= LARGEST {

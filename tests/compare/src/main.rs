@@ -8,6 +8,7 @@
 
 mod boxes;
 mod candidates;
+mod caps;
 mod clean;
 mod clip;
 mod lent;
@@ -18,6 +19,7 @@ mod random;
 mod report;
 mod request;
 mod tolerance;
+mod triangulation;
 
 use lent::Lent;
 use operation::Operation;
@@ -25,7 +27,7 @@ use std::ops::Range;
 use std::process::ExitCode;
 
 /// The mesh operations. One joins by a file that makes its record.
-const OPERATIONS: &[Operation] = &[clip::OPERATION, clean::OPERATION, candidates::OPERATION];
+const OPERATIONS: &[Operation] = &[clip::OPERATION, clean::OPERATION, candidates::OPERATION, caps::OPERATION];
 
 pub struct Options {
     pub seed: u64,
