@@ -1,0 +1,165 @@
+//! Clip: `yongpham_clip` beside the oracle, and the requests for it.
+
+use crate::lent::Lent;
+use crate::meshes;
+use crate::operation::{mesh_answer, Answer, Operation};
+use crate::random::Random;
+use crate::request::Request;
+
+pub const OPERATION: Operation = Operation {
+    name: "clip",
+    generate,
+    need: |r| oracle::need_words(r.vertices.len() / 3, r.facets.len() / 3, 0, 0),
+    lengths: |r| {
+        let (v, f) = oracle::reference::clip_mesh_to_aabb(
+            r.vertices.clone(),
+            r.wide_facets(),
+            &r.extents,
+            r.eps,
+        );
+        [v.len(), f.len(), 0, 0]
+    },
+    oracle: |r, work| {
+        mesh_answer(r, work, |work, v, f| {
+            oracle::clip(&r.vertices, &r.facets, &r.extents, r.eps, work, v, f)
+        })
+    },
+    ours: OURS,
+};
+
+#[cfg(feature = "clip")]
+const OURS: Option<fn(&Request, &mut Lent<u64>) -> Answer> = Some(ours);
+#[cfg(not(feature = "clip"))]
+const OURS: Option<fn(&Request, &mut Lent<u64>) -> Answer> = None;
+
+#[cfg(feature = "clip")]
+extern "C" {
+    fn yongpham_clip(
+        vertices: *const f64,
+        vertices_length: usize,
+        facets: *const u32,
+        facets_length: usize,
+        min_x: f64,
+        min_y: f64,
+        min_z: f64,
+        max_x: f64,
+        max_y: f64,
+        max_z: f64,
+        eps: f64,
+        work: *mut u64,
+        work_length: usize,
+        out_vertices: *mut f64,
+        out_vertices_length: usize,
+        out_facets: *mut u32,
+        out_facets_length: usize,
+        values: *mut [u64; 4],
+    ) -> u32;
+}
+
+#[cfg(feature = "clip")]
+fn ours(r: &Request, work: &mut Lent<u64>) -> Answer {
+    let b = r.extents;
+    mesh_answer(r, work, |work, v, f| {
+        let mut values = [0x5ca1_ab1e; 4];
+        let number = unsafe {
+            yongpham_clip(
+                r.vertices.as_ptr(),
+                r.vertices.len(),
+                r.facets.as_ptr(),
+                r.facets.len(),
+                b[0],
+                b[1],
+                b[2],
+                b[3],
+                b[4],
+                b[5],
+                r.eps,
+                work.as_mut_ptr(),
+                work.len(),
+                v.as_mut_ptr(),
+                v.len(),
+                f.as_mut_ptr(),
+                f.len(),
+                &mut values,
+            )
+        };
+        oracle::Reply { number, values }
+    })
+}
+
+fn generate(random: &mut Random, number: u64) -> Request {
+    let mut request = match number % 8 {
+        0 => lattice_facet(random, number / 8),
+        1 => small_lists(random, number / 8),
+        2 | 3 => meshes::around_planes(random),
+        4 => many_corners(random),
+        5 => meshes::soup(random),
+        _ => meshes::realistic(random),
+    };
+    if random.one_in(8) {
+        meshes::damage(random, &mut request);
+    }
+    request
+}
+
+/// Every facet with corners on a small lattice around the box, in turn: outside,
+/// on a plane, inside, beyond, on each axis. 4^9 of them.
+fn lattice_facet(random: &mut Random, mut turn: u64) -> Request {
+    let mut vertices = Vec::new();
+    for _ in 0..9 {
+        vertices.push([-1.0, 0.0, 1.0, 3.0][(turn % 4) as usize]);
+        turn /= 4;
+    }
+    let eps = random.pick(&[0.0, 1e-10, 0.5, 1.0, 5e-324]);
+    let extents = [0.0, 0.0, 0.0, 2.0, random.pick(&[2.0, 1.0]), random.pick(&[2.0, 0.5])];
+    Request::new("lattice facet", vertices, vec![0, 1, 2], extents, eps)
+}
+
+/// Every list of up to two facets over three vertices, a number past the end
+/// included, in turn: 1 + 4^3 + 4^6 of them.
+fn small_lists(random: &mut Random, turn: u64) -> Request {
+    let mut facets = meshes::facet_list(turn, 4, 2);
+    if random.one_in(16) {
+        facets.truncate(facets.len().saturating_sub(1));
+    }
+    let vertices = (0..9).map(|_| random.between(-0.5, 1.5)).collect();
+    let extents = [0.0, 0.0, 0.0, 1.0, 1.0, 1.0];
+    Request::new("small lists", vertices, facets, extents, random.pick(&[0.0, 0.25]))
+}
+
+/// Facets whose crossings leave their ends by rounding, so that a plane cuts off
+/// two runs of a ring: magnitudes far apart, few bits, eps 0. More than nine
+/// corners come from here.
+fn many_corners(random: &mut Random) -> Request {
+    let mut extents = [0.0; 6];
+    for axis in 0..3 {
+        let side = 2f64.powi(-(random.below(40) as i32)) * (1.0 + random.below(4) as f64 / 4.0);
+        let low = match random.below(3) {
+            0 => 0.0,
+            1 => -side * random.unit(),
+            _ => (random.below(9) as f64 - 4.0) / 2.0,
+        };
+        (extents[axis], extents[axis + 3]) = (low, low + side);
+        if extents[axis] >= extents[axis + 3] {
+            extents[axis + 3] = extents[axis].next_up();
+        }
+    }
+    let mut vertices = Vec::new();
+    for _ in 0..3 {
+        for axis in 0..3 {
+            let (low, high) = (extents[axis], extents[axis + 3]);
+            let sign = random.pick(&[-1.0, 1.0]);
+            vertices.push(match random.below(8) {
+                0 => low,
+                1 => high,
+                2 => low - 2f64.powi(-(random.below(100) as i32)),
+                3 => high + 2f64.powi(-(random.below(100) as i32)),
+                4 => sign * 2f64.powi(random.below(21) as i32),
+                5 => sign * (1.0 + random.below(4) as f64),
+                6 => 2f64.powi(-(random.below(90) as i32)) * sign,
+                _ => low + (high - low) * random.below(5) as f64 / 4.0,
+            });
+        }
+    }
+    Request::new("many corners", vertices, vec![0, 1, 2], extents, 0.0)
+}
