@@ -3,3 +3,4 @@ pub mod Joined
 pub mod Forest
 pub mod Turns
 pub mod Counting
+pub mod Computed
