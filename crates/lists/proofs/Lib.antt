@@ -1,3 +1,5 @@
+pub mod Bools
+pub mod Every
 -- Members: members of the lists that the words of specs/Lists.antt make. Counts: how many pass. Regions: parts of a buffer.
 pub mod Members
 pub mod Counts

@@ -1,10 +1,10 @@
--- Lists: the few words about lists that the definitions use, beyond the library's (map, foldl, flatMap, range). A test is a function into Bool. Assumes nothing.
+-- Lists: the few words about lists that the definitions use, beyond the library's (map, foldl, flatMap). A test is a function into Bool. Assumes nothing.
 --   every, some   all pass; one passes                has       a number stands in the list
 --   keep          those that pass, in order           count     how many pass
 --   place         how many stand before the first that passes (all, if none does)
 --   insertBy, sortBy   an insertion sort: x goes behind y where `before y x` says so, else in front of it
---   distinct      the first of each kind
-use Prim.Native.Nat.{ℕ, suc}
+--   distinct      the first of each kind              upTo      0, 1, .. n - 1
+use Prim.Native.Nat.{ℕ, zero, suc}
 use mathlib.Core.Bool.{Bool, true, false, cond, _&&_, _||_}
 use mathlib.Core.List.{List, [], _∷_}
 use lib.Dec.{eqb}
@@ -48,3 +48,10 @@ module _ {A : Type 0} where
 
 abbrev pub has : List ℕ → ℕ → Bool
 has l k = some (eqb k) l
+
+unfoldable pub upFrom : ℕ → ℕ → List ℕ
+upFrom k zero = []
+upFrom k (suc n) = k ∷ upFrom (suc k) n
+
+abbrev pub upTo : ℕ → List ℕ
+upTo n = upFrom 0 n

@@ -1,0 +1,6 @@
+pub mod Triangles
+pub mod Numbers
+pub mod Points
+pub mod Boxes
+pub mod Meshes
+pub mod Axes

@@ -1,0 +1,45 @@
+-- Meshes (document 01, "What the service takes"): coordinates three a vertex, vertex numbers three a facet. Assumes nothing.
+--   Mesh, meshOf           vertices as points, facets as triangles of vertex numbers; from the flat lists handed in
+--   pointsOf, coordinates  flat coordinates to points, and back
+--   vertex                 the point of vertex v
+--   Named, enter           numbers given out by first use: clipping, cleaning and closing all number vertices so
+use Prim.Native.Nat.{ℕ, _+_, _-_}
+use mathlib.Core.Bool.{cond}
+use mathlib.Core.List.{List, [], _∷_, _++_, map, flatMap}
+use lib.Dec.{eqb}
+use lib.ListN.{getD, set, length}
+use lib.Ieee.{Float}
+use Rattle.geometry.specs.declared.point.Point.{Point}
+use Rattle.geometry.specs.Points.{pt, origin}
+use Rattle.geometry.specs.Triangles.{Triangle, threes}
+
+pub record Mesh : Type 0 where
+  pub points : List Point
+  pub facets : List (Triangle ℕ)
+
+abbrev pub pointsOf : List Float → List Point
+pointsOf l = map (λ t. pt (t .a) (t .b) (t .c)) (threes l)
+
+abbrev pub coordinates : List Point → List Float
+coordinates l = flatMap (λ p. p .x ∷ p .y ∷ p .z ∷ []) l
+
+abbrev pub meshOf : List Float → List ℕ → Mesh
+meshOf vs fs = record { points = pointsOf vs; facets = threes fs }
+
+abbrev pub vertex : List Point → ℕ → Point
+vertex l v = getD l v origin
+
+-- of each old number 1 more than its new one, or 0 while it has none; and the vertices numbered so far
+pub record Named : Type 0 where
+  pub given : List ℕ
+  pub points : List Point
+
+abbrev pub newNumber : Named → ℕ → ℕ
+newNumber n v = getD (n .given) v 0 - 1
+
+-- v's point is added at its first use, and v gets its number
+unfoldable pub enter : (ℕ → Point) → Named → ℕ → Named
+enter at n v =
+    cond (eqb (getD (n .given) v 0) 0)
+    (record { given = set (n .given) v (length (n .points) + 1); points = n .points ++ (at v ∷ []) })
+    n

@@ -1,0 +1,19 @@
+use Rattle.refusals.specs.Front.{ragged}
+use mathlib.Core.Path.{_≡_, refl, sym, ap, _∙_}
+use borrow.Author.Needs.{needs}
+use Rattle.refusals.proofs.front.is_ragged.Statement.{statement}
+use Rattle.refusals.proofs.front.is_ragged.Tie as tie
+use Rattle.refusals.proofs.front.is_ragged.Reads as reads
+use Rattle.refusals.proofs.front.is_ragged.Lts as lts
+
+-- src/front.rt:14:5
+rem-result : tie.Need-rem-result
+rem-result c = search needs
+
+-- src/front.rt:10:1
+returns : tie.Need-returns
+unfolding ragged
+returns c = refl
+
+pub is-ragged-spec : {M : Type 1} → statement M
+is-ragged-spec = tie.close (tie.spec rem-result returns)

@@ -1,0 +1,19 @@
+use Rattle.refusals.specs.Front.{tooMany}
+use mathlib.Core.Path.{_≡_, refl, sym, ap, _∙_}
+use borrow.Author.Needs.{needs}
+use Rattle.refusals.proofs.front.is_too_many.Statement.{statement}
+use Rattle.refusals.proofs.front.is_too_many.Tie as tie
+use Rattle.refusals.proofs.front.is_too_many.Reads as reads
+use Rattle.refusals.proofs.front.is_too_many.Lts as lts
+
+-- src/front.rt:22:15
+div-result : tie.Need-div-result
+div-result c = search needs
+
+-- src/front.rt:18:1
+returns : tie.Need-returns
+unfolding tooMany
+returns c = refl
+
+pub is-too-many-spec : {M : Type 1} → statement M
+is-too-many-spec = tie.close (tie.spec div-result returns)

@@ -1,0 +1,20 @@
+use Rattle.lists.proofs.Bools.{and-next, and-stop}
+use Rattle.refusals.specs.Front.{resolutionInRange}
+use mathlib.Core.Path.{_≡_, refl, sym, ap, _∙_}
+use Rattle.refusals.proofs.front.resolution_in_range.Statement.{statement}
+use Rattle.refusals.proofs.front.resolution_in_range.Tie as tie
+use Rattle.refusals.proofs.front.resolution_in_range.Reads as reads
+use Rattle.refusals.proofs.front.resolution_in_range.Lts as lts
+
+-- src/front.rt:72:1
+returns : tie.Need-returns
+unfolding resolutionInRange
+returns c = sym (and-next _ _ _ (c .if1 .taken) refl)
+
+-- src/front.rt:72:1
+returns-2 : tie.Need-returns-2
+unfolding resolutionInRange
+returns-2 c = sym (and-stop _ _ (c .if1 .left))
+
+pub resolution-in-range-spec : {M : Type 1} → statement M
+resolution-in-range-spec = tie.close (tie.spec returns returns-2)

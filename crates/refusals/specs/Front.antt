@@ -1,0 +1,98 @@
+-- The table's conditions that several operations share (document 01, "What the service takes" and "Refusals"). Each is total: an earlier test may have failed. Assumes nothing.
+--   listTests           1, 2 and 3, of vertices, facets and cap list
+--   inRange, epsInRange, resolutionInRange, boxInRange   the ranges of test 4
+--   badBox              5           gridTooFine   6
+--   workNeed, workTest  7           farKeys       8
+--   roomTests           12
+use Prim.Native.Nat.{ℕ, _+_, _*_, _/_, _%_}
+use mathlib.Core.Bool.{Bool, not, _&&_, _||_}
+use mathlib.Core.List.{List, [], _∷_, _++_}
+use lib.Dec.{eqb, ltb}
+use lib.ListN.{length}
+use lib.Ieee.{Float, neg, lt, le}
+use Rattle.lists.specs.Lists.{every, some}
+use Rattle.root.specs.Doubles.{zeroF, oneF, 2^30}
+use Rattle.rounding.specs.Rounding.{farKey}
+use Rattle.geometry.specs.declared.aabb.AABB.{AABB}
+use Rattle.geometry.specs.Boxes.{low, high, axes}
+use Rattle.geometry.specs.Axes.{segments}
+use Rattle.refusals.specs.declared.refusal.Refusal.the-variants.{Ragged, TooMany, BadIndex, NoWorkRoom, NoRoom}
+use Rattle.refusals.specs.Refusals.{Test}
+
+-- ---- 1, 2, 3
+
+-- "a list length is no multiple of 3 (cap list: of 4)"
+unfoldable pub ragged : ℕ → ℕ → Bool
+ragged length of = not (eqb (length % of) 0)
+
+-- "a list exceeds its count": the ceiling is one number for vertices and for facets
+unfoldable pub tooMany : ℕ → ℕ → ℕ → Bool
+tooMany ceiling length of = ltb ceiling (length / of)
+
+-- "At most 65,536 of each"; "at most 1,048,576" cap triangles
+abbrev pub ceiling : ℕ
+ceiling = 65536
+
+abbrev pub capCeiling : ℕ
+capCeiling = 1048576
+
+-- "a facet number is not below the vertex count"
+unfoldable pub badIndex : ℕ → List ℕ → Bool
+badIndex count facets = some (λ k. not (ltb k count)) facets
+
+-- where an operation takes no cap list, caps is 0
+abbrev pub listTests : ℕ → List Float → List ℕ → ℕ → List Test
+listTests most vs fs caps =
+    (ragged (length vs) 3 || (ragged (length fs) 3 || ragged caps 4), Ragged)
+    ∷ (tooMany most (length vs) 3 || (tooMany most (length fs) 3 || tooMany capCeiling caps 4), TooMany)
+    ∷ (badIndex (length vs / 3) fs, BadIndex) ∷ []
+
+-- ---- 4: a NaN fails every comparison, so it is in no range
+
+-- "Magnitude of a coordinate or box corner at most 2^30"
+unfoldable pub inRange : Float → Bool
+inRange x = le (neg 2^30) x && le x 2^30
+
+-- "eps from 0 to 1"
+unfoldable pub epsInRange : Float → Bool
+epsInRange e = le zeroF e && le e oneF
+
+-- "resolution above 0 and at most 2^30"
+unfoldable pub resolutionInRange : Float → Bool
+resolutionInRange r = lt zeroF r && le r 2^30
+
+unfoldable pub boxInRange : AABB → Bool
+boxInRange b = every (λ k. inRange (low b k) && inRange (high b k)) axes
+
+-- ---- 5, 6
+
+-- "min < max fails on an axis"
+unfoldable pub badBox : AABB → Bool
+badBox b = some (λ k. not (lt (low b k) (high b k))) axes
+
+-- "an axis needs over 256 segments"
+unfoldable pub gridTooFine : AABB → Float → (ℕ → Float) → Bool
+gridTooFine b eps resolution = some (λ k. ltb 256 (segments b eps resolution k)) axes
+
+-- ---- 7
+
+-- "128 × (vertices + facets + cap triangles + G) + 1,024 words of 64 bits"
+unfoldable pub workNeed : ℕ → ℕ → ℕ → ℕ → ℕ
+workNeed vertices facets caps grid = 128 * (vertices + facets + caps + grid) + 1024
+
+abbrev pub workTest : ℕ → ℕ → Test
+workTest need lent = (ltb lent need, NoWorkRoom need)
+
+-- ---- 8
+
+-- "a vertex (or .. a box corner) has a key beyond 2^62"
+unfoldable pub farKeys : Float → List Float → Bool
+farKeys eps l = some (farKey eps) l
+
+-- ---- 12
+
+-- "an output is shorter than the result; the first short one counts": results of these lengths, outputs of those
+unfoldable pub roomTests : List ℕ → List ℕ → List Test
+roomTests [] outs = []
+roomTests (n ∷ ns) [] = (ltb 0 n, NoRoom n) ∷ roomTests ns []
+roomTests (n ∷ ns) (o ∷ outs) = (ltb o n, NoRoom n) ∷ roomTests ns outs

@@ -1,0 +1,4 @@
+// The refusals of document 01's table, and the tests that the operations share.
+pub mod boxes;
+pub mod front;
+pub mod refusal;

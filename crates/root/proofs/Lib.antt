@@ -1,0 +1,10 @@
+pub mod Scaling
+pub mod Patterns
+pub mod Digits
+pub mod Grid
+pub mod Nearest
+pub mod Bounds
+pub mod Root
+pub mod RootAt
+pub mod Computed
+pub mod Powers

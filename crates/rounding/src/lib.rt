@@ -1,0 +1,1 @@
+// Rounding to whole numbers. The definitions stand in specs/.
