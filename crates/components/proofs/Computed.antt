@@ -214,3 +214,12 @@ module _ (link : ℕ → ℕ → Bool) (turn : (i j : ℕ) → T (link i j) → 
   -- the component of i holds exactly what a chain joins to i
   pub component-decides : {i : ℕ} (j : ℕ) → List·Memᴰ i l → Decides (Joined (Among link l) i j) (has (own i) j)
   component-decides {i} j m = record { sound = λ t. own-joined m (of-has (own i) j t); complete = λ c. has-of (joined-own m c) }
+
+  -- one that passes is in the component of i exactly if a chain joins i to an item that passes
+  pub component-some : (p : ℕ → Bool) {i : ℕ} → List·Memᴰ i l → Decides ((j : ℕ) × List·Memᴰ j l × T (p j) × Joined (Among link l) i j) (some p (own i))
+  component-some p {i} m = record {
+    sound = λ t.
+        let r = of-some p (own i) t in
+        (r .0, items link l (own i) (own-component m .0) (r .0) (r .1), r .2, own-joined m (r .1));
+    complete = λ r. some-of p (joined-own m (r .3)) (r .2);
+  }

@@ -4,3 +4,5 @@ pub mod Forest
 pub mod Turns
 pub mod Counting
 pub mod Computed
+pub mod Once
+pub mod Numbers

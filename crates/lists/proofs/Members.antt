@@ -1,4 +1,4 @@
--- Members of the lists that `some`, `keep` and the library's `flatMap` and `range` make.
+-- Members of the lists that `some`, `keep` and the library's `flatMap` make.
 use Prim.Native.Nat.{ℕ, zero, suc, _+_, _≤_, _<_}
 use native.Mathlib.Omega.{arith}
 use mathlib.Core.Path.{_≡_, refl, sym, ap, _∙_, subst}
