@@ -46,8 +46,8 @@ module _ (labels : List ℕ) (n k : ℕ) (c : List ℕ) (f : ComponentNumbers la
       let u = f .long in
       count-places (eqb (getD c i 0)) p 0 0 c (upTo n) (omega arith)
       (λ j h.
-          let b : j < n = omega arith in
-          decides-same (eqb (getD c i 0) (getD c j 0)) (p j) (numbers-decide i j a b) (d j b) (λ x. x) (λ x. x) ∙ ap p (sym (at-up 0 n j b ∙ omega arith)))
+      let b : j < n = omega arith in
+      decides-same (eqb (getD c i 0) (getD c j 0)) (p j) (numbers-decide i j a b) (d j b) (λ x. x) (λ x. x) ∙ ap p (sym (at-up 0 n j b ∙ omega arith)))
 
   -- those with i's number
   abbrev pub alike : ℕ → ℕ → Bool
@@ -64,8 +64,8 @@ module _ (labels : List ℕ) (n k : ℕ) (c : List ℕ) (f : ComponentNumbers la
     };
     complete = λ s.
         let shorter = once-shorter (s .others) (keep (alike i) (upTo n)) (s .once) (λ j h.
-            let b = joined-in labels n k (s .chain j h) a in
-            keep-of (alike i) (up-of 0 n (omega arith) (omega arith)) (numbers-decide i j a b .complete (s .chain j h))) in
+        let b = joined-in labels n k (s .chain j h) a in
+        keep-of (alike i) (up-of 0 n (omega arith) (omega arith)) (numbers-decide i j a b .complete (s .chain j h))) in
         let enough = s .enough in
         le→leb m (size c (getD c i 0)) (omega (arith, counted));
   }
@@ -121,10 +121,10 @@ module _ (labels : List ℕ) (k : ℕ) (link : ℕ → ℕ → Bool) (l : List �
         → Decides ((b : ℕ) × (b < length l) × T (p (getD l b 0)) × (getD c a 0 ≡ getD c b 0)) (some p (componentOf (components link l) (getD l a 0)))
     numbers-some p a ha = decides-as
         (λ r.
-            let q = mem-getD 0 (r .1) in
-            let e = numbers-joined a (q .0) ha (q .1) .complete (subst (λ (x : ℕ). Joined (Among link l) (getD l a 0) x) (sym (q .2)) (r .3)) in
-            (q .0, q .1, subst (λ (x : ℕ). T (p x)) (sym (q .2)) (r .2), eqb→eq (getD c a 0) (getD c (q .0) 0) e))
+        let q = mem-getD 0 (r .1) in
+        let e = numbers-joined a (q .0) ha (q .1) .complete (subst (λ (x : ℕ). Joined (Among link l) (getD l a 0) x) (sym (q .2)) (r .3)) in
+        (q .0, q .1, subst (λ (x : ℕ). T (p x)) (sym (q .2)) (r .2), eqb→eq (getD c a 0) (getD c (q .0) 0) e))
         (λ r.
-            let d = numbers-joined a (r .0) ha (r .1) .sound (decides-eqb (getD c a 0) (getD c (r .0) 0) .complete (r .3)) in
-            (getD l (r .0) 0, getD-mem l (r .0) 0 (r .1), r .2, d))
+        let d = numbers-joined a (r .0) ha (r .1) .sound (decides-eqb (getD c a 0) (getD c (r .0) 0) .complete (r .3)) in
+        (getD l (r .0) 0, getD-mem l (r .0) 0 (r .1), r .2, d))
         (component-some link turn l once p (getD-mem l a 0 ha))

@@ -10,11 +10,11 @@ use lib.ListN.{getD, set, length, length-set}
 use lib.Seq.{getD-set-same, getD-set-other}
 use lib.Arith.{digits-lt, digits-div}
 use borrow.Author.Count.{below-more}
-use Rattle.lists.specs.Regions.{view, Outside, Apart}
+use Rattle.lists.specs.Regions.{view, Outside, Apart, Zeroed}
 use Rattle.lists.proofs.Regions.{at-set, view-length, view-at, view-same}
 use Rattle.components.specs.Joined.{Joined, one, same, back, via, SharedLabel, LeastJoined}
 use Rattle.components.specs.Components.{Below, Seen, FirstWith, ComponentNumbers, ComponentTable, size}
-use Rattle.components.specs.Forest.{Link, Linked, Forest, Kept, Added, old, new, United, Flat, Entered, Hung, Going, Swept, Owned, Cleared, Tallied}
+use Rattle.components.specs.Forest.{Link, Linked, Forest, Kept, Added, old, new, United, Flat, Entered, Hung, Going, Swept, Owned, Tallied}
 use Rattle.components.proofs.Joined.{joined-into, joined-const, joined-keeps, joined-ends}
 use Rattle.components.proofs.Forest.{link}
 
@@ -174,7 +174,7 @@ module _ (labels : List ℕ) (n k m at : ℕ) (k-pos : 0 < k) (long : length lab
   above : at + n ≤ p
   above = omega arith
 
-  pub swept-start : (u v w : List ℕ) → Owned u v at n → Cleared v w (at + n) (n + m) → Swept labels n k m at w w 0
+  pub swept-start : (u v w : List ℕ) → Owned u v at n → Zeroed v w (at + n) (n + m) → Swept labels n k m at w w 0
   swept-start u v w a b = record {
     upto = omega arith;
     long = refl;
@@ -196,7 +196,7 @@ module _ (labels : List ℕ) (n k m at : ℕ) (k-pos : 0 < k) (long : length lab
         let r = turn labels at p n k m k-pos long small above w t (omega arith) (s .going) v (omega (arith, s .long)) e in
         record { upto = omega arith; long = r .long ∙ s .long; going = r .going; rest = λ x h l. r .rest x h l ∙ s .rest x h l }
 
-  pub swept-end : (u v w x y z : List ℕ) → p + m ≤ length u → Owned u v at n → Cleared v w (at + n) (n + m) → Swept labels n k m at w x (n * k)
+  pub swept-end : (u v w x y z : List ℕ) → p + m ≤ length u → Owned u v at n → Zeroed v w (at + n) (n + m) → Swept labels n k m at w x (n * k)
       → Flat x y at n → Tallied y z at n → ComponentTable labels n k m at u z
   swept-end u v w x y z room a b s f t = record {
     long = z-long;
@@ -224,14 +224,14 @@ module _ (labels : List ℕ) (n k m at : ℕ) (k-pos : 0 < k) (long : length lab
       first = going-first labels at p n k m k-pos long small above x y (n * k) (omega arith) (omega arith) (s .going) f
 
 -- the labels are where the table is not, and stay as they were
-pub labels-same : (u v w : List ℕ) (n m at labels e : ℕ) → labels + e ≤ length u → Apart at (n + n + m) labels e → Owned u v at n → Cleared v w (at + n) (n + m)
+pub labels-same : (u v w : List ℕ) (n m at labels e : ℕ) → labels + e ≤ length u → Apart at (n + n + m) labels e → Owned u v at n → Zeroed v w (at + n) (n + m)
     → view w labels e ≡ view u labels e
 labels-same u v w n m at labels e room apart a b =
     view-same u w labels e room (b .long ∙ a .long)
     (λ i h. b .rest (labels + i) (λ j l d. apart i h (n + j) (omega arith) (omega arith)) ∙ a .rest (labels + i) (λ j l d. apart i h j (omega arith) d))
 
 -- the sizes are still 0 when they are counted
-pub sizes-zero : (labels v w x y : List ℕ) (n k m at t : ℕ) → Cleared v w (at + n) (n + m) → Swept labels n k m at w x t → Flat x y at n
+pub sizes-zero : (labels v w x y : List ℕ) (n k m at t : ℕ) → Zeroed v w (at + n) (n + m) → Swept labels n k m at w x t → Flat x y at n
     → (r : ℕ) → r < n → getD y (at + n + r) 0 ≡ 0
 sizes-zero labels v w x y n k m at t b s f r h =
     f .kept .rest (at + n + r) (λ j l e. omega arith) ∙ s .rest (at + n + r) (λ j l e. omega arith) (λ j l e. omega arith) ∙ b .zero r (omega arith)

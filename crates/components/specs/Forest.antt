@@ -7,7 +7,7 @@
 --   Flat           every link was made to go to the root
 --   Entered        a label of an item was entered: the item is the first seen with it, or was joined to the first
 --   Swept          all labels before slot t were entered
---   Owned, Cleared, Tallied   what the steps before and after leave
+--   Owned, Tallied   what the steps before and after leave
 use Prim.Native.Nat.{ℕ, _+_, _*_, _/_, _≤_, _<_}
 use mathlib.Core.Path.{_≡_}
 use mathlib.Core.List.{List}
@@ -82,11 +82,6 @@ pub record Swept (labels : List ℕ) (n k m at : ℕ) (old new : List ℕ) (t : 
 pub record Owned (old new : List ℕ) (at n : ℕ) : Type 0 where
   pub long : length new ≡ length old
   pub own : (i : ℕ) → i < n → getD new (at + i) 0 ≡ i
-  pub rest : (x : ℕ) → Outside x at n → getD new x 0 ≡ getD old x 0
-
-pub record Cleared (old new : List ℕ) (at n : ℕ) : Type 0 where
-  pub long : length new ≡ length old
-  pub zero : (i : ℕ) → i < n → getD new (at + i) 0 ≡ 0
   pub rest : (x : ℕ) → Outside x at n → getD new x 0 ≡ getD old x 0
 
 pub record Tallied (old new : List ℕ) (at n : ℕ) : Type 0 where

@@ -7,7 +7,7 @@ ghost use Prim.Native.Nat.{ℕ, _+_, _*_, _≤_, _<_};
 ghost use lib.ListN.{length, getD};
 ghost use Rattle.lists.specs.Regions.{view, Apart};
 ghost use Rattle.components.specs.Components.{Below, ComponentTable};
-ghost use Rattle.components.specs.Forest.{Forest, Found, United, Flat, Entered, Owned, Cleared, Swept, Tallied};
+ghost use Rattle.components.specs.Forest.{Forest, Found, United, Flat, Entered, Owned, Swept, Tallied};
 
 // The root of x's tree, with the path to it halved.
 fn find(w: &mut [u64], at: usize, n: usize, x: usize) -> usize
@@ -73,17 +73,6 @@ fn own(w: &mut [u64], at: usize, n: usize)
     }
 }
 
-fn clear(w: &mut [u64], at: usize, n: usize)
-    requires { ⌜ at + n ≤ length (now w) ⌝ }
-    ensures { λ _. ⌜ Cleared (now (w .entry)) (now (w .exit)) at n ⌝ }
-{
-    let mut i = 0;
-    while i < n {
-        w[at + i] = 0;
-        i += 1;
-    }
-}
-
 // Makes each link go to its tree's root, in one pass: a link goes to a smaller item, which is done.
 fn flatten(w: &mut [u64], at: usize, n: usize)
     requires { ⌜ at + n ≤ length (now w) ⌝ }
@@ -143,11 +132,11 @@ fn join_of(labels: &[u64], w: &mut [u64], n: usize, k: usize, m: usize, at: usiz
     ensures { λ _. ⌜ Swept (now (labels .entry)) n k m at (now (w .entry)) (now (w .exit)) (n * k) ⌝ }
 {
     let firsts = at + n + n;
-    let mut t = 0;
-    while t < labels.len() {
-        let q = labels[t] as usize;
-        enter(w, at, n, firsts + q, t / k);
-        t += 1;
+    let mut slot = 0;
+    while slot < labels.len() {
+        let q = labels[slot] as usize;
+        enter(w, at, n, firsts + q, slot / k);
+        slot += 1;
     }
 }
 
@@ -161,7 +150,7 @@ pub fn components(w: &mut [u64], labels: usize, n: usize, k: usize, m: usize, at
     ensures { λ _. ⌜ ComponentTable (view (now (w .entry)) labels (n * k)) n k m at (now (w .entry)) (now (w .exit)) ⌝ }
 {
     own(w, at, n);
-    clear(w, at + n, n + m);
+    words::zero_part(w, at + n, n + m);
     join(w, labels, n, k, m, at);
     flatten(w, at, n);
     tally(w, at, n);
@@ -176,7 +165,7 @@ pub fn components_of(labels: &[u64], w: &mut [u64], n: usize, k: usize, m: usize
     ensures { λ _. ⌜ ComponentTable (now (labels .entry)) n k m at (now (w .entry)) (now (w .exit)) ⌝ }
 {
     own(w, at, n);
-    clear(w, at + n, n + m);
+    words::zero_part(w, at + n, n + m);
     join_of(labels, w, n, k, m, at);
     flatten(w, at, n);
     tally(w, at, n);

@@ -12,10 +12,10 @@ use Rattle.components.proofs.join_of.Lts as lts
 use Rattle.components.proofs.enter.Reads as enter-reads
 
 abbrev Inv-loop : tie.InvT-loop
-Inv-loop labels w₀ n k m at firsts t₀ w t = Swept labels n k m at w₀ w t
+Inv-loop labels w₀ n k m at firsts slot₀ w slot = Swept labels n k m at w₀ w slot
 
 abbrev μ-loop : tie.MeasureT-loop
-μ-loop labels w₀ n k m at firsts t₀ w t = length labels - t
+μ-loop labels w₀ n k m at firsts slot₀ w slot = length labels - slot
 
 add-firsts : tie.Need-add-firsts Inv-loop μ-loop
 add-firsts c = omega arith
@@ -33,28 +33,28 @@ shared-slice-read-q : tie.Need-shared-slice-read-q Inv-loop μ-loop
 shared-slice-read-q c = omega arith
 
 add-enter : tie.Need-add-enter Inv-loop μ-loop
-add-enter c = let l = c .before .before .before .loop in let s = c .before .before .before .before .before .before .args in let b = c .before .before .before .before .before .before .pre .1 .1 .1 .0 (l .t) (omega arith) in omega arith
+add-enter c = let l = c .before .before .before .loop in let s = c .before .before .before .before .before .before .args in let b = c .before .before .before .before .before .before .pre .1 .1 .1 .0 (l .slot) (omega arith) in omega arith
 
 div-enter : tie.Need-div-enter Inv-loop μ-loop
 div-enter c = c .before .before .before .before .before .before .pre .0
 
 enter-requires : tie.Need-enter-requires Inv-loop μ-loop
-enter-requires c κs = let l = c .before .before .before .loop in let s = c .before .before .before .before .before .before .args in let b = c .before .before .before .before .before .before .pre .1 .1 .1 .0 (l .t) (omega arith) in (omega arith, (omega arith, (swept-item (s .labels .now) (s .n) (s .k) (s .m) (s .at) (c .before .before .before .before .before .before .pre .0) (c .before .before .before .before .before .before .pre .1 .0) (c .before .before .before .before .before .before .pre .1 .1 .1 .0) (s .w .now) (l .w) (l .t) (omega arith) (l .inv) (omega arith), (swept-seen (s .labels .now) (s .n) (s .k) (s .m) (s .at) (c .before .before .before .before .before .before .pre .0) (c .before .before .before .before .before .before .pre .1 .0) (c .before .before .before .before .before .before .pre .1 .1 .1 .0) (s .w .now) (l .w) (l .t) (omega arith) (l .inv) (omega arith), l .inv .going .forest))))
+enter-requires c κs = let l = c .before .before .before .loop in let s = c .before .before .before .before .before .before .args in let b = c .before .before .before .before .before .before .pre .1 .1 .1 .0 (l .slot) (omega arith) in (omega arith, (omega arith, (swept-item (s .labels .now) (s .n) (s .k) (s .m) (s .at) (c .before .before .before .before .before .before .pre .0) (c .before .before .before .before .before .before .pre .1 .0) (c .before .before .before .before .before .before .pre .1 .1 .1 .0) (s .w .now) (l .w) (l .slot) (omega arith) (l .inv) (omega arith), (swept-seen (s .labels .now) (s .n) (s .k) (s .m) (s .at) (c .before .before .before .before .before .before .pre .0) (c .before .before .before .before .before .before .pre .1 .0) (c .before .before .before .before .before .before .pre .1 .1 .1 .0) (s .w .now) (l .w) (l .slot) (omega arith) (l .inv) (omega arith), l .inv .going .forest))))
 
-add-t : tie.Need-add-t Inv-loop μ-loop
-add-t c = omega arith
+add-slot : tie.Need-add-slot Inv-loop μ-loop
+add-slot c = omega arith
 
 loop-less : tie.Need-loop-less Inv-loop μ-loop
 loop-less c = omega arith
 
 loop-again : tie.Need-loop-again Inv-loop μ-loop
-loop-again c = let l = c .before .before .before .before .before .before .loop in let s = c .before .before .before .before .before .before .before .before .before .args in let b = c .before .before .before .before .before .before .before .before .before .pre .1 .1 .1 .0 (l .t) (omega arith) in swept-turn (s .labels .now) (s .n) (s .k) (s .m) (s .at) (c .before .before .before .before .before .before .before .before .before .pre .0) (c .before .before .before .before .before .before .before .before .before .pre .1 .0) (c .before .before .before .before .before .before .before .before .before .pre .1 .1 .1 .0) (s .w .now) (l .w) (l .t) (omega arith) (l .inv) (omega arith) _ (c .before .before .enter .ensures)
+loop-again c = let l = c .before .before .before .before .before .before .loop in let s = c .before .before .before .before .before .before .before .before .before .args in let b = c .before .before .before .before .before .before .before .before .before .pre .1 .1 .1 .0 (l .slot) (omega arith) in swept-turn (s .labels .now) (s .n) (s .k) (s .m) (s .at) (c .before .before .before .before .before .before .before .before .before .pre .0) (c .before .before .before .before .before .before .before .before .before .pre .1 .0) (c .before .before .before .before .before .before .before .before .before .pre .1 .1 .1 .0) (s .w .now) (l .w) (l .slot) (omega arith) (l .inv) (omega arith) _ (c .before .before .enter .ensures)
 
 same-length : tie.Need-same-length Inv-loop μ-loop
 same-length c = omega arith
 
 returns : tie.Need-returns Inv-loop μ-loop
-returns c = let l = c .before .loop in let s = c .before .before .before .before .args in swept-at (s .labels .now) (s .n) (s .k) (s .m) (s .at) (s .w .now) (l .w) (l .t) (s .n * s .k) (omega arith) (l .inv)
+returns c = let l = c .before .loop in let s = c .before .before .before .before .args in swept-at (s .labels .now) (s .n) (s .k) (s .m) (s .at) (s .w .now) (l .w) (l .slot) (s .n * s .k) (omega arith) (l .inv)
 
 pub join-of-spec : {M : Type 1} → statement M
 join-of-spec =
@@ -70,7 +70,7 @@ join-of-spec =
     add-enter
     div-enter
     enter-requires
-    add-t
+    add-slot
     loop-less
     loop-again
     same-length

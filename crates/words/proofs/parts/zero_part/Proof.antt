@@ -1,13 +1,13 @@
--- `components::clear`. The loop's invariant: the words before i are 0. The measure is what is left.
+-- `zero_part` meets its contract: after i turns the first i words of the part are 0. Assumes nothing.
 use mathlib.Core.Path.{_≡_, refl, sym, ap, _∙_}
 use Prim.Native.Nat.{ℕ, _+_, _*_, _≤_, _<_, _-_, _/_}
 use native.Mathlib.Omega.{arith}
 use lib.ListN.{getD, length, length-set}
 use Rattle.lists.proofs.Regions.{Filled, filled-none, filled-more}
-use Rattle.components.proofs.clear.Statement.{statement}
-use Rattle.components.proofs.clear.Tie as tie
-use Rattle.components.proofs.clear.Reads as reads
-use Rattle.components.proofs.clear.Lts as lts
+use Rattle.words.proofs.parts.zero_part.Statement.{statement}
+use Rattle.words.proofs.parts.zero_part.Tie as tie
+use Rattle.words.proofs.parts.zero_part.Reads as reads
+use Rattle.words.proofs.parts.zero_part.Lts as lts
 
 abbrev Inv-loop : tie.InvT-loop
 Inv-loop w₀ at n i₀ w i = (i ≤ n) × Filled (λ j. 0) w₀ w at i
@@ -42,8 +42,8 @@ same-length c = omega arith
 returns : tie.Need-returns Inv-loop μ-loop
 returns c = let l = c .before .loop in let f = l .inv .1 in record { long = f .long; zero = λ j h. f .at j (omega arith); rest = λ x h. f .rest x (λ j a e. h j (omega arith) e) }
 
-pub clear-spec : {M : Type 1} → statement M
-clear-spec =
+pub zero-part-spec : {M : Type 1} → statement M
+zero-part-spec =
     tie.close
     (tie.spec
     Inv-loop
