@@ -1,0 +1,1 @@
+// Bucket chains: a table of ids by buckets, in a lent buffer.
