@@ -56,3 +56,12 @@ pub fn soup(facets: usize) -> Mesh {
     let facets = (0..3 * facets).map(|_| (next() % count as u64) as u32).collect();
     Mesh { vertices, facets }
 }
+
+/// The same surface with three vertices of its own for every facet.
+pub fn own_vertices(mesh: &Mesh) -> Mesh {
+    let corner = |&id: &u32| mesh.vertices[3 * id as usize..][..3].to_vec();
+    Mesh {
+        vertices: mesh.facets.iter().flat_map(corner).collect(),
+        facets: (0..mesh.facets.len() as u32).collect(),
+    }
+}

@@ -6,7 +6,7 @@ use crate::meshes;
 use crate::operation::{mesh_answer, Answer, Operation};
 use crate::random::Random;
 use crate::request::Request;
-use crate::triangulation::triangulate;
+use crate::triangulation::{by_face, sound_list};
 
 pub const OPERATION: Operation = Operation {
     name: "caps",
@@ -158,39 +158,6 @@ fn lists(r: &Request) -> Option<[Vec<u64>; 4]> {
     Some(run(lengths).1)
 }
 
-/// The candidates of each face.
-fn by_face(face_lists: &[u64]) -> [&[u64]; 6] {
-    let mut at = 6;
-    [0, 1, 2, 3, 4, 5].map(|face| {
-        let list = &face_lists[at..at + face_lists[face] as usize];
-        at += list.len();
-        list
-    })
-}
-
-/// A triangulation of every face that keeps its constraints, faces in order.
-pub fn sound_list(lists: &[Vec<u64>; 4]) -> Vec<[u64; 4]> {
-    let [candidates, face_lists, constraints, _] = lists;
-    let mut list = Vec::new();
-    for (face, numbers) in by_face(face_lists).into_iter().enumerate() {
-        let axes = [[1, 2], [0, 2], [0, 1]][face / 2];
-        let points: Vec<[f64; 2]> = numbers
-            .iter()
-            .map(|&id| axes.map(|axis| f64::from_bits(candidates[5 * id as usize + axis])))
-            .collect();
-        let kept: Vec<(usize, usize)> = constraints
-            .chunks_exact(3)
-            .filter(|c| c[0] == face as u64)
-            .map(|c| (c[1] as usize, c[2] as usize))
-            .collect();
-        let triangles = triangulate(&points, &kept);
-        list.extend(triangles.iter().map(|t| {
-            [face as u64, numbers[t[0]], numbers[t[1]], numbers[t[2]]]
-        }));
-    }
-    list
-}
-
 fn generate(random: &mut Random, number: u64) -> Request {
     let mut request = if random.one_in(10) { small_areas(random) } else { boundary(random, number) };
     request.mode = if random.one_in(30) { random.pick(&[0, 3, u32::MAX]) } else { 1 + random.below(2) as u32 };
@@ -205,10 +172,10 @@ fn generate(random: &mut Random, number: u64) -> Request {
     if random.one_in(20) {
         meshes::damage(random, &mut request);
     }
-    match random.below(400) {
-        0..=4 => request.caps.extend([0, 1, 2].iter().take(1 + random.below(3))),
-        5 => request.caps.resize(4 * 1_048_577, 0),
-        6 => request.caps.resize(4 * 1_048_577 - 3, 0),
+    match random.below(1600) {
+        0..=19 => request.caps.extend([0, 1, 2].iter().take(1 + random.below(3))),
+        20 => request.caps.resize(4 * 1_048_577, 0),
+        21 => request.caps.resize(4 * 1_048_577 - 3, 0),
         _ => {}
     }
     request

@@ -1,4 +1,4 @@
-//! A constrained triangulation of the points of one face, to make supplied lists
+//! A constrained triangulation of each face's candidates, to make supplied lists
 //! that close a mesh as the customer's package would.
 //!
 //! Incremental Delaunay insertion with edge flips, then constraints by flipping
@@ -14,7 +14,7 @@ const NONE: usize = usize::MAX;
 type Point = [i64; 2];
 
 /// Triangles of the points, counter-clockwise.
-pub fn triangulate(points: &[[f64; 2]], constraints: &[(usize, usize)]) -> Vec<[usize; 3]> {
+fn triangulate(points: &[[f64; 2]], constraints: &[(usize, usize)]) -> Vec<[usize; 3]> {
     let lattice = to_lattice(points);
     let mut first_at = std::collections::HashMap::new();
     let entered: Vec<usize> =
@@ -28,6 +28,39 @@ pub fn triangulate(points: &[[f64; 2]], constraints: &[(usize, usize)]) -> Vec<[
     }
     let real = |corners: &&[usize; 3]| corners.iter().all(|&id| id < points.len());
     mesh.corners.iter().filter(real).copied().collect()
+}
+
+/// The candidates of each face.
+pub fn by_face(face_lists: &[u64]) -> [&[u64]; 6] {
+    let mut at = 6;
+    [0, 1, 2, 3, 4, 5].map(|face| {
+        let list = &face_lists[at..at + face_lists[face] as usize];
+        at += list.len();
+        list
+    })
+}
+
+/// A triangulation of every face that keeps its constraints, faces in order.
+pub fn sound_list(lists: &[Vec<u64>; 4]) -> Vec<[u64; 4]> {
+    let [candidates, face_lists, constraints, _] = lists;
+    let mut list = Vec::new();
+    for (face, numbers) in by_face(face_lists).into_iter().enumerate() {
+        let axes = [[1, 2], [0, 2], [0, 1]][face / 2];
+        let points: Vec<[f64; 2]> = numbers
+            .iter()
+            .map(|&id| axes.map(|axis| f64::from_bits(candidates[5 * id as usize + axis])))
+            .collect();
+        let kept: Vec<(usize, usize)> = constraints
+            .chunks_exact(3)
+            .filter(|c| c[0] == face as u64)
+            .map(|c| (c[1] as usize, c[2] as usize))
+            .collect();
+        let triangles = triangulate(&points, &kept);
+        list.extend(triangles.iter().map(|t| {
+            [face as u64, numbers[t[0]], numbers[t[1]], numbers[t[2]]]
+        }));
+    }
+    list
 }
 
 fn to_lattice(points: &[[f64; 2]]) -> Vec<Point> {
