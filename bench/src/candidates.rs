@@ -51,7 +51,9 @@ fn row(rounds: usize, segments: usize, mesh: &Mesh) {
     let mut outputs = lengths.map(|length| vec![1u64; length]);
     let mut ours = || {
         let mut values = [0; 4];
-        let [c, l, k, e] = outputs.each_mut().map(|list| (list.as_mut_ptr(), list.len()));
+        let [c, l, k, e] = outputs
+            .each_mut()
+            .map(|list| (list.as_mut_ptr(), list.len()));
         let taken = time(|| unsafe {
             yongpham_candidates(
                 mesh.vertices.as_ptr(),
@@ -79,15 +81,21 @@ fn row(rounds: usize, segments: usize, mesh: &Mesh) {
                 &mut values,
             )
         });
-        assert_eq!(values.map(|value| value as usize), lengths, "the request is accepted");
+        assert_eq!(
+            values.map(|value| value as usize),
+            lengths,
+            "the request is accepted"
+        );
         taken
     };
     let mut rust = || {
-        time(|| {
-            oracle::reference::cap_candidates(&mesh.vertices, &wide, &UNIT, resolution, eps)
-        })
+        time(|| oracle::reference::cap_candidates(&mesh.vertices, &wide, &UNIT, resolution, eps))
     };
     let mut clearing = || time(|| spare.fill(0));
     let name = format!("candidates, {segments} segments");
-    mesh_row(&name, mesh.count(), interleaved(rounds, [&mut ours, &mut rust, &mut clearing]));
+    mesh_row(
+        &name,
+        mesh.count(),
+        interleaved(rounds, [&mut ours, &mut rust, &mut clearing]),
+    );
 }

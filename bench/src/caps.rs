@@ -81,7 +81,12 @@ fn row(rounds: usize, segments: usize, mesh: &Mesh, at_least: usize) {
     let count = caps.len() / 4;
     let supplied: Vec<oracle::reference::SuppliedTri> = caps
         .chunks_exact(4)
-        .map(|cap| (cap[0] as usize, [cap[1], cap[2], cap[3]].map(|id| id as usize)))
+        .map(|cap| {
+            (
+                cap[0] as usize,
+                [cap[1], cap[2], cap[3]].map(|id| id as usize),
+            )
+        })
         .collect();
     let wide = mesh.wide_facets();
     let grid = oracle::grid_points(&oracle::segments(&UNIT, resolution, eps));
@@ -126,7 +131,9 @@ fn row(rounds: usize, segments: usize, mesh: &Mesh, at_least: usize) {
     let mut rust = || {
         let (vertices, facets) = (mesh.vertices.clone(), wide.clone());
         time(|| {
-            oracle::reference::cap_mesh_to_aabb(vertices, facets, &UNIT, resolution, 1, eps, &supplied)
+            oracle::reference::cap_mesh_to_aabb(
+                vertices, facets, &UNIT, resolution, 1, eps, &supplied,
+            )
         })
     };
     let mut clearing = || {
@@ -134,5 +141,9 @@ fn row(rounds: usize, segments: usize, mesh: &Mesh, at_least: usize) {
         time(|| work.fill(0))
     };
     let name = format!("caps, {count} triangles, {segments} segments");
-    mesh_row(&name, mesh.count(), interleaved(rounds, [&mut ours, &mut rust, &mut clearing]));
+    mesh_row(
+        &name,
+        mesh.count(),
+        interleaved(rounds, [&mut ours, &mut rust, &mut clearing]),
+    );
 }

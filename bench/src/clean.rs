@@ -27,7 +27,11 @@ const MOST_OWN: usize = 21_000;
 pub fn rows(rounds: usize) {
     for facets in SIZES {
         row(rounds, "clean, shared vertices", &surface(facets, 0.5, 1.0));
-        row(rounds, "clean, own vertices", &own_vertices(&surface(facets.min(MOST_OWN), 0.5, 1.0)));
+        row(
+            rounds,
+            "clean, own vertices",
+            &own_vertices(&surface(facets.min(MOST_OWN), 0.5, 1.0)),
+        );
     }
 }
 
@@ -65,5 +69,9 @@ fn row(rounds: usize, name: &str, mesh: &Mesh) {
         time(|| oracle::reference::clean_mesh(vertices, facets, eps))
     };
     let mut clearing = || time(|| spare.fill(0));
-    mesh_row(name, mesh.count(), interleaved(rounds, [&mut ours, &mut rust, &mut clearing]));
+    mesh_row(
+        name,
+        mesh.count(),
+        interleaved(rounds, [&mut ours, &mut rust, &mut clearing]),
+    );
 }

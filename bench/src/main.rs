@@ -26,9 +26,18 @@ mod triangulation;
 
 fn main() {
     let arguments: Vec<String> = std::env::args().skip(1).collect();
-    let rounds = arguments.iter().find_map(|text| text.parse().ok()).unwrap_or(9).max(7usize);
+    let rounds = arguments
+        .iter()
+        .find_map(|text| text.parse().ok())
+        .unwrap_or(9)
+        .max(7usize);
     numbers::rows(rounds);
-    #[cfg(any(feature = "clip", feature = "clean", feature = "candidates", feature = "caps"))]
+    #[cfg(any(
+        feature = "clip",
+        feature = "clean",
+        feature = "candidates",
+        feature = "caps"
+    ))]
     timing::mesh_header();
     #[cfg(feature = "clip")]
     clip::rows(rounds);

@@ -112,7 +112,14 @@ fn lattice_facet(random: &mut Random, mut turn: u64) -> Request {
         turn /= 4;
     }
     let eps = random.pick(&[0.0, 1e-10, 0.5, 1.0, 5e-324]);
-    let extents = [0.0, 0.0, 0.0, 2.0, random.pick(&[2.0, 1.0]), random.pick(&[2.0, 0.5])];
+    let extents = [
+        0.0,
+        0.0,
+        0.0,
+        2.0,
+        random.pick(&[2.0, 1.0]),
+        random.pick(&[2.0, 0.5]),
+    ];
     Request::new("lattice facet", vertices, vec![0, 1, 2], extents, eps)
 }
 
@@ -125,13 +132,22 @@ fn small_lists(random: &mut Random, turn: u64) -> Request {
     }
     let vertices = (0..9).map(|_| random.between(-0.5, 1.5)).collect();
     let extents = [0.0, 0.0, 0.0, 1.0, 1.0, 1.0];
-    Request::new("small lists", vertices, facets, extents, random.pick(&[0.0, 0.25]))
+    Request::new(
+        "small lists",
+        vertices,
+        facets,
+        extents,
+        random.pick(&[0.0, 0.25]),
+    )
 }
 
 /// Facets that are known to get ten and thirteen corners, and their box: a crossing
 /// a + t(b - a) need not lie between a and b, so that one plane cuts off two runs.
 const KNOWN: [([f64; 9], [f64; 6]); 2] = [
-    ([-1.0, -2.0, 4.0, 0.0, -1.0 / P53, 1.0, 3.0, 2.0, -1.0], [0.0, 0.0, 0.0, 2.0, 1.0, 1.0]),
+    (
+        [-1.0, -2.0, 4.0, 0.0, -1.0 / P53, 1.0, 3.0, 2.0, -1.0],
+        [0.0, 0.0, 0.0, 2.0, 1.0, 1.0],
+    ),
     (
         [
             -786432.0,
@@ -144,7 +160,14 @@ const KNOWN: [([f64; 9], [f64; 6]); 2] = [
             1.0 / (P34 * P53 * 4.0),
             -3.0,
         ],
-        [-1.53125 / (8.0 * P34), 1.0 / (P34 * P53 * 16.0), -3.0, 0.0, 1.0 / (16.0 * P34), 1.8125],
+        [
+            -1.53125 / (8.0 * P34),
+            1.0 / (P34 * P53 * 16.0),
+            -3.0,
+            0.0,
+            1.0 / (16.0 * P34),
+            1.8125,
+        ],
     ),
 ];
 const P34: f64 = (1u64 << 34) as f64;

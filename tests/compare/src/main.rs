@@ -27,7 +27,12 @@ use std::ops::Range;
 use std::process::ExitCode;
 
 /// The mesh operations. One joins by a file that makes its record.
-const OPERATIONS: &[Operation] = &[clip::OPERATION, clean::OPERATION, candidates::OPERATION, caps::OPERATION];
+const OPERATIONS: &[Operation] = &[
+    clip::OPERATION,
+    clean::OPERATION,
+    candidates::OPERATION,
+    caps::OPERATION,
+];
 
 pub struct Options {
     pub seed: u64,
