@@ -99,11 +99,19 @@ fn main() -> ExitCode {
     }
     // One work room for all requests: its pages are touched once.
     let mut work = Lent::new(0);
+    let mut unlinked = Vec::new();
     for operation in OPERATIONS {
-        let linked = operation.ours.is_some() || options.self_check;
-        if linked && !options.leaves_out(operation.name) {
-            rows.push(operation::row(operation, &options, &mut work));
+        if options.leaves_out(operation.name) {
+            continue;
         }
+        if operation.ours.is_some() || options.self_check {
+            rows.push(operation::row(operation, &options, &mut work));
+        } else {
+            unlinked.push(operation.name);
+        }
+    }
+    if !unlinked.is_empty() {
+        println!("not linked, not compared: {}\n", unlinked.join(", "));
     }
     if report::print(&rows) {
         ExitCode::SUCCESS
