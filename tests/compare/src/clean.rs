@@ -74,7 +74,8 @@ fn ours(r: &Request, work: &mut Lent<u64>) -> Answer {
 fn generate(random: &mut Random, number: u64) -> Request {
     let mut request = match number % 8 {
         0 => small_lists(random, number / 8),
-        1 | 2 => around_cells(random),
+        1 => around_cells(random),
+        2 => one_cell(random),
         3 => flat_facets(random),
         4 => components(random),
         5 => large_keys(random),
@@ -154,6 +155,26 @@ fn around_cells(random: &mut Random) -> Request {
     let facets = random.below(8);
     let facets = meshes::random_facets(random, facets, count);
     Request::new("around cells", vertices, facets, UNIT, eps)
+}
+
+/// Points in and around one cell, so that a point may join one of several, each in
+/// a facet with far corners: the facets show which one it joined.
+fn one_cell(random: &mut Random) -> Request {
+    let eps = random.pick(&[1.0, 0.25, 1e-3, 1e-10]);
+    let spread = random.pick(&[0.5, 0.75, 1.2]);
+    let close = 3 + random.below(12);
+    let mut vertices: Vec<f64> = (0..3 * close)
+        .map(|_| eps * spread * random.between(-1.0, 1.0))
+        .collect();
+    let far = 3 + random.below(3);
+    for i in 0..far {
+        vertices.extend([20.0, 10.0 * i as f64, 7.0 * (i * i) as f64].map(|x| eps * x));
+    }
+    let corner = |random: &mut Random| (close + random.below(far)) as u32;
+    let facets = (0..close as u32)
+        .flat_map(|id| [id, corner(random), corner(random)])
+        .collect();
+    Request::new("one cell", vertices, facets, UNIT, eps)
 }
 
 /// Facets whose squared cross product lies at eps^4: legs of about eps, also where

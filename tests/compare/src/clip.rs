@@ -93,6 +93,7 @@ fn generate(random: &mut Random, number: u64) -> Request {
         0 => lattice_facet(random, number / 8),
         1 => small_lists(random, number / 8),
         2 | 3 => meshes::around_planes(random),
+        4 if random.one_in(2) => last_place(random),
         4 => many_corners(random),
         5 => meshes::soup(random),
         _ => meshes::realistic(random),
@@ -197,6 +198,35 @@ fn many_corners(random: &mut Random) -> Request {
     }
     all.truncate(9);
     Request::new("many corners", all, vec![0, 1, 2], extents, 0.0)
+}
+
+/// Planes at a power of two and an eps below a step of the format there: `plane -
+/// eps` rounds to a neighbour that is further away than eps, so that a corner is
+/// inside but not near, and a crossing may be nothing. Polygons of one or two
+/// corners come from here.
+fn last_place(random: &mut Random) -> Request {
+    let mut extents = [0.0; 6];
+    let power = 2f64.powi(random.below(5) as i32 - 2);
+    for axis in 0..3 {
+        let (low, high) = random.pick(&[(power, 2.0 * power), (-2.0 * power, -power)]);
+        (extents[axis], extents[axis + 3]) = (low, high);
+    }
+    let eps = power * random.pick(&[0.5, 0.75, 1.0, 1.25]) * 2f64.powi(-53);
+    let facets = 1 + random.below(3);
+    let mut vertices = Vec::new();
+    for place in 0..9 * facets {
+        let (low, high) = (extents[place % 3], extents[place % 3 + 3]);
+        let plane = random.pick(&[low, high]);
+        vertices.push(match random.below(6) {
+            0 | 1 => near(random, plane).abs().copysign(plane),
+            2 => plane,
+            3 => 0.0,
+            4 => random.between(low, high),
+            _ => 2.0 * plane - (low + high) / 2.0,
+        });
+    }
+    let facets = (0..3 * facets as u32).collect();
+    Request::new("last place", vertices, facets, extents, eps)
 }
 
 #[cfg(test)]

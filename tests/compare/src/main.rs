@@ -91,15 +91,19 @@ fn main() -> ExitCode {
         }
     };
     let mut rows = Vec::new();
-    if !options.self_check {
+    let mut unlinked = Vec::new();
+    if cfg!(feature = "numbers") && !options.self_check {
         rows.extend(numbers::rows(&options));
-        if !options.leaves_out("tolerance") {
-            rows.push(tolerance::row(&options));
-        }
+    } else {
+        unlinked.push("numbers");
+    }
+    if !cfg!(feature = "tolerance") || options.self_check {
+        unlinked.push("tolerance");
+    } else if !options.leaves_out("tolerance") {
+        rows.push(tolerance::row(&options));
     }
     // One work room for all requests: its pages are touched once.
     let mut work = Lent::new(0);
-    let mut unlinked = Vec::new();
     for operation in OPERATIONS {
         if options.leaves_out(operation.name) {
             continue;
