@@ -189,13 +189,20 @@ fn unused_vertices(random: &mut Random, request: &mut Request) {
         let copy = 3 * random.below((request.vertices.len() / 3).max(1));
         let axis = random.below(3);
         let mut point = [0, 1, 2].map(|axis| {
-            meshes::around_plane(random, request.extents[axis], request.extents[axis + 3], request.eps)
+            meshes::around_plane(
+                random,
+                request.extents[axis],
+                request.extents[axis + 3],
+                request.eps,
+            )
         });
         if random.one_in(2) && copy + 3 <= request.vertices.len() {
             point.copy_from_slice(&request.vertices[copy..copy + 3]);
             point[axis] += request.eps * random.between(-0.5, 0.5);
         }
-        request.vertices.extend(point.map(|x| x.clamp(-LARGEST, LARGEST)));
+        request
+            .vertices
+            .extend(point.map(|x| x.clamp(-LARGEST, LARGEST)));
     }
 }
 
@@ -232,7 +239,8 @@ fn on_faces(random: &mut Random) -> Request {
             let count = vertices.len() / 3;
             // A corner of an earlier facet, where it lies on this face.
             let earlier = random.below(count.max(1));
-            if random.one_in(3) && count > 0 && (vertices[3 * earlier + axis] - plane).abs() <= eps {
+            if random.one_in(3) && count > 0 && (vertices[3 * earlier + axis] - plane).abs() <= eps
+            {
                 list.push(earlier as u32);
                 continue;
             }
@@ -244,7 +252,11 @@ fn on_faces(random: &mut Random) -> Request {
                     plane
                 } else {
                     let x = plane + eps * random.pick(&[-1.0, -0.5, 0.0, 0.5, 1.0]);
-                    if random.one_in(6) { near(random, x).abs().copysign(x) } else { x }
+                    if random.one_in(6) {
+                        near(random, x).abs().copysign(x)
+                    } else {
+                        x
+                    }
                 });
             }
             list.push(count as u32);
@@ -266,7 +278,11 @@ fn same_cells(random: &mut Random) -> Request {
     for _ in 0..count {
         let face = random.below(2);
         for axis in 0..3 {
-            let whole = if axis == 2 { face as f64 } else { random.below(5) as f64 / 4.0 };
+            let whole = if axis == 2 {
+                face as f64
+            } else {
+                random.below(5) as f64 / 4.0
+            };
             vertices.push(whole + eps * (random.below(9) as f64 - 4.0) / 8.0);
         }
     }
@@ -291,7 +307,11 @@ fn repeated_and_closed(random: &mut Random) -> Request {
         let face = random.below(6);
         for axis in 0..3 {
             let on = axis == face / 2 && !random.one_in(3);
-            vertices.push(if on { (face % 2) as f64 } else { random.below(5) as f64 / 4.0 });
+            vertices.push(if on {
+                (face % 2) as f64
+            } else {
+                random.below(5) as f64 / 4.0
+            });
         }
     }
     let list = match random.below(4) {
@@ -329,22 +349,44 @@ fn long_box(random: &mut Random) -> Request {
         let corner = random.pick(&[LARGEST, LARGEST.next_down(), LARGEST / 2.0]);
         extents[axis + 3] = corner;
         extents[axis] = corner - 1.0;
-        let eps = if random.one_in(2) { eps } else { near(random, eps).abs() };
+        let eps = if random.one_in(2) {
+            eps
+        } else {
+            near(random, eps).abs()
+        };
         Request::new("large keys", Vec::new(), Vec::new(), extents, eps)
     } else {
         extents[axis + 3] = (255 + random.below(4)) as f64;
-        Request::new("long box", Vec::new(), Vec::new(), extents, random.pick(&[0.0, 1e-10]))
+        Request::new(
+            "long box",
+            Vec::new(),
+            Vec::new(),
+            extents,
+            random.pick(&[0.0, 1e-10]),
+        )
     };
-    request.resolution = if random.one_in(4) { near(random, 1.0).abs() } else { 1.0 };
+    request.resolution = if random.one_in(4) {
+        near(random, 1.0).abs()
+    } else {
+        1.0
+    };
     let face = random.below(6);
     for _ in 0..3 {
         for other in 0..3 {
             let (low, high) = (extents[other], extents[other + 3]);
             let on_face = extents[face / 2 + 3 * (face % 2)];
-            let x = if other == face / 2 { on_face } else { low + (high - low) * random.unit() };
+            let x = if other == face / 2 {
+                on_face
+            } else {
+                low + (high - low) * random.unit()
+            };
             request.vertices.push(x);
         }
     }
-    request.facets = if random.one_in(10) { Vec::new() } else { vec![0, 1, 2] };
+    request.facets = if random.one_in(10) {
+        Vec::new()
+    } else {
+        vec![0, 1, 2]
+    };
     request
 }

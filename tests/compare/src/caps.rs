@@ -6,13 +6,18 @@ use crate::meshes;
 use crate::operation::{mesh_answer, Answer, Operation};
 use crate::random::Random;
 use crate::request::Request;
-use crate::triangulation::triangulate;
+use crate::triangulation::{by_face, sound_list};
 
 pub const OPERATION: Operation = Operation {
     name: "caps",
     generate,
     need: |r| {
-        oracle::need_words(r.vertices.len() / 3, r.facets.len() / 3, r.caps.len() / 4, grid(r))
+        oracle::need_words(
+            r.vertices.len() / 3,
+            r.facets.len() / 3,
+            r.caps.len() / 4,
+            grid(r),
+        )
     },
     lengths,
     oracle: |r, work| {
@@ -111,7 +116,12 @@ fn lengths(r: &Request) -> [usize; 4] {
     let supplied: Vec<oracle::reference::SuppliedTri> = r
         .caps
         .chunks_exact(4)
-        .map(|cap| (cap[0] as usize, [cap[1], cap[2], cap[3]].map(|id| id as usize)))
+        .map(|cap| {
+            (
+                cap[0] as usize,
+                [cap[1], cap[2], cap[3]].map(|id| id as usize),
+            )
+        })
         .collect();
     let (v, f) = oracle::reference::cap_mesh_to_aabb(
         r.vertices.clone(),
@@ -158,42 +168,17 @@ fn lists(r: &Request) -> Option<[Vec<u64>; 4]> {
     Some(run(lengths).1)
 }
 
-/// The candidates of each face.
-fn by_face(face_lists: &[u64]) -> [&[u64]; 6] {
-    let mut at = 6;
-    [0, 1, 2, 3, 4, 5].map(|face| {
-        let list = &face_lists[at..at + face_lists[face] as usize];
-        at += list.len();
-        list
-    })
-}
-
-/// A triangulation of every face that keeps its constraints, faces in order.
-pub fn sound_list(lists: &[Vec<u64>; 4]) -> Vec<[u64; 4]> {
-    let [candidates, face_lists, constraints, _] = lists;
-    let mut list = Vec::new();
-    for (face, numbers) in by_face(face_lists).into_iter().enumerate() {
-        let axes = [[1, 2], [0, 2], [0, 1]][face / 2];
-        let points: Vec<[f64; 2]> = numbers
-            .iter()
-            .map(|&id| axes.map(|axis| f64::from_bits(candidates[5 * id as usize + axis])))
-            .collect();
-        let kept: Vec<(usize, usize)> = constraints
-            .chunks_exact(3)
-            .filter(|c| c[0] == face as u64)
-            .map(|c| (c[1] as usize, c[2] as usize))
-            .collect();
-        let triangles = triangulate(&points, &kept);
-        list.extend(triangles.iter().map(|t| {
-            [face as u64, numbers[t[0]], numbers[t[1]], numbers[t[2]]]
-        }));
-    }
-    list
-}
-
 fn generate(random: &mut Random, number: u64) -> Request {
-    let mut request = if random.one_in(10) { small_areas(random) } else { boundary(random, number) };
-    request.mode = if random.one_in(30) { random.pick(&[0, 3, u32::MAX]) } else { 1 + random.below(2) as u32 };
+    let mut request = if random.one_in(10) {
+        small_areas(random)
+    } else {
+        boundary(random, number)
+    };
+    request.mode = if random.one_in(30) {
+        random.pick(&[0, 3, u32::MAX])
+    } else {
+        1 + random.below(2) as u32
+    };
     let mut list = match lists(&request) {
         Some(lists) => supplied(random, &lists),
         None => vec![[0, 0, 1, 2]; random.below(3)],
@@ -205,10 +190,12 @@ fn generate(random: &mut Random, number: u64) -> Request {
     if random.one_in(20) {
         meshes::damage(random, &mut request);
     }
-    match random.below(400) {
-        0..=4 => request.caps.extend([0, 1, 2].iter().take(1 + random.below(3))),
-        5 => request.caps.resize(4 * 1_048_577, 0),
-        6 => request.caps.resize(4 * 1_048_577 - 3, 0),
+    match random.below(1600) {
+        0..=19 => request
+            .caps
+            .extend([0, 1, 2].iter().take(1 + random.below(3))),
+        20 => request.caps.resize(4 * 1_048_577, 0),
+        21 => request.caps.resize(4 * 1_048_577 - 3, 0),
         _ => {}
     }
     request
@@ -224,8 +211,13 @@ fn small_areas(random: &mut Random) -> Request {
     }
     let extents = [0.0, 0.0, 0.0, side, side, side];
     let eps = random.pick(&[1e-10, 1e-12, 0.0]);
-    let mut request =
-        Request::new("small areas", vertices, vec![0, 1, 2, 0, 2, 3], extents, eps);
+    let mut request = Request::new(
+        "small areas",
+        vertices,
+        vec![0, 1, 2, 0, 2, 3],
+        extents,
+        eps,
+    );
     request.resolution = side / (1 + random.below(3)) as f64;
     request
 }
@@ -294,7 +286,11 @@ fn wild_list(random: &mut Random, lists: &[Vec<u64>; 4]) -> Vec<[u64; 4]> {
         let (face, a, b) = (edge[0] as usize, edge[1], edge[2]);
         let third = random.pick(faces[face]);
         if third != a && third != b {
-            list.push(if random.one_in(2) { [edge[0], a, b, third] } else { [edge[0], b, a, third] });
+            list.push(if random.one_in(2) {
+                [edge[0], a, b, third]
+            } else {
+                [edge[0], b, a, third]
+            });
         }
     }
     for _ in 0..random.below(40) {
@@ -334,7 +330,9 @@ mod tests {
         for number in 0..400 {
             let mut random = Random::new(3, "caps", number);
             let mut request = boundary(&mut random, 7);
-            let Some(lists) = lists(&request) else { continue };
+            let Some(lists) = lists(&request) else {
+                continue;
+            };
             request.caps = sound_list(&lists).concat();
             request.mode = 1 + (number % 2) as u32;
             request.work = (OPERATION.need)(&request) as usize;
@@ -355,6 +353,9 @@ mod tests {
             }
             closed += sides.values().all(|&sum| sum == 0) as usize;
         }
-        assert!(met > 100 && closed * 10 >= met * 9, "{closed} of {met} closed");
+        assert!(
+            met > 100 && closed * 10 >= met * 9,
+            "{closed} of {met} closed"
+        );
     }
 }

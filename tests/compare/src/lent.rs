@@ -49,7 +49,10 @@ pub struct Lent<T> {
 
 impl<T: Cell> Lent<T> {
     pub fn new(length: usize) -> Self {
-        let mut lent = Lent { cells: Vec::new(), length: 0 };
+        let mut lent = Lent {
+            cells: Vec::new(),
+            length: 0,
+        };
         lent.lend(length);
         lent
     }
@@ -73,17 +76,22 @@ impl<T: Cell> Lent<T> {
 
     pub fn guards_stand(&self) -> bool {
         let behind = GUARD + self.length;
-        (0..GUARD).chain(behind..behind + GUARD).all(|place| {
-            self.cells[place].bits() == T::from_bits(junk(place)).bits()
-        })
+        (0..GUARD)
+            .chain(behind..behind + GUARD)
+            .all(|place| self.cells[place].bits() == T::from_bits(junk(place)).bits())
     }
 
     /// The lent part.
     pub fn contents(&self) -> Vec<u64> {
-        self.cells[GUARD..GUARD + self.length].iter().map(|cell| cell.bits()).collect()
+        self.cells[GUARD..GUARD + self.length]
+            .iter()
+            .map(|cell| cell.bits())
+            .collect()
     }
 
     pub fn is_zero(&self) -> bool {
-        self.cells[GUARD..GUARD + self.length].iter().all(|cell| cell.bits() == 0)
+        self.cells[GUARD..GUARD + self.length]
+            .iter()
+            .all(|cell| cell.bits() == 0)
     }
 }

@@ -27,7 +27,12 @@ use std::ops::Range;
 use std::process::ExitCode;
 
 /// The mesh operations. One joins by a file that makes its record.
-const OPERATIONS: &[Operation] = &[clip::OPERATION, clean::OPERATION, candidates::OPERATION, caps::OPERATION];
+const OPERATIONS: &[Operation] = &[
+    clip::OPERATION,
+    clean::OPERATION,
+    candidates::OPERATION,
+    caps::OPERATION,
+];
 
 pub struct Options {
     pub seed: u64,
@@ -86,19 +91,31 @@ fn main() -> ExitCode {
         }
     };
     let mut rows = Vec::new();
-    if !options.self_check {
+    let mut unlinked = Vec::new();
+    if cfg!(feature = "numbers") && !options.self_check {
         rows.extend(numbers::rows(&options));
-        if !options.leaves_out("tolerance") {
-            rows.push(tolerance::row(&options));
-        }
+    } else {
+        unlinked.push("numbers");
+    }
+    if !cfg!(feature = "tolerance") || options.self_check {
+        unlinked.push("tolerance");
+    } else if !options.leaves_out("tolerance") {
+        rows.push(tolerance::row(&options));
     }
     // One work room for all requests: its pages are touched once.
     let mut work = Lent::new(0);
     for operation in OPERATIONS {
-        let linked = operation.ours.is_some() || options.self_check;
-        if linked && !options.leaves_out(operation.name) {
-            rows.push(operation::row(operation, &options, &mut work));
+        if options.leaves_out(operation.name) {
+            continue;
         }
+        if operation.ours.is_some() || options.self_check {
+            rows.push(operation::row(operation, &options, &mut work));
+        } else {
+            unlinked.push(operation.name);
+        }
+    }
+    if !unlinked.is_empty() {
+        println!("not linked, not compared: {}\n", unlinked.join(", "));
     }
     if report::print(&rows) {
         ExitCode::SUCCESS

@@ -42,7 +42,11 @@ fn answer(reply: Reply, work: &Lent<u64>, guards: bool, outputs: Vec<Vec<u64>>) 
     } else {
         None
     };
-    Answer { reply, outputs, fault }
+    Answer {
+        reply,
+        outputs,
+        fault,
+    }
 }
 
 /// Calls an operation that writes a mesh.
@@ -55,7 +59,12 @@ pub fn mesh_answer(
     let mut facets = Lent::new(request.outputs[1]);
     let reply = call(work.lend(request.work), vertices.slice(), facets.slice());
     let guards = vertices.guards_stand() && facets.guards_stand();
-    answer(reply, work, guards, vec![vertices.contents(), facets.contents()])
+    answer(
+        reply,
+        work,
+        guards,
+        vec![vertices.contents(), facets.contents()],
+    )
 }
 
 /// Calls candidates, which writes four lists of words.
@@ -67,7 +76,12 @@ pub fn lists_answer(
     let mut lists = request.outputs.map(Lent::<u64>::new);
     let reply = call(work.lend(request.work), lists.each_mut().map(Lent::slice));
     let guards = lists.iter().all(Lent::guards_stand);
-    answer(reply, work, guards, lists.iter().map(Lent::contents).collect())
+    answer(
+        reply,
+        work,
+        guards,
+        lists.iter().map(Lent::contents).collect(),
+    )
 }
 
 /// Request number `n` with work room and outputs.
@@ -96,7 +110,11 @@ pub fn row(operation: &Operation, options: &Options, work: &mut Lent<u64>) -> Ro
     for number in options.range() {
         let request = request(operation, options.seed, number, work);
         let expected = (operation.oracle)(&request, work);
-        let before = (request.vertices.clone(), request.facets.clone(), request.caps.clone());
+        let before = (
+            request.vertices.clone(),
+            request.facets.clone(),
+            request.caps.clone(),
+        );
         let got = ours(&request, work);
         row.requests += 1;
         row.replies[expected.reply.number as usize] += 1;
