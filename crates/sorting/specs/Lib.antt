@@ -1,1 +1,2 @@
 pub mod Sorting
+pub mod Buffer
