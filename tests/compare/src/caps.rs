@@ -3,6 +3,7 @@
 use crate::candidates::{boundary, grid};
 use crate::lent::Lent;
 use crate::meshes;
+use crate::numbers::near;
 use crate::operation::{mesh_answer, Answer, Operation};
 use crate::random::Random;
 use crate::request::Request;
@@ -203,8 +204,15 @@ fn generate(random: &mut Random, number: u64) -> Request {
 
 /// A square across a box so small that the caps' areas lie around 1e-12.
 fn small_areas(random: &mut Random) -> Request {
-    let side = random.between(0.5e-6, 3e-6);
-    let height = side * random.between(0.1, 0.9);
+    let part = random.pick(&[0.5, 0.25, 0.3, 0.7]);
+    // At this side the lower half of a side face has double areas of 1e-12.
+    let exact = (1e-12f64 / part).sqrt();
+    let side = match random.below(3) {
+        0 => random.between(0.5e-6, 3e-6),
+        1 => exact,
+        _ => near(random, exact).abs(),
+    };
+    let height = side * part;
     let mut vertices = Vec::new();
     for (x, y) in [(0.0, 0.0), (side, 0.0), (side, side), (0.0, side)] {
         vertices.extend([x, y, height]);
@@ -218,7 +226,7 @@ fn small_areas(random: &mut Random) -> Request {
         extents,
         eps,
     );
-    request.resolution = side / (1 + random.below(3)) as f64;
+    request.resolution = side / random.pick(&[1.0, 1.0, 2.0]);
     request
 }
 

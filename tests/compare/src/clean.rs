@@ -219,8 +219,14 @@ fn flat_facets(random: &mut Random) -> Request {
             },
         ]);
     }
-    let facets = (0..facets as u32).flat_map(|i| [i, i + 1, i + 2]).collect();
-    Request::new("flat facets", vertices, facets, UNIT, eps)
+    let mut list: Vec<[u32; 3]> = (0..facets as u32).map(|i| [i, i + 1, i + 2]).collect();
+    // The same corners from another one on: rounding may set the two apart.
+    for _ in 0..random.below(4) {
+        let mut again = random.pick(&list);
+        again.rotate_left(1 + random.below(2));
+        list.push(again);
+    }
+    Request::new("flat facets", vertices, list.concat(), UNIT, eps)
 }
 
 /// Fans, strips and lone facets, some of them twice in another order, some joined

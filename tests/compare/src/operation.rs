@@ -124,7 +124,8 @@ pub fn row(operation: &Operation, options: &Options, work: &mut Lent<u64>) -> Ro
         if got != expected || !inputs_stand {
             row.differs(request.size(), || {
                 format!(
-                    "request {number} of seed {}\n{}{}inputs {}",
+                    "compare --only {} --seed {} --first {number} --requests 1\n{}{}inputs {}",
+                    operation.name,
                     options.seed,
                     request.describe(),
                     difference(&got, &expected),
