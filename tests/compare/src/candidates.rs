@@ -139,6 +139,7 @@ pub fn boundary(random: &mut Random, number: u64) -> Request {
         0 => lattice_facet(random, number / 8),
         1 => on_faces(random),
         2 => near_grid_points(random),
+        3 if random.one_in(4) => few_candidates(random),
         3 => same_cells(random),
         4 => repeated_and_closed(random),
         5 => long_box(random),
@@ -342,6 +343,21 @@ fn same_cells(random: &mut Random) -> Request {
         })
         .collect();
     Request::new("same cells", vertices, list, UNIT, eps)
+}
+
+/// A box thinner than eps: its corners share a cell, so that a face may have under
+/// three candidates; vertices within eps lie on all six faces.
+fn few_candidates(random: &mut Random) -> Request {
+    let side = random.pick(&[0.1, 0.3, 0.45]);
+    let count = 3 + random.below(2);
+    let vertices = (0..3 * count)
+        .map(|_| random.pick(&[0.0, 0.0, 0.01, side, 1.0, -0.9, 1.0 + side]))
+        .collect();
+    let facets = 1 + random.below(2);
+    let facets = meshes::random_facets(random, facets, count);
+    let extents = [0.0, 0.0, 0.0, side, side, random.pick(&[side, 0.2])];
+    let eps = random.pick(&[1.0, 1.0, 0.9]);
+    Request::new("few candidates", vertices, facets, extents, eps)
 }
 
 /// Repeated corners, facets given twice or turned round, and closed meshes, in the

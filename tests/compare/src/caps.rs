@@ -308,7 +308,7 @@ fn wild_list(random: &mut Random, lists: &[Vec<u64>; 4]) -> Vec<[u64; 4]> {
     list
 }
 
-/// Makes one triangle faulty in a way that test 10 names.
+/// Makes the list faulty in a way that test 10 names.
 fn spoil(random: &mut Random, list: &mut [[u64; 4]]) {
     if list.is_empty() {
         return;
@@ -316,13 +316,16 @@ fn spoil(random: &mut Random, list: &mut [[u64; 4]]) {
     let place = random.below(list.len());
     let corner = 1 + random.below(3);
     let other = 1 + random.below(3);
-    match random.below(6) {
+    match random.below(8) {
         0 => list[place][0] = random.pick(&[6, 7, u64::MAX, 1 << 32]),
         1 => list[place][0] = random.below(6) as u64,
         2 => list[place][corner] = list[place][other],
         3 => list[place][corner] = random.pick(&[u64::MAX, 1 << 32, 1 << 63, 1_000_000]),
         4 => list[place][corner] |= 1 << 32,
-        _ => list[place][corner] = random.below(60) as u64,
+        5 => list[place][corner] = random.below(60) as u64,
+        // Sound triangles in another order: faces descend.
+        6 => list.swap(place, random.below(list.len())),
+        _ => list.rotate_left(place),
     }
 }
 
