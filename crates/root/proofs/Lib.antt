@@ -10,3 +10,4 @@ pub mod Root
 pub mod RootAt
 pub mod WholeRoot
 pub mod Computed
+pub mod Powers

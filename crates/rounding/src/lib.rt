@@ -108,6 +108,17 @@ pub fn key_beyond(k: i64) -> bool
     k < -4611686018427387904
 }
 
+// A key as a word without a sign: 2^63 more than it, so that words stand in the order of their keys.
+pub fn key_word(k: i64) -> u64
+    ensures { λ r. ⌜ r ≡ defined.keyWord k ⌝ }
+{
+    if k < 0 {
+        9223372036854775807 - ((-1 - k) as u64)
+    } else {
+        SIGN + (k as u64)
+    }
+}
+
 // Rust's `max`, of numbers that are no NaN.
 pub fn max(x: f64, y: f64) -> f64
     ensures { λ r. ⌜ r ≡ doubles.larger x y ⌝ }
