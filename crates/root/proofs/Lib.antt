@@ -11,3 +11,4 @@ pub mod RootAt
 pub mod WholeRoot
 pub mod Computed
 pub mod Powers
+pub mod Examples
