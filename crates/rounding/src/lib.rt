@@ -113,6 +113,7 @@ pub fn key_word(k: i64) -> u64
     ensures { λ r. ⌜ r ≡ defined.keyWord k ⌝ }
 {
     if k < 0 {
+        // 2^63 - 1, less what k is below -1
         9223372036854775807 - ((-1 - k) as u64)
     } else {
         SIGN + (k as u64)
@@ -169,11 +170,7 @@ pub fn order_key(x: f64) -> u64
     ensures { λ r. ⌜ r ≡ orderKey x ⌝ }
 {
     let b: u64 = f64::to_bits(x);
-    if b < SIGN {
-        SIGN + b
-    } else {
-        18446744073709551615 - b
-    }
+    if b < SIGN { SIGN + b } else { u64::MAX - b }
 }
 
 // How many segments an axis needs, or 257 where it needs more than 256: `axis_grid_coordinates` of boundary_closure.rs, for a spacing of
