@@ -4,3 +4,5 @@ pub mod Every
 pub mod Members
 pub mod Counts
 pub mod Regions
+-- Stores: runs of stores, and counting up.
+pub mod Stores

@@ -34,6 +34,10 @@ pub passes : (b : Bool) (r : Refusal) (ts : List Test) → b ≡ false → first
 unfolding firstRefusal
 passes b r ts e = cond-false b _ _ _ e refl
 
+pub no-test : firstRefusal [] ≡ Passed
+unfolding firstRefusal
+no-test = refl
+
 -- ---- a row of tests before others
 
 -- "The tests" of the row all failed to refuse: those behind decide
