@@ -3,3 +3,4 @@ pub mod boxes;
 pub mod front;
 pub mod grid;
 pub mod refusal;
+pub mod reply;
