@@ -6,3 +6,6 @@ pub mod Members
 pub mod Counts
 pub mod Regions
 pub mod Places
+pub mod Orders
+pub mod SortBy
+pub mod Multiplicity
