@@ -1,9 +1,10 @@
 -- What the ranges of test 4 give: bounds, so that sums, products and roots of accepted numbers are finite.
 use mathlib.Core.Path.{_≡_, sym, subst}
-use mathlib.Core.Bool.{Bool, true, false, _&&_}
-use Prim.Native.Nat.{ℕ, _^_, _<_}
-use lib.Dec.{T, ltb}
-use lib.Ieee.{Float, ofBits, neg, le}
+use mathlib.Core.Bool.{Bool, true, false, not, _&&_}
+use Prim.Native.Nat.{ℕ, _^_}
+use native.Mathlib.Omega.{arith}
+use lib.Dec.{T}
+use lib.Ieee.{Float, nan, inf, fin, isNan, ofBits, neg, le, lt, eq}
 use Rattle.lists.specs.Lists.{every}
 use Rattle.lists.proofs.Bools.{and-left, and-right}
 use Rattle.root.specs.Doubles.{2^30}
@@ -11,7 +12,7 @@ use Rattle.root.specs.Bounds.{Within}
 use Rattle.root.proofs.Bounds.{within-tests}
 use Rattle.geometry.specs.declared.aabb.AABB.{AABB}
 use Rattle.geometry.specs.Boxes.{low, high}
-use Rattle.refusals.specs.Front.{inRange, boxInRange}
+use Rattle.refusals.specs.Front.{inRange, boxInRange, epsInRange}
 
 pub in-range-within : (x : Float) → inRange x ≡ true → Within (2 ^ 30) x
 unfolding inRange ofBits neg
@@ -45,3 +46,10 @@ box-within b e =
       y = corners b 1 (and-left (inRange (low b 1) && inRange (high b 1)) _ rest);
       z = corners b 2 (and-left (inRange (low b 2) && inRange (high b 2)) _ last);
     }
+
+-- an eps in range is a number: it has bits
+pub eps-is-number : (x : Float) → epsInRange x ≡ true → T (not (isNan x))
+unfolding epsInRange isNan ofBits le lt eq
+eps-is-number nan e = absurd (let z : _≡_ {A = ℕ} 0 1 = cc in omega arith)
+eps-is-number (inf s) e = tt
+eps-is-number (fin s m d) e = tt

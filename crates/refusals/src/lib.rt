@@ -1,4 +1,5 @@
 // The refusals of document 01's table, and the tests that the operations share.
 pub mod boxes;
 pub mod front;
+pub mod grid;
 pub mod refusal;

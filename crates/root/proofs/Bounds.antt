@@ -1,12 +1,12 @@
 -- Sums, products and quotients of bounded doubles are bounded, and so finite. Assumes nothing.
 use mathlib.Core.Path.{_≡_, refl, sym, ap, _∙_, subst}
 use mathlib.Core.Logic.{_⊎_, inl, inr}
-use mathlib.Core.Bool.{Bool, true, false, not, _&&_, _||_, Bool·beq, cond, true≢false}
-use Prim.Native.Nat.{ℕ, zero, suc, _+_, _-_, _*_, _/_, _%_, _^_, _≤_, _<_, zero-le}
-use native.Mathlib.Nat.{mul-comm, mul-assoc, mul-one, one-mul, mul-right-comm, mul-mul-mul-comm, mul-pos, mul-le-mul, mul-le-mul-right, le-of-mul-le-mul-right, le-trans, le-of-eq, le-of-lt, div-le-of-le-mul, lt-of-le-of-lt, eq-zero-or-pos, add-mul, zero-lt-suc, zero-mul, mul-zero, mul-left-comm}
+use mathlib.Core.Bool.{Bool, true, false, _&&_, _||_, Bool·beq, cond, true≢false}
+use Prim.Native.Nat.{ℕ, zero, suc, _+_, _-_, _*_, _^_, _≤_, _<_, zero-le}
+use native.Mathlib.Nat.{mul-comm, mul-assoc, mul-one, one-mul, mul-right-comm, mul-mul-mul-comm, mul-pos, mul-le-mul, mul-le-mul-left, mul-le-mul-right, le-antisymm, le-of-mul-le-mul-right, le-trans, le-of-eq, le-of-lt, div-le-of-le-mul, lt-of-le-of-lt, eq-zero-or-pos, add-mul, zero-lt-suc, zero-mul, mul-zero, mul-left-comm}
 use native.Mathlib.Omega.{arith}
-use lib.IntN.{ℤ, pos, negsuc}
-use lib.Dec.{T, ltb, eqb, ltb→lt, eqb·suc-zero, eqb→eq, lit<, lit≤}
+use lib.IntN.{ℤ, pos}
+use lib.Dec.{T, ltb, eqb, ltb→lt, eqb·suc-zero, eqb→eq, lit<}
 use lib.Pow.{pow-pos, pow-add, pow-lt}
 use lib.Ieee.{Float, nan, inf, fin, Format, binary64, prec, emax, low, up, down, unlike, odd, units, round, neg, sum, add, sub, mul, div, le, lt, eq, fits}
 use lib.Ieee.Fits.{round-is, down-pos, up-pos}
@@ -14,11 +14,13 @@ use lib.Ieee.Exact.{HasValue, round-exact, units-val, odd-sign}
 use lib.Ieee.Order.{round-mono, kept, drop}
 use lib.Ieee.Positive.{num, den, den-pos, values-of-le, positive-of-value}
 use lib.Ieee.Back.{round-whole}
-use Rattle.root.specs.Doubles.{finite, negative, one}
+use Rattle.root.specs.Doubles.{finite, negative}
 use Rattle.root.specs.Doubles as spec
 use Rattle.root.specs.Bounds.{Within, Ratio, AtLeast}
 use Rattle.root.specs.Root.{rootable}
-use Rattle.root.proofs.Patterns.{Is, pattern-of, units-is}
+use borrow.Author.Tests.{lt-ltb, eq-eqb}
+use Rattle.root.proofs.Grid.{lt-or-ge}
+use Rattle.root.proofs.Patterns.{pattern-of, units-is}
 
 pub within-finite : (B : ℕ) (x : Float) → Within B x → T (finite x)
 within-finite B x h = h .is-finite
@@ -281,3 +283,59 @@ ratio-tests (inf false) (fin t n d) p z a b = absurd a
 ratio-tests (fin s m e) (fin true n d) p z a b = absurd z
 ratio-tests (fin false m e) (fin false n d) p z a b = record { left-finite = tt; right-finite = tt; some = mul-pos (above-zero n d z) (up-pos d); size = le-trans (either (m * up e * down d) (n * up d * down e) true a) (le-of-eq (sym (one-mul (n * up d * down e)))) }
 ratio-tests (fin true m e) (fin false n d) p z a b = record { left-finite = tt; right-finite = tt; some = mul-pos (above-zero n d z) (up-pos d); size = le-trans (either-back (m * up e * down d) (n * up d * down e) true b) (le-of-eq (sym (one-mul (n * up d * down e)))) }
+
+-- ---- a product by a number below 1, and the tests that a bounded number with no sign passes
+
+-- y is at most A, and x at most B / A
+pub mul-below : (f : Format) {A B : ℕ} (x : Float) {y : Float} → 0 < B → Held f B → T (finite x) → num x * A ≤ B * den x → Within A y → Within B (mul f x y)
+unfolding mul
+mul-below f {A = A} {B = B} nan {y = y} P R h s k = absurd h
+mul-below f {A = A} {B = B} (inf s) {y = y} P R h z k = absurd h
+mul-below f {A = A} {B = B} (fin s m e) {y = nan} P R h z k = absurd (k .is-finite)
+mul-below f {A = A} {B = B} (fin s m e) {y = inf t} P R h z k = absurd (k .is-finite)
+mul-below f {A = A} {B = B} (fin s m e) {y = fin t n d} P R h z k =
+    round-within f (m * up e * (n * up d)) (down e * down d) B (mul-pos (down-pos e) (down-pos d)) P
+    (le-trans (mul-le-mul-left (m * up e) (k .size))
+    (le-trans (le-of-eq (sym (mul-assoc (m * up e) A (down d))))
+    (le-trans (mul-le-mul-right (down d) z) (le-of-eq (mul-assoc B (down e) (down d)))))) R (unlike s t)
+
+pub mul-plus : (f : Format) (x y : Float) → T (finite x) → T (finite y) → negative x ≡ false → negative y ≡ false → negative (mul f x y) ≡ false
+unfolding mul
+mul-plus f nan y h k p q = absurd h
+mul-plus f (inf s) y h k p q = absurd h
+mul-plus f (fin s m e) nan h k p q = absurd k
+mul-plus f (fin s m e) (inf t) h k p q = absurd k
+mul-plus f (fin true m e) (fin t n d) h k p q = absurd (true≢false p)
+mul-plus f (fin false m e) (fin true n d) h k p q = absurd (true≢false q)
+mul-plus f (fin false m e) (fin false n d) h k p q = round-plus f _ _
+
+at-most : (a b : ℕ) (v : Bool) → a ≤ b → (ltb a b || (eqb a b && (true || v))) ≡ true
+at-most a b v h = elim (lt-or-eq a b h) [
+  | inl l ↦ ap (λ (t : Bool). t || (eqb a b && (true || v))) (lt-ltb a b l)
+  | inr e ↦ go (ltb a b) (eq-eqb a b e)
+]
+  where
+    lt-or-eq : (a b : ℕ) → a ≤ b → (a < b) ⊎ (a ≡ b)
+    lt-or-eq a b h = elim (lt-or-ge a b) [
+      | inl l ↦ inl l
+      | inr g ↦ inr (le-antisymm h g)
+    ]
+
+    go : (t : Bool) → eqb a b ≡ true → (t || (eqb a b && (true || v))) ≡ true
+    go true e = refl
+    go false e = ap (λ (u : Bool). u && (true || v)) e
+
+-- a number with no sign is at least 0, and at most the whole number B where its size is
+pub plus-from-zero : {B : ℕ} {x : Float} → Within B x → negative x ≡ false → le (fin false 0 (pos 0)) x ≡ true
+unfolding le lt eq
+plus-from-zero {B = B} {x = nan} h p = absurd (h .is-finite)
+plus-from-zero {B = B} {x = inf s} h p = absurd (h .is-finite)
+plus-from-zero {B = B} {x = fin true m e} h p = absurd (true≢false p)
+plus-from-zero {B = B} {x = fin false m e} h p = at-most (0 * 1 * down e) (m * up e * 1) (eqb (0 * 1 * down e) 0) (subst (λ (a : ℕ). a ≤ m * up e * 1) (sym (zero-mul (down e))) zero-le)
+
+pub plus-to-one : {x : Float} → Within 1 x → negative x ≡ false → le x (fin false 1 (pos 0)) ≡ true
+unfolding le lt eq
+plus-to-one {x = nan} h p = absurd (h .is-finite)
+plus-to-one {x = inf s} h p = absurd (h .is-finite)
+plus-to-one {x = fin true m e} h p = absurd (true≢false p)
+plus-to-one {x = fin false m e} h p = at-most (m * up e * 1) (1 * down e) (eqb (m * up e * 1) 0) (le-trans (le-of-eq (mul-one (m * up e))) (h .size))

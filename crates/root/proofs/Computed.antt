@@ -1,99 +1,29 @@
--- The computed root of specs/Root.antt is the root: every double that meets `IsRoot` is the one computed. Assumes nothing.
+-- The computed root of specs/Root.antt is the root: it meets `IsRoot`, and it is the only double that does. Assumes nothing.
 use mathlib.Core.Path.{_≡_, refl, sym, ap, _∙_, subst}
 use mathlib.Core.Logic.{_⊎_, inl, inr}
-use mathlib.Core.Bool.{Bool, true, false, cond, not}
-use Prim.Native.Nat.{ℕ, zero, suc, _+_, _*_, _/_, _^_, _≤_, _<_}
-use native.Mathlib.Nat.{mul-comm, mul-assoc, mul-add, add-mul, mul-le-mul, mul-lt-mul-of-pos-right, le-trans, le-of-eq, le-of-lt, le-antisymm, lt-of-lt-of-le, lt-of-le-of-lt, lt-irrefl, two-pow-succ, pow-succ', zero-lt-suc, mul-pos, mul-le-mul-right, eq-zero-or-pos, zero-mul, one-mul}
+use mathlib.Core.Bool.{Bool, true, false, cond}
+use Prim.Native.Nat.{ℕ, _+_, _*_, _^_, _≤_, _<_}
+use native.Mathlib.Nat.{mul-comm, mul-assoc, mul-le-mul, mul-lt-mul-of-pos-right, le-trans, le-of-eq, le-of-lt, lt-of-lt-of-le, lt-of-le-of-lt, lt-irrefl, mul-le-mul-right, eq-zero-or-pos, zero-mul, one-mul, add-zero}
 use native.Mathlib.Omega.{arith}
-use lib.Dec.{T, leb, eqb, leb→le, nleb→lt, eqb→eq, eqb-refl, lit<, lit≤}
+use lib.Dec.{T, eqb, eqb→eq, eqb-refl, lit<, lit≤}
 use lib.Arith.{lt-of-le-ne}
 use lib.Pow.{pow-pos}
 use lib.Ieee.{Float, binary64, fits, round, ofBits}
 use lib.Ieee.Fits.{round-fits}
 use lib.Ieee.Bits.{ofBits-fits}
+use lib.Ieee.Exact.{round-exact}
+use lib.Ieee.Scale.{round-same}
 use Rattle.root.specs.Doubles.{finite, negative, one, units}
-use Rattle.root.specs.Bounds.{Nearest}
+use Rattle.root.specs.Bounds.{Nearest, Within}
 use Rattle.root.specs.Root.{rootable, IsRoot, wholeRoot, rootOfSquare, root, Rooted}
-use Rattle.root.proofs.Grid.{lt-or-ge, sq-lt}
-use Rattle.root.proofs.Patterns.{Is, units-is, finite-is, plain-pattern, written, same-units, units-small, units-even}
+use Rattle.root.proofs.Scaling.{shift}
+use Rattle.root.proofs.Grid.{lt-or-ge}
+use Rattle.root.proofs.Patterns.{Is, units-is, finite-is, plain-pattern, written, on-grid, units-small, units-even}
 use Rattle.root.proofs.Nearest.{round-nearest, round-sign, nearest-same, nearest-at-least}
-use Rattle.root.proofs.Bounds.{held-pow, round-within}
-use Rattle.root.proofs.Root.{root-ge}
+use Rattle.root.proofs.Bounds.{Held, held-pow, round-within}
+use Rattle.root.proofs.WholeRoot.{WholeRoot, whole-root, whole-small, exact-above, exact-below, between-above, between-below, OnGrid, square-on-grid}
+use Rattle.root.proofs.Root.{root-unique, root-le, root-ge, root-within}
 use Rattle.root.proofs.RootAt.{rootable-finite}
-
--- ---- the whole root
-
--- r is the largest whole number whose square is at most n
-pub record WholeRoot (n r : ℕ) : Type 0 where
-  pub reaches : r * r ≤ n
-  pub next : n < (r + 1) * (r + 1)
-
--- a root of n / 4, doubled, is the root of n or one less
-four : (a : ℕ) → (a + a) * (a + a) ≡ 4 * (a * a)
-four a = simp (add-mul, mul-add) (omega arith)
-
-double : (a : ℕ) → 2 * a * (2 * a) ≡ 4 * (a * a)
-double a = ap (λ (z : ℕ). z * z) (two a) ∙ four a
-  where
-    two : (a : ℕ) → 2 * a ≡ a + a
-    two a = omega arith
-
-lower : (n r : ℕ) → WholeRoot (n / 4) r → 2 * r * (2 * r) ≤ n
-lower n r w = omega (arith, double r)
-
-upper : (n r : ℕ) → WholeRoot (n / 4) r → n < (2 * r + 1 + 1) * (2 * r + 1 + 1)
-upper n r w =
-    let e : (2 * r + 1 + 1) * (2 * r + 1 + 1) ≡ 4 * ((r + 1) * (r + 1)) = ap (λ (z : ℕ). z * z) (twice r) ∙ double (r + 1) in
-    omega arith
-  where
-    twice : (r : ℕ) → 2 * r + 1 + 1 ≡ 2 * (r + 1)
-    twice r = omega arith
-
-quarter : (n k : ℕ) → n < 4 ^ suc k → n / 4 < 4 ^ k
-quarter n k h = let e : 4 ^ suc k ≡ 4 * 4 ^ k = pow-succ' 4 k in omega arith
-
-pub whole-root : (k n : ℕ) → n < 4 ^ k → WholeRoot n (wholeRoot k n)
-unfolding wholeRoot
-whole-root zero n h = record { reaches = omega arith; next = omega arith }
-whole-root (suc k) n h =
-    let r = wholeRoot k (n / 4) in
-    let w = whole-root k (n / 4) (quarter n k h) in
-    go (2 * r) (lower n r w) (upper n r w) (leb ((2 * r + 1) * (2 * r + 1)) n) (leb→le ((2 * r + 1) * (2 * r + 1)) n) (nleb→lt ((2 * r + 1) * (2 * r + 1)) n)
-  where
-    go : (s : ℕ) → s * s ≤ n → n < (s + 1 + 1) * (s + 1 + 1) → (b : Bool) → (T b → (s + 1) * (s + 1) ≤ n) → (T (not b) → n < (s + 1) * (s + 1)) → WholeRoot n (cond b (s + 1) s)
-    go s a c true f g = record { reaches = f tt; next = c }
-    go s a c false f g = record { reaches = a; next = g tt }
-
--- it has no more than k digits
-pub whole-small : (k n : ℕ) → wholeRoot k n < 2 ^ k
-unfolding wholeRoot
-whole-small zero n = zero-lt-suc 0
-whole-small (suc k) n =
-    let r = wholeRoot k (n / 4) in
-    go r (whole-small k (n / 4)) (leb ((2 * r + 1) * (2 * r + 1)) n)
-  where
-    go : (r : ℕ) → r < 2 ^ k → (b : Bool) → cond b (2 * r + 1) (2 * r) < 2 ^ suc k
-    go r h true = omega (arith, two-pow-succ k)
-    go r h false = omega (arith, two-pow-succ k)
-
--- ---- squares of sums, compared
-
--- s is R + Q, the sum of two doubles; c is 0 where the root is w, and 1 where it lies above
-module _ (n w : ℕ) (r : WholeRoot n w) where
-  square-le : (s t : ℕ) → s ≤ t → s * s ≤ t * t
-  square-le s t h = mul-le-mul h h
-
-  exact-low : (s : ℕ) → w * w ≡ n → s ≤ 2 * w → 4 * n < s * s → ⊥
-  exact-low s e h l = omega (arith, square-le s (2 * w) h, double w)
-
-  exact-high : (s : ℕ) → w * w ≡ n → 2 * w ≤ s → s * s < 4 * n → ⊥
-  exact-high s e h l = omega (arith, square-le (2 * w) s h, double w)
-
-  between-low : (s : ℕ) → s ≤ 2 * w → 4 * n < s * s → ⊥
-  between-low s h l = omega (arith, square-le s (2 * w) h, double w, r .reaches)
-
-  between-high : (s : ℕ) → 2 * (w + 1) ≤ s → s * s < 4 * n → ⊥
-  between-high s h l = omega (arith, square-le (2 * (w + 1)) s h, double (w + 1), r .next)
 
 -- ---- a double of 2 ^ 54 units, from which on all are even
 
@@ -103,11 +33,20 @@ large = ofBits binary64 (2 * 2 ^ 52 + 2 ^ 52)
 large-is : Is large false (2 ^ 52 * 2 ^ 2)
 large-is = subst (λ (a : ℕ). Is large false a) (written 2 (2 ^ 52) (lit≤ tt) (lit≤ tt)) (plain-pattern (2 * 2 ^ 52 + 2 ^ 52) (lit< tt))
 
+large-fits : T (fits binary64 large)
+large-fits = ofBits-fits binary64 (2 * 2 ^ 52 + 2 ^ 52)
+
+large-finite : T (finite large)
+large-finite = finite-is large false (2 ^ 52 * 2 ^ 2) large-is
+
 large-units : units large ≡ 2 ^ 54
 large-units = units-is large false (2 ^ 52 * 2 ^ 2) large-is
 
--- ---- the computed root of x against any r that meets `IsRoot`
-module _ (x r : Float) (F : T (fits binary64 x)) (G : T (fits binary64 r)) (p : T (rootable x)) (a : IsRoot x r) where
+pub root-fits : (x : Float) → T (fits binary64 (root x))
+unfolding root rootOfSquare
+root-fits x = round-fits binary64 (negative x) _ _
+
+module _ (x : Float) (F : T (fits binary64 x)) (p : T (rootable x)) where
   abbrev n : ℕ
   n = units x * one
 
@@ -131,6 +70,10 @@ module _ (x r : Float) (F : T (fits binary64 x)) (G : T (fits binary64 r)) (p : 
   unfolding one
   unit = lit< tt
 
+  one-unit : 0 < one
+  unfolding one
+  one-unit = pow-pos 1074
+
   bit : (b : Bool) → cond b 0 1 ≤ 1
   bit true = lit≤ tt
   bit false = lit≤ tt
@@ -152,8 +95,38 @@ module _ (x r : Float) (F : T (fits binary64 x)) (G : T (fits binary64 r)) (p : 
   unfolding one
   q-nearest = nearest-same ((2 * w + c) * 2 ^ 1074) (2 * 2 ^ 1074) (2 * w + c) 2 q unit (mul-assoc (2 * w + c) (2 ^ 1074) 2 ∙ ap (λ (z : ℕ). (2 * w + c) * z) (mul-comm (2 ^ 1074) 2)) (round-nearest (negative x) (2 * w + c) (2 * 2 ^ 1074) unit q-finite)
 
-  -- where the root is no whole number, w and the doubles near it are large
-  module _ (some : w * w < n) where
+  -- the root is w, or lies between w and w + 1
+  which : ((w * w ≡ n) × (c ≡ 0)) ⊎ ((w * w < n) × (c ≡ 1))
+  which = go (eqb (w * w) n) (eqb→eq (w * w) n) (λ (e : w * w ≡ n). subst (λ (z : ℕ). T (eqb (w * w) z)) e (eqb-refl (w * w)))
+    where
+      go : (b : Bool) → (T b → w * w ≡ n) → (w * w ≡ n → T b) → ((w * w ≡ n) × (cond {A = ℕ} b 0 1 ≡ 0)) ⊎ ((w * w < n) × (cond {A = ℕ} b 0 1 ≡ 1))
+      go true f g = inl (f tt, refl)
+      go false f g = inr (lt-of-le-ne (is-whole .reaches) g, refl)
+
+  -- ---- the root is w: it has few digits, so it is a double, and nothing is rounded
+  module _ (e : w * w ≡ n) (z : c ≡ 0) where
+    is-double : OnGrid w
+    unfolding one
+    is-double =
+        let g = on-grid x F (rootable-finite x p) in
+        square-on-grid (g .1) (g .0 + 1074) w (g .3) (e ∙ ap (λ (k : ℕ). k * 2 ^ 1074) (g .2) ∙ sym (shift (g .1) 1074 (g .0) (g .0 + 1074) refl))
+
+    halves : q ≡ round binary64 (negative x) w one
+    halves = round-same binary64 (negative x) (2 * w + c) (2 * one) w one unit one-unit (twice w c one z)
+      where
+        twice : (w c u : ℕ) → c ≡ 0 → (2 * w + c) * u ≡ w * (2 * u)
+        twice w c u h = simp (h, add-zero) (omega (arith, mul-assoc 2 w u, mul-assoc w 2 u, mul-comm w 2))
+
+    value : Is (round binary64 (negative x) w one) (negative x) w
+    unfolding one
+    value = round-exact binary64 (negative x) w (2 ^ 1074) (is-double .digits) (is-double .places) (pow-pos 1074) (is-double .few)
+        (lt-of-le-of-lt (le-of-eq (sym (is-double .is))) (lt-of-lt-of-le (whole-small 1586 n) (lit≤ tt))) (ap (λ (k : ℕ). k * 2 ^ 1074) (is-double .is))
+
+    pub exact : units q ≡ w
+    exact = ap units halves ∙ units-is (round binary64 (negative x) w one) (negative x) w value
+
+  -- ---- between w and w + 1 units: all are large
+  module _ (some : w * w < n) (o : c ≡ 1) where
     n-large : one ≤ n
     n-large = elim (eq-zero-or-pos (units x)) [
       | inl z ↦ absurd (none n (w * w) some (ap (λ (k : ℕ). k * one) z ∙ zero-mul one))
@@ -176,83 +149,79 @@ module _ (x r : Float) (F : T (fits binary64 x)) (G : T (fits binary64 r)) (p : 
         up : {w : ℕ} → w < 2 ^ 54 → w + 1 ≤ 2 ^ 54
         up h = omega arith
 
-    r-even : (h : ℕ) × (units r ≡ h + h)
-    r-even = units-even r G (a .is-finite) (le-trans (lit≤ tt) (le-trans (le-of-eq (sym large-units)) (root-ge x r large a (ofBits-fits binary64 (2 * 2 ^ 52 + 2 ^ 52)) (finite-is large false (2 ^ 52 * 2 ^ 2) large-is) (le-trans (le-of-eq (ap (λ (z : ℕ). z * z) large-units)) reach))))
-
-    q-even : (h : ℕ) × (units q ≡ h + h)
-    q-even = units-even q q-fits q-finite (le-trans (lit≤ tt) (le-trans (le-of-eq (sym large-units)) (nearest-at-least (2 * w + c) 2 q large (lit< tt) q-nearest (ofBits-fits binary64 (2 * 2 ^ 52 + 2 ^ 52)) (finite-is large false (2 ^ 52 * 2 ^ 2) large-is) (le-trans (le-of-eq (ap (λ (z : ℕ). z * 2) large-units)) (twice w c w-large)))))
+    q-large : 2 ^ 54 ≤ units q
+    q-large = le-trans (le-of-eq (sym large-units)) (nearest-at-least (2 * w + c) 2 q large (lit< tt) q-nearest large-fits large-finite (le-trans (le-of-eq (ap (λ (z : ℕ). z * 2) large-units)) (twice w c w-large)))
       where
         twice : (w c : ℕ) → 2 ^ 54 ≤ w → 2 ^ 54 * 2 ≤ 2 * w + c
         twice w c h = omega arith
 
-    -- so the sum of the two is no 2 * w + 1
-    pub not-between : units r + units q ≡ 2 * w + 1 → ⊥
-    not-between e = odd (units r) (units q) (r-even .0) (q-even .0) w (r-even .1) (q-even .1) e
-      where
-        odd : (R Q h k w : ℕ) → R ≡ h + h → Q ≡ k + k → R + Q ≡ 2 * w + 1 → ⊥
-        odd R Q h k w a b e = omega arith
+    q-even : (h : ℕ) × (units q ≡ h + h)
+    q-even = units-even q q-fits q-finite (le-trans (lit≤ tt) q-large)
 
-  -- the root is w, or lies between w and w + 1
-  which : ((w * w ≡ n) × (c ≡ 0)) ⊎ ((w * w < n) × (c ≡ 1))
-  which = go (eqb (w * w) n) (eqb→eq (w * w) n) (λ (e : w * w ≡ n). subst (λ (z : ℕ). T (eqb (w * w) z)) e (eqb-refl (w * w)))
-    where
-      go : (b : Bool) → (T b → w * w ≡ n) → (w * w ≡ n → T b) → ((w * w ≡ n) × (cond {A = ℕ} b 0 1 ≡ 0)) ⊎ ((w * w < n) × (cond {A = ℕ} b 0 1 ≡ 1))
-      go true f g = inl (f tt, refl)
-      go false f g = inr (lt-of-le-ne (is-whole .reaches) g, refl)
+    -- another double y
+    module _ (y : Float) (G : T (fits binary64 y)) (f : T (finite y)) where
+      over : units q < units y → 2 * (w + 1) ≤ units q + units y
+      over l =
+          let h = units-even y G f (le-trans (lit≤ tt) (le-trans q-large (le-of-lt l))) in
+          even (units q) (units y) w c (q-even .0) (h .0) (q-nearest .above y G f l) o (q-even .1) (h .1)
+        where
+          even : (Q Y w c h k : ℕ) → 2 * (2 * w + c) ≤ (Q + Y) * 2 → c ≡ 1 → Q ≡ h + h → Y ≡ k + k → 2 * (w + 1) ≤ Q + Y
+          even Q Y w c h k a b d e = omega arith
 
-  -- r is not below q
-  not-below : units r < units q → ⊥
-  not-below l = elim which [
-    | inl e ↦ exact-low n w is-whole (units r + units q) (e .0) (at-most (units q) (units r) w c sum (e .1)) above
-    | inr e ↦ elim (lt-or-ge (2 * w) (units r + units q)) [
-      | inl g ↦ not-between (e .0) (is-next (units q) (units r) w c sum (e .1) g)
-      | inr g ↦ between-low n w is-whole (units r + units q) g above
-    ]
-  ]
-    where
-      above : 4 * n < (units r + units q) * (units r + units q)
-      above = a .above q q-fits q-finite l
+      under : units y < units q → units q + units y ≤ 2 * w
+      under l = elim (lt-or-ge (units y) (2 ^ 53)) [
+        | inl s ↦ elim (lt-or-ge (units large) (units q)) [
+          | inl m ↦ far (units q) (units large) (units y) w c (q-nearest .below large large-fits large-finite m) o large-units s
+          | inr m ↦ near (units q) (units large) (units y) w m large-units s w-large
+        ]
+        | inr s ↦ let h = units-even y G f s in even (units q) (units y) w c (q-even .0) (h .0) (q-nearest .below y G f l) o (q-even .1) (h .1)
+      ]
+        where
+          far : (Q L Y w c : ℕ) → (Q + L) * 2 ≤ 2 * (2 * w + c) → c ≡ 1 → L ≡ 2 ^ 54 → Y < 2 ^ 53 → Q + Y ≤ 2 * w
+          far Q L Y w c a b d e = omega arith
 
-      sum : (units q + units r) * 2 ≤ 2 * (2 * w + c)
-      sum = q-nearest .below r G (a .is-finite) l
+          near : (Q L Y w : ℕ) → Q ≤ L → L ≡ 2 ^ 54 → Y < 2 ^ 53 → 2 ^ 54 ≤ w → Q + Y ≤ 2 * w
+          near Q L Y w a b d e = omega arith
 
-      at-most : (Q R w c : ℕ) → (Q + R) * 2 ≤ 2 * (2 * w + c) → c ≡ 0 → R + Q ≤ 2 * w
-      at-most Q R w c h e = omega arith
+          even : (Q Y w c h k : ℕ) → (Q + Y) * 2 ≤ 2 * (2 * w + c) → c ≡ 1 → Q ≡ h + h → Y ≡ k + k → Q + Y ≤ 2 * w
+          even Q Y w c h k a b d e = omega arith
 
-      is-next : (Q R w c : ℕ) → (Q + R) * 2 ≤ 2 * (2 * w + c) → c ≡ 1 → 2 * w < R + Q → R + Q ≡ 2 * w + 1
-      is-next Q R w c h e g = omega arith
-
-  -- nor above it
-  not-above : units q < units r → ⊥
-  not-above l = elim which [
-    | inl e ↦ exact-high n w is-whole (units r + units q) (e .0) (at-least (units q) (units r) w c sum (e .1)) below
-    | inr e ↦ elim (lt-or-ge (units r + units q) (2 * (w + 1))) [
-      | inl g ↦ not-between (e .0) (is-next (units q) (units r) w c sum (e .1) g)
-      | inr g ↦ between-high n w is-whole (units r + units q) g below
-    ]
-  ]
-    where
-      below : (units r + units q) * (units r + units q) < 4 * n
-      below = a .below q q-fits q-finite l
-
-      sum : 2 * (2 * w + c) ≤ (units q + units r) * 2
-      sum = q-nearest .above r G (a .is-finite) l
-
-      at-least : (Q R w c : ℕ) → 2 * (2 * w + c) ≤ (Q + R) * 2 → c ≡ 0 → 2 * w ≤ R + Q
-      at-least Q R w c h e = omega arith
-
-      is-next : (Q R w c : ℕ) → 2 * (2 * w + c) ≤ (Q + R) * 2 → c ≡ 1 → R + Q < 2 * (w + 1) → R + Q ≡ 2 * w + 1
-      is-next Q R w c h e g = omega arith
-
-  same : units r ≡ units q
-  same = elim (lt-or-ge (units r) (units q)) [
-    | inl l ↦ absurd (not-below l)
-    | inr l ↦ elim (lt-or-ge (units q) (units r)) [ inl m ↦ absurd (not-above m) | inr m ↦ le-antisymm m l ]
-  ]
-
-  pub root-computed : r ≡ root x
+  -- ---- in either case
+  pub root-meets : IsRoot x (root x)
   unfolding root rootOfSquare
-  root-computed = same-units r q G q-fits (a .is-finite) q-finite (a .sign ∙ sym (round-sign (negative x) (2 * w + c) (2 * one) q-finite)) same
+  root-meets = record {
+    is-finite = q-finite;
+    sign = round-sign (negative x) (2 * w + c) (2 * one) q-finite;
+    above = λ y G f l. elim which [
+      | inl e ↦ exact-above is-whole (units q + units y) (e .0) (more (units q) (units y) w (exact (e .0) (e .1)) l)
+      | inr e ↦ between-above is-whole (units q + units y) (over (e .0) (e .1) y G f l)
+    ];
+    below = λ y G f l. elim which [
+      | inl e ↦ exact-below is-whole (units q + units y) (e .0) (less (units q) (units y) w (exact (e .0) (e .1)) l)
+      | inr e ↦ between-below is-whole (units q + units y) (e .0) (under (e .0) (e .1) y G f l)
+    ];
+  }
+    where
+      more : (Q Y w : ℕ) → Q ≡ w → Q < Y → 2 * w < Q + Y
+      more Q Y w e l = omega arith
 
-  pub rooted : Rooted x r
-  rooted = record { nearest = a; computed = root-computed }
+      less : (Q Y w : ℕ) → Q ≡ w → Y < Q → Q + Y < 2 * w
+      less Q Y w e l = omega arith
+
+  pub root-computed : (r : Float) → T (fits binary64 r) → IsRoot x r → r ≡ root x
+  unfolding root rootOfSquare
+  root-computed r G a = root-unique x r q G q-fits a root-meets
+
+  pub rooted : (r : Float) → T (fits binary64 r) → IsRoot x r → Rooted x r
+  rooted r G a = record { nearest = a; computed = root-computed r G a }
+
+  -- ---- the laws of proofs/Root.antt, of the computed root
+
+  pub computed-le : (y : Float) → T (fits binary64 y) → T (finite y) → n ≤ units y * units y → units (root x) ≤ units y
+  computed-le y G f h = root-le x (root x) y root-meets G f h
+
+  pub computed-ge : (y : Float) → T (fits binary64 y) → T (finite y) → units y * units y ≤ n → units y ≤ units (root x)
+  computed-ge y G f h = root-ge x (root x) y root-meets G f h
+
+  pub computed-within : (B : ℕ) → Held binary64 B → Within (B * B) x → Within B (root x)
+  computed-within B R h = root-within x (root x) B root-meets (root-fits x) R h

@@ -3,10 +3,8 @@ use mathlib.Core.Path.{_≡_, refl, sym, ap, _∙_, subst}
 use Prim.Native.Nat.{ℕ, zero, suc, _+_, _-_, _*_, _/_, _^_, _≤_, _<_}
 use native.Mathlib.Nat.{mul-comm, mul-assoc, add-mul, mul-add, two-pow-succ, mul-one, one-mul, zero-mul, add-zero, sub-zero}
 use native.Mathlib.Omega.{arith}
-use mathlib.Core.Logic.{_⊎_, inl, inr}
 use mathlib.Core.Bool.{Bool, true, false, cond, not}
 use lib.Dec.{T, leb, leb→le, nleb→lt}
-use lib.Arith.{lt→nleb}
 use lib.Pow.{pow-pos}
 use Rattle.root.specs.Digits.{Digits}
 
@@ -25,7 +23,7 @@ pub record State (n q d y : ℕ) : Type 0 where
 -- ---- the next digit, 1 where t goes into y
 
 -- the digit as the sum's highest bit has it
-pub digit-bit : (t y : ℕ) → t ≤ 2 ^ 63 → y < 2 ^ 63 → (y + 2 ^ 63 - t) / 2 ^ 63 ≡ cond (leb t y) 1 0
+pub digit-bit : (t y : ℕ) → t < 2 ^ 63 → y < 2 ^ 63 → (y + 2 ^ 63 - t) / 2 ^ 63 ≡ cond (leb t y) 1 0
 digit-bit t y a b = go (leb t y) (leb→le t y) (nleb→lt t y)
   where
     go : (p : Bool) → (T p → t ≤ y) → (T (not p) → y < t) → (y + 2 ^ 63 - t) / 2 ^ 63 ≡ cond p 1 0

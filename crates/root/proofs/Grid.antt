@@ -1,8 +1,8 @@
 -- A root rounded to a grid of doubles is the nearest of all doubles. Nothing here but whole numbers. Assumes nothing.
-use mathlib.Core.Path.{_≡_, refl, sym, ap, _∙_, subst}
+use mathlib.Core.Path.{_≡_, sym, ap, _∙_}
 use mathlib.Core.Logic.{_⊎_, inl, inr}
-use Prim.Native.Nat.{ℕ, zero, suc, _+_, _-_, _*_, _^_, _≤_, _<_}
-use native.Mathlib.Nat.{mul-comm, mul-assoc, mul-one, mul-add, add-mul, suc-mul, mul-le-mul, mul-le-mul-left, mul-le-mul-right, mul-lt-mul-of-pos-left, mul-lt-mul-of-pos-right, lt-of-mul-lt-mul-right, le-trans, le-of-eq, le-of-lt, lt-of-le-of-lt, lt-of-lt-of-le, mul-mul-mul-comm, mul-pos, pow-succ'}
+use Prim.Native.Nat.{ℕ, _+_, _-_, _*_, _^_, _≤_, _<_}
+use native.Mathlib.Nat.{mul-comm, mul-assoc, mul-add, add-mul, suc-mul, mul-le-mul, mul-le-mul-left, mul-le-mul-right, mul-lt-mul-of-pos-right, lt-of-mul-lt-mul-right, le-trans, le-of-eq, le-of-lt, lt-of-le-of-lt, lt-of-lt-of-le, mul-mul-mul-comm, mul-pos, pow-succ'}
 use native.Mathlib.Omega.{arith}
 use native.Mathlib.Numerals.{add-one}
 use mathlib.Core.Bool.{Bool, true, false, not}
@@ -18,7 +18,7 @@ lt-or-ge a b = go (ltb a b) (ltb→lt a b) (nltb→le a b)
     go false f g = inr (g tt)
 
 -- where k is below h, p * 2 ^ k is below 2 ^ 52 * 2 ^ h, for a p of at most 53 digits
-finer : (p k h : ℕ) → p < 2 ^ 53 → k < h → p * 2 ^ k < 2 ^ 52 * 2 ^ h
+pub finer : (p k h : ℕ) → p < 2 ^ 53 → k < h → p * 2 ^ k < 2 ^ 52 * 2 ^ h
 finer p k h P l =
     lt-of-lt-of-le (mul-lt-mul-of-pos-right P (pow-pos k))
     (le-trans (le-of-eq (mul-assoc (2 ^ 52) 2 (2 ^ k) ∙ ap (λ (x : ℕ). 2 ^ 52 * x) (sym (pow-succ' 2 k)))) (mul-le-mul-left (2 ^ 52) (pow-mono l)))

@@ -1,19 +1,19 @@
 -- The logic's `round` gives a nearest double, in the words of units, and so do the product, the quotient and the sum. Assumes nothing.
 use mathlib.Core.Path.{_≡_, refl, sym, ap, _∙_, subst}
 use mathlib.Core.Logic.{_⊎_, inl, inr}
-use mathlib.Core.Bool.{Bool, true, false, not, _&&_, Bool·beq, cond, true≢false}
+use mathlib.Core.Bool.{Bool, true, false, not, _&&_, cond, true≢false}
 use Prim.Native.Nat.{ℕ, zero, suc, _+_, _-_, _*_, _/_, _%_, _^_, _≤_, _<_, compare, Ordering, Ordering·lt, Ordering·eq, Ordering·gt}
-use native.Mathlib.Nat.{mul-comm, mul-assoc, mul-left-comm, mul-right-comm, mul-one, one-mul, add-mul, mul-add, suc-mul, mul-pos, mul-le-mul-left, mul-le-mul-right, le-of-mul-le-mul-right, mul-lt-mul-of-pos-right, lt-of-mul-lt-mul-right, mul-mul-mul-comm, div-add-mod', mod-lt, div-div-eq-div-mul, le-div-iff-mul-le, le-trans, le-of-eq, le-of-lt, lt-of-lt-of-le, lt-of-le-of-lt, lt-irrefl, le-antisymm, eq-zero-or-pos, zero-lt-suc, zero-mul, zero-div, mul-sub}
+use native.Mathlib.Nat.{mul-comm, mul-assoc, mul-left-comm, mul-right-comm, mul-one, one-mul, add-mul, mul-add, suc-mul, mul-pos, mul-le-mul-left, mul-le-mul-right, le-of-mul-le-mul-right, mul-lt-mul-of-pos-right, mul-mul-mul-comm, div-add-mod', mod-lt, le-div-iff-mul-le, le-trans, le-of-eq, le-of-lt, lt-of-lt-of-le, lt-of-le-of-lt, lt-irrefl, le-antisymm, eq-zero-or-pos, zero-lt-suc, zero-mul, zero-div, mul-sub}
 use native.Mathlib.Omega.{arith}
 use lib.IntN.{ℤ}
 use lib.Dec.{T, isLe, isEq, ltb, eqb, ltb→lt, leb→le, nleb→lt, eqb→eq, eqb-refl, eqb·suc-zero, nltb→le}
 use lib.Arith.{lt-of-le-ne}
-use lib.Pow.{pow-pos, pow-add, pow-mono}
+use lib.Pow.{pow-pos, pow-add}
 use lib.Ieee.{Float, nan, inf, fin, binary64, up, down, unlike, size, nearest, odd, round, add, sum, mul, div, fits}
 use lib.Ieee as Ieee
 use lib.Ieee.Digits.{size-reaches}
 use lib.Ieee.Fits.{round-is, down-pos, up-pos}
-use lib.Ieee.Exact.{HasValue, units-val}
+use lib.Ieee.Exact.{units-val}
 use lib.Ieee.Nearest.{closest, nearest-ge}
 use lib.Ieee.Order.{kept, drop}
 use lib.Ieee.Positive.{first-pos}
@@ -106,7 +106,7 @@ module _ (n den : ℕ) (D : 0 < den) where
       (le-div-iff-mul-le D .0 (le-trans (le-of-eq (sym (pow-add 2 52 k))) (size-reaches (n / den) (52 + k) (in-use (size (n / den)) h))))
     where
       turn : (a b c : ℕ) → a * (b * c) ≡ a * c * b
-      turn a b c = simp (mul-assoc, mul-comm, mul-left-comm)
+      turn a b c = simp (mul-assoc, mul-comm)
 
       in-use : (z : ℕ) → 0 < z - 53 → 52 + (z - 53) < z
       in-use z h = omega arith
@@ -138,7 +138,7 @@ module _ (n den : ℕ) (D : 0 < den) where
         far a w b x = omega arith
 
         odd-times : (a w d q : ℕ) → (2 * Q + 1) * u ≡ (2 * (Q * 2 ^ k) + 2 ^ k) * den
-        odd-times a w d q = simp (add-mul, mul-assoc, mul-comm, mul-left-comm, mul-one, one-mul)
+        odd-times a w d q = simp (add-mul, mul-assoc, mul-comm, mul-left-comm, one-mul)
 
     gap-down : (k ≡ 0) ⊎ (2 ^ 52 < Q) → Y < Q * w → Y + w ≤ Q * w
     gap-down (inl z) l = subst (λ (x : ℕ). Y + x ≤ Q * w) (sym (ap (λ (x : ℕ). 2 ^ x) z)) (next Y (Q * w) l)

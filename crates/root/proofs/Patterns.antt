@@ -3,14 +3,14 @@ use mathlib.Core.Path.{_≡_, refl, sym, ap, _∙_, subst}
 use mathlib.Core.Logic.{_⊎_, inl, inr}
 use mathlib.Core.Bool.{Bool, true, false, not, cond}
 use Prim.Native.Nat.{ℕ, zero, suc, _+_, _-_, _*_, _/_, _%_, _^_, _≤_, _<_}
-use native.Mathlib.Nat.{mul-comm, mul-assoc, mul-one, mul-right-comm, zero-mul, mod-lt, mod-eq-of-lt, mul-div-cancel, eq-or-lt-of-le, pow-succ', two-pow-succ, mul-add, le-of-eq, lt-of-lt-of-le, lt-of-le-of-lt}
+use native.Mathlib.Nat.{mul-assoc, mul-one, mul-right-comm, mod-lt, mod-eq-of-lt, mul-div-cancel, eq-or-lt-of-le, pow-succ', two-pow-succ, mul-add, le-of-eq, lt-of-lt-of-le, lt-of-le-of-lt}
 use native.Mathlib.Omega.{arith}
-use lib.Dec.{T, leb, eqb, lit≤, leb→le, nleb→lt, eqb→eq, eqb-refl, not-T}
+use lib.Dec.{T, leb, eqb, lit≤, eqb→eq, eqb-refl, not-T}
 use lib.Arith.{lt→nleb}
 use lib.Pow.{pow-pos, pow-mono, shl-lt}
 use lib.IntN.{ℤ}
 use lib.Ieee.{Float, nan, inf, fin, binary64, up, down, size, odd, fits, ofFields, ofBits, toBits, nanBits, isNan}
-use lib.Ieee.Bits.{ofBits-toBits, toBits-lt, nanBits-is, is-false, is-true, cond-no}
+use lib.Ieee.Bits.{ofBits-toBits, toBits-lt, nanBits-is, is-false, cond-no}
 use lib.Ieee.Fits.{down-pos}
 use lib.Ieee.Exact.{HasValue, odd-sign}
 use Rattle.root.proofs.Scaling.{shift}

@@ -1,8 +1,8 @@
 -- What follows from `IsRoot` alone, for those who call `sqrt`: the root is one double only, an exact root is found, and a bound on x bounds its root. Assumes nothing.
-use mathlib.Core.Path.{_≡_, refl, sym, ap, _∙_, subst}
-use mathlib.Core.Logic.{_⊎_, inl, inr}
+use mathlib.Core.Path.{_≡_, sym, ap, _∙_}
+use mathlib.Core.Logic.{inl, inr}
 use Prim.Native.Nat.{ℕ, _+_, _*_, _^_, _≤_, _<_}
-use native.Mathlib.Nat.{mul-comm, mul-assoc, mul-mul-mul-comm, mul-le-mul, mul-le-mul-left, mul-le-mul-right, le-trans, le-of-eq, le-of-lt, le-antisymm, lt-of-lt-of-le, lt-of-le-of-lt, lt-irrefl, mul-one, add-mul, mul-add}
+use native.Mathlib.Nat.{mul-assoc, mul-mul-mul-comm, mul-le-mul-left, mul-le-mul-right, le-trans, le-of-eq, le-of-lt, le-antisymm, lt-of-lt-of-le, lt-of-le-of-lt, lt-irrefl, add-mul, mul-add}
 use native.Mathlib.Omega.{arith}
 use mathlib.Core.Bool.{false}
 use lib.Dec.{T}
@@ -12,12 +12,12 @@ use Rattle.root.specs.Doubles.{finite, one, units}
 use Rattle.root.specs.Bounds.{Within}
 use Rattle.root.specs.Root.{IsRoot}
 use Rattle.root.proofs.Grid.{lt-or-ge, sq-lt}
-use Rattle.root.proofs.Patterns.{Is, to-units, units-is, finite-is}
+use Rattle.root.proofs.Patterns.{Is, to-units, units-is, finite-is, same-units}
 use Rattle.root.proofs.Bounds.{Held, within-units, units-within}
 
--- no double lies strictly on the wrong side
-pub root-unique : (x r r′ : Float) → T (fits binary64 r) → T (fits binary64 r′) → IsRoot x r → IsRoot x r′ → units r ≡ units r′
-root-unique x r r′ F F′ a b = le-antisymm (no r r′ F F′ a b) (no r′ r F′ F b a)
+-- only one double meets `IsRoot`: neither of two can lie below the other
+pub root-unique : (x r r′ : Float) → T (fits binary64 r) → T (fits binary64 r′) → IsRoot x r → IsRoot x r′ → r ≡ r′
+root-unique x r r′ F F′ a b = same-units r r′ F F′ (a .is-finite) (b .is-finite) (a .sign ∙ sym (b .sign)) (le-antisymm (no r r′ F F′ a b) (no r′ r F′ F b a))
   where
     clash : (n s t : ℕ) → n < s → t < n → s ≡ t → ⊥
     clash n s t p q e = omega arith

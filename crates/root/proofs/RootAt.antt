@@ -1,20 +1,20 @@
--- What the proof of `sqrt` cites. Assumes nothing.
+-- The pattern that the digits give (specs/Digits.antt) is that of the root; and what the proof of `sqrt` asks of x. Assumes nothing.
 use mathlib.Core.Path.{_≡_, refl, sym, ap, _∙_, subst}
-use mathlib.Core.Logic.{_⊎_, inl, inr}
-use mathlib.Core.Bool.{Bool, true, false, not, _&&_, _||_, Bool·beq, true≢false}
-use Prim.Native.Nat.{ℕ, zero, suc, _+_, _*_, _/_, _%_, _^_, _≤_, _<_}
-use native.Mathlib.Nat.{mul-one, one-mul, zero-mul, mul-pos, mod-eq-of-lt, eq-zero-or-pos, zero-div}
+use mathlib.Core.Logic.{inl, inr}
+use mathlib.Core.Bool.{Bool, true, false, not, _||_, Bool·beq, true≢false}
+use Prim.Native.Nat.{ℕ, _+_, _*_, _/_, _%_, _^_, _≤_, _<_}
+use native.Mathlib.Nat.{mul-one, zero-mul, mul-pos, mod-eq-of-lt, eq-zero-or-pos, zero-div}
 use native.Mathlib.Omega.{arith}
-use lib.IntN.{ℤ, pos, negsuc}
+use lib.IntN.{ℤ, pos}
 use lib.Dec.{T, leb, eqb, eqb→eq, nleb→lt}
-use lib.Ieee.{Float, nan, inf, fin, binary64, up, down, level, eq, fits, ofBits, toBits, isNan}
+use lib.Ieee.{Float, nan, inf, fin, binary64, up, down, level, eq, fits, ofBits, toBits}
 use lib.Ieee.Bits.{ofBits-toBits}
 use lib.Ieee.Fits.{and-l}
 use Rattle.root.specs.Doubles.{finite, negative, one, units}
 use Rattle.root.specs.Root.{rootable, IsRoot}
 use Rattle.root.specs.Patterns.{patternUnits}
-use Rattle.root.specs.Digits.{RootAt, Digits}
-use Rattle.root.proofs.Patterns.{Is, Pattern, pattern-of, plain-pattern, units-is, sign-is, finite-is, on-grid, written, no-nan}
+use Rattle.root.specs.Digits.{RootAt}
+use Rattle.root.proofs.Patterns.{Is, Pattern, pattern-of, plain-pattern, units-is, sign-is, finite-is, on-grid, written}
 use Rattle.root.proofs.Grid.{over, under}
 
 pub rootable-finite : (x : Float) → T (rootable x) → T (finite x)

@@ -1,9 +1,9 @@
 -- From the digits of a root to its pattern: the exponent is halved, and a small number is moved up. Assumes nothing.
-use mathlib.Core.Path.{_≡_, refl, sym, ap, _∙_, subst}
-use Prim.Native.Nat.{ℕ, zero, suc, _+_, _-_, _*_, _/_, _%_, _^_, _≤_, _<_}
-use native.Mathlib.Nat.{mul-comm, mul-assoc, mul-one, one-mul, pow-suc, two-pow-succ, mul-add, mul-le-mul-right, le-trans, le-of-eq, lt-of-le-of-lt, lt-of-lt-of-le, lt-of-not-le, lt-irrefl}
+use mathlib.Core.Path.{_≡_, refl, sym, ap, _∙_}
+use Prim.Native.Nat.{ℕ, suc, _+_, _-_, _*_, _/_, _%_, _^_, _≤_, _<_}
+use native.Mathlib.Nat.{mul-assoc, mul-one, one-mul, pow-suc, mul-le-mul-right, le-trans, le-of-eq, lt-of-le-of-lt, lt-of-lt-of-le, lt-of-not-le, lt-irrefl}
 use native.Mathlib.Omega.{arith}
-use lib.Pow.{pow-pos, pow-add, pow-mono}
+use lib.Pow.{pow-add, pow-mono}
 use Rattle.root.specs.Digits.{Digits, RootAt}
 
 -- a * 2 ^ k for a k that is j more than i

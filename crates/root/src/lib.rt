@@ -17,7 +17,7 @@ const HIGH: u64 = 9223372036854775808;
 // 1 if t is at most y, else 0. There is no branch, since the digits of a root are as good as random and a branch on them is mispredicted
 // every other time: the sum has the bit of 2^63 exactly if t is at most y.
 fn digit(t: u64, y: u64) -> u64
-    requires { ⌜ (t ≤ 2 ^ 63) × (y < 2 ^ 63) ⌝ }
+    requires { ⌜ (t < 2 ^ 63) × (y < 2 ^ 63) ⌝ }
     ensures { λ r. ⌜ r ≡ cond (leb t y) 1 0 ⌝ }
 {
     (y + HIGH - t) / HIGH
@@ -88,8 +88,7 @@ pub fn sqrt(x: f64) -> f64
     ensures { λ r. ⌜ Rooted x r ⌝ }
 {
     if x == 0.0 {
-        x
-    } else {
-        f64::from_bits(root_of_bits(f64::to_bits(x)))
+        return x;
     }
+    f64::from_bits(root_of_bits(f64::to_bits(x)))
 }

@@ -33,12 +33,14 @@ sides-rootable b e = norm2-rootable 31 (lit≤ tt) (sides-within b e)
 
 -- ---- the reply: 4 before 5
 
-module _ (b : AABB) where
-  pub reply-bad-number : boxInRange b ≡ false → documented BadNumber ≡ toleranceReply b
-  reply-bad-number e = sym (ap (λ (c : Checked). numbered c (toBits binary64 (tolerance b) ∷ [])) (holds _ BadNumber _ (ap not e)))
+abbrev replied : AABB → Checked → List ℕ
+replied b c = numbered c (toBits binary64 (tolerance b) ∷ [])
 
-  pub reply-bad-box : boxInRange b ≡ true → badBox b ≡ true → documented BadBox ≡ toleranceReply b
-  reply-bad-box e f = sym (ap (λ (c : Checked). numbered c (toBits binary64 (tolerance b) ∷ [])) (passes _ BadNumber _ (ap not e) ∙ holds _ BadBox _ f))
+pub reply-bad-number : (b : AABB) → boxInRange b ≡ false → documented BadNumber ≡ toleranceReply b
+reply-bad-number b e = sym (ap (replied b) (holds _ BadNumber _ (ap not e)))
 
-  pub reply-done : boxInRange b ≡ true → badBox b ≡ false → 0 ∷ toBits binary64 (tolerance b) ∷ [] ≡ toleranceReply b
-  reply-done e f = sym (ap (λ (c : Checked). numbered c (toBits binary64 (tolerance b) ∷ [])) (passes _ BadNumber _ (ap not e) ∙ passes _ BadBox _ f ∙ none-left))
+pub reply-bad-box : (b : AABB) → boxInRange b ≡ true → badBox b ≡ true → documented BadBox ≡ toleranceReply b
+reply-bad-box b e f = sym (ap (replied b) (passes _ BadNumber _ (ap not e) ∙ holds _ BadBox _ f))
+
+pub reply-done : (b : AABB) → boxInRange b ≡ true → badBox b ≡ false → 0 ∷ toBits binary64 (tolerance b) ∷ [] ≡ toleranceReply b
+reply-done b e f = sym (ap (replied b) (passes _ BadNumber _ (ap not e) ∙ passes _ BadBox _ f ∙ none-left))

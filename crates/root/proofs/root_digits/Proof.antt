@@ -3,9 +3,6 @@ use native.Mathlib.Omega.{arith}
 use Rattle.root.proofs.Digits.{State, Taken, taken, first, step, last-up, last-same, at-one}
 use Rattle.root.proofs.root_digits.Statement.{statement}
 use Rattle.root.proofs.root_digits.Tie as tie
-use Rattle.root.proofs.root_digits.Reads as reads
-use Rattle.root.proofs.root_digits.Lts as lts
-use Rattle.root.proofs.digit.Reads as digit-reads
 
 abbrev Inv-loop : tie.InvT-loop
 Inv-loop m q₀ d₀ y₀ q d y = State (m * 2 ^ 52) q d y

@@ -1,4 +1,4 @@
-use mathlib.Core.Path.{sym, ap, subst}
+use mathlib.Core.Path.{sym, subst}
 use Prim.Native.Nat.{ℕ, _*_, _^_}
 use Rattle.root.specs.Digits.{RootAt}
 use Rattle.root.proofs.Patterns.{small-pattern, large-pattern}

@@ -12,6 +12,12 @@ use Rattle.root.proofs.sqrt.Tie as tie
 held : (c : tie.Start) → T (fits binary64 (c .args .x))
 held c = subst T (sym (c .good .0 .1)) tt
 
+returns : tie.Need-returns
+returns c =
+    let s = c .before in
+    let x = s .args .x in
+    rooted x (held s) (s .pre) x (held s) (zero-root x (s .pre) (c .if1 .taken))
+
 float-to-bits-root-of-bits : tie.Need-float-to-bits-root-of-bits
 float-to-bits-root-of-bits c = no-nan (c .before .args .x) (rootable-finite (c .before .args .x) (c .before .pre))
 
@@ -23,25 +29,12 @@ float-from-bits-result c =
     let s = c .root-of-bits .ensures in
     no-nan-pattern (c .root-of-bits .result) (finite-is (ofBits binary64 (c .root-of-bits .result)) _ _ (result-is s))
 
-returns : tie.Need-returns
-returns c =
-    let s = c .before in
-    let x = s .args .x in
-    rooted x x (held s) (held s) (s .pre) (zero-root x (s .pre) (c .if1 .taken))
-
 returns-2 : tie.Need-returns-2
 returns-2 c =
     let s = c .before .before in
     let x = s .args .x in
     let b = c .root-of-bits .result in
-    rooted x (ofBits binary64 b) (held s) (ofBits-fits binary64 b) (s .pre) (is-root x (held s) (s .pre) (c .before .if1 .left) b (c .root-of-bits .ensures))
+    rooted x (held s) (s .pre) (ofBits binary64 b) (ofBits-fits binary64 b) (is-root x (held s) (s .pre) (c .before .if1 .left) b (c .root-of-bits .ensures))
 
 pub sqrt-spec : {M : Type 1} → statement M
-sqrt-spec =
-    tie.close
-    (tie.spec
-    float-to-bits-root-of-bits
-    root-of-bits-requires
-    float-from-bits-result
-    returns
-    returns-2)
+sqrt-spec = tie.close (tie.spec returns float-to-bits-root-of-bits root-of-bits-requires float-from-bits-result returns-2)
