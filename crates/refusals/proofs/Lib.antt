@@ -2,3 +2,4 @@ pub mod Refusals
 pub mod Ranges
 pub mod Grids
 pub mod Replies
+pub mod Reports

@@ -4,3 +4,4 @@ pub mod front;
 pub mod grid;
 pub mod refusal;
 pub mod reply;
+pub mod report;

@@ -1,11 +1,11 @@
-use Rattle.yongpham.proofs.Reports.{in-case}
+use Rattle.refusals.proofs.Reports.{in-case}
 use Rattle.refusals.specs.Refusals.{documented}
 use borrow.Author.Needs.{needs}
-use Rattle.yongpham.proofs.report.report_refusal.Statement.{statement}
-use Rattle.yongpham.proofs.report.report_refusal.Tie as tie
-use Rattle.yongpham.proofs.report.report_refusal.Reads as reads
-use Rattle.yongpham.proofs.report.report_refusal.Lts as lts
-use Rattle.yongpham.proofs.report.report_values.Reads as report-values-reads
+use Rattle.refusals.proofs.report.report_refusal.Statement.{statement}
+use Rattle.refusals.proofs.report.report_refusal.Tie as tie
+use Rattle.refusals.proofs.report.report_refusal.Reads as reads
+use Rattle.refusals.proofs.report.report_refusal.Lts as lts
+use Rattle.refusals.proofs.report.report_values.Reads as report-values-reads
 
 -- src/report.rt:27:42
 enum-told : tie.Need-enum-told
