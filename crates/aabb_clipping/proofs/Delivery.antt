@@ -30,7 +30,7 @@ use Rattle.refusals.specs.declared.reply.MeshReply.the-variants.{Done}
 use Rattle.refusals.specs.declared.reply.MeshReply.the-variants as mesh
 use Rattle.refusals.specs.Refusals.{documented, documentedMesh, Test, firstRefusal, settle, Settled, Zeroed}
 use Rattle.refusals.specs.Front.{ceiling, listTests, badIndex, inRange, epsInRange, boxInRange, badBox, workNeed, workTest, roomTests}
-use Rattle.refusals.proofs.Refusals.{holds, passes, no-test, row-passed, row-refused, untouched}
+use Rattle.refusals.proofs.Refusals.{holds, passes, none-left, row-passed, row-refused, untouched}
 use Rattle.refusals.proofs.Replies.{reply-refused, reply-passed, short-first, short-second, roomy, head-passed, tail-passed, row-front, row-rest, Listed, listed}
 use Rattle.aabb_clipping.specs.Clip.{clipTests, clipResult, clipReply, Clipped}
 use Rattle.aabb_clipping.specs.Steps.{Written}
@@ -206,4 +206,4 @@ module _ (vs : List Float) (fs : List ℕ) (box : AABB) (eps : Float) (lent : �
         room-refused k = sym (after-box ∙ holds (ltb lent n) (NoWorkRoom n) [] (lt-ltb lent n k))
 
         pub all-passed : n ≤ lent → Passed ≡ firstRefusal (clipTests vs fs box eps lent)
-        all-passed k = sym (after-box ∙ passes (ltb lent n) (NoWorkRoom n) [] (le-ltb lent n k) ∙ no-test)
+        all-passed k = sym (after-box ∙ passes (ltb lent n) (NoWorkRoom n) [] (le-ltb lent n k) ∙ none-left)

@@ -25,6 +25,13 @@ joined-const g f i j same = refl
 joined-const g f i j (back c) = sym (joined-const g f _ _ c)
 joined-const g f i j (via c d) = joined-const g f _ _ c ∙ joined-const g f _ _ d
 
+-- what a step has at both ends, a chain has at both ends or at neither
+pub joined-keeps : {R : ℕ → ℕ → Type 0} (P : ℕ → Type 0) → ((i j : ℕ) → R i j → P i × P j) → (i j : ℕ) → Joined R i j → (P i → P j) × (P j → P i)
+joined-keeps P f i j (one r) = let h = f i j r in (λ a. h .1, λ a. h .0)
+joined-keeps P f i j same = (λ a. a, λ a. a)
+joined-keeps P f i j (back c) = let h = joined-keeps P f _ _ c in (h .1, h .0)
+joined-keeps P f i j (via c d) = let h = joined-keeps P f _ _ c in let g = joined-keeps P f _ _ d in (λ a. g .0 (h .0 a), λ a. h .1 (g .1 a))
+
 -- a chain, its ends named otherwise
 pub joined-ends : {R : ℕ → ℕ → Type 0} {i i' j j' : ℕ} → i' ≡ i → j' ≡ j → Joined R i j → Joined R i' j'
 joined-ends {R} p q c = subst₂ (λ (a b : ℕ). Joined R a b) (sym p) (sym q) c

@@ -4,6 +4,7 @@ ghost use mathlib.Core.Path.{_≡_};
 ghost use lib.Dec.{T};
 ghost use Rattle.root.specs.Root.{rootable};
 ghost use Rattle.geometry.specs.Points.{minus, dot, cross, norm2, norm};
+use root::sqrt;
 
 pub struct Point {
     pub x: f64,
@@ -42,5 +43,13 @@ impl Point {
         ensures { λ r. ⌜ r ≡ norm2 self ⌝ }
     {
         self.dot(self)
+    }
+
+    // the root is drawn only from a sum that is finite
+    pub fn norm(self) -> f64
+        requires { ⌜ T (rootable (norm2 self)) ⌝ }
+        ensures { λ r. ⌜ r ≡ norm self ⌝ }
+    {
+        sqrt(self.norm2())
     }
 }

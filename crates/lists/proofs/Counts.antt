@@ -2,9 +2,9 @@
 use Prim.Native.Nat.{ℕ, zero, suc, _+_, _≤_, _<_}
 use native.Mathlib.Omega.{arith}
 use mathlib.Core.Path.{_≡_, refl, sym, ap, _∙_, subst}
-use mathlib.Core.Bool.{Bool, true, false, cond}
+use mathlib.Core.Bool.{Bool, true, false, cond, true≢false, false≢true}
 use mathlib.Core.List.{List, [], _∷_, _++_, List·Memᴰ, List·Memᴰ·head, List·Memᴰ·tail}
-use lib.ListN.{length, length-append}
+use lib.ListN.{getD, length, length-append}
 use Rattle.lists.specs.Lists.{keep, count}
 
 module _ {A : Type 0} (p : A → Bool) where
@@ -46,3 +46,18 @@ keep-same {A} p q (x ∷ l) h =
     let e = h x (List·Memᴰ·head refl) in
     let r = keep-same p q l (λ y m. h y (List·Memᴰ·tail m)) in
     ap (λ (b : Bool). cond b (x ∷ keep p l) (keep p l)) e ∙ ap (λ (s : List A). cond (q x) (x ∷ s) s) r
+
+-- tests that agree place by place count the same
+pub count-places : {A B : Type 0} (p : A → Bool) (q : B → Bool) (d : A) (e : B) (l : List A) (r : List B) → length l ≡ length r
+    → ((i : ℕ) → i < length l → p (getD l i d) ≡ q (getD r i e)) → count p l ≡ count q r
+unfolding keep
+count-places p q d e [] [] h f = refl
+count-places p q d e [] (y ∷ r) h f = absurd (omega arith)
+count-places p q d e (x ∷ l) [] h f = absurd (omega arith)
+count-places {A} {B} p q d e (x ∷ l) (y ∷ r) h f = go (p x) (q y) (f 0 (omega arith)) (count-places p q d e l r (omega arith) (λ i a. f (suc i) (omega arith)))
+  where
+    go : (b c : Bool) → b ≡ c → count p l ≡ count q r → length (cond b (x ∷ keep p l) (keep p l)) ≡ length (cond c (y ∷ keep q r) (keep q r))
+    go true true g s = ap suc s
+    go false false g s = s
+    go true false g s = absurd (true≢false g)
+    go false true g s = absurd (false≢true g)

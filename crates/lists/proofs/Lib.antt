@@ -1,8 +1,13 @@
+-- Bools: tests. Every: what all pass. Members: members of the lists that the words of specs/Lists.antt make. Counts: how many pass. Places: 0, 1, .. n - 1.
+-- Regions: parts of a buffer.
 pub mod Bools
 pub mod Every
--- Members: members of the lists that the words of specs/Lists.antt make. Counts: how many pass. Regions: parts of a buffer.
 pub mod Members
 pub mod Counts
 pub mod Regions
+pub mod Places
+pub mod Orders
+pub mod SortBy
+pub mod Multiplicity
 -- Stores: runs of stores, and counting up.
 pub mod Stores

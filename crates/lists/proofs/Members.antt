@@ -1,4 +1,4 @@
--- Members of the lists that `some`, `keep` and the library's `flatMap` and `range` make.
+-- Members of the lists that `some`, `keep` and the library's `flatMap` make.
 use Prim.Native.Nat.{ℕ, zero, suc, _+_, _≤_, _<_}
 use native.Mathlib.Omega.{arith}
 use mathlib.Core.Path.{_≡_, refl, sym, ap, _∙_, subst}
@@ -115,3 +115,33 @@ getD-mem (x ∷ l) (suc i) d h = List·Memᴰ·tail (getD-mem l i d (omega arith
 pub mem-getD : {A : Type 0} (d : A) {x : A} {l : List A} → List·Memᴰ x l → (i : ℕ) × (i < length l) × (getD l i d ≡ x)
 mem-getD d (List·Memᴰ·head e) = (0, omega arith, sym e)
 mem-getD d (List·Memᴰ·tail m) = let r = mem-getD d m in let h = r .1 in (suc (r .0), omega arith, r .2)
+
+-- what stands before the place of the first that passes does not pass
+module _ {A : Type 0} (p : A → Bool) where
+  pub place-le : (l : List A) → place p l ≤ length l
+  unfolding place
+  place-le [] = omega arith
+  place-le (x ∷ l) = go (p x) (place-le l)
+    where
+      go : (b : Bool) → place p l ≤ length l → cond b 0 (suc (place p l)) ≤ suc (length l)
+      go true h = omega arith
+      go false h = omega arith
+
+  pub place-before : (d : A) (l : List A) (i : ℕ) → i < place p l → T (p (getD l i d)) → ⊥
+  unfolding place
+  place-before d [] i h t = omega arith
+  place-before d (x ∷ l) i h t = go (p x) refl i h t (λ j. place-before d l j)
+    where
+      go : (b : Bool) → p x ≡ b → (i : ℕ) → i < cond b 0 (suc (place p l)) → T (p (getD (x ∷ l) i d)) → ((j : ℕ) → j < place p l → T (p (getD l j d)) → ⊥) → ⊥
+      go true e i h t f = omega arith
+      go false e zero h t f = subst T e t
+      go false e (suc i) h t f = f i (omega arith) t
+
+  pub place-at : (d : A) (l : List A) → place p l < length l → T (p (getD l (place p l) d))
+  unfolding place
+  place-at d [] h = absurd (omega arith)
+  place-at d (x ∷ l) h = go (p x) refl h (place-at d l)
+    where
+      go : (b : Bool) → p x ≡ b → cond b 0 (suc (place p l)) < suc (length l) → (place p l < length l → T (p (getD l (place p l) d))) → T (p (getD (x ∷ l) (cond b 0 (suc (place p l))) d))
+      go true e h f = subst T (sym e) tt
+      go false e h f = f (omega arith)

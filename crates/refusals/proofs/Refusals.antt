@@ -34,9 +34,9 @@ pub passes : (b : Bool) (r : Refusal) (ts : List Test) → b ≡ false → first
 unfolding firstRefusal
 passes b r ts e = cond-false b _ _ _ e refl
 
-pub no-test : firstRefusal [] ≡ Passed
+pub none-left : firstRefusal [] ≡ Passed
 unfolding firstRefusal
-no-test = refl
+none-left = refl
 
 -- ---- a row of tests before others
 

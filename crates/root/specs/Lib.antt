@@ -1,3 +1,5 @@
 pub mod Doubles
 pub mod Bounds
 pub mod Root
+pub mod Patterns
+pub mod Digits

@@ -2,6 +2,7 @@
 mod clearing;
 mod copying;
 mod packing;
+mod parts;
 
 pub use clearing::zero;
 pub use clearing::zero_front;
@@ -19,3 +20,4 @@ pub use packing::pair_second;
 pub use packing::triple_first;
 pub use packing::triple_second;
 pub use packing::triple_third;
+pub use parts::zero_part;

@@ -1,0 +1,76 @@
+//! Inputs for the mesh operations, all in or around the unit box.
+
+/// The facet counts at which every operation is timed.
+pub const SIZES: [usize; 3] = [1_000, 8_192, 65_000];
+pub const UNIT: [f64; 6] = [0.0, 0.0, 0.0, 1.0, 1.0, 1.0];
+
+pub struct Mesh {
+    pub vertices: Vec<f64>,
+    pub facets: Vec<u32>,
+}
+
+impl Mesh {
+    pub fn count(&self) -> usize {
+        self.facets.len() / 3
+    }
+
+    /// The numbers as the Rust takes them.
+    pub fn wide_facets(&self) -> Vec<usize> {
+        self.facets.iter().map(|&id| id as usize).collect()
+    }
+}
+
+/// A wavy surface of about `facets` facets over [middle - reach/2, middle + reach/2]
+/// on x and y.
+pub fn surface(facets: usize, middle: f64, reach: f64) -> Mesh {
+    let cells = ((facets / 2) as f64).sqrt() as usize;
+    let over = |i: usize| middle + reach * (i as f64 / cells as f64 - 0.5);
+    let mut vertices = Vec::new();
+    for i in 0..=cells {
+        for j in 0..=cells {
+            let (x, y) = (over(i), over(j));
+            vertices.extend([x, y, 0.5 + 0.2 * (7.0 * x).sin() * (5.0 * y).cos()]);
+        }
+    }
+    let mut list = Vec::new();
+    for i in 0..cells {
+        for j in 0..cells {
+            let corner = |di: usize, dj: usize| ((i + di) * (cells + 1) + j + dj) as u32;
+            list.extend([corner(0, 0), corner(1, 0), corner(1, 1)]);
+            list.extend([corner(0, 0), corner(1, 1), corner(0, 1)]);
+        }
+    }
+    Mesh {
+        vertices,
+        facets: list,
+    }
+}
+
+/// Triangles of random corners in and around the box. At most 65,536 vertices are
+/// taken, so larger soups share corners at random.
+pub fn soup(facets: usize) -> Mesh {
+    let mut state = 7u64;
+    let mut next = || {
+        state = state
+            .wrapping_mul(6_364_136_223_846_793_005)
+            .wrapping_add(1_442_695_040_888_963_407);
+        state >> 33
+    };
+    let count = (3 * facets).min(65_536);
+    let vertices = (0..3 * count)
+        .map(|_| next() as f64 / (1u64 << 31) as f64 * 2.0 - 0.5)
+        .collect();
+    let facets = (0..3 * facets)
+        .map(|_| (next() % count as u64) as u32)
+        .collect();
+    Mesh { vertices, facets }
+}
+
+/// The same surface with three vertices of its own for every facet.
+pub fn own_vertices(mesh: &Mesh) -> Mesh {
+    let corner = |&id: &u32| mesh.vertices[3 * id as usize..][..3].to_vec();
+    Mesh {
+        vertices: mesh.facets.iter().flat_map(corner).collect(),
+        facets: (0..mesh.facets.len() as u32).collect(),
+    }
+}

@@ -1,0 +1,15 @@
+pub mod Scaling
+pub mod Patterns
+pub mod Digits
+pub mod Grid
+pub mod Nearest
+pub mod Doubles
+pub mod Order
+pub mod Bounds
+pub mod Root
+pub mod RootAt
+pub mod WholeRoot
+pub mod Computed
+pub mod Powers
+pub mod Numbers
+pub mod Examples

@@ -1,0 +1,126 @@
+//! Compares our static library with the oracle, request by request: replies and
+//! values, every element of every output, work room.
+//!
+//!     compare [--seed S] [--requests N] [--first I] [--numbers N] [--only NAME] [--self-check]
+//!
+//! 20,000 requests of each operation and 10,000,000 numbers if not told otherwise.
+//! Requests are numbered from 0; request I of a seed is made again by itself with
+//! `--only NAME --first I --requests 1`. Exits 1 at any difference.
+
+mod boxes;
+mod candidates;
+mod caps;
+mod clean;
+mod clip;
+mod lent;
+mod meshes;
+mod numbers;
+mod operation;
+mod random;
+mod report;
+mod request;
+mod tolerance;
+mod triangulation;
+
+use lent::Lent;
+use operation::Operation;
+use std::ops::Range;
+use std::process::ExitCode;
+
+/// The mesh operations. One joins by a file that makes its record.
+const OPERATIONS: &[Operation] = &[
+    clip::OPERATION,
+    clean::OPERATION,
+    candidates::OPERATION,
+    caps::OPERATION,
+];
+
+pub struct Options {
+    pub seed: u64,
+    /// Number of the first request, and how many of each operation.
+    pub first: u64,
+    pub requests: u64,
+    /// How many numbers for each of root, rounding and cell key.
+    pub numbers: u64,
+    pub only: Option<String>,
+    /// Runs the oracle in our library's place: exercises the generators alone.
+    pub self_check: bool,
+}
+
+impl Options {
+    pub fn range(&self) -> Range<u64> {
+        self.first..self.first + self.requests
+    }
+
+    pub fn leaves_out(&self, name: &str) -> bool {
+        self.only.as_deref().is_some_and(|only| only != name)
+    }
+}
+
+fn options() -> Result<Options, String> {
+    let mut options = Options {
+        seed: 1,
+        first: 0,
+        requests: 20_000,
+        numbers: 10_000_000,
+        only: None,
+        self_check: false,
+    };
+    let mut arguments = std::env::args().skip(1);
+    while let Some(argument) = arguments.next() {
+        let mut value = || arguments.next().ok_or(format!("{argument} wants a value"));
+        let number = |text: String| text.parse::<u64>().map_err(|e| format!("{text}: {e}"));
+        match argument.as_str() {
+            "--seed" => options.seed = number(value()?)?,
+            "--first" => options.first = number(value()?)?,
+            "--requests" => options.requests = number(value()?)?,
+            "--numbers" => options.numbers = number(value()?)?,
+            "--only" => options.only = Some(value()?),
+            "--self-check" => options.self_check = true,
+            _ => return Err(format!("unknown argument {argument}")),
+        }
+    }
+    Ok(options)
+}
+
+fn main() -> ExitCode {
+    let options = match options() {
+        Ok(options) => options,
+        Err(message) => {
+            eprintln!("compare: {message}");
+            return ExitCode::from(2);
+        }
+    };
+    let mut rows = Vec::new();
+    let mut unlinked = Vec::new();
+    if cfg!(feature = "numbers") && !options.self_check {
+        rows.extend(numbers::rows(&options));
+    } else {
+        unlinked.push("numbers");
+    }
+    if !cfg!(feature = "tolerance") || options.self_check {
+        unlinked.push("tolerance");
+    } else if !options.leaves_out("tolerance") {
+        rows.push(tolerance::row(&options));
+    }
+    // One work room for all requests: its pages are touched once.
+    let mut work = Lent::new(0);
+    for operation in OPERATIONS {
+        if options.leaves_out(operation.name) {
+            continue;
+        }
+        if operation.ours.is_some() || options.self_check {
+            rows.push(operation::row(operation, &options, &mut work));
+        } else {
+            unlinked.push(operation.name);
+        }
+    }
+    if !unlinked.is_empty() {
+        println!("not linked, not compared: {}\n", unlinked.join(", "));
+    }
+    if report::print(&rows) {
+        ExitCode::SUCCESS
+    } else {
+        ExitCode::FAILURE
+    }
+}

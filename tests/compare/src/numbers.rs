@@ -1,0 +1,187 @@
+//! Root, rounding and cell key beside the machine's own `sqrt`, `round` and cast.
+
+use crate::random::Random;
+use crate::report::Row;
+use crate::Options;
+
+#[cfg(feature = "numbers")]
+extern "C" {
+    fn export_sqrt(x: f64) -> f64;
+    fn export_round(x: f64) -> f64;
+    fn export_cell_key(x: f64, eps: f64) -> i64;
+}
+
+#[cfg(feature = "numbers")]
+mod ours {
+    // The functions take plain numbers and touch no memory of ours.
+    pub fn root(x: f64) -> f64 {
+        unsafe { super::export_sqrt(x) }
+    }
+    pub fn round(x: f64) -> f64 {
+        unsafe { super::export_round(x) }
+    }
+    pub fn cell_key(x: f64, eps: f64) -> i64 {
+        unsafe { super::export_cell_key(x, eps) }
+    }
+}
+
+#[cfg(not(feature = "numbers"))]
+use machine as ours;
+
+mod machine {
+    /// The correctly rounded root; NaN, infinities and numbers below 0 come back.
+    pub fn root(x: f64) -> f64 {
+        if x.is_finite() && x >= 0.0 {
+            x.sqrt()
+        } else {
+            x
+        }
+    }
+
+    /// Half away from zero; what is not finite comes back.
+    pub fn round(x: f64) -> f64 {
+        if x.is_finite() {
+            x.round()
+        } else {
+            x
+        }
+    }
+
+    pub fn cell_key(x: f64, eps: f64) -> i64 {
+        oracle::reference::cell_key(x, eps)
+    }
+}
+
+/// A double at most three steps of the format from x in magnitude, of either sign.
+pub fn near(random: &mut Random, x: f64) -> f64 {
+    let step = random.below(7) as i64 - 3;
+    let moved = f64::from_bits(x.abs().to_bits().saturating_add_signed(step));
+    if random.one_in(2) {
+        moved
+    } else {
+        -moved
+    }
+}
+
+/// Bit patterns from every part of the format, with those at which a root or a
+/// rounding goes wrong first.
+pub fn double(random: &mut Random) -> f64 {
+    let bits = random.bits();
+    match random.below(12) {
+        0 | 1 => f64::from_bits(bits),
+        // Below 2^64, where rounding acts.
+        2 => f64::from_bits(bits & 0x800f_ffff_ffff_ffff | (1000 + bits % 90) << 52),
+        // Subnormals, also those of a few bits.
+        3 => f64::from_bits(bits & 0x800f_ffff_ffff_ffff >> (bits >> 52 & 31)),
+        // Powers of two and their neighbours.
+        4 => near(random, f64::from_bits((bits % 2047) << 52)),
+        // Halves and their neighbours.
+        5 => near(random, (bits >> (11 + bits % 50)) as f64 + 0.5),
+        6 => near(random, (bits % 1000) as f64 / 2.0),
+        7 => {
+            let large = [52, 53, 62, 63].map(|exponent| 2f64.powi(exponent));
+            let start = random.pick(&large);
+            near(random, start + (bits % 64) as f64 / 4.0)
+        }
+        // Squares, and numbers a step from one: roots near a double.
+        8 | 9 => {
+            let root = f64::from_bits(bits & 0x000f_ffff_ffff_ffff | (600 + bits % 800) << 52);
+            near(random, root * root).abs()
+        }
+        // Squares of the point between two doubles: roots near a tie.
+        10 => {
+            let root = f64::from_bits(bits & 0x000f_ffff_ffff_ffff | (600 + bits % 800) << 52);
+            let half_step = (root.next_up() - root) / 2.0;
+            near(random, root * root + 2.0 * root * half_step).abs()
+        }
+        // Few bits: exact squares, whole numbers, simple fractions.
+        _ => ((bits % 4096) as f64) * 2f64.powi((bits >> 32) as i32 % 80 - 40),
+    }
+}
+
+/// A coordinate and an eps, both finite: half of the quotients lie near a half.
+fn coordinate_and_eps(random: &mut Random) -> (f64, f64) {
+    loop {
+        let eps = match random.below(6) {
+            0 => 0.0,
+            1 => 2f64.powi(-(random.below(60) as i32)),
+            2 => 1e-12,
+            3 => random.unit(),
+            4 => near(random, 1e-12),
+            _ => double(random),
+        };
+        let cell = eps.max(1e-12);
+        let x = match random.below(3) {
+            0 => double(random),
+            1 => {
+                let whole = random.bits() >> (1 + random.below(62));
+                near(random, cell * (whole as f64 + 0.5))
+            }
+            _ => random.between(-1.0, 1.0) * 2f64.powi(random.below(31) as i32),
+        };
+        if x.is_finite() && eps.is_finite() {
+            return (x, eps);
+        }
+    }
+}
+
+pub fn rows(options: &Options) -> Vec<Row> {
+    type Probe = fn(&mut Random) -> (u64, u64, String);
+    let probes: [(&'static str, Probe); 3] = [
+        ("root", |random| {
+            let x = double(random);
+            let (o, m) = (ours::root(x).to_bits(), machine::root(x).to_bits());
+            (
+                o,
+                m,
+                if o == m {
+                    String::new()
+                } else {
+                    format!("x {:016x}", x.to_bits())
+                },
+            )
+        }),
+        ("rounding", |random| {
+            let x = double(random);
+            let (o, m) = (ours::round(x).to_bits(), machine::round(x).to_bits());
+            (
+                o,
+                m,
+                if o == m {
+                    String::new()
+                } else {
+                    format!("x {:016x}", x.to_bits())
+                },
+            )
+        }),
+        ("cell key", |random| {
+            let (x, eps) = coordinate_and_eps(random);
+            let (o, m) = (
+                ours::cell_key(x, eps) as u64,
+                machine::cell_key(x, eps) as u64,
+            );
+            let text = || format!("x {:016x} eps {:016x}", x.to_bits(), eps.to_bits());
+            (o, m, if o == m { String::new() } else { text() })
+        }),
+    ];
+    let mut rows = Vec::new();
+    for (name, probe) in probes {
+        if options.leaves_out(name) {
+            continue;
+        }
+        let mut row = Row::new(name);
+        let mut random = Random::new(options.seed, name, 0);
+        for _ in 0..options.numbers {
+            let (ours, machine, input) = probe(&mut random);
+            row.requests += 1;
+            row.replies[0] += 1;
+            if ours != machine {
+                row.differs(1, || {
+                    format!("{input}: ours {ours:016x}, machine {machine:016x}")
+                });
+            }
+        }
+        rows.push(row);
+    }
+    rows
+}

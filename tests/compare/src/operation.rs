@@ -1,0 +1,157 @@
+//! How an operation is compared: its generator, its oracle, our function.
+
+use crate::lent::{Cell, Lent};
+use crate::random::Random;
+use crate::report::Row;
+use crate::request::Request;
+use crate::Options;
+use oracle::Reply;
+
+/// One of clip, clean, candidates, caps. Each has a file that makes this record.
+pub struct Operation {
+    pub name: &'static str,
+    /// Makes request number `n`; work room and outputs are chosen afterwards.
+    pub generate: fn(&mut Random, u64) -> Request,
+    /// Words of work room that test 7 asks for.
+    pub need: fn(&Request) -> u64,
+    /// Lengths of the result, for a request that fails at most by test 12.
+    pub lengths: fn(&Request) -> [usize; 4],
+    pub oracle: fn(&Request, &mut Lent<u64>) -> Answer,
+    /// Our function; `None` where the feature is off.
+    pub ours: Option<fn(&Request, &mut Lent<u64>) -> Answer>,
+}
+
+/// What a call left behind.
+#[derive(PartialEq)]
+pub struct Answer {
+    pub reply: Reply,
+    /// The outputs whole, as bits.
+    pub outputs: Vec<Vec<u64>>,
+    /// A guard overwritten or work room not cleared.
+    pub fault: Option<&'static str>,
+}
+
+/// Looks at the work room and the outputs after a call.
+fn answer(reply: Reply, work: &Lent<u64>, guards: bool, outputs: Vec<Vec<u64>>) -> Answer {
+    let fault = if !guards {
+        Some("wrote beside an output")
+    } else if !work.guards_stand() {
+        Some("wrote beside the work room")
+    } else if !work.is_zero() {
+        Some("work room is not zero")
+    } else {
+        None
+    };
+    Answer {
+        reply,
+        outputs,
+        fault,
+    }
+}
+
+/// Calls an operation that writes a mesh.
+pub fn mesh_answer(
+    request: &Request,
+    work: &mut Lent<u64>,
+    call: impl FnOnce(&mut [u64], &mut [f64], &mut [u32]) -> Reply,
+) -> Answer {
+    let mut vertices = Lent::new(request.outputs[0]);
+    let mut facets = Lent::new(request.outputs[1]);
+    let reply = call(work.lend(request.work), vertices.slice(), facets.slice());
+    let guards = vertices.guards_stand() && facets.guards_stand();
+    answer(
+        reply,
+        work,
+        guards,
+        vec![vertices.contents(), facets.contents()],
+    )
+}
+
+/// Calls candidates, which writes four lists of words.
+pub fn lists_answer(
+    request: &Request,
+    work: &mut Lent<u64>,
+    call: impl FnOnce(&mut [u64], [&mut [u64]; 4]) -> Reply,
+) -> Answer {
+    let mut lists = request.outputs.map(Lent::<u64>::new);
+    let reply = call(work.lend(request.work), lists.each_mut().map(Lent::slice));
+    let guards = lists.iter().all(Lent::guards_stand);
+    answer(
+        reply,
+        work,
+        guards,
+        lists.iter().map(Lent::contents).collect(),
+    )
+}
+
+/// Request number `n` with work room and outputs.
+pub fn request(operation: &Operation, seed: u64, number: u64, work: &mut Lent<u64>) -> Request {
+    let mut random = Random::new(seed, operation.name, number);
+    let mut request = (operation.generate)(&mut random, number);
+    let need = (operation.need)(&request);
+    request.choose_work(&mut random, need);
+    let lengths = match (operation.oracle)(&request, work).reply.number {
+        0 => [0; 4],
+        12 => (operation.lengths)(&request),
+        _ => [3; 4],
+    };
+    request.choose_outputs(&mut random, lengths);
+    request
+}
+
+/// Runs the requests of one operation. In a self check the oracle answers twice,
+/// which shows that the requests are made and answered the same each time.
+pub fn row(operation: &Operation, options: &Options, work: &mut Lent<u64>) -> Row {
+    let mut row = Row::new(operation.name);
+    let ours = match operation.ours {
+        Some(ours) if !options.self_check => ours,
+        _ => operation.oracle,
+    };
+    for number in options.range() {
+        let request = request(operation, options.seed, number, work);
+        let expected = (operation.oracle)(&request, work);
+        let before = (
+            request.vertices.clone(),
+            request.facets.clone(),
+            request.caps.clone(),
+        );
+        let got = ours(&request, work);
+        row.requests += 1;
+        row.replies[expected.reply.number as usize] += 1;
+        let inputs_stand = same(&before.0, &request.vertices)
+            && same(&before.1, &request.facets)
+            && same(&before.2, &request.caps);
+        if got != expected || !inputs_stand {
+            row.differs(request.size(), || {
+                format!(
+                    "compare --only {} --seed {} --first {number} --requests 1\n{}{}inputs {}",
+                    operation.name,
+                    options.seed,
+                    request.describe(),
+                    difference(&got, &expected),
+                    if inputs_stand { "unchanged" } else { "CHANGED" }
+                )
+            });
+        }
+    }
+    row
+}
+
+fn same<T: Cell>(a: &[T], b: &[T]) -> bool {
+    a.iter().map(|x| x.bits()).eq(b.iter().map(|x| x.bits()))
+}
+
+/// Where two answers part.
+fn difference(got: &Answer, expected: &Answer) -> String {
+    let mut text = format!("ours   {:x?} {:?}\n", got.reply, got.fault);
+    text += &format!("oracle {:x?} {:?}\n", expected.reply, expected.fault);
+    for (output, (a, b)) in got.outputs.iter().zip(&expected.outputs).enumerate() {
+        if let Some(at) = a.iter().zip(b).position(|(x, y)| x != y) {
+            text += &format!(
+                "output {output} element {at}: ours {:016x}, oracle {:016x}\n",
+                a[at], b[at]
+            );
+        }
+    }
+    text
+}
