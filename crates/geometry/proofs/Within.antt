@@ -2,7 +2,7 @@
 -- subtracted. Of every double, NaN and infinities too. Assumes nothing.
 --   within-tests             |d| ≤ eps, by d ≤ eps and -d ≤ eps;     within-yes, within-no   the same, where the first is known
 --   sub-turned, within-turned   |x - y| is |y - x|
-use Prim.Native.Nat.{ℕ, zero, suc, _+_, _*_, _-_, _/_, _%_, _^_, _≤_, _<_, compare}
+use Prim.Native.Nat.{ℕ, zero, suc, _+_, _*_, _-_, _/_, _%_, _^_, _<_, compare}
 use mathlib.Core.Bool.{Bool, true, false, cond, not, _&&_, _||_}
 use mathlib.Core.Path.{_≡_, refl, sym, ap, _∙_}
 use native.Mathlib.Omega.{arith}

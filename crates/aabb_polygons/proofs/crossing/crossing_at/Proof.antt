@@ -1,5 +1,5 @@
 use Rattle.aabb_polygons.specs.Polygons.{crossing}
-use mathlib.Core.Path.{_≡_, refl, sym, ap, _∙_}
+use mathlib.Core.Path.{sym, _∙_}
 use borrow.Author.Needs.{needs}
 use Rattle.aabb_polygons.proofs.crossing.crossing_at.Statement.{statement}
 use Rattle.aabb_polygons.proofs.crossing.crossing_at.Tie as tie
