@@ -1,1 +1,1 @@
-// The sides of facets: the edge table, and the open edges in ascending order of their pair.
+// The sides of facets.
