@@ -5,3 +5,4 @@ pub mod Keys
 pub mod Rows
 pub mod Lone
 pub mod Running
+pub mod Steps

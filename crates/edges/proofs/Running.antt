@@ -12,6 +12,7 @@ use borrow.Author.Tests.{lt-ltb, le-ltb}
 use lib.Dec.{eqb, ltb}
 use lib.ListN.{length, getD, take}
 use lib.Seq.{ext-getD}
+use mir.Val.{boolByte}
 use Rattle.lists.specs.Order.{Ascending}
 use Rattle.sorting.specs.Buffer.{recordOf, putRecord, recordsAt}
 use Rattle.sorting.specs.Sorting.{records, recordBefore}
@@ -73,6 +74,24 @@ module _ (f w₀ : List ℕ) where
         count = length-records w (length f) (omega (arith, l .same))
 
 -- ---- keep_open
+pub next-inside : (w : List ℕ) (n i : ℕ) → i + 1 < n → eqb (getD w (2 * i) 0) (getD w (2 * i + 2) 0) ≡ nextSame w n i
+next-inside w n i h = sym (ap (λ (b : Bool). b && eqb (getD w (2 * i) 0) (getD w (2 * i + 2) 0)) (lt-ltb (i + 1) n h))
+
+pub next-last : (w : List ℕ) (n i : ℕ) → n ≤ i + 1 → false ≡ nextSame w n i
+next-last w n i h = sym (ap (λ (b : Bool). b && eqb (getD w (2 * i) 0) (getD w (2 * i + 2) 0)) (le-ltb (i + 1) n h))
+
+pub flag-small : (c : Bool) → cond c 1 0 ≤ 1
+flag-small true = omega arith
+flag-small false = omega arith
+
+pub alone-not : (first same : Bool) → same ≡ true → (0 ≤ 1) × (_≡_ {A = ℕ} 0 (cond (first && not same) 1 0))
+alone-not true same e = (omega arith, ap (λ (b : Bool). cond (not b) 1 0) (sym e))
+alone-not false same e = (omega arith, refl)
+
+pub alone-flag : (first same : Bool) → same ≡ false → (boolByte first ≤ 1) × (boolByte first ≡ cond (first && not same) 1 0)
+alone-flag true same e = (omega arith, ap (λ (b : Bool). cond (not b) 1 0) (sym e))
+alone-flag false same e = (omega arith, refl)
+
 records-at-more : (w : List ℕ) (k : ℕ) → recordsAt w 0 (k + 1) ≡ recordsAt w 0 k ++ (recordOf w (2 * k) ∷ [])
 unfolding recordsAt
 records-at-more w k =
@@ -142,10 +161,6 @@ module _ (w₀ : List ℕ) (n : ℕ) where
     unfolding recordsAt
     keeping-turn b more h e f = go (s .left) (s .sum) (s .kept)
       where
-        small : (c : Bool) → cond c 1 0 ≤ 1
-        small true = omega arith
-        small false = omega arith
-
         next : (i : ℕ) → 2 * i + 2 ≡ 2 * (i + 1)
         next i = omega arith
 
@@ -154,7 +169,7 @@ module _ (w₀ : List ℕ) (n : ℕ) where
         go zero g q = absurd (omega arith)
         go (suc left) g q =
             record {
-              low = omega (arith, small (first && not b), s .low);
+              low = omega (arith, flag-small (first && not b), s .low);
               left = left;
               sum = omega arith;
               room = s .room;
