@@ -1,7 +1,9 @@
--- Sides: a side by its number. Keys: the packed pair of a side. Rows: the records of sides, sorted. Open: the laws of open edges. Running: the loops.
+-- For callers: Edges, the laws of open edges; Sides, a side by its number; Rows, the edge table; Runs, the records of one pair in it; Examples.
+-- Within: Keys, the packed pair of a side; Lone, Running, Steps, the loops and what the functions put together.
 pub mod Examples
 pub mod Sides
 pub mod Keys
+pub mod Edges
 pub mod Rows
 pub mod Lone
 pub mod Running
