@@ -5,6 +5,7 @@ pub mod Sides
 pub mod Keys
 pub mod Edges
 pub mod Rows
+pub mod Runs
 pub mod Lone
 pub mod Running
 pub mod Steps
