@@ -18,7 +18,9 @@ shared-slice-read-result : tie.Need-shared-slice-read-result
 shared-slice-read-result c = omega (arith, c .before .next-side .ensures, next-in (length (c .before .before .before .args .facets .now)) (c .before .before .before .args .side) (c .before .before .before .pre .0) (c .before .before .before .pre .1))
 
 returns : tie.Need-returns
-returns c = ap (λ (n : ℕ). getD (c .before .before .before .args .facets .now) n 0) (c .before .next-side .ensures) ∙ sym (ap (λ (s : ℕ × ℕ). s .1) (side-at (c .before .before .before .args .facets .now) (c .before .before .before .args .side) (c .before .before .before .pre .0) (c .before .before .before .pre .1)))
+returns c =
+    let s = c .before .before .before in
+    ap (λ (n : ℕ). getD (s .args .facets .now) n 0) (c .before .next-side .ensures) ∙ sym (ap (λ (e : ℕ × ℕ). e .1) (side-at (s .args .facets .now) (s .args .side) (s .pre .0) (s .pre .1)))
 
 pub edge-to-spec : {M : Type 1} → statement M
 edge-to-spec = tie.close (tie.spec next-side-requires mul-result shared-slice-read-result returns)

@@ -73,13 +73,20 @@ loop-less : tie.Need-loop-less Inv-loop μ-loop
 loop-less c = omega arith
 
 loop-again : tie.Need-loop-again Inv-loop μ-loop
-loop-again c = keeping-turn (c .before .before .before .before .before .before .before .before .args .w .now) (c .before .before .before .before .before .before .before .before .args .n) (c .before .before .before .before .before .before .loop .w) (c .before .before .before .before .before .before .loop .k) (c .before .before .before .before .before .before .loop .i) (c .before .before .before .before .before .before .loop .first) (c .before .before .before .before .before .before .loop .inv) (c .before .before .before .next-same .result) (c .alone .result) (omega arith) (c .before .before .before .next-same .ensures) (c .alone .ensures .1)
+loop-again c =
+    let l = c .before .before .before .before .before .before .loop in
+    let s = c .before .before .before .before .before .before .before .before in
+    let same = c .before .before .before .next-same in
+    keeping-turn (s .args .w .now) (s .args .n) (l .w) (l .k) (l .i) (l .first) (l .inv) (same .result) (c .alone .result) (omega arith) (same .ensures) (c .alone .ensures .1)
 
 same-length : tie.Need-same-length Inv-loop μ-loop
 same-length c = omega arith
 
 returns : tie.Need-returns Inv-loop μ-loop
-returns c = keeping-end (c .before .before .before .args .w .now) (c .before .before .before .args .n) (c .before .loop .w) (c .before .loop .k) (c .before .loop .i) (c .before .loop .first) (c .before .loop .inv) (omega arith) (c .before .before .before .pre .1)
+returns c =
+    let l = c .before .loop in
+    let s = c .before .before .before in
+    keeping-end (s .args .w .now) (s .args .n) (l .w) (l .k) (l .i) (l .first) (l .inv) (omega arith) (s .pre .1)
 
 pub keep-open-spec : {M : Type 1} → statement M
 keep-open-spec =

@@ -9,7 +9,10 @@ sort-sides-requires : tie.Need-sort-sides-requires
 sort-sides-requires c κs = search needs
 
 keep-open-requires : tie.Need-keep-open-requires
-keep-open-requires c κs = (omega arith, ascends (c .before .before .before .before .before .before .before .args .facets .now) (c .before .before .before .before .before .before .before .args .w .now) (c .before .before .before .sort-sides .last .1 .0) (c .before .before .before .sort-sides .ensures))
+keep-open-requires c κs =
+    let s = c .before .before .before .before .before .before .before in
+    let table = c .before .before .before .sort-sides in
+    (omega arith, ascends (s .args .facets .now) (s .args .w .now) (table .last .1 .0) (table .ensures))
 
 mul-zero-part : tie.Need-mul-zero-part
 mul-zero-part c = search needs
@@ -27,7 +30,13 @@ same-length : tie.Need-same-length
 same-length c = search needs
 
 returns : tie.Need-returns
-returns c = opens (c .before .before .before .before .before .before .before .before .before .before .before .before .before .before .args .facets .now) (c .before .before .before .before .before .before .before .before .before .before .before .before .before .before .args .w .now) (c .before .before .before .before .before .before .before .before .before .before .sort-sides .last .1 .0) (c .before .before .before .before .before .before .keep-open .last .0) (c .before .before .zero-part .last .0) (c .before .before .before .before .before .before .keep-open .result) (c .before .before .before .before .before .before .before .before .before .before .before .before .before .before .pre .0) (c .before .before .before .before .before .before .before .before .before .before .before .before .before .before .pre .1) (λ i. omega (arith, c .before .before .before .before .before .before .before .before .before .before .before .before .before .shared-slice-known .given i)) (c .before .before .before .before .before .before .before .before .before .before .sort-sides .ensures) (c .before .before .before .before .before .before .keep-open .ensures) (c .before .before .zero-part .ensures)
+returns c =
+    let s = c .before .before .before .before .before .before .before .before .before .before .before .before .before .before in
+    let corners = c .before .before .before .before .before .before .before .before .before .before .before .before .before .shared-slice-known in
+    let table = c .before .before .before .before .before .before .before .before .before .before .sort-sides in
+    let kept = c .before .before .before .before .before .before .keep-open in
+    let cleared = c .before .before .zero-part in
+    opens (s .args .facets .now) (s .args .w .now) (table .last .1 .0) (kept .last .0) (cleared .last .0) (kept .result) (s .pre .0) (s .pre .1) (λ i. omega (arith, corners .given i)) (table .ensures) (kept .ensures) (cleared .ensures)
 
 pub open-edges-spec : {M : Type 1} → statement M
 open-edges-spec =

@@ -46,13 +46,19 @@ loop-less : tie.Need-loop-less Inv-loop μ-loop
 loop-less c = omega arith
 
 loop-again : tie.Need-loop-again Inv-loop μ-loop
-loop-again c = listing-turn (c .before .before .before .before .before .args .facets .now) (c .before .before .before .before .before .args .w .now) (c .before .before .before .before .before .pre .0) (c .before .before .before .before .before .pre .1) (c .before .before .loop .w) (c .before .before .loop .side) (c .before .before .loop .inv) (c .side-key .result) (omega arith) (c .side-key .ensures)
+loop-again c =
+    let l = c .before .before .loop in
+    let s = c .before .before .before .before .before in
+    listing-turn (s .args .facets .now) (s .args .w .now) (s .pre .0) (s .pre .1) (l .w) (l .side) (l .inv) (c .side-key .result) (omega arith) (c .side-key .ensures)
 
 same-length : tie.Need-same-length Inv-loop μ-loop
 same-length c = omega arith
 
 returns : tie.Need-returns Inv-loop μ-loop
-returns c = listing-end (c .before .before .before .before .args .facets .now) (c .before .before .before .before .args .w .now) (c .before .before .before .before .pre .0) (c .before .before .before .before .pre .1) (c .before .loop .w) (c .before .loop .side) (c .before .loop .inv) (omega arith)
+returns c =
+    let l = c .before .loop in
+    let s = c .before .before .before .before in
+    listing-end (s .args .facets .now) (s .args .w .now) (s .pre .0) (s .pre .1) (l .w) (l .side) (l .inv) (omega arith)
 
 pub side-records-spec : {M : Type 1} → statement M
 side-records-spec =

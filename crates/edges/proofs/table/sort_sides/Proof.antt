@@ -14,7 +14,11 @@ same-length : tie.Need-same-length
 same-length c = search needs
 
 returns : tie.Need-returns
-returns c = sorts-sides (c .before .before .before .before .before .before .before .before .before .before .args .facets .now) (c .before .before .before .before .before .before .before .before .before .before .args .w .now) (c .before .before .before .before .before .before .side-records .last .1 .0) (c .before .before .sort-records .last .0) (c .before .before .before .before .before .before .side-records .ensures) (c .before .before .sort-records .ensures)
+returns c =
+    let s = c .before .before .before .before .before .before .before .before .before .before in
+    let listed = c .before .before .before .before .before .before .side-records in
+    let sorted = c .before .before .sort-records in
+    sorts-sides (s .args .facets .now) (s .args .w .now) (listed .last .1 .0) (sorted .last .0) (listed .ensures) (sorted .ensures)
 
 pub sort-sides-spec : {M : Type 1} → statement M
 sort-sides-spec =
