@@ -1,5 +1,5 @@
-//! Links the static libraries made by `rt staticlib`: libyongpham.a, and
-//! libnumber_exports.a, which exists for comparing and timing only.
+//! Links the static libraries made by `rt staticlib`: libyongpham.a, and those
+//! that exist for comparing and timing only.
 
 use std::env;
 use std::path::PathBuf;
@@ -17,7 +17,12 @@ fn main() {
                 .join("../target/staticlib")
         });
     println!("cargo:rustc-link-search=native={}", folder.display());
-    for (wanted, name) in [(library, "yongpham"), (linked("NUMBERS"), "number_exports")] {
+    for (wanted, name) in [
+        (library, "yongpham"),
+        (linked("NUMBERS"), "number_exports"),
+        (linked("WORDS"), "word_exports"),
+        (linked("WORDS"), "table_exports"),
+    ] {
         if wanted {
             println!(
                 "cargo:rerun-if-changed={}",

@@ -23,6 +23,8 @@ mod timing;
 #[cfg(feature = "caps")]
 #[path = "../../tests/compare/src/triangulation.rs"]
 mod triangulation;
+#[cfg(feature = "words")]
+mod words;
 
 fn main() {
     let arguments: Vec<String> = std::env::args().skip(1).collect();
@@ -32,6 +34,8 @@ fn main() {
         .unwrap_or(9)
         .max(7usize);
     numbers::rows(rounds);
+    #[cfg(feature = "words")]
+    words::rows(rounds);
     #[cfg(any(
         feature = "clip",
         feature = "clean",

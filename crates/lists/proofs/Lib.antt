@@ -10,3 +10,5 @@ pub mod Orders
 pub mod SortBy
 pub mod Multiplicity
 pub mod Mapped
+-- Stores: runs of stores, and counting up.
+pub mod Stores
