@@ -2,3 +2,4 @@
 pub mod Alone
 pub mod Filling
 pub mod Opening
+pub mod OpenEdges

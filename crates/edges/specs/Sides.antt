@@ -7,6 +7,7 @@
 --   Sides                the first n sides stand in the buffer, in their order
 --   SideTable            the buffer holds the table of all sides, sorted
 --   OpenTable            behind that table stand the r records of the open edges
+--   OpenEdges            what `open_edges` leaves: the definition's open edges, as they run
 --   SameKey, PutOpen     what the steps of the search for them answer and leave
 use Prim.Native.Nat.{ℕ, _+_, _*_, _-_, _%_, _≤_, _<_}
 use mathlib.Core.Path.{_≡_}
@@ -19,6 +20,8 @@ use Rattle.lists.specs.Regions.{Outside}
 use Rattle.words.specs.Packed.{edge}
 use Rattle.sorting.specs.Sorting.{sorted}
 use Rattle.sorting.specs.Buffer.{recordOf, recordsAt, putRecord}
+use Rattle.geometry.specs.Triangles.{threes}
+use Rattle.edges.specs.Edges.{openEdges}
 
 abbrev pub nextCorner : ℕ → ℕ
 nextCorner s = cond (eqb (s % 3) 2) (s - 2) (s + 1)
@@ -66,3 +69,11 @@ pub record SameKey (w : List ℕ) (there : Type 0) (i j : ℕ) (r : Bool) : Type
 pub record PutOpen (old new : List ℕ) (n i r q : ℕ) : Type 0 where
   pub count : q ≡ cond (alone (recordsAt old 0 n) (recordOf old (2 * i))) (r + 1) r
   pub stored : new ≡ cond (alone (recordsAt old 0 n) (recordOf old (2 * i))) (putRecord old (2 * n + 2 * r) (recordOf old (2 * i))) old
+
+-- the open edges of the facets fs, r in number: the table of all sides is at the front, their records stand behind it, and all else is as it was
+pub record OpenEdges (fs old new : List ℕ) (r : ℕ) : Type 0 where
+  pub long : length new ≡ length old
+  pub table : recordsAt new 0 (length fs) ≡ sorted (sideRecords fs)
+  pub records : recordsAt new (2 * length fs) r ≡ openRecords fs
+  pub runs : map (λ q. sideOf fs (q .1)) (recordsAt new (2 * length fs) r) ≡ openEdges (threes fs)
+  pub rest : (x : ℕ) → 4 * length fs ≤ x → getD new x 0 ≡ getD old x 0

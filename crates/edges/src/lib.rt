@@ -3,4 +3,5 @@ mod sides;
 mod table;
 
 pub use table::open_edges;
+pub use table::pick_open;
 pub use table::side_table;

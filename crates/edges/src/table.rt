@@ -6,7 +6,7 @@ ghost use lib.ListN.{length};
 ghost use Rattle.lists.specs.Order.{Ascending};
 ghost use Rattle.sorting.specs.Sorting.{recordBefore};
 ghost use Rattle.sorting.specs.Buffer.{recordOf, recordsAt};
-ghost use Rattle.edges.specs.Sides.{alone, SameKey, SideTable, PutOpen, OpenTable};
+ghost use Rattle.edges.specs.Sides.{alone, SameKey, SideTable, PutOpen, OpenTable, OpenEdges};
 
 // Makes the table in the first 2n words of w, where n is the number of sides; the next 2n words are used.
 pub fn side_table(facets: &[u32], w: &mut [u64])
@@ -75,8 +75,8 @@ fn put_open(w: &mut [u64], n: usize, i: usize, r: usize) -> usize
     r
 }
 
-// The open edges of a table of n sides, which is left as it is: their records, ascending, from 2n on. Answers how many there are.
-pub fn open_edges(w: &mut [u64], n: usize) -> usize
+// Picks the open edges out of a table of n sides, which is left as it is: their records, ascending, from 2n on. Answers how many there are.
+pub fn pick_open(w: &mut [u64], n: usize) -> usize
     requires { ⌜ 4 * n ≤ length (now w) ⌝ }
     requires { ⌜ Ascending recordBefore (recordsAt (now w) 0 n) ⌝ }
     ensures { λ r. ⌜ OpenTable n (now (w .entry)) (now (w .exit)) n r ⌝ }
@@ -88,4 +88,14 @@ pub fn open_edges(w: &mut [u64], n: usize) -> usize
         i += 1;
     }
     r
+}
+
+// The open edges of facets: the table of all sides, and behind it the records of the open ones, in ascending order of their pair. Answers how many there are.
+pub fn open_edges(facets: &[u32], w: &mut [u64]) -> usize
+    requires { ⌜ length (now facets) % 3 ≡ 0 ⌝ }
+    requires { ⌜ 4 * length (now facets) ≤ length (now w) ⌝ }
+    ensures { λ r. ⌜ OpenEdges (now (facets .entry)) (now (w .entry)) (now (w .exit)) r ⌝ }
+{
+    side_table(facets, w);
+    pick_open(w, facets.len())
 }

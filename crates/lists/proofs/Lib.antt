@@ -9,3 +9,4 @@ pub mod Places
 pub mod Orders
 pub mod SortBy
 pub mod Multiplicity
+pub mod Mapping

@@ -1,53 +1,28 @@
--- `open_edges` meets its contract. The loop's invariant: of the records before i the open ones are picked. Assumes nothing.
+-- `open_edges` meets its contract. Assumes nothing.
 use mathlib.Core.Path.{_≡_, refl, sym, ap, _∙_}
 use Prim.Native.Nat.{ℕ, _+_, _*_, _≤_, _<_, _-_, _/_}
 use native.Mathlib.Omega.{arith}
 use lib.ListN.{getD, length, length-set}
-use Rattle.edges.specs.Sides.{OpenTable}
-use Rattle.edges.proofs.Opening.{opening-start, table-kept, opening-turn, opening-end}
+use Rattle.edges.proofs.OpenEdges.{table-ascends, edges-found}
+use borrow.Author.Needs.{needs}
 use Rattle.edges.proofs.table.open_edges.Statement.{statement}
 use Rattle.edges.proofs.table.open_edges.Tie as tie
 use Rattle.edges.proofs.table.open_edges.Reads as reads
 use Rattle.edges.proofs.table.open_edges.Lts as lts
-use Rattle.edges.proofs.table.put_open.Reads as put-open-reads
+use Rattle.edges.proofs.table.pick_open.Reads as pick-open-reads
+use Rattle.edges.proofs.table.side_table.Reads as side-table-reads
 
-abbrev Inv-loop : tie.InvT-loop
-Inv-loop w₀ n r₀ i₀ w r i = OpenTable n w₀ w i r
+side-table-requires : tie.Need-side-table-requires
+side-table-requires c κs = search needs
 
-abbrev μ-loop : tie.MeasureT-loop
-μ-loop w₀ n r₀ i₀ w r i = n - i
+pick-open-requires : tie.Need-pick-open-requires
+pick-open-requires c κs = let s = c .before .before .before .before .before .before .before .args in let e = c .before .before .before .side-table .ensures .long in (omega arith, table-ascends (s .facets .now) _ _ (c .before .before .before .side-table .ensures))
 
-loop-holds : tie.Need-loop-holds Inv-loop μ-loop
-loop-holds c = opening-start (c .before .args .n) (c .before .args .w .now)
+same-length : tie.Need-same-length
+same-length c = search needs
 
-put-open-requires : tie.Need-put-open-requires Inv-loop μ-loop
-put-open-requires c κs = let l = c .before .before .loop in let s = c .before .before .before .before .args in let e = l .inv .long in (omega arith, (omega arith, (l .inv .few, rw (table-kept (s .n) (s .w .now) (l .w) (l .i) (l .r) (omega arith) (l .inv) (omega arith)) (c .before .before .before .before .pre .1))))
-
-add-i : tie.Need-add-i Inv-loop μ-loop
-add-i c = omega arith
-
-loop-less : tie.Need-loop-less Inv-loop μ-loop
-loop-less c = omega arith
-
-loop-again : tie.Need-loop-again Inv-loop μ-loop
-loop-again c = let l = c .before .before .before .before .before .loop in let s = c .before .before .before .before .before .before .before .args in opening-turn (s .n) (s .w .now) (l .w) (l .i) (l .r) (omega arith) (l .inv) (omega arith) _ _ (c .before .before .put-open .ensures)
-
-same-length : tie.Need-same-length Inv-loop μ-loop
-same-length c = omega arith
-
-returns : tie.Need-returns Inv-loop μ-loop
-returns c = let l = c .before .loop in let s = c .before .before .before .args in let e : l .i ≡ s .n = omega arith in opening-end (s .n) (s .w .now) (l .w) (l .i) (l .r) e (l .inv)
+returns : tie.Need-returns
+returns c = let s = c .before .before .before .before .before .before .before .before .before .before .args in edges-found (s .facets .now) (s .w .now) _ _ _ (c .before .before .before .before .before .before .before .before .before .before .pre .0) (λ i. let h = c .before .before .before .before .before .before .before .before .before .shared-slice-known .given i in omega arith) (c .before .before .before .before .before .before .side-table .ensures) (c .before .before .pick-open .ensures)
 
 pub open-edges-spec : {M : Type 1} → statement M
-open-edges-spec =
-    tie.close
-    (tie.spec
-    Inv-loop
-    μ-loop
-    loop-holds
-    put-open-requires
-    add-i
-    loop-less
-    loop-again
-    same-length
-    returns)
+open-edges-spec = tie.close (tie.spec side-table-requires pick-open-requires same-length returns)
