@@ -36,10 +36,20 @@ wide-requires : tie.Need-wide-requires Inv-loop μ-loop
 wide-requires c κs = tt
 
 mul-wide-2 : tie.Need-mul-wide-2 Inv-loop μ-loop
-mul-wide-2 c = let l = c .before .before .before .before .loop in let s = c .before .before .before .before .before .before .before .args in let h = corner-in (length (s .facets .now)) (l .s) (c .before .before .before .before .before .before .before .pre .0) (omega arith) in let e = c .before .before .next-corner .ensures in omega arith
+mul-wide-2 c =
+    let l = c .before .before .before .before .loop in
+    let s = c .before .before .before .before .before .before .before .args in
+    let h = corner-in (length (s .facets .now)) (l .s) (c .before .before .before .before .before .before .before .pre .0) (omega arith) in
+    let e = c .before .before .next-corner .ensures in
+    omega arith
 
 shared-slice-read-wide-2 : tie.Need-shared-slice-read-wide-2 Inv-loop μ-loop
-shared-slice-read-wide-2 c = let l = c .before .before .before .before .before .loop in let s = c .before .before .before .before .before .before .before .before .args in let h = corner-in (length (s .facets .now)) (l .s) (c .before .before .before .before .before .before .before .before .pre .0) (omega arith) in let e = c .before .before .before .next-corner .ensures in omega arith
+shared-slice-read-wide-2 c =
+    let l = c .before .before .before .before .before .loop in
+    let s = c .before .before .before .before .before .before .before .before .args in
+    let h = corner-in (length (s .facets .now)) (l .s) (c .before .before .before .before .before .before .before .before .pre .0) (omega arith) in
+    let e = c .before .before .before .next-corner .ensures in
+    omega arith
 
 wide-requires-2 : tie.Need-wide-requires-2 Inv-loop μ-loop
 wide-requires-2 c κs = tt
@@ -54,7 +64,11 @@ mul-w-2 : tie.Need-mul-w-2 Inv-loop μ-loop
 mul-w-2 c = omega arith
 
 slice-write-w : tie.Need-slice-write-w Inv-loop μ-loop
-slice-write-w c = let l = c .before .before .before .before .before .before .before .loop in let s = c .before .before .before .before .before .before .before .before .before .before .args in let e = l .inv .long in omega arith
+slice-write-w c =
+    let l = c .before .before .before .before .before .before .before .loop in
+    let s = c .before .before .before .before .before .before .before .before .before .before .args in
+    let e = l .inv .long in
+    omega arith
 
 mul-w-3 : tie.Need-mul-w-3 Inv-loop μ-loop
 mul-w-3 c = omega arith
@@ -66,7 +80,11 @@ mul-w-4 : tie.Need-mul-w-4 Inv-loop μ-loop
 mul-w-4 c = omega arith
 
 slice-write-w-2 : tie.Need-slice-write-w-2 Inv-loop μ-loop
-slice-write-w-2 c = let l = c .before .before .before .before .before .before .before .loop in let s = c .before .before .before .before .before .before .before .before .before .before .args in let e = l .inv .long in simp length-set (omega arith)
+slice-write-w-2 c =
+    let l = c .before .before .before .before .before .before .before .loop in
+    let s = c .before .before .before .before .before .before .before .before .before .before .args in
+    let e = l .inv .long in
+    simp length-set (omega arith)
 
 add-s : tie.Need-add-s Inv-loop μ-loop
 add-s c = omega arith
@@ -75,13 +93,23 @@ loop-less : tie.Need-loop-less Inv-loop μ-loop
 loop-less c = omega arith
 
 loop-again : tie.Need-loop-again Inv-loop μ-loop
-loop-again c = let l = c .before .before .before .before .before .before .before .loop in let s = c .before .before .before .before .before .before .before .before .before .before .args in let e = c .before .before .before .before .before .next-corner .ensures in let x = c .before .before .before .wide .ensures .0 in let y = c .before .wide2 .ensures .0 ∙ ap (λ (k : ℕ). getD (s .facets .now) k 0) e in sides-turn (s .facets .now) (s .w .now) (l .w) (l .s) (c .pack-edge .result) (omega arith) (omega arith) (l .inv) (pair-same (c .pack-edge .result) (l .s) _ (l .s) (c .pack-edge .ensures ∙ rw (x, y) refl) refl)
+loop-again c =
+    let l = c .before .before .before .before .before .before .before .loop in
+    let s = c .before .before .before .before .before .before .before .before .before .before .args in
+    let e = c .before .before .before .before .before .next-corner .ensures in
+    let x = c .before .before .before .wide .ensures .0 in
+    let y = c .before .wide2 .ensures .0 ∙ ap (λ (k : ℕ). getD (s .facets .now) k 0) e in
+    sides-turn (s .facets .now) (s .w .now) (l .w) (l .s) (c .pack-edge .result) (omega arith) (omega arith) (l .inv)
+    (pair-same (c .pack-edge .result) (l .s) _ (l .s) (c .pack-edge .ensures ∙ rw (x, y) refl) refl)
 
 same-length : tie.Need-same-length Inv-loop μ-loop
 same-length c = let l = c .before .loop in let s = c .before .before .before .before .args in l .inv .long
 
 returns : tie.Need-returns Inv-loop μ-loop
-returns c = let l = c .before .loop in let s = c .before .before .before .before .args in sides-all (s .facets .now) (s .w .now) (l .w) (l .s) (omega arith) (l .inv)
+returns c =
+    let l = c .before .loop in
+    let s = c .before .before .before .before .args in
+    sides-all (s .facets .now) (s .w .now) (l .w) (l .s) (omega arith) (l .inv)
 
 pub put-sides-spec : {M : Type 1} → statement M
 put-sides-spec =

@@ -36,7 +36,10 @@ shared-slice-read-result-2 : tie.Need-shared-slice-read-result-2
 shared-slice-read-result-2 c = search needs
 
 returns-2 : tie.Need-returns-2
-returns-2 c = let s = c .before .before .before .args in record { if-true = λ e. (omega arith, eqb-true (getD (s .w .now) (2 * (s .i - 1)) 0) (getD (s .w .now) (2 * s .i) 0) e); if-false = λ e h q. eqb-false (getD (s .w .now) (2 * (s .i - 1)) 0) (getD (s .w .now) (2 * s .i) 0) e q }
+returns-2 c =
+    let s = c .before .before .before .args in
+    record
+    { if-true = λ e. (omega arith, eqb-true (getD (s .w .now) (2 * (s .i - 1)) 0) (getD (s .w .now) (2 * s .i) 0) e); if-false = λ e h q. eqb-false (getD (s .w .now) (2 * (s .i - 1)) 0) (getD (s .w .now) (2 * s .i) 0) e q }
 
 pub follows-spec : {M : Type 1} → statement M
 follows-spec =

@@ -21,7 +21,11 @@ loop-holds : tie.Need-loop-holds Inv-loop μ-loop
 loop-holds c = opening-start (c .before .args .n) (c .before .args .w .now)
 
 put-open-requires : tie.Need-put-open-requires Inv-loop μ-loop
-put-open-requires c κs = let l = c .before .before .loop in let s = c .before .before .before .before .args in let e = l .inv .long in (omega arith, (omega arith, (l .inv .few, rw (table-kept (s .n) (s .w .now) (l .w) (l .i) (l .r) (omega arith) (l .inv) (omega arith)) (c .before .before .before .before .pre .1))))
+put-open-requires c κs =
+    let l = c .before .before .loop in
+    let s = c .before .before .before .before .args in
+    let e = l .inv .long in
+    (omega arith, (omega arith, (l .inv .few, rw (table-kept (s .n) (s .w .now) (l .w) (l .i) (l .r) (omega arith) (l .inv) (omega arith)) (c .before .before .before .before .pre .1))))
 
 add-i : tie.Need-add-i Inv-loop μ-loop
 add-i c = omega arith
@@ -30,13 +34,20 @@ loop-less : tie.Need-loop-less Inv-loop μ-loop
 loop-less c = omega arith
 
 loop-again : tie.Need-loop-again Inv-loop μ-loop
-loop-again c = let l = c .before .before .before .before .before .loop in let s = c .before .before .before .before .before .before .before .args in opening-turn (s .n) (s .w .now) (l .w) (l .i) (l .r) (omega arith) (l .inv) (omega arith) _ _ (c .before .before .put-open .ensures)
+loop-again c =
+    let l = c .before .before .before .before .before .loop in
+    let s = c .before .before .before .before .before .before .before .args in
+    opening-turn (s .n) (s .w .now) (l .w) (l .i) (l .r) (omega arith) (l .inv) (omega arith) _ _ (c .before .before .put-open .ensures)
 
 same-length : tie.Need-same-length Inv-loop μ-loop
 same-length c = omega arith
 
 returns : tie.Need-returns Inv-loop μ-loop
-returns c = let l = c .before .loop in let s = c .before .before .before .args in let e : l .i ≡ s .n = omega arith in opening-end (s .n) (s .w .now) (l .w) (l .i) (l .r) e (l .inv)
+returns c =
+    let l = c .before .loop in
+    let s = c .before .before .before .args in
+    let e : l .i ≡ s .n = omega arith in
+    opening-end (s .n) (s .w .now) (l .w) (l .i) (l .r) e (l .inv)
 
 pub pick-open-spec : {M : Type 1} → statement M
 pick-open-spec =

@@ -22,7 +22,10 @@ same-length : tie.Need-same-length
 same-length c = search needs
 
 returns : tie.Need-returns
-returns c = let s = c .before .before .before .before .before .before .before .before .before .before .args in table-made (s .facets .now) (s .w .now) _ _ (omega arith) (c .before .before .before .before .before .before .put-sides .ensures) (c .before .before .sort-records .ensures)
+returns c =
+    let s = c .before .before .before .before .before .before .before .before .before .before .args in
+    table-made (s .facets .now) (s .w .now) _ _ (omega arith) (c .before .before .before .before .before .before .put-sides .ensures)
+    (c .before .before .sort-records .ensures)
 
 pub side-table-spec : {M : Type 1} → statement M
 side-table-spec = tie.close (tie.spec put-sides-requires sort-records-requires same-length returns)
