@@ -12,3 +12,4 @@ pub mod Multiplicity
 pub mod Mapped
 -- Stores: runs of stores, and counting up.
 pub mod Stores
+pub mod Mapping
