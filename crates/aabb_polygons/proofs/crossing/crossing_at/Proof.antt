@@ -5,7 +5,7 @@ use Rattle.aabb_polygons.proofs.crossing.crossing_at.Statement.{stateme
 use Rattle.aabb_polygons.proofs.crossing.crossing_at.Tie as tie
 use Rattle.aabb_polygons.proofs.crossing.crossing_at.Reads as reads
 use Rattle.aabb_polygons.proofs.crossing.crossing_at.Lts as lts
-use Rattle.geometry.proofs.doubles.within.Reads as within-reads
+use Rattle.rounding.proofs.within.Reads as within-reads
 
 -- src/crossing.rt:19:8
 within-requires : tie.Need-within-requires

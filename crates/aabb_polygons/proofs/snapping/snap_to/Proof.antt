@@ -5,7 +5,7 @@ use Rattle.aabb_polygons.proofs.snapping.snap_to.Statement.{statement}
 use Rattle.aabb_polygons.proofs.snapping.snap_to.Tie as tie
 use Rattle.aabb_polygons.proofs.snapping.snap_to.Reads as reads
 use Rattle.aabb_polygons.proofs.snapping.snap_to.Lts as lts
-use Rattle.geometry.proofs.doubles.within.Reads as within-reads
+use Rattle.rounding.proofs.within.Reads as within-reads
 
 -- src/snapping.rt:11:8
 within-requires : tie.Need-within-requires
