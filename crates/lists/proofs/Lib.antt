@@ -1,5 +1,5 @@
 -- Bools: tests. Every: what all pass. Members: members of the lists that the words of specs/Lists.antt make. Counts: how many pass. Places: 0, 1, .. n - 1.
--- Regions: parts of a buffer. Mapped: sorting and keeping under a function.
+-- Regions: parts of a buffer. Mapped: sorting and keeping under a function. Stores: runs of stores, and counting up.
 pub mod Bools
 pub mod Every
 pub mod Members
@@ -10,6 +10,4 @@ pub mod Orders
 pub mod SortBy
 pub mod Multiplicity
 pub mod Mapped
--- Stores: runs of stores, and counting up.
 pub mod Stores
-pub mod Mapping
