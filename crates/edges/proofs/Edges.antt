@@ -2,8 +2,9 @@
 --   same-pair-refl, same-pair-sym, same-pair-as   `samePair` is an equivalence: who has the pair of s is as near to any pair as s
 --   open-is-side, open-once, once-open            an open edge is a side that alone bears its pair, and each such side is an open edge
 --   open-pair                                     a pair is that of an open edge exactly if exactly one side bears it
+--   open-small                                    corners below 2^32 make open edges with ends below 2^32
 --   open-distinct, open-ascending                 no two have the same pair; of two places the earlier has the lesser pair
-use Prim.Native.Nat.{ℕ, zero, suc, _+_, _≤_, _<_}
+use Prim.Native.Nat.{ℕ, zero, suc, _+_, _%_, _≤_, _<_}
 use mathlib.Core.Bool.{Bool, true, false, cond}
 use mathlib.Core.List.{List, [], _∷_, map, List·Memᴰ, List·Memᴰ·head}
 use mathlib.Core.Logic.{_⊎_, inl, inr, ⊎-elim}
@@ -16,14 +17,15 @@ use Rattle.lists.specs.Lists.{some, keep, count, sortBy}
 use Rattle.lists.specs.Order.{AtMost}
 use Rattle.lists.proofs.Counts.{keep-same}
 use Rattle.lists.proofs.Mapped.{Each, Pairwise, Agree, each-of, pairwise-of, pairwise-at, pairwise-map, pairwise-keep, pairwise-sortBy, map-sortBy, mem-sortBy, sortBy-mem}
-use Rattle.lists.proofs.Members.{keep-of, of-keep, some-of, of-some}
+use Rattle.lists.proofs.Members.{keep-of, of-keep, some-of, of-some, getD-mem, mem-getD}
 use Rattle.lists.proofs.Multiplicity.{more, count-cons, some-sortBy}
 use Rattle.lists.proofs.Orders.{cases, never, ascending-before}
 use Rattle.lists.proofs.SortBy.{length-sortBy, ascending-sortBy}
 use Rattle.sorting.specs.Sorting.{recordBefore}
 use Rattle.sorting.proofs.Comparing.{Lex, record-cases, record-order, lex-before}
-use Rattle.geometry.specs.Triangles.{Triangle}
+use Rattle.geometry.specs.Triangles.{Triangle, threes}
 use Rattle.edges.specs.Edges.{sides, sortedPair, samePair, bearers, isOpen, pairBefore, openEdges}
+use Rattle.edges.proofs.Sides.{Small, sides-small}
 use Rattle.edges.proofs.Keys.{SameEnds, pair-same, same-pair, both-ways, same-ends-sorted, sorted-same-ends}
 
 -- a test as a fact, and back
@@ -156,3 +158,8 @@ module _ (fs : List (Triangle ℕ)) where
         (⊎-elim (λ (e : sortedPair x ≡ sortedPair y). absurd (never (samePair x y) (sorted-same x y e) open-distinct))
         (λ (l : Lex (sortedPair y) (sortedPair x)). absurd (never (recordBefore (sortedPair y) (sortedPair x)) (lex-before (sortedPair y) (sortedPair x) l) not-later)))
         (record-cases (sortedPair x) (sortedPair y))
+
+pub open-small : (f : List ℕ) → length f % 3 ≡ 0 → ((i : ℕ) → getD f i 0 < 4294967296) → (i : ℕ) → i < length (openEdges (threes f)) → Small (getD (openEdges (threes f)) i (0, 0))
+open-small f whole bound i h =
+    let s = mem-getD (0, 0) (open-is-side (threes f) (getD-mem (openEdges (threes f)) i (0, 0) h)) in
+    subst Small (s .2) (sides-small f whole bound (s .0))

@@ -2,7 +2,8 @@
 --   same-pair, pair-same   `samePair` as a fact on the ends
 --   same-pair-key          two sides have the same pair exactly if they have the same key
 --   pair-before-key        the order of sorted pairs is that of the keys
---   same-pair-sorted       the same pair exactly if the same sorted pair, for any ends
+--   key-first, key-second  the key's two numbers are the sorted pair
+--   same-ends-sorted, sorted-same-ends   the same two ends exactly if the same sorted pair, whatever the ends
 use Prim.Native.Nat.{ℕ, _≤_, _<_, min, max}
 use mathlib.Core.Bool.{Bool, true, false, cond, _&&_, _||_}
 use mathlib.Core.Logic.{_⊎_, inl, inr, ⊎-elim}
@@ -12,7 +13,8 @@ use borrow.Author.Tests.{ltb-true, ltb-false, eqb-true, eqb-false, eq-eqb, ne-eq
 use lib.Dec.{eqb, ltb}
 use Rattle.lists.proofs.Bools.{and-left, and-right, and-stop}
 use Rattle.lists.proofs.Orders.{cases, never}
-use Rattle.words.proofs.Packed.{pair-lex, lex-pair, edge-exchange, edge-injective}
+use Rattle.words.specs.Packed.{pairFirst, pairSecond}
+use Rattle.words.proofs.Packed.{pair-first, pair-second, pair-lex, lex-pair, edge-exchange, edge-injective}
 use Rattle.sorting.specs.Sorting.{recordBefore}
 use Rattle.sorting.proofs.Comparing.{Lex, lex-before, not-lex}
 use Rattle.edges.specs.Edges.{sortedPair, samePair, pairBefore}
@@ -64,6 +66,13 @@ sorted-same-ends s t e =
     ⊎-elim (λ (h : eqb (s .0) (t .0) ≡ true). let q = eqb-true (s .0) (t .0) h in inl (q, omega arith))
     (λ (h : eqb (s .0) (t .0) ≡ false). let q = eqb-false (s .0) (t .0) h in inr (omega arith, omega arith))
     (cases (eqb (s .0) (t .0)))
+
+module _ (s : ℕ × ℕ) (a : Small s) where
+  pub key-first : pairFirst (keyOf s) ≡ sortedPair s .0
+  key-first = pair-first (min (s .0) (s .1)) (max (s .0) (s .1)) (omega (arith, a .0, a .1))
+
+  pub key-second : pairSecond (keyOf s) ≡ sortedPair s .1
+  key-second = pair-second (min (s .0) (s .1)) (max (s .0) (s .1)) (omega (arith, a .0, a .1))
 
 module _ (s t : ℕ × ℕ) (a : Small s) (b : Small t) where
   pub same-pair-key : samePair s t ≡ eqb (keyOf s) (keyOf t)

@@ -3,6 +3,7 @@
 --   length-bearing           as many sides bear a pair as `bearers` says
 --   keys-ascend, run-list    of any sorted list of records: the run from i to e holds all records of its key
 --   row-key, row-number      the record at place i of the table: its key is the pair of its side, which is one of the facets' sides
+--   sides-in-order           the table holds all sides in ascending order of their pair, those of one pair in the order of the facets
 --   run-sides, run-long      the run from i to e holds the numbers of all sides that bear the pair, ascending, and so e - i sides bear it
 use Prim.Native.Nat.{ℕ, zero, suc, _+_, _*_, _-_, _%_, _≤_, _<_}
 use mathlib.Core.Bool.{Bool, true, false}
@@ -13,7 +14,7 @@ use borrow.Author.Tests.{eq-eqb, ne-eqb}
 use lib.Dec.{eqb}
 use lib.ListN.{length, getD, take, drop, length-take, length-drop, length-map, take-append-drop}
 use lib.Seq.{ext-getD, getD-take, getD-drop, length-take-le}
-use Rattle.lists.specs.Lists.{keep, count, upTo}
+use Rattle.lists.specs.Lists.{keep, count, sortBy, upTo}
 use Rattle.lists.specs.Order.{Ascending}
 use Rattle.lists.proofs.Counts.{keep-append, count-places}
 use Rattle.lists.proofs.Mapped.{Each, each-places, each-at, keep-all, keep-none}
@@ -25,10 +26,10 @@ use Rattle.sorting.proofs.Comparing.{record-order}
 use Rattle.sorting.proofs.Records.{length-records-at, records-at-get, records-take, length-records, records-get}
 use Rattle.sorting.proofs.Sorting.{at-most-key}
 use Rattle.geometry.specs.Triangles.{threes}
-use Rattle.edges.specs.Edges.{sides, samePair, bearers}
-use Rattle.edges.specs.Table.{keyOf, edgeTable, bearing, EdgeTable}
+use Rattle.edges.specs.Edges.{sides, samePair, bearers, pairBefore}
+use Rattle.edges.specs.Table.{keyOf, sideOf, edgeTable, bearing, EdgeTable}
 use Rattle.edges.proofs.Sides.{Small, length-sides, sides-small}
-use Rattle.edges.proofs.Rows.{Row, table-rows, table-ascends, table-bearing}
+use Rattle.edges.proofs.Rows.{Row, table-rows, table-ascends, table-sides, table-bearing}
 
 pub length-bearing : (l : List (ℕ × ℕ)) (s : ℕ × ℕ) → length (bearing l s) ≡ bearers l s
 length-bearing l s =
@@ -133,6 +134,9 @@ module _ (f w w′ : List ℕ) (whole : length f % 3 ≡ 0) (bound : (i : ℕ) �
 
   pub row-number : (i : ℕ) → i < length f → getD w′ (2 * i + 1) 0 < length f
   row-number i h = omega (arith, row i h .within, length-sides f whole)
+
+  pub sides-in-order : map (sideOf S) R ≡ sortBy pairBefore S
+  sides-in-order = ap (map (sideOf S)) (t .table) ∙ table-sides S small
 
   module _ (i e : ℕ) (ie : i < e) (en : e ≤ length f)
       (first : (j : ℕ) → suc j ≡ i → getD w′ (2 * j) 0 ≡ getD w′ (2 * i) 0 → ⊥)
