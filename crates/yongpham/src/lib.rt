@@ -2,3 +2,5 @@
 // through the documented number and values.
 mod report;
 mod tolerance_of_box;
+
+pub use tolerance_of_box::yongpham_tolerance;

@@ -9,7 +9,9 @@ use crate::request::Request;
 
 pub const OPERATION: Operation = Operation {
     name: "clip",
+    number: 2,
     generate,
+    chosen: Vec::new,
     need: |r| oracle::need_words(r.vertices.len() / 3, r.facets.len() / 3, 0, 0),
     lengths: |r| {
         let (v, f) = oracle::reference::clip_mesh_to_aabb(

@@ -10,8 +10,12 @@ use oracle::Reply;
 /// One of clip, clean, candidates, caps. Each has a file that makes this record.
 pub struct Operation {
     pub name: &'static str,
+    /// Its number in a file of stored answers.
+    pub number: u64,
     /// Makes request number `n`; work room and outputs are chosen afterwards.
     pub generate: fn(&mut Random, u64) -> Request,
+    /// Requests that a file of stored answers has in any case.
+    pub chosen: fn() -> Vec<Request>,
     /// Words of work room that test 7 asks for.
     pub need: fn(&Request) -> u64,
     /// Lengths of the result, for a request that fails at most by test 12.
@@ -55,8 +59,8 @@ pub fn mesh_answer(
     work: &mut Lent<u64>,
     call: impl FnOnce(&mut [u64], &mut [f64], &mut [u32]) -> Reply,
 ) -> Answer {
-    let mut vertices = Lent::new(request.outputs[0]);
-    let mut facets = Lent::new(request.outputs[1]);
+    let mut vertices = Lent::new(request.outputs[0], work.old());
+    let mut facets = Lent::new(request.outputs[1], work.old());
     let reply = call(work.lend(request.work), vertices.slice(), facets.slice());
     let guards = vertices.guards_stand() && facets.guards_stand();
     answer(
@@ -73,7 +77,9 @@ pub fn lists_answer(
     work: &mut Lent<u64>,
     call: impl FnOnce(&mut [u64], [&mut [u64]; 4]) -> Reply,
 ) -> Answer {
-    let mut lists = request.outputs.map(Lent::<u64>::new);
+    let mut lists = request
+        .outputs
+        .map(|length| Lent::<u64>::new(length, work.old()));
     let reply = call(work.lend(request.work), lists.each_mut().map(Lent::slice));
     let guards = lists.iter().all(Lent::guards_stand);
     answer(
