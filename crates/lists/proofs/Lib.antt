@@ -9,3 +9,5 @@ pub mod Places
 pub mod Orders
 pub mod SortBy
 pub mod Multiplicity
+-- Stores: runs of stores, and counting up.
+pub mod Stores

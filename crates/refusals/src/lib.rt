@@ -3,3 +3,5 @@ pub mod boxes;
 pub mod front;
 pub mod grid;
 pub mod refusal;
+pub mod reply;
+pub mod report;

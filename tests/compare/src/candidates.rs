@@ -151,6 +151,9 @@ pub fn boundary(random: &mut Random, number: u64) -> Request {
     if number % 8 != 5 && number % 8 != 2 {
         request.resolution = resolution(random, &request.extents);
     }
+    if random.one_in(40) {
+        request.facets.clear();
+    }
     tame(&mut request);
     unused_vertices(random, &mut request);
     request
@@ -274,17 +277,17 @@ fn on_faces(random: &mut Random) -> Request {
 
 /// An open edge on a face that passes a grid point at the skip test's bound: beside
 /// it, at resolution x 1e-9 times the larger of 1 and the length over the length,
-/// or beyond its end. The point lies at 0, where doubles are dense.
+/// or beyond its end. The point lies at 0, where doubles are dense. In the largest
+/// box the bound is near 1, so that the last digit of the length decides.
 fn near_grid_points(random: &mut Random) -> Request {
-    let half = random.pick(&[0.25, 1.0, 4.0, 100.0]);
+    let half = random.pick(&[0.25, 1.0, 100.0, LARGEST / 2.0, LARGEST / 2.0]);
+    let large = half > 1e6;
     let extents = [-half, -half, -half, half, half, half];
     let resolution = half / (1 + random.below(2)) as f64;
     let tolerance = resolution * 1e-9;
     // The edge runs from -d to d, shifted sideways.
-    let d = [
-        half * random.between(0.05, 0.9),
-        half * random.pick(&[0.0, 0.3, -0.7]),
-    ];
+    let scale = if large { 4.0 } else { half };
+    let d = [random.between(0.05, 0.9), random.pick(&[0.0, 0.3, -0.7])].map(|x| scale * x);
     let length = 2.0 * (d[0] * d[0] + d[1] * d[1]).sqrt();
     let aside = tolerance * length.max(1.0) / length * random.pick(&[0.0, 0.5, 1.0, 1.0, 1.0, 2.0]);
     let aside = near(random, aside);
@@ -310,7 +313,11 @@ fn near_grid_points(random: &mut Random) -> Request {
     }
     let mut facets = vec![0, 1, 2];
     facets.rotate_left(random.below(3));
-    let eps = random.pick(&[0.0, 1e-10, 1e-12]);
+    let eps = if large {
+        1e-9
+    } else {
+        random.pick(&[0.0, 1e-10, 1e-12])
+    };
     let mut request = Request::new("near grid points", vertices, facets, extents, eps);
     request.resolution = resolution;
     request
@@ -377,8 +384,9 @@ fn repeated_and_closed(random: &mut Random) -> Request {
             });
         }
     }
-    let list = match random.below(4) {
+    let list = match random.below(5) {
         0 => vec![0, 2, 1, 0, 1, 3, 1, 2, 3, 0, 3, 2],
+        4 => return shared_edge(random),
         1 => {
             let mut list = meshes::random_facets(random, 1, 3);
             list.extend_from_within(..);
@@ -400,6 +408,34 @@ fn repeated_and_closed(random: &mut Random) -> Request {
     };
     let eps = random.pick(&[0.0, 1e-10, 0.25]);
     Request::new("repeated and closed", vertices, list, UNIT, eps)
+}
+
+/// Facets on one face that share an edge: two, three or four bear it.
+fn shared_edge(random: &mut Random) -> Request {
+    let plane = random.below(2) as f64;
+    let mut vertices = Vec::new();
+    for _ in 0..6 {
+        vertices.extend([
+            random.below(9) as f64 / 8.0,
+            random.below(9) as f64 / 8.0,
+            plane,
+        ]);
+    }
+    let mut facets = Vec::new();
+    for third in 2..4 + random.below(3) as u32 {
+        facets.extend(if random.one_in(2) {
+            [0, 1, third]
+        } else {
+            [third, 1, 0]
+        });
+    }
+    Request::new(
+        "shared edge",
+        vertices,
+        facets,
+        UNIT,
+        random.pick(&[0.0, 1e-10]),
+    )
 }
 
 /// A box with one long axis, at 255 to 258 segments; and boxes whose corners have

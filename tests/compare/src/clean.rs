@@ -78,6 +78,7 @@ fn generate(random: &mut Random, number: u64) -> Request {
         0 => small_lists(random, number / 8),
         1 => around_cells(random),
         2 => one_cell(random),
+        3 if random.one_in(3) => flat_or_not(random),
         3 => flat_facets(random),
         4 => components(random),
         5 => large_keys(random),
@@ -229,6 +230,34 @@ fn flat_facets(random: &mut Random) -> Request {
         list.push(again);
     }
     Request::new("flat facets", vertices, list.concat(), UNIT, eps)
+}
+
+/// One facet several times, from each corner on and turned round, with a squared
+/// cross product so near eps^4 that rounding sets the turns apart: the first that
+/// passes is the one that stays. A far facet keeps it company.
+fn flat_or_not(random: &mut Random) -> Request {
+    let eps = random.between(0.01, 1.0);
+    let mut point = |scale: f64| [0; 3].map(|_| scale * random.between(-1.0, 1.0));
+    let (p, along, other) = (point(4.0 * eps), point(1.0), point(1.0));
+    let dot = |a: [f64; 3], b: [f64; 3]| a[0] * b[0] + a[1] * b[1] + a[2] * b[2];
+    let unit = |a: [f64; 3]| a.map(|x| x / dot(a, a).sqrt());
+    let along = unit(along);
+    let across = unit([0, 1, 2].map(|i| other[i] - dot(other, along) * along[i]));
+    // Base 3 eps, height eps / 3: twice the area is eps squared.
+    let corner = |u: f64, v: f64| [0, 1, 2].map(|i| p[i] + eps * (u * along[i] + v * across[i]));
+    let mut vertices = [p, corner(3.0, 0.0), corner(1.5, 1.0 / 3.0)].concat();
+    vertices.extend([40.0 * eps, 0.0, 0.0, 0.0, 40.0 * eps, 0.0]);
+    let mut facets = Vec::new();
+    for turn in 0..2 + random.below(3) {
+        let mut facet = [0, 1, 2];
+        facet.rotate_left((turn + random.below(2)) % 3);
+        if random.one_in(3) {
+            facet.swap(1, 2);
+        }
+        facets.extend(facet);
+    }
+    facets.extend([0, 3, 4]);
+    Request::new("flat or not", vertices, facets, UNIT, eps)
 }
 
 /// Fans, strips and lone facets, some of them twice in another order, some joined

@@ -227,6 +227,20 @@ fn last_place(random: &mut Random) -> Request {
             _ => 2.0 * plane - (low + high) / 2.0,
         });
     }
+    // Two corners inside but not near, the third far outside: two corners are left.
+    if random.one_in(2) {
+        let axis = random.below(3);
+        let (low, high) = (extents[axis], extents[axis + 3]);
+        let beyond = if low > 0.0 {
+            low.next_down()
+        } else {
+            high.next_up()
+        };
+        let third = random.below(3);
+        for corner in 0..3 {
+            vertices[3 * corner + axis] = if corner == third { 0.0 } else { beyond };
+        }
+    }
     let facets = (0..3 * facets as u32).collect();
     Request::new("last place", vertices, facets, extents, eps)
 }

@@ -7,6 +7,7 @@
 //! The second form compares nothing: it writes a sample of requests and the oracle's
 //! answers to FILE, N requests an operation, for the program crates/replay.
 //!
+//! 20,000 requests of each operation and 10,000,000 numbers if not told otherwise.
 //! Requests are numbered from 0; request I of a seed is made again by itself with
 //! `--only NAME --first I --requests 1`. Exits 1 at any difference.
 
@@ -68,7 +69,7 @@ fn options() -> Result<Options, String> {
     let mut options = Options {
         seed: 1,
         first: 0,
-        requests: 100_000,
+        requests: 20_000,
         numbers: 10_000_000,
         only: None,
         self_check: false,

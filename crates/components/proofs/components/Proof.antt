@@ -4,8 +4,7 @@ use Prim.Native.Nat.{ℕ, _+_, _*_, _≤_, _<_, _-_, _/_}
 use native.Mathlib.Omega.{arith}
 use lib.ListN.{getD, length, length-set}
 use Rattle.lists.specs.Regions.{view}
-use Rattle.lists.proofs.Regions.{view-length}
-use Rattle.components.proofs.Turns.{labels-same, swept-start, swept-end, sizes-zero}
+use Rattle.components.proofs.Turns.{read-length, labels-kept, joining-kept, fresh-rest, swept-start, swept-end, sizes-zero}
 use borrow.Author.Needs.{needs}
 use Rattle.components.proofs.components.Statement.{statement}
 use Rattle.components.proofs.components.Tie as tie
@@ -30,7 +29,7 @@ zero-part-requires : tie.Need-zero-part-requires
 zero-part-requires c κs = search needs
 
 join-requires : tie.Need-join-requires
-join-requires c κs = let s = c .before .before .before .before .before .before .before .before .before .before .args in let same = labels-same (s .w .now) (c .before .before .before .before .before .before .before .own .last .0) (c .before .before .before .zero-part .last .0) (s .n) (s .m) (s .at) (s .labels) (s .n * s .k) (omega arith) (c .before .before .before .before .before .before .before .before .before .before .pre .1 .1 .1 .0) (c .before .before .before .before .before .before .before .own .ensures) (c .before .before .before .zero-part .ensures) in (c .before .before .before .before .before .before .before .before .before .before .pre .0, (omega arith, (omega arith, (c .before .before .before .before .before .before .before .before .before .before .pre .1 .1 .1 .0, (rw same (c .before .before .before .before .before .before .before .before .before .before .pre .1 .1 .1 .1), rw same (swept-start (view (s .w .now) (s .labels) (s .n * s .k)) (s .n) (s .k) (s .m) (s .at) (c .before .before .before .before .before .before .before .before .before .before .pre .0) (view-length (s .w .now) (s .labels) (s .n * s .k) (omega arith)) (c .before .before .before .before .before .before .before .before .before .before .pre .1 .1 .1 .1) _ _ _ (c .before .before .before .before .before .before .before .own .ensures) (c .before .before .before .zero-part .ensures)))))))
+join-requires c κs = let s = c .before .before .before .before .before .before .before .before .before .before .args in let u = c .before .before .before .before .before .before .before .before .before .before .pre in let rest = fresh-rest (s .w .now) (c .before .before .before .before .before .before .before .own .last .0) (c .before .before .before .zero-part .last .0) (s .n) (s .m) (s .at) (c .before .before .before .before .before .before .before .own .ensures) (c .before .before .before .zero-part .ensures) in let long = c .before .before .before .zero-part .ensures .long ∙ c .before .before .before .before .before .before .before .own .ensures .long in let same = labels-kept (s .w .now) (c .before .before .before .zero-part .last .0) (s .labels) (s .n) (s .k) (s .m) (s .at) u long rest in (joining-kept (s .w .now) (c .before .before .before .zero-part .last .0) (s .labels) (s .n) (s .k) (s .m) (s .at) u long rest, rw same (swept-start (view (s .w .now) (s .labels) (s .n * s .k)) (s .n) (s .k) (s .m) (s .at) (c .before .before .before .before .before .before .before .before .before .before .pre .some) (read-length (s .w .now) (s .labels) (s .n) (s .k) (s .m) (s .at) (c .before .before .before .before .before .before .before .before .before .before .pre)) (c .before .before .before .before .before .before .before .before .before .before .pre .below) _ _ _ (c .before .before .before .before .before .before .before .own .ensures) (c .before .before .before .zero-part .ensures)))
 
 flatten-requires : tie.Need-flatten-requires
 flatten-requires c κs = search needs
@@ -42,7 +41,7 @@ same-length : tie.Need-same-length
 same-length c = search needs
 
 returns : tie.Need-returns
-returns c = let s = c .before .before .before .before .before .before .before .before .before .before .before .before .before .before .before .before .before .before .before .before .before .args in let same = labels-same (s .w .now) (c .before .before .before .before .before .before .before .before .before .before .before .before .before .before .before .before .before .before .own .last .0) (c .before .before .before .before .before .before .before .before .before .before .before .before .before .before .zero-part .last .0) (s .n) (s .m) (s .at) (s .labels) (s .n * s .k) (omega arith) (c .before .before .before .before .before .before .before .before .before .before .before .before .before .before .before .before .before .before .before .before .before .pre .1 .1 .1 .0) (c .before .before .before .before .before .before .before .before .before .before .before .before .before .before .before .before .before .before .own .ensures) (c .before .before .before .before .before .before .before .before .before .before .before .before .before .before .zero-part .ensures) in swept-end (view (s .w .now) (s .labels) (s .n * s .k)) (s .n) (s .k) (s .m) (s .at) (c .before .before .before .before .before .before .before .before .before .before .before .before .before .before .before .before .before .before .before .before .before .pre .0) (view-length (s .w .now) (s .labels) (s .n * s .k) (omega arith)) (c .before .before .before .before .before .before .before .before .before .before .before .before .before .before .before .before .before .before .before .before .before .pre .1 .1 .1 .1) _ _ _ _ _ _ (omega arith) (c .before .before .before .before .before .before .before .before .before .before .before .before .before .before .before .before .before .before .own .ensures) (c .before .before .before .before .before .before .before .before .before .before .before .before .before .before .zero-part .ensures) (rw (← same) (c .before .before .before .before .before .before .before .before .before .before .join .ensures)) (c .before .before .before .before .before .before .flatten .ensures) (c .before .before .tally .ensures)
+returns c = let s = c .before .before .before .before .before .before .before .before .before .before .before .before .before .before .before .before .before .before .before .before .before .args in let u = c .before .before .before .before .before .before .before .before .before .before .before .before .before .before .before .before .before .before .before .before .before .pre in let rest = fresh-rest (s .w .now) (c .before .before .before .before .before .before .before .before .before .before .before .before .before .before .before .before .before .before .own .last .0) (c .before .before .before .before .before .before .before .before .before .before .before .before .before .before .zero-part .last .0) (s .n) (s .m) (s .at) (c .before .before .before .before .before .before .before .before .before .before .before .before .before .before .before .before .before .before .own .ensures) (c .before .before .before .before .before .before .before .before .before .before .before .before .before .before .zero-part .ensures) in let long = c .before .before .before .before .before .before .before .before .before .before .before .before .before .before .zero-part .ensures .long ∙ c .before .before .before .before .before .before .before .before .before .before .before .before .before .before .before .before .before .before .own .ensures .long in let same = labels-kept (s .w .now) (c .before .before .before .before .before .before .before .before .before .before .before .before .before .before .zero-part .last .0) (s .labels) (s .n) (s .k) (s .m) (s .at) u long rest in swept-end (view (s .w .now) (s .labels) (s .n * s .k)) (s .n) (s .k) (s .m) (s .at) (c .before .before .before .before .before .before .before .before .before .before .before .before .before .before .before .before .before .before .before .before .before .pre .some) (read-length (s .w .now) (s .labels) (s .n) (s .k) (s .m) (s .at) (c .before .before .before .before .before .before .before .before .before .before .before .before .before .before .before .before .before .before .before .before .before .pre)) (c .before .before .before .before .before .before .before .before .before .before .before .before .before .before .before .before .before .before .before .before .before .pre .below) _ _ _ _ _ _ (omega arith) (c .before .before .before .before .before .before .before .before .before .before .before .before .before .before .before .before .before .before .own .ensures) (c .before .before .before .before .before .before .before .before .before .before .before .before .before .before .zero-part .ensures) (rw (← same) (c .before .before .before .before .before .before .before .before .before .before .join .ensures)) (c .before .before .before .before .before .before .flatten .ensures) (c .before .before .tally .ensures)
 
 pub components-spec : {M : Type 1} → statement M
 components-spec =
