@@ -1,24 +1,25 @@
--- Laws of a loop that compares two lists of words, an element a turn, and stops at the first difference. Assumes nothing.
---   other-length, other-at     the lists differ in length, or at a place
---   alike-more, alike-end      they agree so far: at one place more, and at all
---   other-number, same-values  the number of a reply differs; it agrees, and the values decide
-use Prim.Native.Nat.{ℕ, _+_, _≤_, _<_}
-use mathlib.Core.Path.{_≡_, refl, sym, ap, _∙_, subst}
-use mathlib.Core.Bool.{Bool, true, false}
+-- Laws of comparisons: of two lists of words, of a reply, and of a double with its bits. Assumes nothing.
+--   Alike                        two lists that agree below i: start, more, end;   other-length, other-at   two that do not
+--   other-number, same-values    a reply: its number differs; it agrees, and the values decide
+--   number-itself, same-bits, no-number   a double beside its bits
+use Prim.Native.Nat.{ℕ, _+_, _*_, _≤_, _<_}
+use mathlib.Core.Path.{_≡_, refl, sym, ap, ap₂, _∙_, subst}
+use mathlib.Core.Bool.{Bool, true, false, not, _&&_, _||_, Bool·beq}
 use mathlib.Core.List.{List, _∷_}
 use native.Mathlib.Omega.{arith}
 use native.Mathlib.Nat.{lt-of-lt-of-le}
-use lib.Dec.{T}
+use borrow.Author.Count.{below-none, below-more}
+use borrow.Author.Tests.{eqb-true, eq-eqb}
+use lib.Dec.{T, eqb}
+use lib.Ieee.{Float, nan, inf, fin, binary64, up, down, level, eq, isNan, toBits}
 use lib.ListN.{length, getD, take, drop}
 use lib.Seq.{ext-getD, drop-cons}
-use borrow.Author.Count.{below-none, below-more}
-use Rattle.replay.specs.Words.{Decides, storedReply}
+use Rattle.replay.specs.Words.{Decides}
+use Rattle.replay.proofs.Deciding.{refuted, shown}
+use Rattle.replay.specs.Layout.{storedReply}
+use Rattle.replay.specs.Agreement.{SameDouble}
 
-pub refuted : {P : Type 0} → (P → ⊥) → Decides P false
-refuted never = record { sound = λ e. absurd (subst T (sym e) tt); complete = λ p. absurd (never p) }
-
-pub shown : {P : Type 0} → P → Decides P true
-shown p = record { sound = λ _. p; complete = λ _. refl }
+-- ---- two lists of words
 
 pub record Alike (a b : List ℕ) (i : ℕ) : Type 0 where
   pub within : i ≤ length a
@@ -42,7 +43,7 @@ module _ (a b : List ℕ) where
 
 -- ---- replies: a number, then four values
 
--- the reply of an answer of 24 words or more
+-- the reply of a record of 24 words or more
 reply-is : (stored : List ℕ) → 24 ≤ length stored → storedReply stored ≡ getD stored 19 0 ∷ take 4 (drop 20 stored)
 reply-is stored h = ap (take 5) (drop-cons stored 19 0 (omega arith))
 
@@ -57,3 +58,35 @@ same-values stored number values r h e d =
       sound = λ t. let v = d .sound t in cc (reply-is stored h);
       complete = λ p. let v : values ≡ take 4 (drop 20 stored) = cc (p ∙ reply-is stored h) in d .complete v;
     }
+
+-- ---- a double beside its bits
+
+equal-sign : (s : Bool) → Bool·beq s s ≡ true
+equal-sign true = refl
+equal-sign false = refl
+
+level-itself : (s : Bool) (a : ℕ) → level s a s a ≡ true
+level-itself s a = ap₂ (λ (x y : Bool). x && (y || eqb a 0)) (eq-eqb a a refl) (equal-sign s)
+
+-- only a NaN is not equal to itself
+pub number-itself : (x : Float) → eq x x ≡ true → T (not (isNan x))
+unfolding isNan eq
+number-itself nan e = subst T (sym e) tt
+number-itself (inf s) e = tt
+number-itself (fin s m d) e = tt
+
+itself : (x : Float) → T (not (isNan x)) → eq x x ≡ true
+unfolding isNan eq
+itself nan h = absurd h
+itself (inf s) h = equal-sign s
+itself (fin s m d) h = level-itself s (m * up d * down d)
+
+pub same-bits : (x : Float) (word : ℕ) → eq x x ≡ true → Decides (SameDouble x word) (eqb (toBits binary64 x) word)
+same-bits x word e =
+    record {
+      sound = λ t. record { number = number-itself x e; bits = eqb-true (toBits binary64 x) word t };
+      complete = λ s. eq-eqb (toBits binary64 x) word (s .bits);
+    }
+
+pub no-number : (x : Float) (word : ℕ) → eq x x ≡ false → Decides (SameDouble x word) false
+no-number x word e = refuted (λ s. let z : _≡_ {A = ℕ} 0 1 = cc (itself x (s .number)) in omega arith)

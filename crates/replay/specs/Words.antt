@@ -1,17 +1,14 @@
--- Stored answers as words (README.md of this crate). Assumes nothing.
+-- A file as a row of 64-bit words, and the two shapes of the promises here. Assumes nothing.
 --   wordOf         eight bytes, the least first
 --   recordLength   the length of the record at the front of a list of words; 0 where none is whole
---   storedReply    a record's reply: its number and four values
---   doubleOf       a word as a double; 0 for the bits of a NaN
+--   Everywhere     a fact of each number below n
 --   Decides        a Bool that is true exactly if a fact holds
-use Prim.Native.Nat.{ℕ, _+_, _*_}
+use Prim.Native.Nat.{ℕ, _+_, _*_, _<_}
 use mathlib.Core.Path.{_≡_}
-use mathlib.Core.Bool.{Bool, true, cond, _||_}
+use mathlib.Core.Bool.{Bool, true, cond}
 use mathlib.Core.List.{List}
 use lib.Dec.{ltb}
-use lib.ListN.{length, getD, take, drop}
-use lib.Ieee.{Float, binary64, ofBits, nanBits}
-use Rattle.root.specs.Doubles.{zeroF}
+use lib.ListN.{length, getD}
 
 abbrev pub halfOf : List ℕ → ℕ → ℕ
 halfOf bs k = getD bs k 0 + 256 * (getD bs (k + 1) 0 + 256 * (getD bs (k + 2) 0 + 256 * getD bs (k + 3) 0))
@@ -23,11 +20,8 @@ abbrev pub recordLength : List ℕ → ℕ
 recordLength rest =
     cond (ltb (length rest) 24) 0 (cond (ltb (getD rest 0 0) 24) 0 (cond (ltb (length rest) (getD rest 0 0)) 0 (getD rest 0 0)))
 
-abbrev pub storedReply : List ℕ → List ℕ
-storedReply stored = take 5 (drop 19 stored)
-
-abbrev pub doubleOf : ℕ → Float
-doubleOf word = cond (nanBits binary64 word) zeroF (ofBits binary64 word)
+abbrev pub Everywhere : (ℕ → Type 0) → ℕ → Type 0
+Everywhere P n = (k : ℕ) → k < n → P k
 
 pub record Decides (P : Type 0) (r : Bool) : Type 0 where
   pub sound : r ≡ true → P

@@ -30,19 +30,23 @@ fn word(bytes: &[u8; 8]) -> u64
 enum Read {
     Word(u64),
     End,
+    // the file ends within a word
+    Part,
 }
 
-// The next word. A file that ends within a word ends before it, and is shorter than its header says.
 fn read_word(fd: i32) -> Read {
     let mut bytes = [0u8; 8];
     let n = io::read_full(fd, &mut bytes);
-    if n < 8 {
+    if n == 0 {
         return Read::End;
+    }
+    if n < 8 {
+        return Read::Part;
     }
     Read::Word(word(&bytes))
 }
 
-// Puts the file's words at the front of `words`, as many as there is room for, and answers how many.
+// Puts the file's words at the front of `words`, as many as there is room for, and answers how many: none, if the file ends within a word.
 pub fn load(fd: i32, words: &mut [u64]) -> usize
     ensures { λ r. ⌜ (r ≤ length (now (words .exit))) × (r ≡ length (take r (now (words .exit)))) ⌝ }
 {
@@ -54,6 +58,9 @@ pub fn load(fd: i32, words: &mut [u64]) -> usize
             }
             Read::End => {
                 return i;
+            }
+            Read::Part => {
+                return 0;
             }
         }
         i += 1;

@@ -1,15 +1,18 @@
 // Replays stored answers: requests with the answers that the Rust gave (README.md), each run again here. It writes a line an operation: its
-// name, how many requests the file has of it, and how many of these it answers as the Rust did.
-mod answers;
+// name, how many requests the file has of it, and how many of these are answered as the Rust answered them.
+mod agreement;
+mod compare;
+mod contents;
+mod counting;
 mod file;
-mod replies;
-mod stored;
+mod layout;
+mod meshes;
 
-use answers::Tally;
-use answers::count;
+use counting::Tally;
+use counting::count;
 use file::load;
 use file::room;
-use stored::are_answers;
+use layout::are_answers;
 
 fn print_line(name: &[u8], tally: Tally) {
     io::write_all(1, name);
@@ -26,6 +29,7 @@ fn replay(file: &[u64]) {
         return;
     }
     print_line(b"tolerance", count(file, 1));
+    print_line(b"clip", count(file, 2));
 }
 
 fn main() {

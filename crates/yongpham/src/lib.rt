@@ -3,4 +3,5 @@
 mod clip_mesh;
 mod tolerance_of_box;
 
+pub use clip_mesh::yongpham_clip;
 pub use tolerance_of_box::yongpham_tolerance;

@@ -14,6 +14,7 @@
 mod boxes;
 mod candidates;
 mod caps;
+mod chosen;
 mod clean;
 mod clip;
 mod lent;
@@ -74,7 +75,7 @@ fn options() -> Result<Options, String> {
         only: None,
         self_check: false,
         store: None,
-        count: 300,
+        count: 250,
     };
     let mut arguments = std::env::args().skip(1);
     while let Some(argument) = arguments.next() {

@@ -1,5 +1,6 @@
 //! How an operation is compared: its generator, its oracle, our function.
 
+use crate::chosen::Chosen;
 use crate::lent::{Cell, Lent};
 use crate::random::Random;
 use crate::report::Row;
@@ -15,7 +16,7 @@ pub struct Operation {
     /// Makes request number `n`; work room and outputs are chosen afterwards.
     pub generate: fn(&mut Random, u64) -> Request,
     /// Requests that a file of stored answers has in any case.
-    pub chosen: fn() -> Vec<Request>,
+    pub chosen: fn() -> Vec<Chosen>,
     /// Words of work room that test 7 asks for.
     pub need: fn(&Request) -> u64,
     /// Lengths of the result, for a request that fails at most by test 12.
@@ -96,13 +97,18 @@ pub fn request(operation: &Operation, seed: u64, number: u64, work: &mut Lent<u6
     let mut request = (operation.generate)(&mut random, number);
     let need = (operation.need)(&request);
     request.choose_work(&mut random, need);
-    let lengths = match (operation.oracle)(&request, work).reply.number {
-        0 => [0; 4],
-        12 => (operation.lengths)(&request),
-        _ => [3; 4],
-    };
+    let lengths = lengths(operation, &request, work);
     request.choose_outputs(&mut random, lengths);
     request
+}
+
+/// Lengths of the result of a request that has no outputs yet; 3 each where it is refused.
+pub fn lengths(operation: &Operation, request: &Request, work: &mut Lent<u64>) -> [usize; 4] {
+    match (operation.oracle)(request, work).reply.number {
+        0 => [0; 4],
+        12 => (operation.lengths)(request),
+        _ => [3; 4],
+    }
 }
 
 /// Runs the requests of one operation. In a self check the oracle answers twice,

@@ -16,13 +16,13 @@ const MAGIC: u64 = u64::from_le_bytes(*b"yongpham");
 const FORMAT: u64 = 1;
 const TOLERANCE: u64 = 1;
 /// The mesh operations that the program replays.
-const REPLAYED: &[&str] = &[];
+const REPLAYED: &[&str] = &["clip"];
 
 /// What the program has room for: elements of each list and output, words of work room.
 const LARGEST_LIST: usize = 1_024;
 const LARGEST_WORK: usize = 20_480;
 /// Generated requests are kept small, so that the file is: elements of lists and outputs together.
-const LARGEST_GENERATED: usize = 200;
+const LARGEST_GENERATED: usize = 150;
 /// How many requests are looked at for a sample.
 const LOOKED_AT: u64 = 200_000;
 
@@ -145,7 +145,8 @@ fn tolerance_sample(options: &Options) -> Sample {
 fn mesh_sample(operation: &Operation, options: &Options) -> Sample {
     let mut sample = Sample::new(operation.name, operation.number);
     let mut work = Lent::new(0, Old::ByPlace);
-    for request in (operation.chosen)() {
+    for chosen in (operation.chosen)() {
+        let request = chosen.with_room(operation, &mut work);
         let answer = (operation.oracle)(&request, &mut work);
         sample.add(&request, &answer);
     }
