@@ -2,3 +2,6 @@
 // through the documented number and values.
 mod clip_mesh;
 mod tolerance_of_box;
+
+pub use clip_mesh::yongpham_clip;
+pub use tolerance_of_box::yongpham_tolerance;

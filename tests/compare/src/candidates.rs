@@ -11,7 +11,9 @@ use oracle::Extents;
 
 pub const OPERATION: Operation = Operation {
     name: "candidates",
+    number: 4,
     generate,
+    chosen: Vec::new,
     need: |r| oracle::need_words(r.vertices.len() / 3, r.facets.len() / 3, 0, grid(r)),
     lengths: |r| {
         oracle::reference::cap_candidates(

@@ -11,7 +11,9 @@ use crate::triangulation::{by_face, sound_list};
 
 pub const OPERATION: Operation = Operation {
     name: "caps",
+    number: 5,
     generate,
+    chosen: Vec::new,
     need: |r| {
         oracle::need_words(
             r.vertices.len() / 3,
@@ -332,6 +334,7 @@ fn spoil(random: &mut Random, list: &mut [[u64; 4]]) {
 #[cfg(test)]
 mod tests {
     use super::*;
+    use crate::lent::Old;
 
     /// Triangulations hold the open edges of meshes that were clipped and cleaned,
     /// and close them: no side is left alone in either mode.
@@ -347,7 +350,7 @@ mod tests {
             request.caps = sound_list(&lists).concat();
             request.mode = 1 + (number % 2) as u32;
             request.work = (OPERATION.need)(&request) as usize;
-            let mut work = Lent::new(0);
+            let mut work = Lent::new(0, Old::Junk);
             let number = (OPERATION.oracle)(&request, &mut work).reply.number;
             assert!(number == 12 || number == 11 || number == 10, "{number}");
             met += 1;

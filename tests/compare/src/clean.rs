@@ -10,7 +10,9 @@ use crate::request::Request;
 
 pub const OPERATION: Operation = Operation {
     name: "clean",
+    number: 3,
     generate,
+    chosen: Vec::new,
     need: |r| oracle::need_words(r.vertices.len() / 3, r.facets.len() / 3, 0, 0),
     lengths: |r| {
         let (v, f) = oracle::reference::clean_mesh(r.vertices.clone(), r.wide_facets(), r.eps);

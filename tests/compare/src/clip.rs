@@ -1,5 +1,6 @@
 //! Clip: `yongpham_clip` beside the oracle, and the requests for it.
 
+use crate::chosen;
 use crate::lent::Lent;
 use crate::meshes;
 use crate::numbers::near;
@@ -9,7 +10,9 @@ use crate::request::Request;
 
 pub const OPERATION: Operation = Operation {
     name: "clip",
+    number: 2,
     generate,
+    chosen: chosen::clip,
     need: |r| oracle::need_words(r.vertices.len() / 3, r.facets.len() / 3, 0, 0),
     lengths: |r| {
         let (v, f) = oracle::reference::clip_mesh_to_aabb(
@@ -144,7 +147,7 @@ fn small_lists(random: &mut Random, turn: u64) -> Request {
 
 /// Facets that are known to get ten and thirteen corners, and their box: a crossing
 /// a + t(b - a) need not lie between a and b, so that one plane cuts off two runs.
-const KNOWN: [([f64; 9], [f64; 6]); 2] = [
+pub const KNOWN: [([f64; 9], [f64; 6]); 2] = [
     (
         [-1.0, -2.0, 4.0, 0.0, -1.0 / P53, 1.0, 3.0, 2.0, -1.0],
         [0.0, 0.0, 0.0, 2.0, 1.0, 1.0],

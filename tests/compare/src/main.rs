@@ -2,6 +2,10 @@
 //! values, every element of every output, work room.
 //!
 //!     compare [--seed S] [--requests N] [--first I] [--numbers N] [--only NAME] [--self-check]
+//!     compare --store FILE [--seed S] [--count N]
+//!
+//! The second form compares nothing: it writes a sample of requests and the oracle's
+//! answers to FILE, N requests an operation, for the program crates/replay.
 //!
 //! 20,000 requests of each operation and 10,000,000 numbers if not told otherwise.
 //! Requests are numbered from 0; request I of a seed is made again by itself with
@@ -10,6 +14,7 @@
 mod boxes;
 mod candidates;
 mod caps;
+mod chosen;
 mod clean;
 mod clip;
 mod lent;
@@ -19,10 +24,11 @@ mod operation;
 mod random;
 mod report;
 mod request;
+mod store;
 mod tolerance;
 mod triangulation;
 
-use lent::Lent;
+use lent::{Lent, Old};
 use operation::Operation;
 use std::ops::Range;
 use std::process::ExitCode;
@@ -45,6 +51,9 @@ pub struct Options {
     pub only: Option<String>,
     /// Runs the oracle in our library's place: exercises the generators alone.
     pub self_check: bool,
+    /// The file for stored answers, and how many requests of each operation it gets.
+    pub store: Option<String>,
+    pub count: usize,
 }
 
 impl Options {
@@ -65,6 +74,8 @@ fn options() -> Result<Options, String> {
         numbers: 10_000_000,
         only: None,
         self_check: false,
+        store: None,
+        count: 250,
     };
     let mut arguments = std::env::args().skip(1);
     while let Some(argument) = arguments.next() {
@@ -77,6 +88,8 @@ fn options() -> Result<Options, String> {
             "--numbers" => options.numbers = number(value()?)?,
             "--only" => options.only = Some(value()?),
             "--self-check" => options.self_check = true,
+            "--store" => options.store = Some(value()?),
+            "--count" => options.count = number(value()?)? as usize,
             _ => return Err(format!("unknown argument {argument}")),
         }
     }
@@ -91,6 +104,9 @@ fn main() -> ExitCode {
             return ExitCode::from(2);
         }
     };
+    if let Some(file) = &options.store {
+        return store::write(file, &options);
+    }
     let mut rows = Vec::new();
     let mut unlinked = Vec::new();
     if cfg!(feature = "numbers") && !options.self_check {
@@ -104,7 +120,7 @@ fn main() -> ExitCode {
         rows.push(tolerance::row(&options));
     }
     // One work room for all requests: its pages are touched once.
-    let mut work = Lent::new(0);
+    let mut work = Lent::new(0, Old::Junk);
     for operation in OPERATIONS {
         if options.leaves_out(operation.name) {
             continue;
