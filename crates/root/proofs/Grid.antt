@@ -18,7 +18,7 @@ lt-or-ge a b = go (ltb a b) (ltb→lt a b) (nltb→le a b)
     go false f g = inr (g tt)
 
 -- where k is below h, p * 2 ^ k is below 2 ^ 52 * 2 ^ h, for a p of at most 53 digits
-finer : (p k h : ℕ) → p < 2 ^ 53 → k < h → p * 2 ^ k < 2 ^ 52 * 2 ^ h
+pub finer : (p k h : ℕ) → p < 2 ^ 53 → k < h → p * 2 ^ k < 2 ^ 52 * 2 ^ h
 finer p k h P l =
     lt-of-lt-of-le (mul-lt-mul-of-pos-right P (pow-pos k))
     (le-trans (le-of-eq (mul-assoc (2 ^ 52) 2 (2 ^ k) ∙ ap (λ (x : ℕ). 2 ^ 52 * x) (sym (pow-succ' 2 k)))) (mul-le-mul-left (2 ^ 52) (pow-mono l)))

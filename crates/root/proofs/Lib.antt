@@ -3,6 +3,8 @@ pub mod Patterns
 pub mod Digits
 pub mod Grid
 pub mod Nearest
+pub mod Doubles
+pub mod Order
 pub mod Bounds
 pub mod Root
 pub mod RootAt

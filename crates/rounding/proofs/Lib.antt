@@ -1,2 +1,5 @@
 pub mod Whole
 pub mod Rounding
+pub mod Keys
+pub mod Segments
+pub mod Ordering

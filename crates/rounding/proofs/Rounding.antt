@@ -1,9 +1,9 @@
 -- Laws of rounding half away from zero (specs/Rounding.antt), and what the proofs of `round` and `rounded` cite. Assumes nothing.
 use mathlib.Core.Path.{_≡_, refl, sym, ap, _∙_, subst}
-use mathlib.Core.Logic.{_⊎_, inl, inr}
+use mathlib.Core.Logic.{inl, inr}
 use mathlib.Core.Bool.{Bool, true, false, not, cond, true≢false}
 use Prim.Native.Nat.{ℕ, zero, suc, _+_, _-_, _*_, _/_, _%_, _^_, _≤_, _<_, min}
-use native.Mathlib.Nat.{mul-comm, mul-assoc, mul-one, one-mul, mod-lt, le-trans, le-of-eq, le-of-lt, lt-of-le-of-lt, lt-of-lt-of-le, mul-le-mul, min-eq-left, min-eq-right}
+use native.Mathlib.Nat.{mul-comm, mul-assoc, mul-one, le-trans, le-of-eq, le-of-lt, lt-of-le-of-lt, mul-le-mul, min-eq-left, min-eq-right}
 use native.Mathlib.Omega.{arith}
 use lib.IntN.{ℤ, pos, negsuc, negℤ, _-ℤ_, +ℤ-idl}
 use lib.Dec.{T, leb, lit<, lit≤, le→leb}
@@ -21,10 +21,9 @@ use mir.ValLaws.{toZ-pos, toZ-ofZ}
 use Rattle.root.specs.Doubles.{finite, negative, one, units}
 use Rattle.root.specs.Patterns.{patternUnits}
 use Rattle.root.proofs.Grid.{lt-or-ge}
-use Rattle.root.proofs.Patterns.{Is, Pattern, to-units, pattern-of, units-is, sign-is, finite-is, same-units, units-small}
+use Rattle.root.proofs.Patterns.{Is, to-units, pattern-of, units-is, sign-is, finite-is, same-units, units-small}
 use Rattle.root.proofs.Nearest.{own}
 use Rattle.rounding.specs.Rounding.{halfUp, halfAway, IsRounded, rounded}
-use Rattle.rounding.specs.Whole.{WholeOf}
 use Rattle.rounding.proofs.Whole.{half-scaled, half-whole, unit, none, some, whole-units}
 
 -- ---- NaN and the infinities

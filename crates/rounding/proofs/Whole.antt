@@ -1,5 +1,5 @@
 -- The whole number nearest to a fraction, and to a double from its bit pattern. Assumes nothing.
-use mathlib.Core.Path.{_≡_, refl, sym, ap, _∙_, subst}
+use mathlib.Core.Path.{_≡_, refl, sym, ap, _∙_}
 use Prim.Native.Nat.{ℕ, zero, suc, _+_, _-_, _*_, _/_, _%_, _^_, _≤_, _<_}
 use native.Mathlib.Nat.{mul-comm, mul-assoc, one-mul, add-mul, mod-lt, div-eq-of-lt, mul-div-mul-right, div-le-of-le-mul, lt-of-lt-of-le, lt-of-le-of-lt, le-trans, le-of-eq, pow-succ'}
 use native.Mathlib.Omega.{arith}

@@ -4,6 +4,7 @@
 --   IsRounded x r   the same as a relation, in units
 --   rounded         `round() as i64`, which stays within 64 bits
 --   key             a coordinate's cell; beyond, farKey say whether a key is beyond 2^62
+--   ceil            n / d up to a whole number
 --   wholeUp         `ceil() as usize`
 --   segments        how many segments of at most `spacing` an axis of a given length needs
 use Prim.Native.Nat.{ℕ, _+_, _*_, _-_, _/_, _^_, min, max}
@@ -47,11 +48,13 @@ beyond k = ltb (2 ^ 62) (natAbs k)
 unfoldable pub farKey : Float → Float → Bool
 farKey eps x = beyond (key eps x)
 
--- up to the next whole number
+unfoldable pub ceil : ℕ → ℕ → ℕ
+ceil n d = (n + (d - 1)) / d
+
 unfoldable pub wholeUp : Float → ℕ
 wholeUp nan = 0
 wholeUp (inf s) = cond s 0 (2 ^ 64 - 1)
-wholeUp (fin s m e) = cond s 0 (min (2 ^ 64 - 1) ((m * up e + (down e - 1)) / down e))
+wholeUp (fin s m e) = cond s 0 (min (2 ^ 64 - 1) (ceil (m * up e) (down e)))
 
 -- at least one
 unfoldable pub segments : Float → Float → ℕ
