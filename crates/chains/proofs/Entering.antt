@@ -12,7 +12,7 @@ use borrow.Author.Tests.{eq-eqb, ne-eqb}
 use Rattle.lists.specs.Regions.{Outside, Zeroed}
 use Rattle.chains.specs.Links.{Absent, Found, First, Final, Last}
 use Rattle.chains.specs.Chains.{Linked, linkPlace, entered}
-use Rattle.chains.proofs.Links.{first-other, first-kept, last-other, first-new, last-new, first-empty, last-empty, first-cong, last-cong}
+use Rattle.chains.proofs.Firsts.{first-other, first-kept, last-other, first-new, last-new, first-empty, last-empty, first-cong, last-cong}
 
 -- cleared heads and tails are the table of no id
 pub linked-none : (h : ℕ → ℕ) (m : List ℕ) (at nb : ℕ) → at + nb + nb ≤ length m → ((i : ℕ) → i < nb + nb → getD m (at + i) 0 ≡ 0) → Linked h m at nb 0
@@ -187,3 +187,11 @@ entered-rest m at nb id b q low x out =
     elsewhere (no z) e =
         let d : x ≡ at + nb + nb + (getD m (at + nb + b) 0 - 1) = e ∙ rw (ne-eqb (getD m (at + nb + b) 0) 0 z) refl in
         out (nb + nb + (getD m (at + nb + b) 0 - 1)) (omega arith) (omega arith)
+
+-- the place of the new link is in the table
+pub place-in : (at nb id b t : ℕ) → b < nb → t ≤ id → linkPlace at nb b t ≤ at + nb + nb + id
+place-in at nb id b t q low = go (ℕ-discrete t 0)
+  where
+    go : Dec (t ≡ 0) → linkPlace at nb b t ≤ at + nb + nb + id
+    go (yes e) = rw (eq-eqb t 0 e) (omega arith)
+    go (no d) = rw (ne-eqb t 0 d) (omega arith)

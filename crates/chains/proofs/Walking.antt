@@ -12,7 +12,7 @@ use lib.ListN.{getD, length}
 use Rattle.lists.specs.Lists.{upTo}
 use Rattle.chains.specs.Links.{linkTo, Absent, Found, First}
 use Rattle.chains.specs.Chains.{Linked, Filed}
-use Rattle.chains.proofs.Links.{first-ids}
+use Rattle.chains.proofs.Firsts.{first-ids}
 
 -- the chain goes on at the link p, and before that no id passes
 pub record Walk (m : List ℕ) (at nb n b : ℕ) (t : ℕ → Bool) (p : ℕ) : Type 0 where

@@ -1,3 +1,4 @@
 pub mod Links
 pub mod Chains
 pub mod Hash
+pub mod ByWord
