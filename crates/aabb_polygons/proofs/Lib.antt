@@ -1,0 +1,4 @@
+pub mod SnapTwice
+pub mod CornerLists
+pub mod Planes
+pub mod Walks

@@ -1,0 +1,16 @@
+use Rattle.aabb_polygons.specs.Polygons.{interpolated}
+use Rattle.geometry.specs.Points.{along}
+use borrow.Author.Needs.{needs}
+use mathlib.Core.Path.{_≡_, refl, sym, ap, _∙_}
+use Rattle.aabb_polygons.proofs.crossing.interpolate_points.Statement.{statement}
+use Rattle.aabb_polygons.proofs.crossing.interpolate_points.Tie as tie
+use Rattle.aabb_polygons.proofs.crossing.interpolate_points.Reads as reads
+use Rattle.aabb_polygons.proofs.crossing.interpolate_points.Lts as lts
+
+-- src/crossing.rt:44:1
+returns : tie.Need-returns
+unfolding interpolated along
+returns c = refl
+
+pub interpolate-points-spec : {M : Type 1} → statement M
+interpolate-points-spec = tie.close (tie.spec returns)

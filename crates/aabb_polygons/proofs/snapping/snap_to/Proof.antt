@@ -1,0 +1,25 @@
+use Rattle.aabb_polygons.specs.Polygons.{snapTo}
+use mathlib.Core.Path.{_≡_, refl, sym, ap, _∙_}
+use borrow.Author.Needs.{needs}
+use Rattle.aabb_polygons.proofs.snapping.snap_to.Statement.{statement}
+use Rattle.aabb_polygons.proofs.snapping.snap_to.Tie as tie
+use Rattle.aabb_polygons.proofs.snapping.snap_to.Reads as reads
+use Rattle.aabb_polygons.proofs.snapping.snap_to.Lts as lts
+use Rattle.geometry.proofs.doubles.within.Reads as within-reads
+
+-- src/snapping.rt:11:8
+within-requires : tie.Need-within-requires
+within-requires c κs = search needs
+
+-- src/snapping.rt:8:1
+returns : tie.Need-returns
+unfolding snapTo
+returns c = simp (sym (c .before .within .ensures) ∙ c .if1 .taken)
+
+-- src/snapping.rt:8:1
+returns-2 : tie.Need-returns-2
+unfolding snapTo
+returns-2 c = simp (sym (c .before .within .ensures) ∙ c .if1 .left)
+
+pub snap-to-spec : {M : Type 1} → statement M
+snap-to-spec = tie.close (tie.spec within-requires returns returns-2)
