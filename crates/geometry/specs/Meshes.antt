@@ -1,6 +1,7 @@
 -- Meshes (document 01, "What the service takes"): coordinates three a vertex, vertex numbers three a facet. Assumes nothing.
 --   Mesh, meshOf           vertices as points, facets as triangles of vertex numbers; from the flat lists handed in
 --   pointsOf, coordinates  flat coordinates to points, and back
+--   meshLengths            of a mesh as flat lists: coordinates and vertex numbers
 --   vertex                 the point of vertex v
 --   Named, enter           numbers given out by first use: clipping, cleaning and closing all number vertices so
 use Prim.Native.Nat.{ℕ, _+_, _-_}
@@ -11,7 +12,7 @@ use lib.ListN.{getD, set, length}
 use lib.Ieee.{Float}
 use Rattle.geometry.specs.declared.point.Point.{Point}
 use Rattle.geometry.specs.Points.{pt, origin}
-use Rattle.geometry.specs.Triangles.{Triangle, threes}
+use Rattle.geometry.specs.Triangles.{Triangle, threes, flat}
 
 pub record Mesh : Type 0 where
   pub points : List Point
@@ -25,6 +26,10 @@ coordinates l = flatMap (λ p. p .x ∷ p .y ∷ p .z ∷ []) l
 
 abbrev pub meshOf : List Float → List ℕ → Mesh
 meshOf vs fs = record { points = pointsOf vs; facets = threes fs }
+
+-- "counts returned are the lengths written"
+abbrev pub meshLengths : Mesh → List ℕ
+meshLengths m = length (coordinates (m .points)) ∷ length (flat (m .facets)) ∷ []
 
 abbrev pub vertex : List Point → ℕ → Point
 vertex l v = getD l v origin

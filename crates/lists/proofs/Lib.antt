@@ -6,3 +6,5 @@ pub mod Members
 pub mod Counts
 pub mod Regions
 pub mod Places
+-- Stores: runs of stores, and counting up.
+pub mod Stores

@@ -1,5 +1,6 @@
 -- Refusals, replies and outputs (document 01, "Refusals, in the order tested"). Assumes nothing.
 --   documented        "this paper's number and values for each of its cases"
+--   documentedMesh    the same of a reply that writes a mesh: 0 and the two lengths, or the refusal's
 --   Test              a row of the table: when it refuses, and as what
 --   firstRefusal      the first test that holds        unless    tests that are passed over
 --   replyTo           the reply as numbers: the first refusal's, else 0 and the values of what was done
@@ -13,6 +14,9 @@ use Rattle.words.specs.Overlay.{overlay}
 use Rattle.refusals.specs.declared.refusal.Refusal.{Refusal}
 use Rattle.refusals.specs.declared.refusal.Checked.{Checked}
 use Rattle.refusals.specs.declared.refusal.Checked.the-variants.{Passed, Refused}
+use Rattle.refusals.specs.declared.reply.MeshReply.{MeshReply}
+use Rattle.refusals.specs.declared.reply.MeshReply.the-variants.{Done}
+use Rattle.refusals.specs.declared.reply.MeshReply.the-variants as mesh
 use Rattle.refusals.specs.declared.refusal.Refusal.the-variants.{Ragged, TooMany, BadIndex, BadNumber, BadBox, GridTooFine, NoWorkRoom, KeyRange, OpenEdge, BadCap, MissingEdge, NoRoom}
 
 unfoldable pub documented : Refusal → List ℕ
@@ -28,6 +32,10 @@ documented (OpenEdge a b) = 9 ∷ a ∷ b ∷ []
 documented (BadCap place) = 10 ∷ place ∷ []
 documented (MissingEdge place) = 11 ∷ place ∷ []
 documented (NoRoom need) = 12 ∷ need ∷ []
+
+unfoldable pub documentedMesh : MeshReply → List ℕ
+documentedMesh (Done vertices facets) = 0 ∷ vertices ∷ facets ∷ []
+documentedMesh (mesh.Refused r) = documented r
 
 abbrev pub Test : Type 0
 Test = Bool × Refusal

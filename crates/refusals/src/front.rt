@@ -4,7 +4,10 @@ ghost use mathlib.Core.Bool.{_&&_, _||_};
 ghost use Prim.Native.Nat.{_<_, _≤_, _+_};
 ghost use lib.ListN.{length};
 ghost use Rattle.lists.specs.Lists.{every};
-ghost use Rattle.refusals.specs.Front.{ragged, tooMany, badIndex, inRange, epsInRange, resolutionInRange, workNeed};
+ghost use Rattle.refusals.specs.Refusals.{firstRefusal};
+ghost use Rattle.refusals.specs.Front.{ragged, tooMany, badIndex, listTests, capCeiling, inRange, epsInRange, resolutionInRange, workNeed};
+use crate::refusal::Checked;
+use crate::refusal::Refusal;
 
 // 1, for a list of `of` numbers an item
 pub fn is_ragged(length: usize, of: usize) -> bool
@@ -34,6 +37,48 @@ pub fn has_bad_index(facets: &[u32], count: usize) -> bool
         i += 1;
     }
     false
+}
+
+// 1, of all three lists: `caps` is the length of the cap list, 0 where an operation takes none
+fn any_ragged(vertices: usize, facets: usize, caps: usize) -> bool
+    ensures { λ r. ⌜ r ≡ (ragged vertices 3 || (ragged facets 3 || ragged caps 4)) ⌝ }
+{
+    if is_ragged(vertices, 3) {
+        return true;
+    }
+    if is_ragged(facets, 3) {
+        return true;
+    }
+    is_ragged(caps, 4)
+}
+
+// 2, of all three lists: at most 1,048,576 cap triangles
+fn any_too_many(ceiling: usize, vertices: usize, facets: usize, caps: usize) -> bool
+    ensures { λ r. ⌜ r ≡ (tooMany ceiling vertices 3 || (tooMany ceiling facets 3 || tooMany capCeiling caps 4)) ⌝ }
+{
+    if is_too_many(ceiling, vertices, 3) {
+        return true;
+    }
+    if is_too_many(ceiling, facets, 3) {
+        return true;
+    }
+    is_too_many(1048576, caps, 4)
+}
+
+// 1, 2 and 3, in that order
+pub fn check_lists(ceiling: usize, vertices: &[f64], facets: &[u32], caps: usize) -> Checked
+    ensures { λ r. ⌜ r ≡ firstRefusal (listTests ceiling (now (vertices .entry)) (now (facets .entry)) caps) ⌝ }
+{
+    if any_ragged(vertices.len(), facets.len(), caps) {
+        return Checked::Refused(Refusal::Ragged);
+    }
+    if any_too_many(ceiling, vertices.len(), facets.len(), caps) {
+        return Checked::Refused(Refusal::TooMany);
+    }
+    if has_bad_index(facets, vertices.len() / 3) {
+        return Checked::Refused(Refusal::BadIndex);
+    }
+    Checked::Passed
 }
 
 // 4, of one coordinate or box corner: 2^30 is 1073741824

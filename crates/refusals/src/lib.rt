@@ -2,3 +2,4 @@
 pub mod boxes;
 pub mod front;
 pub mod refusal;
+pub mod reply;

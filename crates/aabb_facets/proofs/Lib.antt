@@ -1,0 +1,4 @@
+pub mod OutputLists
+pub mod MarkLists
+pub mod RoomLaws
+pub mod Shown

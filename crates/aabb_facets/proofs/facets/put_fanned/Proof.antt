@@ -1,0 +1,81 @@
+use Rattle.aabb_facets.proofs.RoomLaws.{fan-few, fan-put}
+use Rattle.aabb_facets.specs.Rooms.{Room, room, shareRoom, shareTo, fanRoom, facetRoom, marks, mark, shows}
+use Rattle.aabb_facets.specs.Clipped.{made, clipped}
+use Rattle.geometry.specs.Boxes.{faces}
+use Rattle.aabb_polygons.proofs.CornerLists.{points-length, at, counted}
+use Rattle.aabb_polygons.specs.Steps.{cornerAt, corners}
+use Rattle.aabb_polygons.specs.Polygons.{snapped, clipPolygon}
+use Rattle.geometry.specs.declared.point.Point.{Point}
+use lib.Seq.{sets}
+use lib.ListN.{getD, length, drop, replicate, set, length-set}
+use mathlib.Core.List.{List, [], _∷_, _++_}
+use Prim.Native.Nat.{ℕ, _+_, _*_, _-_, _/_, _≤_, _<_}
+use native.Mathlib.Omega.{arith}
+use mathlib.Core.Path.{_≡_, refl, sym, ap, _∙_}
+use borrow.Author.Needs.{needs}
+use Rattle.aabb_facets.proofs.facets.put_fanned.Statement.{statement}
+use Rattle.aabb_facets.proofs.facets.put_fanned.Tie as tie
+use Rattle.aabb_facets.proofs.facets.put_fanned.Reads as reads
+use Rattle.aabb_facets.proofs.facets.put_fanned.Lts as lts
+use Rattle.aabb_facets.proofs.outputs.put_corners.Reads as put-corners-reads
+use Rattle.aabb_facets.proofs.outputs.put_fan.Reads as put-fan-reads
+
+-- src/facets.rt:115:9
+returns : tie.Need-returns
+returns c = let s = c .before .before .before .before in λ i. fan-few (s .args .at) i (s .args .out-vertices .now) (s .args .out-facets .now) (corners (s .args .polygon .now) (s .args .n)) (omega (arith, c .if1 .taken, points-length (s .args .polygon .now) 0 (s .args .n)))
+
+-- src/facets.rt:117:5
+put-corners-requires : tie.Need-put-corners-requires
+put-corners-requires c κs = search needs
+
+-- src/facets.rt:118:33
+sub-put-fan : tie.Need-sub-put-fan
+sub-put-fan c = search needs
+
+-- src/facets.rt:118:5
+put-fan-requires : tie.Need-put-fan-requires
+put-fan-requires c κs = search needs
+
+-- src/facets.rt:120:19
+add-t14 : tie.Need-add-t14
+add-t14 c = search needs
+
+-- src/facets.rt:121:28
+sub-t15 : tie.Need-sub-t15
+sub-t15 c = search needs
+
+-- src/facets.rt:121:23
+mul-t16 : tie.Need-mul-t16
+mul-t16 c = search needs
+
+-- src/facets.rt:121:18
+add-t17 : tie.Need-add-t17
+add-t17 c = search needs
+
+-- src/facets.rt:101:1
+same-length : tie.Need-same-length
+same-length c = search needs
+
+-- src/facets.rt:101:1
+same-length-2 : tie.Need-same-length-2
+same-length-2 c = search needs
+
+-- src/facets.rt:101:1
+returns-2 : tie.Need-returns-2
+returns-2 c = let s = c .before .before .before .before .before .before .before .before .before .before .before .before in λ i. fan-put (s .args .at) i (s .args .out-vertices .now) (s .args .out-facets .now) (corners (s .args .polygon .now) (s .args .n)) (s .args .n) _ _ (sym (points-length (s .args .polygon .now) 0 (s .args .n))) (c .before .before .before .before .before .before .before .before .if1 .left) (c .before .before .before .before .before .before .put-corners .ensures) (c .before .before .put-fan .ensures)
+
+pub put-fanned-spec : {M : Type 1} → statement M
+put-fanned-spec =
+    tie.close
+    (tie.spec
+    returns
+    put-corners-requires
+    sub-put-fan
+    put-fan-requires
+    add-t14
+    sub-t15
+    mul-t16
+    add-t17
+    same-length
+    same-length-2
+    returns-2)

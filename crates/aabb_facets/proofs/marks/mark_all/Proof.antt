@@ -1,0 +1,85 @@
+use Rattle.aabb_facets.specs.Clipped.{insideBox}
+use Rattle.aabb_facets.proofs.MarkLists.{MarkedTo, marking-none, marking-same, marking-more, marking-end}
+use Rattle.aabb_facets.specs.Rooms.{Room, room, shareRoom, shareTo, fanRoom, facetRoom, marks, mark, shows}
+use Rattle.aabb_facets.specs.Clipped.{made, clipped}
+use Rattle.geometry.specs.Boxes.{faces}
+use Rattle.aabb_polygons.proofs.CornerLists.{points-length, at, counted}
+use Rattle.aabb_polygons.specs.Steps.{cornerAt, corners}
+use Rattle.aabb_polygons.specs.Polygons.{snapped, clipPolygon}
+use Rattle.geometry.specs.declared.point.Point.{Point}
+use lib.Seq.{sets}
+use lib.ListN.{getD, length, drop, replicate, set, length-set}
+use mathlib.Core.List.{List, [], _∷_, _++_}
+use Prim.Native.Nat.{ℕ, _+_, _*_, _-_, _/_, _≤_, _<_}
+use native.Mathlib.Omega.{arith}
+use borrow.Author.Needs.{needs}
+use mathlib.Core.Path.{_≡_, refl, sym, ap, _∙_}
+use Rattle.aabb_facets.proofs.marks.mark_all.Statement.{statement}
+use Rattle.aabb_facets.proofs.marks.mark_all.Tie as tie
+use Rattle.aabb_facets.proofs.marks.mark_all.Reads as reads
+use Rattle.aabb_facets.proofs.marks.mark_all.Lts as lts
+use Rattle.aabb_facets.proofs.marks.mark_of.Reads as mark-of-reads
+use Rattle.aabb_polygons.proofs.corners.vertex_at.Reads as vertex-at-reads
+
+abbrev Inv-loop : tie.InvT-loop
+Inv-loop vertices extents eps ids₀ v₀ ids v = (v ≤ length ids₀) × MarkedTo vertices extents eps ids₀ ids v
+
+abbrev μ-loop : tie.MeasureT-loop
+μ-loop vertices extents eps ids₀ v₀ ids v = length ids₀ - v
+
+-- src/marks.rt:28:5
+loop-holds : tie.Need-loop-holds Inv-loop μ-loop
+loop-holds c = let s = c .before .before in (search needs, marking-none (s .args .vertices .now) (s .args .extents) (s .args .eps) (s .args .ids .now))
+
+-- src/marks.rt:29:26
+vertex-at-requires : tie.Need-vertex-at-requires Inv-loop μ-loop
+vertex-at-requires c κs = let s = c .before .before .before .before in omega (arith, s .pre, c .loop-test .taken, marking-same (s .args .vertices .now) (s .args .extents) (s .args .eps) (s .args .ids .now) (c .before .loop .ids) (c .before .loop .v) (c .before .loop .inv .1) (c .before .loop .inv .0))
+
+-- src/marks.rt:29:18
+mark-of-requires : tie.Need-mark-of-requires Inv-loop μ-loop
+mark-of-requires c κs = search needs
+
+-- src/marks.rt:29:9
+mul-ids : tie.Need-mul-ids Inv-loop μ-loop
+mul-ids c = search needs
+
+-- src/marks.rt:29:9
+slice-write-ids : tie.Need-slice-write-ids Inv-loop μ-loop
+slice-write-ids c = c .before .before .loop-test .taken
+
+-- src/marks.rt:30:9
+add-v : tie.Need-add-v Inv-loop μ-loop
+add-v c = search needs
+
+-- src/marks.rt:28:5
+loop-less : tie.Need-loop-less Inv-loop μ-loop
+loop-less c = let s = c .before .before .before .before .before .before in omega (arith, c .before .before .loop-test .taken, marking-same (s .args .vertices .now) (s .args .extents) (s .args .eps) (s .args .ids .now) (c .before .before .before .loop .ids) (c .before .before .before .loop .v) (c .before .before .before .loop .inv .1) (c .before .before .before .loop .inv .0))
+
+-- src/marks.rt:28:5
+loop-again : tie.Need-loop-again Inv-loop μ-loop
+loop-again c = let s = c .before .before .before .before .before .before in marking-more (s .args .vertices .now) (s .args .extents) (s .args .eps) (s .args .ids .now) (c .before .before .before .loop .ids) (c .before .before .before .loop .v) (c .mark-of .result) (c .before .before .before .loop .inv .1) (c .before .before .before .loop .inv .0) (c .before .before .loop-test .taken) (c .mark-of .ensures ∙ ap (λ (p : Point). mark (insideBox (s .args .extents) (s .args .eps) p) 0) (c .before .vertex-at .ensures))
+
+-- src/marks.rt:23:1
+same-length : tie.Need-same-length Inv-loop μ-loop
+same-length c = let s = c .before .before .before .before in marking-same (s .args .vertices .now) (s .args .extents) (s .args .eps) (s .args .ids .now) (c .before .loop .ids) (c .before .loop .v) (c .before .loop .inv .1) (c .before .loop .inv .0)
+
+-- src/marks.rt:23:1
+returns : tie.Need-returns Inv-loop μ-loop
+returns c = let s = c .before .before .before .before in marking-end (s .args .vertices .now) (s .args .extents) (s .args .eps) (s .args .ids .now) (c .before .loop .ids) (c .before .loop .v) (c .before .loop .inv .1) (c .before .loop .inv .0) (c .loop-test .left)
+
+pub mark-all-spec : {M : Type 1} → statement M
+mark-all-spec =
+    tie.close
+    (tie.spec
+    Inv-loop
+    μ-loop
+    loop-holds
+    vertex-at-requires
+    mark-of-requires
+    mul-ids
+    slice-write-ids
+    add-v
+    loop-less
+    loop-again
+    same-length
+    returns)

@@ -1,0 +1,39 @@
+use mathlib.Core.Bool.{Bool}
+use Rattle.aabb_facets.specs.Clipped.{insideBox}
+use Rattle.lists.specs.Lists.{every}
+use Rattle.aabb_facets.specs.Rooms.{Room, room, shareRoom, shareTo, fanRoom, facetRoom, marks, mark, shows}
+use Rattle.aabb_facets.specs.Clipped.{made, clipped}
+use Rattle.geometry.specs.Boxes.{faces}
+use Rattle.aabb_polygons.proofs.CornerLists.{points-length, at, counted}
+use Rattle.aabb_polygons.specs.Steps.{cornerAt, corners}
+use Rattle.aabb_polygons.specs.Polygons.{snapped, clipPolygon}
+use Rattle.geometry.specs.declared.point.Point.{Point}
+use lib.Seq.{sets}
+use lib.ListN.{getD, length, drop, replicate, set, length-set}
+use mathlib.Core.List.{List, [], _∷_, _++_}
+use Prim.Native.Nat.{ℕ, _+_, _*_, _-_, _/_, _≤_, _<_}
+use native.Mathlib.Omega.{arith}
+use mathlib.Core.Path.{_≡_, refl, sym, ap, _∙_}
+use borrow.Author.Needs.{needs}
+use Rattle.aabb_facets.proofs.marks.mark_of.Statement.{statement}
+use Rattle.aabb_facets.proofs.marks.mark_of.Tie as tie
+use Rattle.aabb_facets.proofs.marks.mark_of.Reads as reads
+use Rattle.aabb_facets.proofs.marks.mark_of.Lts as lts
+use Rattle.aabb_polygons.proofs.plane.point_inside_aabb.Reads as point-inside-aabb-reads
+
+-- src/marks.rt:16:8
+point-inside-aabb-requires : tie.Need-point-inside-aabb-requires
+point-inside-aabb-requires c κs = search needs
+
+-- src/marks.rt:13:1
+returns : tie.Need-returns
+unfolding insideBox
+returns c = sym (ap (λ (b : Bool). mark b 0) (sym (c .before .point-inside-aabb .ensures) ∙ c .if1 .taken))
+
+-- src/marks.rt:13:1
+returns-2 : tie.Need-returns-2
+unfolding insideBox
+returns-2 c = sym (ap (λ (b : Bool). mark b 0) (sym (c .before .point-inside-aabb .ensures) ∙ c .if1 .left))
+
+pub mark-of-spec : {M : Type 1} → statement M
+mark-of-spec = tie.close (tie.spec point-inside-aabb-requires returns returns-2)

@@ -1,0 +1,107 @@
+-- What the inner functions do to the lists lent to them, step by step: counts, and the contents of three lists. Contracts of inner functions cite
+-- this; the product promises nothing by it. `sets old i new` stores new from the place i on, as far as there is room. Assumes nothing.
+--   Room, room        counts and contents                   grow          more vertices and more facet numbers
+--   mark, marks       the word of a vertex, and of all      marked        a vertex inside
+--   shareRoom, shareTo, fanRoom, facetRoom   what a shared corner, a facet's first corners, a fan and a facet do
+--   shows             the room that shows what was made     Ran           what a whole pass does
+use Prim.Native.Nat.{ℕ, zero, suc, _+_, _*_, _-_, _≤_}
+use mathlib.Core.Path.{_≡_}
+use mathlib.Core.Bool.{Bool, cond, not, _&&_}
+use mathlib.Core.List.{List, [], _∷_}
+use lib.Dec.{ltb, eqb}
+use lib.Seq.{sets}
+use lib.ListN.{getD, set, length, replicate}
+use lib.Ieee.{Float}
+use Rattle.geometry.specs.declared.point.Point.{Point}
+use Rattle.geometry.specs.declared.aabb.AABB.{AABB}
+use Rattle.geometry.specs.Boxes.{faces}
+use Rattle.geometry.specs.Triangles.{Triangle, flat}
+use Rattle.geometry.specs.Meshes.{Mesh, coordinates, Named}
+use Rattle.aabb_polygons.specs.Polygons.{snapped, clipPolygon}
+use Rattle.aabb_polygons.specs.Steps.{cornerAt}
+use Rattle.aabb_facets.specs.declared.facets.Counts.{Counts}
+use Rattle.aabb_facets.specs.Clipped.{Made, insideBox, fan}
+
+pub record Room : Type 0 where
+  pub nv : ℕ
+  pub nf : ℕ
+  pub ids : List ℕ
+  pub vs : List Float
+  pub fs : List ℕ
+
+abbrev pub room : Counts → List ℕ → List Float → List ℕ → Room
+room c i v f = record { nv = c .vertices; nf = c .numbers; ids = i; vs = v; fs = f }
+
+abbrev pub grow : Room → List Point → List ℕ → Room
+grow r ps ks =
+    record {
+      nv = r .nv + length ps;
+      nf = r .nf + length ks;
+      ids = r .ids;
+      vs = sets (r .vs) (3 * r .nv) (coordinates ps);
+      fs = sets (r .fs) (r .nf) ks;
+    }
+
+abbrev pub renamed : Room → ℕ → ℕ → Room
+renamed r v k = record { nv = r .nv; nf = r .nf; ids = set (r .ids) v k; vs = r .vs; fs = r .fs }
+
+-- 0 outside the box; else 1 more than what is given of it
+abbrev pub mark : Bool → ℕ → ℕ
+mark b s = cond b (s + 1) 0
+
+abbrev pub marked : List ℕ → ℕ → Bool
+marked ids v = not (eqb (getD ids v 0) 0)
+
+unfoldable pub shareRoomAs : ℕ → Room → ℕ → Point → Room
+shareRoomAs zero r v p = grow (renamed r v (r .nv + 2)) (p ∷ []) (r .nv ∷ [])
+shareRoomAs (suc k) r v p = grow r [] (k ∷ [])
+
+abbrev pub shareRoom : Room → ℕ → Point → Room
+shareRoom r v p = shareRoomAs (getD (r .ids) v 0 - 1) r v p
+
+unfoldable pub fanRoom : Room → List Point → Room
+fanRoom r l = cond (ltb (length l) 3) r (grow r l (flat (fan (r .nv) (length l - 2))))
+
+module _ (vs : List Float) (fs : List ℕ) (box : AABB) (eps : Float) where
+  -- the first j corners of the facet i shared
+  unfoldable pub shareTo : Room → ℕ → ℕ → Room
+  shareTo r i zero = r
+  shareTo r i (suc j) = shareRoom (shareTo r i j) (getD fs (3 * i + j) 0) (snapped box eps (cornerAt vs (getD fs (3 * i + j) 0)))
+
+  unfoldable pub facetRoom : Room → ℕ → Room
+  facetRoom r i =
+      cond (marked (r .ids) (getD fs (3 * i) 0) && (marked (r .ids) (getD fs (3 * i + 1) 0) && marked (r .ids) (getD fs (3 * i + 2) 0)))
+      (shareTo r i 3)
+      (fanRoom r (clipPolygon box eps faces (cornerAt vs (getD fs (3 * i) 0) ∷ cornerAt vs (getD fs (3 * i + 1) 0) ∷ cornerAt vs (getD fs (3 * i + 2) 0) ∷ [])))
+
+module _ (vs : List Float) (box : AABB) (eps : Float) where
+  -- the words of the vertices from k on
+  unfoldable pub marks : ℕ → List ℕ → List ℕ
+  marks k [] = []
+  marks k (s ∷ ss) = mark (insideBox box eps (cornerAt vs k)) s ∷ marks (suc k) ss
+
+  -- new vertices and facet numbers, over old contents
+  abbrev pub showsNamed : Named → List ℕ → List Float → List ℕ → Room
+  showsNamed n ks ov of =
+      record {
+        nv = length (n .points);
+        nf = length ks;
+        ids = marks 0 (n .given);
+        vs = sets ov 0 (coordinates (n .points));
+        fs = sets of 0 ks;
+      }
+
+  abbrev pub shows : Made → List Float → List ℕ → Room
+  shows m ov of = showsNamed (m .named) (flat (m .facets)) ov of
+
+-- no word is beyond the vertices made
+abbrev pub Low : Room → Type 0
+Low r = (w : ℕ) → getD (r .ids) w 0 ≤ r .nv + 1
+
+-- a whole pass: the counts, the outputs as far as there is room, and the words zero
+pub record Ran (m : Mesh) (r : Counts) (v v' : List Float) (f f' w w' : List ℕ) : Type 0 where
+  pub count : r .vertices ≡ length (m .points)
+  pub numbers : r .numbers ≡ length (flat (m .facets))
+  pub vertices : v' ≡ sets v 0 (coordinates (m .points))
+  pub facets : f' ≡ sets f 0 (flat (m .facets))
+  pub zero : w' ≡ replicate (length w) 0
