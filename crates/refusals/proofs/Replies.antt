@@ -1,17 +1,24 @@
 -- Laws of an operation's whole reply: the row of tests in front, test 12 behind it, and what was done. Assumes nothing.
 --   reply-refused, reply-passed    a row of tests in front, that refused or passed
 --   short-first, short-second, roomy   test 12 of an operation with two outputs
-use Prim.Native.Nat.{ℕ, _≤_, _<_}
+--   head-passed, tail-passed, row-front, row-rest   what is known once a row of tests has passed
+--   Listed, listed                 the same of tests 1, 2 and 3
+use Prim.Native.Nat.{ℕ, _/_, _%_, _≤_, _<_}
 use mathlib.Core.Path.{_≡_, refl, sym, ap, _∙_}
+use mathlib.Core.Bool.{Bool, true, false, cond, not, _||_}
 use mathlib.Core.List.{List, [], _∷_, _++_}
-use borrow.Author.Tests.{lt-ltb, le-ltb}
-use lib.Dec.{ltb}
+use borrow.Author.Tests.{lt-ltb, le-ltb, ltb-false, eqb-true, not-false}
+use lib.Dec.{ltb, eqb}
+use native.Mathlib.Omega.{arith}
+use lib.ListN.{length}
+use lib.Ieee.{Float}
+use Rattle.lists.proofs.Bools.{or-none-left, or-none-right}
 use Rattle.refusals.specs.declared.refusal.Refusal.{Refusal}
-use Rattle.refusals.specs.declared.refusal.Refusal.the-variants.{NoRoom}
+use Rattle.refusals.specs.declared.refusal.Refusal.the-variants.{Ragged, TooMany, BadIndex, NoRoom}
 use Rattle.refusals.specs.declared.refusal.Checked.{Checked}
 use Rattle.refusals.specs.declared.refusal.Checked.the-variants.{Passed, Refused}
 use Rattle.refusals.specs.Refusals.{documented, Test, firstRefusal, numbered, replyTo}
-use Rattle.refusals.specs.Front.{roomTests}
+use Rattle.refusals.specs.Front.{ragged, tooMany, capCeiling, badIndex, listTests, roomTests}
 use Rattle.refusals.proofs.Refusals.{holds, passes, no-test, row-passed, row-refused}
 
 module _ (ts us : List Test) (done : List ℕ) where
@@ -38,3 +45,54 @@ module _ (n m a b : ℕ) (done : List ℕ) where
   roomy h k =
       ap (λ (c : Checked). numbered c done)
       (passes (ltb a n) (NoRoom n) ((ltb b m, NoRoom m) ∷ []) (le-ltb a n h) ∙ passes (ltb b m) (NoRoom m) [] (le-ltb b m k) ∙ no-test)
+
+-- ---- what is known once tests have passed
+module _ (b : Bool) (r : Refusal) (ts : List Test) where
+  by-head : (c : Bool) → cond c (Refused r) (firstRefusal ts) ≡ Passed → (c ≡ false) × (firstRefusal ts ≡ Passed)
+  by-head true e = absurd (let z : _≡_ {A = ℕ} 0 1 = cc in omega arith)
+  by-head false e = (refl, e)
+
+  pub head-passed : firstRefusal ((b, r) ∷ ts) ≡ Passed → b ≡ false
+  unfolding firstRefusal
+  head-passed e = by-head b e .0
+
+  pub tail-passed : firstRefusal ((b, r) ∷ ts) ≡ Passed → firstRefusal ts ≡ Passed
+  unfolding firstRefusal
+  tail-passed e = by-head b e .1
+
+pub row-front : (ts us : List Test) → firstRefusal (ts ++ us) ≡ Passed → firstRefusal ts ≡ Passed
+row-front [] us e = no-test
+row-front (t ∷ ts) us e = passes (t .0) (t .1) ts (head-passed (t .0) (t .1) (ts ++ us) e) ∙ row-front ts us (tail-passed (t .0) (t .1) (ts ++ us) e)
+
+pub row-rest : (ts us : List Test) → firstRefusal (ts ++ us) ≡ Passed → firstRefusal us ≡ Passed
+row-rest [] us e = e
+row-rest (t ∷ ts) us e = row-rest ts us (tail-passed (t .0) (t .1) (ts ++ us) e)
+
+pub record Listed (most : ℕ) (vs : List Float) (fs : List ℕ) : Type 0 where
+  pub whole-vertices : length vs % 3 ≡ 0
+  pub whole-facets : length fs % 3 ≡ 0
+  pub few-vertices : length vs / 3 ≤ most
+  pub few-facets : length fs / 3 ≤ most
+  pub below : badIndex (length vs / 3) fs ≡ false
+
+module _ (most : ℕ) (vs : List Float) (fs : List ℕ) (caps : ℕ) where
+  abbrev second : List Test
+  second =
+      (tooMany most (length vs) 3 || (tooMany most (length fs) 3 || tooMany capCeiling caps 4), TooMany) ∷ (badIndex (length vs / 3) fs, BadIndex) ∷ []
+
+  pub listed : firstRefusal (listTests most vs fs caps) ≡ Passed → Listed most vs fs
+  unfolding ragged tooMany
+  listed e =
+      let r1 = head-passed (ragged (length vs) 3 || (ragged (length fs) 3 || ragged caps 4)) Ragged second e in
+      let e2 = tail-passed (ragged (length vs) 3 || (ragged (length fs) 3 || ragged caps 4)) Ragged second e in
+      let r2 = head-passed (tooMany most (length vs) 3 || (tooMany most (length fs) 3 || tooMany capCeiling caps 4)) TooMany ((badIndex (length vs / 3) fs, BadIndex) ∷ []) e2 in
+      let e3 = tail-passed (tooMany most (length vs) 3 || (tooMany most (length fs) 3 || tooMany capCeiling caps 4)) TooMany ((badIndex (length vs / 3) fs, BadIndex) ∷ []) e2 in
+      let s1 = or-none-right (ragged (length vs) 3) (ragged (length fs) 3 || ragged caps 4) r1 in
+      let s2 = or-none-right (tooMany most (length vs) 3) (tooMany most (length fs) 3 || tooMany capCeiling caps 4) r2 in
+      record {
+        whole-vertices = eqb-true (length vs % 3) 0 (not-false (eqb (length vs % 3) 0) (or-none-left (ragged (length vs) 3) (ragged (length fs) 3 || ragged caps 4) r1));
+        whole-facets = eqb-true (length fs % 3) 0 (not-false (eqb (length fs % 3) 0) (or-none-left (ragged (length fs) 3) (ragged caps 4) s1));
+        few-vertices = ltb-false most (length vs / 3) (or-none-left (tooMany most (length vs) 3) (tooMany most (length fs) 3 || tooMany capCeiling caps 4) r2);
+        few-facets = ltb-false most (length fs / 3) (or-none-left (tooMany most (length fs) 3) (tooMany capCeiling caps 4) s2);
+        below = head-passed (badIndex (length vs / 3) fs) BadIndex [] e3;
+      }

@@ -1,0 +1,3 @@
+pub mod Clip
+-- What the inner function does: no part of what the product promises.
+pub mod Steps
