@@ -1,17 +1,17 @@
 -- The facets kept, from the facets that passed; and the rule for them: a facet is kept exactly if it passed, and m facets or more that passed are joined to it. Assumes nothing.
-use Prim.Native.Nat.{ℕ, zero, suc, _+_}
+use Prim.Native.Nat.{ℕ, zero, suc, _+_, _<_}
 use native.Mathlib.Omega.{arith}
 use mathlib.Core.Path.{_≡_, refl, sym, ap, subst, _∙_}
 use mathlib.Core.Bool.{Bool, true, false, cond, not, _&&_}
 use mathlib.Core.List.{List, [], _∷_, _++_, List·Memᴰ}
 use lib.Dec.{T, ltb, leb}
-use lib.ListN.{length}
+use lib.ListN.{length, getD}
 use borrow.Author.Tests.{ltb-true, ltb-false, lt-leb, le-leb}
 use lib.Ieee.{Float}
 use Rattle.lists.specs.Lists.{has, keep, count, upFrom, upTo}
 use Rattle.lists.proofs.Counts.{keep-append, keep-same}
-use Rattle.lists.proofs.Members.{some-of, of-some, has-of, of-has, keep-of, of-keep}
-use Rattle.lists.proofs.Places.{up-of}
+use Rattle.lists.proofs.Members.{some-of, of-some, has-of, of-has, keep-of, of-keep, getD-mem}
+use Rattle.lists.proofs.Places.{of-up, up-of}
 use Rattle.geometry.specs.declared.point.Point.{Point}
 use Rattle.geometry.specs.Triangles.{Triangle, vertices}
 use Rattle.components.specs.Joined.{Among, ManyJoined, Once, Decides}
@@ -95,6 +95,12 @@ module _ (eps : Float) (points : List Point) (facets : List (Triangle ℕ)) wher
 
   pub once-passed : Once (allPassed eps points facets)
   once-passed = subst Once (sym (passed-keeps (length facets))) (once-keep goes (upTo (length facets)) (once-up 0 (length facets)))
+
+  -- those that passed are facets
+  pub passed-low : (n i : ℕ) → i < length (passed eps points facets n) → getD (passed eps points facets n) i 0 < n
+  passed-low n i h =
+      let q = getD-mem (passed eps points facets n) i 0 h in
+      let h = of-up 0 n (of-keep goes (upTo n) (subst (List·Memᴰ (getD (passed eps points facets n) i 0)) (passed-keeps n) q) .0) .1 in omega arith
 
   status-kept : (m i : ℕ) → isKept (status eps points facets m i) ≡ (goes i && not (isAlone eps points facets m i))
   unfolding status passes

@@ -6,3 +6,4 @@ pub mod Rule
 pub mod Apart
 pub mod Searching
 pub mod Steps
+pub mod Numbers

@@ -1,5 +1,6 @@
 // The refusals of document 01's table, and the tests that the operations share.
 pub mod boxes;
 pub mod front;
+pub mod keys;
 pub mod refusal;
 pub mod reply;
