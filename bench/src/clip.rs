@@ -67,7 +67,10 @@ fn row(rounds: usize, name: &str, mesh: &Mesh) {
                 &mut values,
             )
         });
-        assert_ne!(values[1], 0, "the request is accepted and something is left");
+        assert_ne!(
+            values[1], 0,
+            "the request is accepted and something is left"
+        );
         taken
     };
     let mut rust = || {
@@ -75,5 +78,9 @@ fn row(rounds: usize, name: &str, mesh: &Mesh) {
         time(|| oracle::reference::clip_mesh_to_aabb(vertices, facets, &UNIT, eps))
     };
     let mut clearing = || time(|| spare.fill(0));
-    mesh_row(name, mesh.count(), interleaved(rounds, [&mut ours, &mut rust, &mut clearing]));
+    mesh_row(
+        name,
+        mesh.count(),
+        interleaved(rounds, [&mut ours, &mut rust, &mut clearing]),
+    );
 }

@@ -40,7 +40,10 @@ pub fn surface(facets: usize, middle: f64, reach: f64) -> Mesh {
             list.extend([corner(0, 0), corner(1, 1), corner(0, 1)]);
         }
     }
-    Mesh { vertices, facets: list }
+    Mesh {
+        vertices,
+        facets: list,
+    }
 }
 
 /// Triangles of random corners in and around the box. At most 65,536 vertices are
@@ -48,11 +51,26 @@ pub fn surface(facets: usize, middle: f64, reach: f64) -> Mesh {
 pub fn soup(facets: usize) -> Mesh {
     let mut state = 7u64;
     let mut next = || {
-        state = state.wrapping_mul(6_364_136_223_846_793_005).wrapping_add(1_442_695_040_888_963_407);
+        state = state
+            .wrapping_mul(6_364_136_223_846_793_005)
+            .wrapping_add(1_442_695_040_888_963_407);
         state >> 33
     };
     let count = (3 * facets).min(65_536);
-    let vertices = (0..3 * count).map(|_| next() as f64 / (1u64 << 31) as f64 * 2.0 - 0.5).collect();
-    let facets = (0..3 * facets).map(|_| (next() % count as u64) as u32).collect();
+    let vertices = (0..3 * count)
+        .map(|_| next() as f64 / (1u64 << 31) as f64 * 2.0 - 0.5)
+        .collect();
+    let facets = (0..3 * facets)
+        .map(|_| (next() % count as u64) as u32)
+        .collect();
     Mesh { vertices, facets }
+}
+
+/// The same surface with three vertices of its own for every facet.
+pub fn own_vertices(mesh: &Mesh) -> Mesh {
+    let corner = |&id: &u32| mesh.vertices[3 * id as usize..][..3].to_vec();
+    Mesh {
+        vertices: mesh.facets.iter().flat_map(corner).collect(),
+        facets: (0..mesh.facets.len() as u32).collect(),
+    }
 }

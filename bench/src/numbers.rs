@@ -49,7 +49,9 @@ fn machine_tolerance(x: f64) -> f64 {
 fn inputs() -> Vec<f64> {
     let mut state = 1u64;
     let mut next = || {
-        state = state.wrapping_mul(6_364_136_223_846_793_005).wrapping_add(1_442_695_040_888_963_407);
+        state = state
+            .wrapping_mul(6_364_136_223_846_793_005)
+            .wrapping_add(1_442_695_040_888_963_407);
         (state >> 11) as f64 / (1u64 << 53) as f64 * 1000.0 + 1e-6
     };
     (0..INPUTS).map(|_| next()).collect()
@@ -66,7 +68,9 @@ pub fn rows(rounds: usize) {
     let row = |name: &str, ours: &dyn Fn(f64) -> f64, rust: &dyn Fn(f64) -> f64| {
         let medians = interleaved(
             rounds,
-            [&mut || time(|| over(&inputs, ours)), &mut || time(|| over(&inputs, rust))],
+            [&mut || time(|| over(&inputs, ours)), &mut || {
+                time(|| over(&inputs, rust))
+            }],
         );
         let [o, r] = medians.map(|time| time.as_secs_f64() * 1e9 / INPUTS as f64);
         println!("| {name} | {o:.1} | {r:.1} | {:.2} |", o / r);
@@ -86,7 +90,17 @@ pub fn rows(rounds: usize) {
     {
         row("root", &|x| unsafe { export_sqrt(x) }, &machine_sqrt);
         row("rounding", &|x| unsafe { export_round(x) }, &machine_round);
-        row("cell key", &|x| unsafe { export_cell_key(x, EPS) as f64 }, &machine_cell_key);
+        row(
+            "cell key",
+            &|x| unsafe { export_cell_key(x, EPS) as f64 },
+            &machine_cell_key,
+        );
     }
-    let _ = (&row, machine_sqrt, machine_round, machine_cell_key, machine_tolerance);
+    let _ = (
+        &row,
+        machine_sqrt,
+        machine_round,
+        machine_cell_key,
+        machine_tolerance,
+    );
 }

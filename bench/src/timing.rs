@@ -1,12 +1,40 @@
 //! Interleaved timing and the printed table.
+//!
+//! Times are processor times of the running thread: both sides compute in one
+//! thread and wait for nothing, and a busy machine then disturbs long runs no more
+//! than short ones.
 
-use std::time::{Duration, Instant};
+use std::time::Duration;
+
+#[repr(C)]
+struct Timespec {
+    seconds: i64,
+    nanoseconds: i64,
+}
+
+extern "C" {
+    // Of the C library that std links on Linux.
+    fn clock_gettime(clock: i32, time: *mut Timespec) -> i32;
+}
+
+/// CLOCK_THREAD_CPUTIME_ID of Linux.
+const THREAD_CLOCK: i32 = 3;
+
+fn thread_time() -> Duration {
+    let mut now = Timespec {
+        seconds: 0,
+        nanoseconds: 0,
+    };
+    let failed = unsafe { clock_gettime(THREAD_CLOCK, &mut now) };
+    assert_eq!(failed, 0, "the thread's clock can be read");
+    Duration::new(now.seconds as u64, now.nanoseconds as u32)
+}
 
 /// The time of `run`; its result is dropped after the clock has stopped.
 pub fn time<T>(run: impl FnOnce() -> T) -> Duration {
-    let start = Instant::now();
+    let start = thread_time();
     let result = run();
-    let taken = start.elapsed();
+    let taken = thread_time() - start;
     drop(std::hint::black_box(result));
     taken
 }

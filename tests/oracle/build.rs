@@ -13,9 +13,11 @@ fn main() {
     println!("cargo:rerun-if-changed=build.rs");
     println!("cargo:rerun-if-changed=edits.rs");
 
-    let source = env::var_os("FERREUS_SRC").map(PathBuf::from).unwrap_or_else(|| {
-        fail("FERREUS_SRC is not set: it names the folder that holds ferreus_rmt/src".into())
-    });
+    let source = env::var_os("FERREUS_SRC")
+        .map(PathBuf::from)
+        .unwrap_or_else(|| {
+            fail("FERREUS_SRC is not set: it names the folder that holds ferreus_rmt/src".into())
+        });
     let out = PathBuf::from(env::var_os("OUT_DIR").expect("cargo sets OUT_DIR"));
 
     // The modules are declared with #[path], so that each file of the reference
@@ -25,8 +27,11 @@ fn main() {
         let edited = edited(&source.join(file), file);
         let target = out.join(format!("{module}.rs"));
         fs::write(&target, edited).unwrap_or_else(|e| fail(format!("{}: {e}", target.display())));
-        writeln!(modules, "#[allow(dead_code, unused)]\n#[path = {target:?}]\npub(crate) mod {module};")
-            .expect("writing to a string");
+        writeln!(
+            modules,
+            "#[allow(dead_code, unused)]\n#[path = {target:?}]\npub(crate) mod {module};"
+        )
+        .expect("writing to a string");
     }
     fs::write(out.join("reference.rs"), modules).unwrap_or_else(|e| fail(e.to_string()));
 }

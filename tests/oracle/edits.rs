@@ -47,12 +47,13 @@ pub const EDITS: &[Edit] = &[
     Edit {
         file: CLOSURE,
         old: "    for ((a, b), incident) in edges {\n",
-        new: "    let mut open: Vec<_> = edges\n\
-              \x20       .into_iter()\n\
-              \x20       .filter(|(_, incident)| incident.len() == 1)\n\
-              \x20       .collect();\n\
-              \x20   open.sort_unstable_by_key(|(pair, _)| *pair);\n\
-              \x20   for ((a, b), incident) in open {\n",
+        new: r#"    let mut open: Vec<_> = edges
+        .into_iter()
+        .filter(|(_, incident)| incident.len() == 1)
+        .collect();
+    open.sort_unstable_by_key(|(pair, _)| *pair);
+    for ((a, b), incident) in open {
+"#,
         times: 1,
         why: "BEHAVIOUR. \"Open edges go in ascending order of their sorted pair\"; the Rust \
               takes them in the order of a hash map.",
@@ -67,9 +68,15 @@ pub const EDITS: &[Edit] = &[
     },
     Edit {
         file: CLOSURE,
-        old: "    mode: BoundaryClosure,\n    eps: f64,\n) -> (Vec<f64>, Vec<usize>) {\n",
-        new: "    mode: BoundaryClosure,\n    eps: f64,\n    supplied: &[SuppliedTri],\n\
-              ) -> (Vec<f64>, Vec<usize>) {\n",
+        old: r#"    mode: BoundaryClosure,
+    eps: f64,
+) -> (Vec<f64>, Vec<usize>) {
+"#,
+        new: r#"    mode: BoundaryClosure,
+    eps: f64,
+    supplied: &[SuppliedTri],
+) -> (Vec<f64>, Vec<usize>) {
+"#,
         times: 1,
         why: "BEHAVIOUR. `cap_mesh_to_aabb` \"with its face triangulation handed in\".",
     },
@@ -90,33 +97,48 @@ pub const EDITS: &[Edit] = &[
     },
     Edit {
         file: CLOSURE,
-        old: "        if candidate_ids.len() < 3 {\n            return;\n",
-        new: "        if candidate_ids.len() < 3 {\n            return Vec::new();\n",
+        old: r#"        if candidate_ids.len() < 3 {
+            return;
+"#,
+        new: r#"        if candidate_ids.len() < 3 {
+            return Vec::new();
+"#,
         times: 1,
         why: "BEHAVIOUR. \"none on a face with under three candidates\".",
     },
     Edit {
         file: CLOSURE,
         old: "        let constraint_edges: Vec<[usize; 2]> =",
-        new: "        let mut listed: Vec<_> = constraints.iter().copied().collect();\n\
-              \x20       listed.sort_unstable();\n\
-              \x20       #[cfg(any())]\n        {\n        let constraint_edges: Vec<[usize; 2]> =",
+        new: r#"        let mut listed: Vec<_> = constraints.iter().copied().collect();
+        listed.sort_unstable();
+        #[cfg(any())]
+        {
+        let constraint_edges: Vec<[usize; 2]> ="#,
         times: 1,
         why: "BEHAVIOUR. Constraints are \"listed ascending, once\"; from here on the \
               triangulation is left out (compiled never).",
     },
     Edit {
         file: CLOSURE,
-        old: "        }));\n    }\n",
-        new: "        }));\n        }\n        listed\n    }\n",
+        old: r#"        }));
+    }
+"#,
+        new: r#"        }));
+        }
+        listed
+    }
+"#,
         times: 1,
         why: "BEHAVIOUR. The end of the part left out.",
     },
     // ---------------------------------------------------------------- build
     Edit {
         file: CLOSURE,
-        old: "use spade::{\n    ConstrainedDelaunayTriangulation, HasPosition, Point2, Triangulation,\n    \
-              handles::FixedVertexHandle,\n};\n",
+        old: r#"use spade::{
+    ConstrainedDelaunayTriangulation, HasPosition, Point2, Triangulation,
+    handles::FixedVertexHandle,
+};
+"#,
         new: "",
         times: 1,
         why: "BUILD. \"Another package triangulates each face and stays outside.\"",

@@ -4,10 +4,10 @@
 --   refused, accepted                    what Clipped asks, after the tests in front
 --   Ready, ready                         what is known once the tests in front have passed
 --   lists-refused, number-refused, box-refused, room-refused, all-passed   the tests in front, one after the other
-use Prim.Native.Nat.{ℕ, zero, suc, _+_, _*_, _/_, _≤_, _<_}
+use Prim.Native.Nat.{ℕ, _+_, _*_, _/_, _≤_, _<_}
 use mathlib.Core.Bool.{Bool, true, false, not, _&&_}
 use mathlib.Core.List.{List, [], _∷_, _++_}
-use mathlib.Core.Path.{_≡_, refl, sym, ap, _∙_, subst}
+use mathlib.Core.Path.{_≡_, refl, sym, ap, _∙_}
 use native.Mathlib.Omega.{arith}
 use borrow.Author.Tests.{ltb-false, lt-ltb, le-ltb}
 use lib.Dec.{ltb}
@@ -28,10 +28,10 @@ use Rattle.refusals.specs.declared.refusal.Checked.the-variants.{Passed, Refuse
 use Rattle.refusals.specs.declared.reply.MeshReply.{MeshReply}
 use Rattle.refusals.specs.declared.reply.MeshReply.the-variants.{Done}
 use Rattle.refusals.specs.declared.reply.MeshReply.the-variants as mesh
-use Rattle.refusals.specs.Refusals.{documented, documentedMesh, Test, firstRefusal, settle, Settled, Zeroed}
-use Rattle.refusals.specs.Front.{ceiling, listTests, badIndex, inRange, epsInRange, boxInRange, badBox, workNeed, workTest, roomTests}
-use Rattle.refusals.proofs.Refusals.{holds, passes, no-test, row-passed, row-refused, untouched}
-use Rattle.refusals.proofs.Replies.{reply-refused, reply-passed, short-first, short-second, roomy, head-passed, tail-passed, row-front, row-rest, Listed, listed}
+use Rattle.refusals.specs.Refusals.{documented, documentedMesh, Test, firstRefusal, settle, Settled}
+use Rattle.refusals.specs.Front.{ceiling, listTests, badIndex, inRange, epsInRange, boxInRange, badBox, workNeed, roomTests}
+use Rattle.refusals.proofs.Refusals.{holds, passes, none-left, row-passed, row-refused, untouched}
+use Rattle.refusals.proofs.Replies.{reply-refused, reply-passed, short-first, short-second, roomy, head-passed, tail-passed, row-front, row-rest, listed}
 use Rattle.aabb_clipping.specs.Clip.{clipTests, clipResult, clipReply, Clipped}
 use Rattle.aabb_clipping.specs.Steps.{Written}
 
@@ -206,4 +206,4 @@ module _ (vs : List Float) (fs : List ℕ) (box : AABB) (eps : Float) (lent : �
         room-refused k = sym (after-box ∙ holds (ltb lent n) (NoWorkRoom n) [] (lt-ltb lent n k))
 
         pub all-passed : n ≤ lent → Passed ≡ firstRefusal (clipTests vs fs box eps lent)
-        all-passed k = sym (after-box ∙ passes (ltb lent n) (NoWorkRoom n) [] (le-ltb lent n k) ∙ no-test)
+        all-passed k = sym (after-box ∙ passes (ltb lent n) (NoWorkRoom n) [] (le-ltb lent n k) ∙ none-left)

@@ -1,4 +1,5 @@
-// The operation clip (document 01, module 3; `clip_mesh_to_aabb` of aabb_clipping.rs).
+// The operation clip (document 01, module 3; `clip_mesh_to_aabb` of aabb_clipping.rs). `bbox_eps` of that file stands in the crate tolerance;
+// `facet_fully_inside_aabb` is left out, since no operation uses it.
 ghost use mathlib.Core.Path.{_≡_};
 ghost use mathlib.Core.Bool.{false};
 ghost use Prim.Native.Nat.{_/_, _≤_};

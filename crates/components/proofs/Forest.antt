@@ -11,7 +11,7 @@ use lib.Seq.{getD-set-same, getD-set-other}
 use borrow.Author.Count.{below-more}
 use Rattle.lists.proofs.Regions.{at-set}
 use Rattle.components.specs.Joined.{Joined, one, same, back, via}
-use Rattle.components.specs.Forest.{Link, Linked, Forest, Kept, Found, Added, old, new, United}
+use Rattle.components.specs.Forest.{Link, Linked, Forest, Kept, Found, Rooted, Added, old, new, United}
 use Rattle.components.proofs.Joined.{joined-into, joined-ends}
 
 pub kept-refl : (w : List ℕ) (o n : ℕ) → Forest w o n → Kept w w o n
@@ -149,19 +149,54 @@ united-sym u v o n a b h = record {
     turned a b i j (old l) = one (old l)
     turned a b i j new = back (one new)
 
--- what `unite` does once it has both roots
-module _ (u w v : List ℕ) (o n a b s t : ℕ) (in-u : o + n ≤ length u) (a-in : a < n) (b-in : b < n) (fa : Found u w o n a s) (fb : Found w v o n b t) where
+pub found-rooted : (u w : List ℕ) (o n x r : ℕ) → Found u w o n x r → Rooted w o n x r
+found-rooted u w o n x r f = record { small = f .small; root = f .root; tree = f .tree }
+
+-- what `enter` does once it has both roots: s of a's tree, t of b's
+module _ (u v : List ℕ) (o n a b s t : ℕ) (in-u : o + n ≤ length u) (a-in : a < n) (b-in : b < n) (ra : Rooted u o n a s) (fb : Found u v o n b t) where
   both : (x : List ℕ) → United v x o n s t → United u x o n a b
-  both x = united-at u v x o n a b s t (kept-trans u w v o n (fa .kept) (fb .kept)) (fb .kept .more a s (fa .tree)) (fb .tree)
+  both x = united-at u v x o n a b s t (fb .kept) (fb .kept .more a s (ra .tree)) (fb .tree)
 
   in-v : o + n ≤ length v
-  in-v = omega (arith, fa .kept .long, fb .kept .long)
+  in-v = omega (arith, fb .kept .long)
+
+  s-root : getD v (o + s) 0 ≡ s
+  s-root = fb .kept .roots s (omega (arith, ra .small)) (ra .root)
+
+  -- in the united trees what was linked still is, and a is with b
+  still : (x : List ℕ) → United u x o n a b → (i j : ℕ) → Linked v o n i j → Linked x o n i j
+  still x h i j l = joined-into (λ i j l. h .more i j (one (old l))) i j (fb .kept .less i j l)
 
   pub unite-up : s < t → United u (set v (o + t) s) o n a b
   unite-up h = both (set v (o + t) s) (united-sym v _ o n s t (graft v o n s t in-v (omega arith) (omega (arith, fb .small)) (fb .kept .forest) (fb .root)))
 
+  pub rooted-up : s < t → Rooted (set v (o + t) s) o n a s
+  rooted-up h = record {
+    small = ra .small;
+    root = getD-set-other v (o + t) (o + s) s 0 (λ e. omega arith) ∙ s-root;
+    tree = still (set v (o + t) s) (unite-up h) a s (fb .kept .more a s (ra .tree));
+  }
+
   pub unite-down : t ≤ s → United u (set v (o + s) t) o n a b
-  unite-down h = both (set v (o + s) t) (graft v o n t s in-v h (omega (arith, fa .small)) (fb .kept .forest) (fb .kept .roots s (omega (arith, fa .small)) (fa .root)))
+  unite-down h = both (set v (o + s) t) (graft v o n t s in-v h (omega (arith, ra .small)) (fb .kept .forest) s-root)
+
+  pub rooted-down : t ≤ s → Rooted (set v (o + s) t) o n a t
+  rooted-down h = record {
+    small = omega (arith, ra .small);
+    root = ⊎-elim (λ e. e .1) (λ e. e .1 ∙ fb .root) (at-set v o s t t (omega (arith, ra .small, in-v)));
+    tree = via (unite-down h .more a b (one new)) (still (set v (o + s) t) (unite-down h) b t (fb .tree));
+  }
+
+-- a store elsewhere leaves the root
+pub rooted-elsewhere : (w : List ℕ) (o n i r s x : ℕ) → i < n → o + n ≤ s → Rooted w o n i r → Rooted (set w s x) o n i r
+rooted-elsewhere w o n i r s x i-in far h = record {
+  small = h .small;
+  root = was r (omega (arith, h .small)) ∙ h .root;
+  tree = joined-into (λ a b l. link (set w s x) o n a b (l .i-in) (was a (l .i-in) ∙ l .to)) i r (h .tree);
+}
+  where
+    was : (a : ℕ) → a < n → getD (set w s x) (o + a) 0 ≡ getD w (o + a) 0
+    was a q = getD-set-other w s (o + a) x 0 (λ e. omega arith)
 
 -- each of the items below i is linked to its root
 abbrev pub Flat-below : List ℕ → ℕ → ℕ → Type 0

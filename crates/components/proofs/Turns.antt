@@ -1,6 +1,7 @@
 -- What the finder's loop keeps, as laws on lists: how it starts, what a turn does, what it comes to. The links stand from o on, the labels' first items from p on.
 use Prim.Native.Nat.{ℕ, _+_, _*_, _-_, _/_, _%_, _≤_, _<_}
-use native.Mathlib.Nat.{div-lt-iff-lt-mul, mod-lt, div-add-mod'}
+use native.Mathlib.Numerals.{add-one}
+use native.Mathlib.Nat.{div-lt-iff-lt-mul, mod-lt, div-add-mod', suc-mul}
 use native.Mathlib.Decide.{ℕ-discrete}
 use native.Mathlib.Omega.{arith}
 use mathlib.Core.Path.{_≡_, refl, sym, ap, _∙_, subst}
@@ -13,7 +14,7 @@ use borrow.Author.Count.{below-more}
 use Rattle.lists.specs.Regions.{view, Outside, Apart, Zeroed}
 use Rattle.lists.proofs.Regions.{at-set, view-length, view-at, view-same}
 use Rattle.components.specs.Joined.{Joined, one, same, back, via, SharedLabel, LeastJoined}
-use Rattle.components.specs.Components.{Below, Seen, FirstWith, ComponentNumbers, ComponentTable, size}
+use Rattle.components.specs.Components.{Below, Joining, Seen, FirstWith, ComponentNumbers, ComponentTable, size}
 use Rattle.components.specs.Forest.{Link, Linked, Forest, Kept, Added, old, new, United, Flat, Entered, Hung, Going, Swept, Owned, Tallied}
 use Rattle.components.proofs.Joined.{joined-into, joined-const, joined-keeps, joined-ends}
 use Rattle.components.proofs.Forest.{link}
@@ -118,8 +119,8 @@ module _ (labels : List ℕ) (o p n k m : ℕ) (k-pos : 0 < k) (long : length la
             let b = g .seen (getD labels t 0) f q-in e in
             joined-ends refl (sym (b .item)) (one (slots-share t (b .s) (omega arith) (omega (arith, b .before)) (sym (b .label))))
 
-    turn : (v : List ℕ) → p + m ≤ length w → Entered w v o n (p + getD labels t 0) (t / k) → Turn labels w v o p n k m t
-    turn v in-w h = go (ℕ-discrete (getD w s 0) 0)
+    turn : (v : List ℕ) → p + m ≤ length w → (r : ℕ) → Entered w v o n (p + getD labels t 0) (t / k) r → Turn labels w v o p n k m t
+    turn v in-w r h = go (ℕ-discrete (getD w s 0) 0)
       where
         s : ℕ
         s = p + getD labels t 0
@@ -184,17 +185,35 @@ module _ (labels : List ℕ) (n k m at : ℕ) (k-pos : 0 < k) (long : length lab
     rest = λ x h l. refl;
   }
 
-  module _ (w₀ w : List ℕ) (t : ℕ) (room : p + m ≤ length w₀) (s : Swept labels n k m at w₀ w t) (t-in : t < n * k) where
-    pub swept-item : t / k < n
-    swept-item = item-in labels at p n k m k-pos long small above t t-in
+  -- links that changed, and no tree did
+  pub swept-kept : (w₀ w v : List ℕ) (t : ℕ) → Swept labels n k m at w₀ w t → Kept w v at n → Swept labels n k m at w₀ v t
+  swept-kept w₀ w v t s f = record {
+    upto = s .upto;
+    long = f .long ∙ s .long;
+    going = record {
+      forest = f .forest;
+      sound = λ i j l. s .going .sound i j (f .less i j l);
+      seen = λ q g h e. s .going .seen q g h (sym (f .rest (p + q) (λ i a b. omega arith)) ∙ e);
+      hung = λ r h. let b = s .going .hung r h in
+          record { f = b .f; first = f .rest (p + getD labels r 0) (λ i a b. omega arith) ∙ b .first; tree = f .more _ _ (b .tree) };
+    };
+    rest = λ x h l. f .rest x h ∙ s .rest x h l;
+  }
 
-    pub swept-seen : (f : ℕ) → getD w (p + getD labels t 0) 0 ≡ f + 1 → f < n
-    swept-seen = seen-in labels at p n k m k-pos long small above w t (omega arith) (s .going)
+  -- slot j of item i
+  module _ (w₀ w : List ℕ) (i j : ℕ) (room : p + m ≤ length w₀) (s : Swept labels n k m at w₀ w (i * k + j)) (i-in : i < n) (j-in : j < k) where
+    slot-in : i * k + j < n * k
+    slot-in = digits-lt i-in j-in
 
-    pub swept-turn : (v : List ℕ) → Entered w v at n (p + getD labels t 0) (t / k) → Swept labels n k m at w₀ v (t + 1)
-    swept-turn v e =
-        let r = turn labels at p n k m k-pos long small above w t (omega arith) (s .going) v (omega (arith, s .long)) e in
-        record { upto = omega arith; long = r .long ∙ s .long; going = r .going; rest = λ x h l. r .rest x h l ∙ s .rest x h l }
+    pub swept-seen : (f : ℕ) → getD w (p + getD labels (i * k + j) 0) 0 ≡ f + 1 → f < n
+    swept-seen = seen-in labels at p n k m k-pos long small above w (i * k + j) (omega (arith, slot-in)) (s .going)
+
+    pub swept-turn : (v : List ℕ) (r : ℕ) → Entered w v at n (p + getD labels (i * k + j) 0) i r → Swept labels n k m at w₀ v (i * k + (j + 1))
+    swept-turn v r e =
+        let q = turn labels at p n k m k-pos long small above w (i * k + j) (omega (arith, slot-in)) (s .going) v (omega (arith, s .long)) r
+        (rw (digits-div i j-in) e) in
+        swept-at labels n k m at w₀ v (i * k + j + 1) (i * k + (j + 1)) (omega arith)
+        (record { upto = omega (arith, slot-in); long = q .long ∙ s .long; going = q .going; rest = λ x h l. q .rest x h l ∙ s .rest x h l })
 
   pub swept-end : (u v w x y z : List ℕ) → p + m ≤ length u → Owned u v at n → Zeroed v w (at + n) (n + m) → Swept labels n k m at w x (n * k)
       → Flat x y at n → Tallied y z at n → ComponentTable labels n k m at u z
@@ -224,14 +243,90 @@ module _ (labels : List ℕ) (n k m at : ℕ) (k-pos : 0 < k) (long : length lab
       first = going-first labels at p n k m k-pos long small above x y (n * k) (omega arith) (omega arith) (s .going) f
 
 -- the labels are where the table is not, and stay as they were
-pub labels-same : (u v w : List ℕ) (n m at labels e : ℕ) → labels + e ≤ length u → Apart at (n + n + m) labels e → Owned u v at n → Zeroed v w (at + n) (n + m)
-    → view w labels e ≡ view u labels e
-labels-same u v w n m at labels e room apart a b =
-    view-same u w labels e room (b .long ∙ a .long)
-    (λ i h. b .rest (labels + i) (λ j l d. apart i h (n + j) (omega arith) (omega arith)) ∙ a .rest (labels + i) (λ j l d. apart i h j (omega arith) d))
+pub labels-kept : (u w : List ℕ) (labels n k m at : ℕ) → Joining u labels n k m at → length w ≡ length u
+    → ((x : ℕ) → Outside x at (n + n + m) → getD w x 0 ≡ getD u x 0) → view w labels (n * k) ≡ view u labels (n * k)
+labels-kept u w labels n k m at g long rest = view-same u w labels (n * k) (g .fits) long (λ i h. rest (labels + i) (g .apart i h))
+
+-- what is outside the table is outside its parts
+pub swept-rest : (labels : List ℕ) (n k m at : ℕ) (u w : List ℕ) (t : ℕ) → Swept labels n k m at u w t → (x : ℕ) → Outside x at (n + n + m) → getD w x 0 ≡ getD u x 0
+swept-rest labels n k m at u w t s x h = s .rest x (λ j l e. h j (omega arith) e) (λ j l e. h (n + n + j) (omega arith) (omega arith))
+
+pub joining-kept : (u w : List ℕ) (labels n k m at : ℕ) → Joining u labels n k m at → length w ≡ length u
+    → ((x : ℕ) → Outside x at (n + n + m) → getD w x 0 ≡ getD u x 0) → Joining w labels n k m at
+joining-kept u w labels n k m at g long rest = record {
+  some = g .some;
+  room = let r = g .room in omega arith;
+  fits = let r = g .fits in omega arith;
+  apart = g .apart;
+  below = rw (labels-kept u w labels n k m at g long rest) (g .below);
+}
+
+-- what the first steps leave outside the table
+pub fresh-rest : (u v w : List ℕ) (n m at : ℕ) → Owned u v at n → Zeroed v w (at + n) (n + m) → (x : ℕ) → Outside x at (n + n + m) → getD w x 0 ≡ getD u x 0
+fresh-rest u v w n m at a b x h = b .rest x (λ j l d. h (n + j) (omega arith) (omega arith)) ∙ a .rest x (λ j l d. h j (omega arith) d)
+
+-- an item's labels are entered: the table goes on from another buffer
+pub swept-on : (labels : List ℕ) (n k m at : ℕ) (u w v : List ℕ) (s t : ℕ) → Swept labels n k m at u w s → Swept labels n k m at w v t → Swept labels n k m at u v t
+swept-on labels n k m at u w v s t a b = record { upto = b .upto; long = b .long ∙ a .long; going = b .going; rest = λ x h l. b .rest x h l ∙ a .rest x h l }
+
+pub swept-from : (labels : List ℕ) (n k m at : ℕ) (u w : List ℕ) (t r : ℕ) → t ≡ r → Swept labels n k m at u w t → Swept labels n k m at w w r
+swept-from labels n k m at u w t r e s = swept-at labels n k m at w w t r e (record { upto = s .upto; long = refl; going = s .going; rest = λ x h l. refl })
 
 -- the sizes are still 0 when they are counted
 pub sizes-zero : (labels v w x y : List ℕ) (n k m at t : ℕ) → Zeroed v w (at + n) (n + m) → Swept labels n k m at w x t → Flat x y at n
     → (r : ℕ) → r < n → getD y (at + n + r) 0 ≡ 0
 sizes-zero labels v w x y n k m at t b s f r h =
     f .kept .rest (at + n + r) (λ j l e. omega arith) ∙ s .rest (at + n + r) (λ j l e. omega arith) (λ j l e. omega arith) ∙ b .zero r (omega arith)
+
+-- ---- an item's turn, in a buffer u whose links `find` changes to w before its labels are entered
+
+module _ (u : List ℕ) (labels n k m at : ℕ) (g : Joining u labels n k m at) where
+  abbrev read : List ℕ
+  read = view u labels (n * k)
+
+  pub read-length : length (view u labels (n * k)) ≡ n * k
+  read-length = view-length u labels (n * k) (g .fits)
+
+  -- the label that is read is that of the slot, and below m
+  pub label-read : (w : List ℕ) (t x y : ℕ) → Swept read n k m at u w t → x < n * k → y ≡ labels + x → getD w y 0 ≡ getD read x 0
+  label-read w t x y s h e = rw e (swept-rest read n k m at u w t s (labels + x) (g .apart x h) ∙ sym (view-at u labels (n * k) x h))
+
+  pub label-low : (x : ℕ) → x < n * k → getD read x 0 < m
+  label-low x h = g .below x (omega (arith, read-length))
+
+  module _ (w : List ℕ) (f : Kept u w at n) where
+    kept-rest : (x : ℕ) → Outside x at (n + n + m) → getD w x 0 ≡ getD u x 0
+    kept-rest x h = f .rest x (λ j l e. h j (omega arith) e)
+
+    pub item-joining : Joining w labels n k m at
+    item-joining = joining-kept u w labels n k m at g (f .long) kept-rest
+
+    same-labels : view w labels (n * k) ≡ view u labels (n * k)
+    same-labels = labels-kept u w labels n k m at g (f .long) kept-rest
+
+    pub item-start : (t r : ℕ) → t ≡ r → Swept read n k m at u u t → Swept (view w labels (n * k)) n k m at w w r
+    item-start t r e s =
+        rw same-labels (swept-from read n k m at u w t r e (swept-kept read n k m at (g .some) read-length (g .below) u u w t s f))
+
+    pub item-end : (v : List ℕ) (t r : ℕ) → t ≡ r → Swept (view w labels (n * k)) n k m at w v t → Swept read n k m at u v r
+    item-end v t r e s =
+        let d : Swept read n k m at w v t = rw (← same-labels) s in
+        swept-at read n k m at u v t r e
+        (record { upto = d .upto; long = d .long ∙ f .long; going = d .going; rest = λ x h l. d .rest x h l ∙ f .rest x h })
+
+-- ---- all items, one after the other
+
+pub join-again : (u w v : List ℕ) (labels n k m at i : ℕ) → Joining u labels n k m at → Swept (view u labels (n * k)) n k m at u w (i * k)
+    → Swept (view w labels (n * k)) n k m at w v (i * k + k) → Swept (view u labels (n * k)) n k m at u v ((i + 1) * k)
+join-again u w v labels n k m at i g s d =
+    swept-at (view u labels (n * k)) n k m at u v (i * k + k) ((i + 1) * k) (rw (add-one, suc-mul))
+    (swept-on (view u labels (n * k)) n k m at u w v (i * k) (i * k + k) s
+    (rw (← (labels-kept u w labels n k m at g (s .long) (swept-rest (view u labels (n * k)) n k m at u w (i * k) s))) d))
+
+pub join-item-start : (u w : List ℕ) (labels n k m at t r : ℕ) → Joining u labels n k m at → Swept (view u labels (n * k)) n k m at u w t → t ≡ r
+    → Joining w labels n k m at × Swept (view w labels (n * k)) n k m at w w r
+join-item-start u w labels n k m at t r g s e =
+    let rest = swept-rest (view u labels (n * k)) n k m at u w t s in (
+      joining-kept u w labels n k m at g (s .long) rest,
+      rw (labels-kept u w labels n k m at g (s .long) rest) (swept-from (view u labels (n * k)) n k m at u w t r e s),
+    )

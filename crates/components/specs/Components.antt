@@ -4,16 +4,17 @@
 --   ComponentNumbers     c gives each of n items the least item joined to it, which is its component's number
 --   size c r             how many items have the number r: the size of component r, and 0 where r is no component's number
 --   Below                all labels are below m
+--   Joining              what the finder asks: room for its table and for the labels, which do not overlap, and labels below m
 --   FirstWith            v is the first item with the label q, plus one; 0 if none has it
 --   ComponentTable       what the finder leaves in the buffer: numbers, sizes, first items; and all else as it was
-use Prim.Native.Nat.{ℕ, _+_, _/_, _≤_, _<_}
+use Prim.Native.Nat.{ℕ, _+_, _*_, _/_, _≤_, _<_}
 use mathlib.Core.Path.{_≡_}
 use mathlib.Core.Bool.{Bool, not}
 use mathlib.Core.List.{List, [], _∷_, flatMap}
 use lib.Dec.{eqb}
 use lib.ListN.{getD, length}
 use Rattle.lists.specs.Lists.{some, keep, place, count, has}
-use Rattle.lists.specs.Regions.{view, Outside}
+use Rattle.lists.specs.Regions.{view, Outside, Apart}
 use Rattle.components.specs.Joined.{SharedLabel, LeastJoined}
 
 unfoldable pub components : (ℕ → ℕ → Bool) → List ℕ → List (List ℕ)
@@ -36,6 +37,13 @@ size c r = count (eqb r) c
 
 abbrev pub Below : List ℕ → ℕ → Type 0
 Below labels m = (t : ℕ) → t < length labels → getD labels t 0 < m
+
+pub record Joining (w : List ℕ) (labels n k m at : ℕ) : Type 0 where
+  pub some : 0 < k
+  pub room : at + n + n + m ≤ length w
+  pub fits : labels + n * k ≤ length w
+  pub apart : Apart at (n + n + m) labels (n * k)
+  pub below : Below (view w labels (n * k)) m
 
 -- of the first t labels, the first that is q is one of item f's
 pub record Seen (labels : List ℕ) (k t q f : ℕ) : Type 0 where

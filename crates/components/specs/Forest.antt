@@ -3,6 +3,7 @@
 --   Forest         every link goes to an item that is not larger, so that a tree's root is its least item
 --   Kept           the links changed, and neither the trees nor their roots did
 --   Found          the root of an item's tree was found
+--   Rooted         r is the root of i's tree
 --   United         two trees were made one
 --   Flat           every link was made to go to the root
 --   Entered        a label of an item was entered: the item is the first seen with it, or was joined to the first
@@ -40,6 +41,11 @@ pub record Found (w v : List ℕ) (o n x r : ℕ) : Type 0 where
   pub root : getD v (o + r) 0 ≡ r
   pub tree : Linked v o n x r
 
+pub record Rooted (w : List ℕ) (o n i r : ℕ) : Type 0 where
+  pub small : r ≤ i
+  pub root : getD w (o + r) 0 ≡ r
+  pub tree : Linked w o n i r
+
 -- the links of w, and one between a and b
 pub data Added (w : List ℕ) (o n a b : ℕ) : ℕ → ℕ → Type 0 where
   old : {i j : ℕ} → Link w o n i j → Added w o n a b i j
@@ -57,9 +63,10 @@ pub record Flat (w v : List ℕ) (o n : ℕ) : Type 0 where
   pub flat : (i : ℕ) → i < n → getD v (o + getD v (o + i) 0) 0 ≡ getD v (o + i) 0
 
 -- s is the place where the label's first item stands, plus one, and 0 while there is none
-pub record Entered (w v : List ℕ) (o n s i : ℕ) : Type 0 where
+pub record Entered (w v : List ℕ) (o n s i r : ℕ) : Type 0 where
   pub unseen : getD w s 0 ≡ 0 → v ≡ set w s (i + 1)
   pub seen : (f : ℕ) → getD w s 0 ≡ f + 1 → United w v o n i f
+  pub rooted : Rooted v o n i r
 
 -- the first item of the label at slot s is known, and slot s's item is in its tree; the labels' first items stand from p on
 pub record Hung (labels w : List ℕ) (o p n k s : ℕ) : Type 0 where

@@ -5,9 +5,9 @@
 ghost use mathlib.Core.Path.{_≡_};
 ghost use Prim.Native.Nat.{ℕ, _+_, _*_, _≤_, _<_};
 ghost use lib.ListN.{length, getD};
-ghost use Rattle.lists.specs.Regions.{view, Apart};
-ghost use Rattle.components.specs.Components.{Below, ComponentTable};
-ghost use Rattle.components.specs.Forest.{Forest, Found, United, Flat, Entered, Owned, Swept, Tallied};
+ghost use Rattle.lists.specs.Regions.{view};
+ghost use Rattle.components.specs.Components.{Joining, ComponentTable};
+ghost use Rattle.components.specs.Forest.{Forest, Found, Rooted, Flat, Entered, Owned, Swept, Tallied};
 
 // The root of x's tree, with the path to it halved.
 fn find(w: &mut [u64], at: usize, n: usize, x: usize) -> usize
@@ -27,38 +27,29 @@ fn find(w: &mut [u64], at: usize, n: usize, x: usize) -> usize
     r
 }
 
-// Makes the trees of a and b one. The larger root is linked to the smaller, so that a root is its tree's least item.
-fn unite(w: &mut [u64], at: usize, n: usize, a: usize, b: usize)
-    requires { ⌜ at + n ≤ length (now w) ⌝ }
-    requires { ⌜ a < n ⌝ }
-    requires { ⌜ b < n ⌝ }
-    requires { ⌜ Forest (now w) at n ⌝ }
-    ensures { λ _. ⌜ United (now (w .entry)) (now (w .exit)) at n a b ⌝ }
-{
-    let s = find(w, at, n, a);
-    let t = find(w, at, n, b);
-    if s < t {
-        w[at + t] = s as u64;
-    } else {
-        w[at + s] = t as u64;
-    }
-}
-
-// A label of item i, whose first item stands at s: i is the first, or joins it.
-fn enter(w: &mut [u64], at: usize, n: usize, s: usize, i: usize)
+// A label of item i, whose first item stands at s: i is the first, or its tree and that one's are made one. r is the root of i's tree, before and after.
+// The larger root is linked to the smaller, so that a root is its tree's least item.
+fn enter(w: &mut [u64], at: usize, n: usize, s: usize, i: usize, r: usize) -> usize
     requires { ⌜ at + n ≤ s ⌝ }
     requires { ⌜ s < length (now w) ⌝ }
     requires { ⌜ i < n ⌝ }
     requires { ⌜ ((f : ℕ) → getD (now w) s 0 ≡ f + 1 → f < n) ⌝ }
     requires { ⌜ Forest (now w) at n ⌝ }
-    ensures { λ _. ⌜ Entered (now (w .entry)) (now (w .exit)) at n s i ⌝ }
+    requires { ⌜ Rooted (now w) at n i r ⌝ }
+    ensures { λ q. ⌜ Entered (now (w .entry)) (now (w .exit)) at n s i q ⌝ }
 {
     let f = w[s] as usize;
     if f == 0 {
         w[s] = i as u64 + 1;
-    } else {
-        unite(w, at, n, i, f - 1);
+        return r;
     }
+    let t = find(w, at, n, f - 1);
+    if r < t {
+        w[at + t] = r as u64;
+        return r;
+    }
+    w[at + r] = t as u64;
+    t
 }
 
 // Each of n items a tree of its own.
@@ -103,70 +94,44 @@ fn tally(w: &mut [u64], at: usize, n: usize)
     }
 }
 
-// Enters the labels of all items, one after the other.
-fn join(w: &mut [u64], labels: usize, n: usize, k: usize, m: usize, at: usize)
-    requires { ⌜ 0 < k ⌝ }
-    requires { ⌜ at + n + n + m ≤ length (now w) ⌝ }
-    requires { ⌜ labels + n * k ≤ length (now w) ⌝ }
-    requires { ⌜ Apart at (n + n + m) labels (n * k) ⌝ }
-    requires { ⌜ Below (view (now w) labels (n * k)) m ⌝ }
-    requires { ⌜ Swept (view (now w) labels (n * k)) n k m at (now w) (now w) 0 ⌝ }
-    ensures { λ _. ⌜ Swept (view (now (w .entry)) labels (n * k)) n k m at (now (w .entry)) (now (w .exit)) (n * k) ⌝ }
+// Enters the labels of item i.
+fn join_item(w: &mut [u64], labels: usize, n: usize, k: usize, m: usize, at: usize, i: usize)
+    requires { ⌜ Joining (now w) labels n k m at ⌝ }
+    requires { ⌜ i < n ⌝ }
+    requires { ⌜ Swept (view (now w) labels (n * k)) n k m at (now w) (now w) (i * k) ⌝ }
+    ensures { λ _. ⌜ Swept (view (now (w .entry)) labels (n * k)) n k m at (now (w .entry)) (now (w .exit)) (i * k + k) ⌝ }
 {
     let firsts = at + n + n;
-    let e = n * k;
-    let mut t = 0;
-    while t < e {
-        let q = w[labels + t] as usize;
-        enter(w, at, n, firsts + q, t / k);
-        t += 1;
+    let from = labels + i * k;
+    let mut r = find(w, at, n, i);
+    let mut j = 0;
+    while j < k {
+        let q = w[from + j] as usize;
+        r = enter(w, at, n, firsts + q, i, r);
+        j += 1;
     }
 }
 
-fn join_of(labels: &[u64], w: &mut [u64], n: usize, k: usize, m: usize, at: usize)
-    requires { ⌜ 0 < k ⌝ }
-    requires { ⌜ length (now labels) ≡ n * k ⌝ }
-    requires { ⌜ at + n + n + m ≤ length (now w) ⌝ }
-    requires { ⌜ Below (now labels) m ⌝ }
-    requires { ⌜ Swept (now labels) n k m at (now w) (now w) 0 ⌝ }
-    ensures { λ _. ⌜ Swept (now (labels .entry)) n k m at (now (w .entry)) (now (w .exit)) (n * k) ⌝ }
+fn join(w: &mut [u64], labels: usize, n: usize, k: usize, m: usize, at: usize)
+    requires { ⌜ Joining (now w) labels n k m at ⌝ }
+    requires { ⌜ Swept (view (now w) labels (n * k)) n k m at (now w) (now w) 0 ⌝ }
+    ensures { λ _. ⌜ Swept (view (now (w .entry)) labels (n * k)) n k m at (now (w .entry)) (now (w .exit)) (n * k) ⌝ }
 {
-    let firsts = at + n + n;
-    let mut slot = 0;
-    while slot < labels.len() {
-        let q = labels[slot] as usize;
-        enter(w, at, n, firsts + q, slot / k);
-        slot += 1;
+    let mut i = 0;
+    while i < n {
+        join_item(w, labels, n, k, m, at, i);
+        i += 1;
     }
 }
 
 // Finds the components of n items, whose labels, k an item and all below m, stand in the same buffer from `labels` on.
 pub fn components(w: &mut [u64], labels: usize, n: usize, k: usize, m: usize, at: usize)
-    requires { ⌜ 0 < k ⌝ }
-    requires { ⌜ at + n + n + m ≤ length (now w) ⌝ }
-    requires { ⌜ labels + n * k ≤ length (now w) ⌝ }
-    requires { ⌜ Apart at (n + n + m) labels (n * k) ⌝ }
-    requires { ⌜ Below (view (now w) labels (n * k)) m ⌝ }
+    requires { ⌜ Joining (now w) labels n k m at ⌝ }
     ensures { λ _. ⌜ ComponentTable (view (now (w .entry)) labels (n * k)) n k m at (now (w .entry)) (now (w .exit)) ⌝ }
 {
     own(w, at, n);
     words::zero_part(w, at + n, n + m);
     join(w, labels, n, k, m, at);
-    flatten(w, at, n);
-    tally(w, at, n);
-}
-
-// The same, with the labels in a slice of their own.
-pub fn components_of(labels: &[u64], w: &mut [u64], n: usize, k: usize, m: usize, at: usize)
-    requires { ⌜ 0 < k ⌝ }
-    requires { ⌜ length (now labels) ≡ n * k ⌝ }
-    requires { ⌜ at + n + n + m ≤ length (now w) ⌝ }
-    requires { ⌜ Below (now labels) m ⌝ }
-    ensures { λ _. ⌜ ComponentTable (now (labels .entry)) n k m at (now (w .entry)) (now (w .exit)) ⌝ }
-{
-    own(w, at, n);
-    words::zero_part(w, at + n, n + m);
-    join_of(labels, w, n, k, m, at);
     flatten(w, at, n);
     tally(w, at, n);
 }

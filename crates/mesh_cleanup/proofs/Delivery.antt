@@ -29,7 +29,7 @@ use Rattle.refusals.specs.declared.reply.MeshReply.the-variants.{Done}
 use Rattle.refusals.specs.declared.reply.MeshReply.the-variants as mesh
 use Rattle.refusals.specs.Refusals.{documented, documentedMesh, Test, firstRefusal, settle, Settled}
 use Rattle.refusals.specs.Front.{ceiling, listTests, inRange, epsInRange, workNeed, farKeys, roomTests}
-use Rattle.refusals.proofs.Refusals.{holds, passes, no-test, row-passed, row-refused, untouched}
+use Rattle.refusals.proofs.Refusals.{holds, passes, none-left, row-passed, row-refused, untouched}
 use Rattle.refusals.proofs.Replies.{reply-refused, reply-passed, short-first, short-second, roomy, head-passed, tail-passed, row-front, row-rest, listed}
 use Rattle.mesh_weld.specs.Room.{vertexOf}
 use Rattle.mesh_compact.specs.declared.compact.Staged.{Staged}
@@ -82,7 +82,7 @@ module _ (vs : List Float) (fs : List ℕ) (eps : Float) (lent : ℕ) where
         key-refused g = sym (after-room ∙ holds (farKeys eps vs) KeyRange [] g)
 
         pub all-passed : farKeys eps vs ≡ false → Passed ≡ firstRefusal (cleanTests vs fs eps lent)
-        all-passed g = sym (after-room ∙ passes (farKeys eps vs) KeyRange [] g ∙ no-test)
+        all-passed g = sym (after-room ∙ passes (farKeys eps vs) KeyRange [] g ∙ none-left)
 
   pub ready : firstRefusal (cleanTests vs fs eps lent) ≡ Passed → Ready vs fs eps lent
   unfolding cleanTests workNeed

@@ -1,3 +1,5 @@
 pub mod Refusals
 pub mod Ranges
+pub mod Grids
 pub mod Replies
+pub mod Reports

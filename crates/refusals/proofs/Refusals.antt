@@ -38,10 +38,6 @@ pub none-left : firstRefusal [] ≡ Passed
 unfolding firstRefusal
 none-left = refl
 
-pub no-test : firstRefusal [] ≡ Passed
-unfolding firstRefusal
-no-test = refl
-
 -- ---- a row of tests before others
 
 -- "The tests" of the row all failed to refuse: those behind decide

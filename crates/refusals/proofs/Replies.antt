@@ -4,8 +4,8 @@
 --   head-passed, tail-passed, row-front, row-rest   what is known once a row of tests has passed
 --   Listed, listed                 the same of tests 1, 2 and 3
 use Prim.Native.Nat.{ℕ, _/_, _%_, _≤_, _<_}
-use mathlib.Core.Path.{_≡_, refl, sym, ap, _∙_}
-use mathlib.Core.Bool.{Bool, true, false, cond, not, _||_}
+use mathlib.Core.Path.{_≡_, refl, ap, _∙_}
+use mathlib.Core.Bool.{Bool, true, false, cond, _||_}
 use mathlib.Core.List.{List, [], _∷_, _++_}
 use borrow.Author.Tests.{lt-ltb, le-ltb, ltb-false, eqb-true, not-false}
 use lib.Dec.{ltb, eqb}
@@ -19,7 +19,7 @@ use Rattle.refusals.specs.declared.refusal.Checked.{Checked}
 use Rattle.refusals.specs.declared.refusal.Checked.the-variants.{Passed, Refused}
 use Rattle.refusals.specs.Refusals.{documented, Test, firstRefusal, numbered, replyTo}
 use Rattle.refusals.specs.Front.{ragged, tooMany, capCeiling, badIndex, listTests, roomTests}
-use Rattle.refusals.proofs.Refusals.{holds, passes, no-test, row-passed, row-refused}
+use Rattle.refusals.proofs.Refusals.{holds, passes, none-left, row-passed, row-refused}
 
 module _ (ts us : List Test) (done : List ℕ) where
   pub reply-refused : (r : Refusal) → firstRefusal ts ≡ Refused r → replyTo (ts ++ us) done ≡ documented r
@@ -44,7 +44,7 @@ module _ (n m a b : ℕ) (done : List ℕ) where
   unfolding roomTests
   roomy h k =
       ap (λ (c : Checked). numbered c done)
-      (passes (ltb a n) (NoRoom n) ((ltb b m, NoRoom m) ∷ []) (le-ltb a n h) ∙ passes (ltb b m) (NoRoom m) [] (le-ltb b m k) ∙ no-test)
+      (passes (ltb a n) (NoRoom n) ((ltb b m, NoRoom m) ∷ []) (le-ltb a n h) ∙ passes (ltb b m) (NoRoom m) [] (le-ltb b m k) ∙ none-left)
 
 -- ---- what is known once tests have passed
 module _ (b : Bool) (r : Refusal) (ts : List Test) where
@@ -61,7 +61,7 @@ module _ (b : Bool) (r : Refusal) (ts : List Test) where
   tail-passed e = by-head b e .1
 
 pub row-front : (ts us : List Test) → firstRefusal (ts ++ us) ≡ Passed → firstRefusal ts ≡ Passed
-row-front [] us e = no-test
+row-front [] us e = none-left
 row-front (t ∷ ts) us e = passes (t .0) (t .1) ts (head-passed (t .0) (t .1) (ts ++ us) e) ∙ row-front ts us (tail-passed (t .0) (t .1) (ts ++ us) e)
 
 pub row-rest : (ts us : List Test) → firstRefusal (ts ++ us) ≡ Passed → firstRefusal us ≡ Passed

@@ -2,14 +2,15 @@
 --   listTests           1, 2 and 3, of vertices, facets and cap list
 --   inRange, epsInRange, resolutionInRange, boxInRange   the ranges of test 4
 --   badBox              5           gridTooFine   6
---   workNeed, workTest  7           farKeys       8
+--   workNeed, workTest  7           farKeys, boxFarKeys   8
+--   byAxis              a resolution for each axis, from a list of three
 --   roomTests           12
 use Prim.Native.Nat.{ℕ, _+_, _*_, _/_, _%_}
 use mathlib.Core.Bool.{Bool, not, _&&_, _||_}
 use mathlib.Core.List.{List, [], _∷_, _++_}
 use lib.Dec.{eqb, ltb}
-use lib.ListN.{length}
-use lib.Ieee.{Float, neg, lt, le}
+use lib.ListN.{length, getD}
+use lib.Ieee.{Float, nan, neg, lt, le}
 use Rattle.lists.specs.Lists.{every, some}
 use Rattle.root.specs.Doubles.{zeroF, oneF, 2^30}
 use Rattle.rounding.specs.Rounding.{farKey}
@@ -70,6 +71,9 @@ boxInRange b = every (λ k. inRange (low b k) && inRange (high b k)) axes
 unfoldable pub badBox : AABB → Bool
 badBox b = some (λ k. not (lt (low b k) (high b k))) axes
 
+abbrev pub byAxis : List Float → ℕ → Float
+byAxis resolutions k = getD resolutions k nan
+
 -- "an axis needs over 256 segments"
 unfoldable pub gridTooFine : AABB → Float → (ℕ → Float) → Bool
 gridTooFine b eps resolution = some (λ k. ltb 256 (segments b eps resolution k)) axes
@@ -88,6 +92,9 @@ workTest need lent = (ltb lent need, NoWorkRoom need)
 -- "a vertex (or .. a box corner) has a key beyond 2^62"
 unfoldable pub farKeys : Float → List Float → Bool
 farKeys eps l = some (farKey eps) l
+
+abbrev pub boxFarKeys : Float → AABB → Bool
+boxFarKeys eps b = farKeys eps (b .«min_corner») || farKeys eps (b .«max_corner»)
 
 -- ---- 12
 

@@ -11,3 +11,5 @@ pub mod RootAt
 pub mod WholeRoot
 pub mod Computed
 pub mod Powers
+pub mod Numbers
+pub mod Examples

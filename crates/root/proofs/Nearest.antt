@@ -106,7 +106,7 @@ module _ (n den : ℕ) (D : 0 < den) where
       (le-div-iff-mul-le D .0 (le-trans (le-of-eq (sym (pow-add 2 52 k))) (size-reaches (n / den) (52 + k) (in-use (size (n / den)) h))))
     where
       turn : (a b c : ℕ) → a * (b * c) ≡ a * c * b
-      turn a b c = simp (mul-assoc, mul-comm, mul-left-comm)
+      turn a b c = simp (mul-assoc, mul-comm)
 
       in-use : (z : ℕ) → 0 < z - 53 → 52 + (z - 53) < z
       in-use z h = omega arith
@@ -138,7 +138,7 @@ module _ (n den : ℕ) (D : 0 < den) where
         far a w b x = omega arith
 
         odd-times : (a w d q : ℕ) → (2 * Q + 1) * u ≡ (2 * (Q * 2 ^ k) + 2 ^ k) * den
-        odd-times a w d q = simp (add-mul, mul-assoc, mul-comm, mul-left-comm, mul-one, one-mul)
+        odd-times a w d q = simp (add-mul, mul-assoc, mul-comm, mul-left-comm, one-mul)
 
     gap-down : (k ≡ 0) ⊎ (2 ^ 52 < Q) → Y < Q * w → Y + w ≤ Q * w
     gap-down (inl z) l = subst (λ (x : ℕ). Y + x ≤ Q * w) (sym (ap (λ (x : ℕ). 2 ^ x) z)) (next Y (Q * w) l)

@@ -1,4 +1,4 @@
--- What the proof of `sqrt` cites. Assumes nothing.
+-- The pattern that the digits give (specs/Digits.antt) is that of the root; and what the proof of `sqrt` asks of x. Assumes nothing.
 use mathlib.Core.Path.{_≡_, refl, sym, ap, _∙_, subst}
 use mathlib.Core.Logic.{inl, inr}
 use mathlib.Core.Bool.{Bool, true, false, not, _||_, Bool·beq, true≢false}

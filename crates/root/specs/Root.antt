@@ -3,7 +3,7 @@
 --   IsRoot x r      r is nearer to the root of x than every other double
 --   wholeRoot       the largest whole number whose square is at most n
 --   root            the root, computed
---   Rooted x r      both: what `sqrt` promises. That only one double meets IsRoot, and that it is `root x`, are laws (proofs/Root.antt)
+--   Rooted x r      both: what `sqrt` promises. That only one double meets IsRoot, and that it is `root x`, are laws (proofs/Root.antt, proofs/Computed.antt)
 use Prim.Native.Nat.{ℕ, zero, suc, _+_, _*_, _/_, _<_}
 use mathlib.Core.Path.{_≡_}
 use mathlib.Core.Bool.{Bool, false, cond, not, _||_}

@@ -3,3 +3,4 @@ pub mod Rounding
 pub mod Keys
 pub mod Segments
 pub mod Ordering
+pub mod Examples

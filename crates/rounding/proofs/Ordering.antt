@@ -1,11 +1,11 @@
 -- The total order of doubles that are no NaN: `before` is the order of their keys, and only equal doubles have equal keys. Assumes nothing.
-use mathlib.Core.Path.{_≡_, refl, sym, ap, _∙_}
+use mathlib.Core.Path.{_≡_, refl, sym, ap, _∙_, subst}
 use mathlib.Core.Logic.{inl, inr}
 use mathlib.Core.Bool.{Bool, true, false, not, cond, _&&_, _||_}
 use Prim.Native.Nat.{ℕ, zero, suc, _+_, _-_, _%_, _^_, _≤_, _<_}
-use native.Mathlib.Nat.{mod-lt, mod-eq-of-lt}
+use native.Mathlib.Nat.{mod-lt, mod-eq-of-lt, le-antisymm, lt-irrefl, lt-trans}
 use native.Mathlib.Omega.{arith}
-use lib.Dec.{T, ltb, ltb→lt, lt→ltb, not-T}
+use lib.Dec.{T, ltb, ltb→lt, lt→ltb, nltb→le, not-T}
 use lib.Pow.{pow-pos}
 use lib.Ieee.{Float, binary64, below, level, fits, eq, ofBits, toBits, isNan}
 use lib.Ieee.Bits.{ofBits-toBits, toBits-lt, is-true, is-false}
@@ -119,3 +119,30 @@ module _ (x y : Float) (F : T (fits binary64 x)) (G : T (fits binary64 y)) (p : 
 
           rest : (a b : ℕ) → a < 2 ^ 64 → b < 2 ^ 64 → 2 ^ 64 - 1 - a ≡ 2 ^ 64 - 1 - b → a ≡ b
           rest a b h k e = omega arith
+
+-- ---- a strict total order of the doubles that are no NaN
+
+-- a double, and no NaN
+pub record Number (x : Float) : Type 0 where
+  pub held : T (fits binary64 x)
+  pub number : T (not (isNan x))
+
+module _ {x y : Float} (a : Number x) (b : Number y) where
+  pub before-less : T (before x y) → orderKey x < orderKey y
+  before-less h = ltb→lt (orderKey x) (orderKey y) (subst T (before-keys x y (a .held) (b .held) (a .number) (b .number)) h)
+
+  pub less-before : orderKey x < orderKey y → T (before x y)
+  less-before h = subst T (sym (before-keys x y (a .held) (b .held) (a .number) (b .number))) (lt→ltb (orderKey x) (orderKey y) h)
+
+  pub before-total : T (not (before x y)) → T (not (before y x)) → x ≡ y
+  before-total h k =
+      same-key x y (a .held) (b .held) (a .number) (b .number)
+      (le-antisymm
+      (nltb→le (orderKey y) (orderKey x) (subst (λ (t : Bool). T (not t)) (before-keys y x (b .held) (a .held) (b .number) (a .number)) k))
+      (nltb→le (orderKey x) (orderKey y) (subst (λ (t : Bool). T (not t)) (before-keys x y (a .held) (b .held) (a .number) (b .number)) h)))
+
+pub before-irrefl : {x : Float} → Number x → T (before x x) → ⊥
+before-irrefl {x} a h = lt-irrefl (orderKey x) (before-less a a h)
+
+pub before-trans : {x y z : Float} → Number x → Number y → Number z → T (before x y) → T (before y z) → T (before x z)
+before-trans a b c h k = less-before a c (lt-trans (before-less a b h) (before-less b c k))

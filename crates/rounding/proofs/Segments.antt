@@ -5,19 +5,19 @@ use Prim.Native.Nat.{ℕ, zero, suc, _+_, _-_, _*_, _/_, _%_, _^_, _≤_, _<_, m
 use native.Mathlib.Nat.{mul-comm, mul-assoc, mul-one, one-mul, add-mul, mod-lt, div-add-mod', mul-le-mul-right, mul-lt-mul-of-pos-right, le-trans, le-of-eq, le-of-lt, lt-of-lt-of-le, lt-of-le-of-lt, suc-mul, lt-of-mul-lt-mul-right, mod-eq-of-lt}
 use native.Mathlib.Omega.{arith}
 use lib.IntN.{ℤ}
-use lib.Dec.{T, ltb, ltb→lt, nltb→le, lit<}
+use lib.Dec.{T, ltb, ltb→lt, lt→ltb, nltb→le, lit<}
 use lib.Arith.{digits-div}
 use lib.Pow.{pow-pos, pow-add, pow-mono, shl-exact}
 use lib.Ieee.{Float, nan, inf, fin, binary64, up, down, fits, lt, ofBits, toBits, isNan, below}
 use lib.Ieee.Bits.{ofBits-fits}
 use lib.Ieee.Fits.{down-pos}
-use Rattle.root.specs.Doubles.{negative, one, units, oneF}
+use Rattle.root.specs.Doubles.{_⊘_, negative, one, units, oneF}
 use Rattle.root.specs.Patterns.{fieldUnits, patternUnits}
 use Rattle.root.proofs.Patterns.{pattern-is, at}
 use Rattle.root.proofs.Nearest.{own}
-use Rattle.root.proofs.Doubles.{plus-small}
+use Rattle.root.proofs.Doubles.{plus-small, same-test}
 use Rattle.root.proofs.Order.{unsigned, finite-unsigned, lt-patterns}
-use Rattle.rounding.specs.Rounding.{ceil, wholeUp}
+use Rattle.rounding.specs.Rounding.{ceil, wholeUp, segments}
 
 -- ---- n / d up to a whole number
 
@@ -212,3 +212,24 @@ counted (inf true) F a h = absurd (true≢false (sym a))
 counted (inf false) F a h = absurd (true≢false h)
 counted (fin true m e) F a h = absurd (true≢false (sym a))
 counted (fin false m e) F a h = counted-fin m e F a h
+
+-- ---- what 257 in place of more keeps: whether there are over 256, and the number where there are not
+
+pub capped-over : (n : ℕ) → ltb 256 (min n 257) ≡ ltb 256 n
+capped-over n = same-test (ltb 256 (min n 257)) (ltb 256 n) (λ t. lt→ltb 256 n (to (ltb→lt 256 (min n 257) t))) (λ t. lt→ltb 256 (min n 257) (from (ltb→lt 256 n t)))
+  where
+    to : 256 < min n 257 → 256 < n
+    to h = omega arith
+
+    from : 256 < n → 256 < min n 257
+    from h = omega arith
+
+pub capped-same : (n : ℕ) → min n 257 ≤ 256 → min n 257 ≡ n
+capped-same n h = omega arith
+
+pub segments-some : (length spacing : Float) → 1 ≤ segments length spacing
+unfolding segments
+segments-some length spacing = at-least (wholeUp (length ⊘ spacing))
+  where
+    at-least : (k : ℕ) → 1 ≤ max 1 k
+    at-least k = omega arith

@@ -4,6 +4,7 @@
 --   IsRounded x r   the same as a relation, in units
 --   rounded         `round() as i64`, which stays within 64 bits
 --   key             a coordinate's cell; beyond, farKey say whether a key is beyond 2^62
+--   keyWord         a 64-bit key as a word without a sign, in the same order
 --   ceil            n / d up to a whole number
 --   wholeUp         `ceil() as usize`
 --   segments        how many segments of at most `spacing` an axis of a given length needs
@@ -47,6 +48,11 @@ beyond k = ltb (2 ^ 62) (natAbs k)
 
 unfoldable pub farKey : Float → Float → Bool
 farKey eps x = beyond (key eps x)
+
+-- 2 ^ 63 more
+unfoldable pub keyWord : ℤ → ℕ
+keyWord (pos n) = 2 ^ 63 + n
+keyWord (negsuc n) = 2 ^ 63 - 1 - n
 
 unfoldable pub ceil : ℕ → ℕ → ℕ
 ceil n d = (n + (d - 1)) / d

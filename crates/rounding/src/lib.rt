@@ -108,6 +108,18 @@ pub fn key_beyond(k: i64) -> bool
     k < -4611686018427387904
 }
 
+// A key as a word without a sign: 2^63 more than it, so that words stand in the order of their keys.
+pub fn key_word(k: i64) -> u64
+    ensures { λ r. ⌜ r ≡ defined.keyWord k ⌝ }
+{
+    if k < 0 {
+        // 2^63 - 1, less what k is below -1
+        9223372036854775807 - ((-1 - k) as u64)
+    } else {
+        SIGN + (k as u64)
+    }
+}
+
 // Rust's `max`, of numbers that are no NaN.
 pub fn max(x: f64, y: f64) -> f64
     ensures { λ r. ⌜ r ≡ doubles.larger x y ⌝ }
@@ -158,11 +170,7 @@ pub fn order_key(x: f64) -> u64
     ensures { λ r. ⌜ r ≡ orderKey x ⌝ }
 {
     let b: u64 = f64::to_bits(x);
-    if b < SIGN {
-        SIGN + b
-    } else {
-        18446744073709551615 - b
-    }
+    if b < SIGN { SIGN + b } else { u64::MAX - b }
 }
 
 // How many segments an axis needs, or 257 where it needs more than 256: `axis_grid_coordinates` of boundary_closure.rs, for a spacing of

@@ -1,12 +1,12 @@
 // The tolerance of a box (document 01, module 2; `bbox_eps` of aabb_clipping.rs).
 ghost use mathlib.Core.Path.{_≡_};
-ghost use Rattle.root.specs.Doubles.{larger, oneF};
 ghost use Rattle.tolerance.specs.Tolerance.{sides, Tolerated};
 use geometry::aabb::AABB;
 use geometry::point::Point;
 use refusals::boxes::box_in_range;
 use refusals::boxes::is_bad_box;
 use refusals::refusal::Refusal;
+use rounding::max;
 
 // The tolerance, or why there is none.
 pub enum Tolerance {
@@ -24,13 +24,6 @@ fn sides(extents: AABB) -> Point
     }
 }
 
-// `diag.max(1.0)`
-fn at_least_one(diag: f64) -> f64
-    ensures { λ r. ⌜ r ≡ larger diag oneF ⌝ }
-{
-    if diag < 1.0 { 1.0 } else { diag }
-}
-
 // "1e-10 times the larger of 1 and the root of the summed squares of the sides", after tests 4 and 5
 pub fn bbox_eps(extents: AABB) -> Tolerance
     ensures { λ r. ⌜ Tolerated extents r ⌝ }
@@ -42,5 +35,5 @@ pub fn bbox_eps(extents: AABB) -> Tolerance
         return Tolerance::Refused(Refusal::BadBox);
     }
     let diag = sides(extents).norm();
-    Tolerance::Of(1.0e-10 * at_least_one(diag))
+    Tolerance::Of(1.0e-10 * max(diag, 1.0))
 }

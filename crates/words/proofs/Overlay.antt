@@ -4,6 +4,7 @@
 --   sets-overlay                                 stores one after the other from 0 on make it
 --   overlay-zeros                                clearing the used front of a list that is zero beyond clears all of it
 --   take-zeros, drop-zeros                       parts of a list of zeros
+--   cleared-front, cleared-part                  a lent part that came back cleared
 --   Writing                                      the loop: the first i elements of `new` are written; start, turn, end
 use Prim.Native.Nat.{ℕ, zero, suc, _+_, _-_, _≤_, _<_, zero-le}
 use mathlib.Core.List.{List, [], _∷_, _++_, append-nil}
@@ -11,8 +12,9 @@ use mathlib.Core.Path.{_≡_, refl, sym, ap, _∙_}
 use native.Mathlib.Nat.{not-suc-le-zero, le-of-suc-le-suc, le-of-eq}
 use native.Mathlib.Numerals.{add-one}
 use native.Mathlib.Omega.{arith}
+use borrow.Rule.Slice.PartMut.{putMid, mid-len, post-is}
 use lib.ListN.{length, take, drop, set, getD, replicate, length-append, length-drop, length-set, length-replicate, getD-replicate, drop-of-length-le, replicate-append-replicate, take-append-drop}
-use lib.Seq.{take-append-seam, drop-append-seam, drop-at, take-all, sets, sets-eq}
+use lib.Seq.{length-take-le, take-append-seam, drop-append-seam, drop-at, take-all, sets, sets-eq}
 use Rattle.words.specs.Overlay.{overlay}
 
 module _ {A : Type 0} where
@@ -89,3 +91,15 @@ drop-zeros n m k e =
 pub overlay-zeros : (n m : ℕ) (w : List ℕ) → length w ≡ n + m → drop n w ≡ replicate m 0 → overlay (replicate n 0) w ≡ replicate (n + m) 0
 overlay-zeros n m w h e =
     rw (length-replicate {A = ℕ} n 0) (ap (λ (l : List ℕ). replicate n 0 ++ l) e ∙ replicate-append-replicate n m 0)
+
+-- ---- a lent part that came back cleared: the front `&mut w[..n]`, and a part `&mut w[a..e]`
+pub cleared-front : (w z : List ℕ) (n : ℕ) → n ≤ length w → z ≡ replicate (length (take n w)) 0 → z ++ drop n w ≡ overlay (replicate n 0) w
+cleared-front w z n h e =
+    ap (λ (l : List ℕ). l ++ drop n w) (e ∙ ap (λ (k : ℕ). replicate k 0) (length-take-le n w h))
+    ∙ ap (λ (k : ℕ). replicate n 0 ++ drop k w) (sym (length-replicate {A = ℕ} n 0))
+
+pub cleared-part : (w z : List ℕ) (a e : ℕ) → a ≤ e → e ≤ length w → z ≡ replicate (length (take (e - a) (drop a w))) 0
+    → putMid a (e - a) w z ≡ take a w ++ (replicate (e - a) 0 ++ drop e w)
+cleared-part w z a e h k q =
+    ap (λ (l : List ℕ). take a w ++ (l ++ drop (e - a) (drop a w))) (q ∙ ap (λ (n : ℕ). replicate n 0) (mid-len a e w k))
+    ∙ ap (λ (l : List ℕ). take a w ++ (replicate (e - a) 0 ++ l)) (post-is a e w h)

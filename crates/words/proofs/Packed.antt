@@ -14,7 +14,7 @@ use Rattle.words.specs.Packed.{packed, pairBase, pair, pairFirst, pairSe
 abbrev pub Lexicographic : ℕ → ℕ → ℕ → ℕ → Type 0
 Lexicographic a b c d = (a < c) ⊎ ((a ≡ c) × (b < d))
 
-less-equal-more : (a c : ℕ) → (a < c) ⊎ ((a ≡ c) ⊎ (c < a))
+pub less-equal-more : (a c : ℕ) → (a < c) ⊎ ((a ≡ c) ⊎ (c < a))
 less-equal-more zero zero = inr (inl refl)
 less-equal-more zero (suc c) = inl (omega arith)
 less-equal-more (suc a) zero = inr (inr (omega arith))

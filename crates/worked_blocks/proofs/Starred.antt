@@ -1,20 +1,50 @@
 -- Document 01's starred worked blocks, "proved from the definitions as a group: a single list, a single claim about every row".
 -- A row says what the definitions give and what document 01 states; the claim is that they are equal, and it is computed.
 use mathlib.Core.Path.{_≡_, refl, subst⁻¹}
-use mathlib.Core.List.{List, [], _∷_, map, List·Memᴰ, List·Memᴰ·head, List·Memᴰ·tail}
-use lib.Ieee.{Float, ofBits, ofInt, round, add, sub, mul, div, lt, le}
-use Rattle.lists.specs.Lists.{upFrom}
-use Rattle.root.specs.Doubles.{bits, larger, one, units}
+use Prim.Native.Nat.{ℕ}
+use mathlib.Core.Bool.{Bool, true, false}
+use mathlib.Core.List.{List, [], _∷_, map, flatMap, List·Memᴰ, List·Memᴰ·head, List·Memᴰ·tail}
+use lib.Ieee.{Float, ofBits, ofInt, round, add, sub, mul, div, neg, lt, le, eq}
+use Rattle.lists.specs.Lists.{every, some, upFrom}
+use Rattle.root.specs.Doubles.{bits, magnitude, within, larger, one, units}
 use Rattle.root.specs.Root.{root, rootOfSquare, wholeRoot}
 use Rattle.rounding.specs.Rounding as rounding
-use Rattle.rounding.specs.Rounding.{wholeUp}
+use Rattle.rounding.specs.Rounding.{ceil, wholeUp}
 use Rattle.geometry.specs.declared.aabb.AABB.{AABB}
+use Rattle.geometry.specs.declared.fraction.Fraction.{Fraction}
+use Rattle.geometry.specs.declared.fraction.Fraction.the-variants.{Nothing}
+use Rattle.geometry.specs.Points.{pt, along}
+use Rattle.geometry.specs.Triangles.{threes}
+use Rattle.geometry.specs.Meshes.{Mesh, meshOf, enter}
+use Rattle.refusals.specs.Refusals.{documented, firstRefusal}
+use Rattle.refusals.specs.Front.{ragged, tooMany, badIndex, inRange, epsInRange, boxInRange, badBox, workNeed, roomTests}
+use Rattle.aabb_polygons.specs.Polygons.{inside, snapTo, snapped, crossing, interpolated, onPlane, crossed, sideClipped, walk, clipToPlane, clipPolygon}
+use Rattle.aabb_facets.specs.Clipped.{fan, fanned, insideBox, sharing, clipFacet, made, clipped}
+use Rattle.aabb_clipping.specs.Clip.{clipTests, clipResult, clipReply}
 use Rattle.geometry.specs.Axes.{segments, gridLine, axisPoints}
 
 -- ---- the document's numbers, by their bits
 
 abbrev pub +0 : Float
 +0 = bits 0x0000_0000_0000_0000
+
+abbrev pub -1 : Float
+-1 = bits 0xbff0_0000_0000_0000
+
+abbrev pub +1 : Float
++1 = bits 0x3ff0_0000_0000_0000
+
+abbrev pub +2 : Float
++2 = bits 0x4000_0000_0000_0000
+
+abbrev pub 1-2^-53 : Float
+1-2^-53 = bits 0x3fef_ffff_ffff_ffff
+
+abbrev pub 0·75×2^-53 : Float
+0·75×2^-53 = bits 0x3c98_0000_0000_0000
+
+abbrev pub 2^-20 : Float
+2^-20 = bits 0x3eb0_0000_0000_0000
 
 abbrev pub 1/2 : Float
 1/2 = bits 0x3fe0_0000_0000_0000
@@ -41,6 +71,30 @@ pub record Row : Type 1 where
 abbrev pub row : {A : Type 0} → A → A → Row
 row g s = record { Result = _; given = g; stated = s }
 
+-- C4: "XMin 1, eps 0.75 × 2^-53, from x = 1 - 2^-53 to x = 0: inside differs, crossing nothing"
+abbrev pub box4 : AABB
+box4 = record { «min_corner» = +1 ∷ +1 ∷ +1 ∷ []; «max_corner» = +2 ∷ +2 ∷ +2 ∷ [] }
+
+abbrev pub c4 : Row
+c4 =
+    row {A = Bool × Bool × Fraction}
+    (inside box4 0·75×2^-53 0 (pt 1-2^-53 +1 +1), inside box4 0·75×2^-53 0 (pt +0 +1 +1), crossing 0·75×2^-53 +1 1-2^-53 +0)
+    (true, false, Nothing)
+
+-- C5: "facet (0,0,0), (4,0,0), (0,4,0), box (-1,-1,-1) to (2,8,8), eps 2^-20: vertices (0,0,0), (2,0,0), (2,2,0), (0,4,0); facets 0 1 2 and 0 2 3".
+-- The operation's reply, with just enough room, and its result
+abbrev pub box5 : AABB
+box5 = record { «min_corner» = -1 ∷ -1 ∷ -1 ∷ []; «max_corner» = +2 ∷ +8 ∷ +8 ∷ [] }
+
+abbrev pub points5 : List Float
+points5 = +0 ∷ +0 ∷ +0 ∷ +4 ∷ +0 ∷ +0 ∷ +0 ∷ +4 ∷ +0 ∷ []
+
+abbrev pub c5 : Row
+c5 =
+    row {A = List ℕ × Mesh}
+    (clipReply points5 (0 ∷ 1 ∷ 2 ∷ []) box5 2^-20 1536 (12 ∷ 6 ∷ []), clipResult points5 (0 ∷ 1 ∷ 2 ∷ []) box5 2^-20)
+    (0 ∷ 12 ∷ 6 ∷ [], meshOf (+0 ∷ +0 ∷ +0 ∷ +2 ∷ +0 ∷ +0 ∷ +2 ∷ +2 ∷ +0 ∷ +0 ∷ +4 ∷ +0 ∷ []) (0 ∷ 1 ∷ 2 ∷ 0 ∷ 2 ∷ 3 ∷ []))
+
 -- C11, C12: "axis from 0, length 8, resolution 4, eps 0: 0, 4, 8"; "length 0.5, resolution 4: two points". The first two axes of one box
 abbrev pub box11 : AABB
 box11 = record { «min_corner» = +0 ∷ +0 ∷ +0 ∷ []; «max_corner» = +8 ∷ 1/2 ∷ +8 ∷ [] }
@@ -56,7 +110,7 @@ abbrev pub c16 : Row
 c16 = row (map root (+169 ∷ +0 ∷ [])) (+13 ∷ +0 ∷ [])
 
 abbrev pub starred : List Row
-starred = c11 ∷ c12 ∷ c16 ∷ []
+starred = c4 ∷ c5 ∷ c11 ∷ c12 ∷ c16 ∷ []
 
 -- ---- the claim
 
@@ -69,8 +123,8 @@ of-all a {r} (List·Memᴰ·head {x} {xs} e) = subst⁻¹ (λ (q : Row). q .give
 of-all a {r} (List·Memᴰ·tail {x} {xs} m) = of-all (a .1) m
 
 computed : All starred
-unfolding upFrom larger one units root rootOfSquare wholeRoot wholeUp rounding.segments segments gridLine axisPoints ofBits ofInt round add sub mul div lt le
-computed = (refl, (refl, (refl, tt)))
+unfolding every some upFrom threes magnitude within inside snapTo snapped crossing interpolated onPlane crossed sideClipped walk clipToPlane clipPolygon along enter fan fanned insideBox sharing clipFacet made clipped flatMap firstRefusal documented ragged tooMany badIndex inRange epsInRange boxInRange badBox workNeed roomTests clipTests clipResult clipReply larger one units root rootOfSquare wholeRoot wholeUp ceil rounding.segments segments gridLine axisPoints ofBits ofInt round add sub mul div neg lt le eq
+computed = (refl, (refl, (refl, (refl, (refl, tt)))))
 
 pub every-row : {r : Row} → List·Memᴰ r starred → r .given ≡ r .stated
 every-row m = of-all computed m

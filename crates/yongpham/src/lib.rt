@@ -1,4 +1,7 @@
 // The library for C: include/yongpham.h says in plain words what each function takes and answers. A function's contract is the operation's own,
 // through the documented number and values.
-mod report;
+mod clip_mesh;
 mod tolerance_of_box;
+
+pub use clip_mesh::yongpham_clip;
+pub use tolerance_of_box::yongpham_tolerance;

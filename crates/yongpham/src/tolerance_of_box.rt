@@ -1,8 +1,9 @@
-ghost use Rattle.yongpham.specs.Reports.{Reported, boxOf};
+ghost use Rattle.refusals.specs.Reports.{Reported};
+ghost use Rattle.yongpham.specs.Calls.{boxOf};
 ghost use Rattle.tolerance.specs.Tolerance.{toleranceReply};
-use crate::report::report_done;
-use crate::report::report_refusal;
 use geometry::aabb::AABB;
+use refusals::report::report_done;
+use refusals::report::report_refusal;
 use tolerance::Tolerance;
 use tolerance::bbox_eps;
 

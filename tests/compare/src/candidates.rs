@@ -11,7 +11,9 @@ use oracle::Extents;
 
 pub const OPERATION: Operation = Operation {
     name: "candidates",
+    number: 4,
     generate,
+    chosen: Vec::new,
     need: |r| oracle::need_words(r.vertices.len() / 3, r.facets.len() / 3, 0, grid(r)),
     lengths: |r| {
         oracle::reference::cap_candidates(
@@ -137,15 +139,20 @@ fn generate(random: &mut Random, number: u64) -> Request {
 pub fn boundary(random: &mut Random, number: u64) -> Request {
     let mut request = match number % 8 {
         0 => lattice_facet(random, number / 8),
-        1 | 2 => on_faces(random),
+        1 => on_faces(random),
+        2 => near_grid_points(random),
+        3 if random.one_in(4) => few_candidates(random),
         3 => same_cells(random),
         4 => repeated_and_closed(random),
         5 => long_box(random),
         6 => meshes::around_planes(random),
         _ => meshes::clipped_and_cleaned(random),
     };
-    if number % 8 != 5 {
+    if number % 8 != 5 && number % 8 != 2 {
         request.resolution = resolution(random, &request.extents);
+    }
+    if random.one_in(40) {
+        request.facets.clear();
     }
     tame(&mut request);
     unused_vertices(random, &mut request);
@@ -189,13 +196,20 @@ fn unused_vertices(random: &mut Random, request: &mut Request) {
         let copy = 3 * random.below((request.vertices.len() / 3).max(1));
         let axis = random.below(3);
         let mut point = [0, 1, 2].map(|axis| {
-            meshes::around_plane(random, request.extents[axis], request.extents[axis + 3], request.eps)
+            meshes::around_plane(
+                random,
+                request.extents[axis],
+                request.extents[axis + 3],
+                request.eps,
+            )
         });
         if random.one_in(2) && copy + 3 <= request.vertices.len() {
             point.copy_from_slice(&request.vertices[copy..copy + 3]);
             point[axis] += request.eps * random.between(-0.5, 0.5);
         }
-        request.vertices.extend(point.map(|x| x.clamp(-LARGEST, LARGEST)));
+        request
+            .vertices
+            .extend(point.map(|x| x.clamp(-LARGEST, LARGEST)));
     }
 }
 
@@ -232,7 +246,8 @@ fn on_faces(random: &mut Random) -> Request {
             let count = vertices.len() / 3;
             // A corner of an earlier facet, where it lies on this face.
             let earlier = random.below(count.max(1));
-            if random.one_in(3) && count > 0 && (vertices[3 * earlier + axis] - plane).abs() <= eps {
+            if random.one_in(3) && count > 0 && (vertices[3 * earlier + axis] - plane).abs() <= eps
+            {
                 list.push(earlier as u32);
                 continue;
             }
@@ -244,7 +259,11 @@ fn on_faces(random: &mut Random) -> Request {
                     plane
                 } else {
                     let x = plane + eps * random.pick(&[-1.0, -0.5, 0.0, 0.5, 1.0]);
-                    if random.one_in(6) { near(random, x).abs().copysign(x) } else { x }
+                    if random.one_in(6) {
+                        near(random, x).abs().copysign(x)
+                    } else {
+                        x
+                    }
                 });
             }
             list.push(count as u32);
@@ -254,6 +273,54 @@ fn on_faces(random: &mut Random) -> Request {
         *x = x.clamp(-LARGEST, LARGEST);
     }
     Request::new("on faces", vertices, list, extents, eps)
+}
+
+/// An open edge on a face that passes a grid point at the skip test's bound: beside
+/// it, at resolution x 1e-9 times the larger of 1 and the length over the length,
+/// or beyond its end. The point lies at 0, where doubles are dense. In the largest
+/// box the bound is near 1, so that the last digit of the length decides.
+fn near_grid_points(random: &mut Random) -> Request {
+    let half = random.pick(&[0.25, 1.0, 100.0, LARGEST / 2.0, LARGEST / 2.0]);
+    let large = half > 1e6;
+    let extents = [-half, -half, -half, half, half, half];
+    let resolution = half / (1 + random.below(2)) as f64;
+    let tolerance = resolution * 1e-9;
+    // The edge runs from -d to d, shifted sideways.
+    let scale = if large { 4.0 } else { half };
+    let d = [random.between(0.05, 0.9), random.pick(&[0.0, 0.3, -0.7])].map(|x| scale * x);
+    let length = 2.0 * (d[0] * d[0] + d[1] * d[1]).sqrt();
+    let aside = tolerance * length.max(1.0) / length * random.pick(&[0.0, 0.5, 1.0, 1.0, 1.0, 2.0]);
+    let aside = near(random, aside);
+    let shift = [-aside * 2.0 * d[1] / length, aside * 2.0 * d[0] / length];
+    let mut ends = [
+        [shift[0] - d[0], shift[1] - d[1]],
+        [shift[0] + d[0], shift[1] + d[1]],
+    ];
+    if random.one_in(4) {
+        // Along the line y = 0, its end short of the point by the end test's bound.
+        let short = tolerance * tolerance / d[0] * random.pick(&[1.0, 0.5, 2.0]);
+        ends = [[-d[0], 0.0], [-near(random, short).abs(), 0.0]];
+    }
+    let third = [
+        half * random.between(-1.0, 1.0),
+        half * random.pick(&[-1.0, 0.9]),
+    ];
+    let face = random.below(6);
+    let mut vertices = Vec::new();
+    for [u, v] in [ends[0], ends[1], third] {
+        let plane = extents[face / 2 + 3 * (face % 2)];
+        vertices.extend([[plane, u, v], [u, plane, v], [u, v, plane]][face / 2]);
+    }
+    let mut facets = vec![0, 1, 2];
+    facets.rotate_left(random.below(3));
+    let eps = if large {
+        1e-9
+    } else {
+        random.pick(&[0.0, 1e-10, 1e-12])
+    };
+    let mut request = Request::new("near grid points", vertices, facets, extents, eps);
+    request.resolution = resolution;
+    request
 }
 
 /// Corners that share a cell with others, with grid points or with the box's
@@ -266,7 +333,11 @@ fn same_cells(random: &mut Random) -> Request {
     for _ in 0..count {
         let face = random.below(2);
         for axis in 0..3 {
-            let whole = if axis == 2 { face as f64 } else { random.below(5) as f64 / 4.0 };
+            let whole = if axis == 2 {
+                face as f64
+            } else {
+                random.below(5) as f64 / 4.0
+            };
             vertices.push(whole + eps * (random.below(9) as f64 - 4.0) / 8.0);
         }
     }
@@ -283,6 +354,21 @@ fn same_cells(random: &mut Random) -> Request {
     Request::new("same cells", vertices, list, UNIT, eps)
 }
 
+/// A box thinner than eps: its corners share a cell, so that a face may have under
+/// three candidates; vertices within eps lie on all six faces.
+fn few_candidates(random: &mut Random) -> Request {
+    let side = random.pick(&[0.1, 0.3, 0.45]);
+    let count = 3 + random.below(2);
+    let vertices = (0..3 * count)
+        .map(|_| random.pick(&[0.0, 0.0, 0.01, side, 1.0, -0.9, 1.0 + side]))
+        .collect();
+    let facets = 1 + random.below(2);
+    let facets = meshes::random_facets(random, facets, count);
+    let extents = [0.0, 0.0, 0.0, side, side, random.pick(&[side, 0.2])];
+    let eps = random.pick(&[1.0, 1.0, 0.9]);
+    Request::new("few candidates", vertices, facets, extents, eps)
+}
+
 /// Repeated corners, facets given twice or turned round, and closed meshes, in the
 /// box and on it.
 fn repeated_and_closed(random: &mut Random) -> Request {
@@ -291,11 +377,16 @@ fn repeated_and_closed(random: &mut Random) -> Request {
         let face = random.below(6);
         for axis in 0..3 {
             let on = axis == face / 2 && !random.one_in(3);
-            vertices.push(if on { (face % 2) as f64 } else { random.below(5) as f64 / 4.0 });
+            vertices.push(if on {
+                (face % 2) as f64
+            } else {
+                random.below(5) as f64 / 4.0
+            });
         }
     }
-    let list = match random.below(4) {
+    let list = match random.below(5) {
         0 => vec![0, 2, 1, 0, 1, 3, 1, 2, 3, 0, 3, 2],
+        4 => return shared_edge(random),
         1 => {
             let mut list = meshes::random_facets(random, 1, 3);
             list.extend_from_within(..);
@@ -319,6 +410,34 @@ fn repeated_and_closed(random: &mut Random) -> Request {
     Request::new("repeated and closed", vertices, list, UNIT, eps)
 }
 
+/// Facets on one face that share an edge: two, three or four bear it.
+fn shared_edge(random: &mut Random) -> Request {
+    let plane = random.below(2) as f64;
+    let mut vertices = Vec::new();
+    for _ in 0..6 {
+        vertices.extend([
+            random.below(9) as f64 / 8.0,
+            random.below(9) as f64 / 8.0,
+            plane,
+        ]);
+    }
+    let mut facets = Vec::new();
+    for third in 2..4 + random.below(3) as u32 {
+        facets.extend(if random.one_in(2) {
+            [0, 1, third]
+        } else {
+            [third, 1, 0]
+        });
+    }
+    Request::new(
+        "shared edge",
+        vertices,
+        facets,
+        UNIT,
+        random.pick(&[0.0, 1e-10]),
+    )
+}
+
 /// A box with one long axis, at 255 to 258 segments; and boxes whose corners have
 /// keys at 2^62.
 fn long_box(random: &mut Random) -> Request {
@@ -329,22 +448,44 @@ fn long_box(random: &mut Random) -> Request {
         let corner = random.pick(&[LARGEST, LARGEST.next_down(), LARGEST / 2.0]);
         extents[axis + 3] = corner;
         extents[axis] = corner - 1.0;
-        let eps = if random.one_in(2) { eps } else { near(random, eps).abs() };
+        let eps = if random.one_in(2) {
+            eps
+        } else {
+            near(random, eps).abs()
+        };
         Request::new("large keys", Vec::new(), Vec::new(), extents, eps)
     } else {
         extents[axis + 3] = (255 + random.below(4)) as f64;
-        Request::new("long box", Vec::new(), Vec::new(), extents, random.pick(&[0.0, 1e-10]))
+        Request::new(
+            "long box",
+            Vec::new(),
+            Vec::new(),
+            extents,
+            random.pick(&[0.0, 1e-10]),
+        )
     };
-    request.resolution = if random.one_in(4) { near(random, 1.0).abs() } else { 1.0 };
+    request.resolution = if random.one_in(4) {
+        near(random, 1.0).abs()
+    } else {
+        1.0
+    };
     let face = random.below(6);
     for _ in 0..3 {
         for other in 0..3 {
             let (low, high) = (extents[other], extents[other + 3]);
             let on_face = extents[face / 2 + 3 * (face % 2)];
-            let x = if other == face / 2 { on_face } else { low + (high - low) * random.unit() };
+            let x = if other == face / 2 {
+                on_face
+            } else {
+                low + (high - low) * random.unit()
+            };
             request.vertices.push(x);
         }
     }
-    request.facets = if random.one_in(10) { Vec::new() } else { vec![0, 1, 2] };
+    request.facets = if random.one_in(10) {
+        Vec::new()
+    } else {
+        vec![0, 1, 2]
+    };
     request
 }

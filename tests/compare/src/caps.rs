@@ -3,16 +3,24 @@
 use crate::candidates::{boundary, grid};
 use crate::lent::Lent;
 use crate::meshes;
+use crate::numbers::near;
 use crate::operation::{mesh_answer, Answer, Operation};
 use crate::random::Random;
 use crate::request::Request;
-use crate::triangulation::triangulate;
+use crate::triangulation::{by_face, sound_list};
 
 pub const OPERATION: Operation = Operation {
     name: "caps",
+    number: 5,
     generate,
+    chosen: Vec::new,
     need: |r| {
-        oracle::need_words(r.vertices.len() / 3, r.facets.len() / 3, r.caps.len() / 4, grid(r))
+        oracle::need_words(
+            r.vertices.len() / 3,
+            r.facets.len() / 3,
+            r.caps.len() / 4,
+            grid(r),
+        )
     },
     lengths,
     oracle: |r, work| {
@@ -111,7 +119,12 @@ fn lengths(r: &Request) -> [usize; 4] {
     let supplied: Vec<oracle::reference::SuppliedTri> = r
         .caps
         .chunks_exact(4)
-        .map(|cap| (cap[0] as usize, [cap[1], cap[2], cap[3]].map(|id| id as usize)))
+        .map(|cap| {
+            (
+                cap[0] as usize,
+                [cap[1], cap[2], cap[3]].map(|id| id as usize),
+            )
+        })
         .collect();
     let (v, f) = oracle::reference::cap_mesh_to_aabb(
         r.vertices.clone(),
@@ -158,42 +171,17 @@ fn lists(r: &Request) -> Option<[Vec<u64>; 4]> {
     Some(run(lengths).1)
 }
 
-/// The candidates of each face.
-fn by_face(face_lists: &[u64]) -> [&[u64]; 6] {
-    let mut at = 6;
-    [0, 1, 2, 3, 4, 5].map(|face| {
-        let list = &face_lists[at..at + face_lists[face] as usize];
-        at += list.len();
-        list
-    })
-}
-
-/// A triangulation of every face that keeps its constraints, faces in order.
-pub fn sound_list(lists: &[Vec<u64>; 4]) -> Vec<[u64; 4]> {
-    let [candidates, face_lists, constraints, _] = lists;
-    let mut list = Vec::new();
-    for (face, numbers) in by_face(face_lists).into_iter().enumerate() {
-        let axes = [[1, 2], [0, 2], [0, 1]][face / 2];
-        let points: Vec<[f64; 2]> = numbers
-            .iter()
-            .map(|&id| axes.map(|axis| f64::from_bits(candidates[5 * id as usize + axis])))
-            .collect();
-        let kept: Vec<(usize, usize)> = constraints
-            .chunks_exact(3)
-            .filter(|c| c[0] == face as u64)
-            .map(|c| (c[1] as usize, c[2] as usize))
-            .collect();
-        let triangles = triangulate(&points, &kept);
-        list.extend(triangles.iter().map(|t| {
-            [face as u64, numbers[t[0]], numbers[t[1]], numbers[t[2]]]
-        }));
-    }
-    list
-}
-
 fn generate(random: &mut Random, number: u64) -> Request {
-    let mut request = if random.one_in(10) { small_areas(random) } else { boundary(random, number) };
-    request.mode = if random.one_in(30) { random.pick(&[0, 3, u32::MAX]) } else { 1 + random.below(2) as u32 };
+    let mut request = if random.one_in(10) {
+        small_areas(random)
+    } else {
+        boundary(random, number)
+    };
+    request.mode = if random.one_in(30) {
+        random.pick(&[0, 3, u32::MAX])
+    } else {
+        1 + random.below(2) as u32
+    };
     let mut list = match lists(&request) {
         Some(lists) => supplied(random, &lists),
         None => vec![[0, 0, 1, 2]; random.below(3)],
@@ -205,10 +193,12 @@ fn generate(random: &mut Random, number: u64) -> Request {
     if random.one_in(20) {
         meshes::damage(random, &mut request);
     }
-    match random.below(400) {
-        0..=4 => request.caps.extend([0, 1, 2].iter().take(1 + random.below(3))),
-        5 => request.caps.resize(4 * 1_048_577, 0),
-        6 => request.caps.resize(4 * 1_048_577 - 3, 0),
+    match random.below(1600) {
+        0..=19 => request
+            .caps
+            .extend([0, 1, 2].iter().take(1 + random.below(3))),
+        20 => request.caps.resize(4 * 1_048_577, 0),
+        21 => request.caps.resize(4 * 1_048_577 - 3, 0),
         _ => {}
     }
     request
@@ -216,17 +206,29 @@ fn generate(random: &mut Random, number: u64) -> Request {
 
 /// A square across a box so small that the caps' areas lie around 1e-12.
 fn small_areas(random: &mut Random) -> Request {
-    let side = random.between(0.5e-6, 3e-6);
-    let height = side * random.between(0.1, 0.9);
+    let part = random.pick(&[0.5, 0.25, 0.3, 0.7]);
+    // At this side the lower half of a side face has double areas of 1e-12.
+    let exact = (1e-12f64 / part).sqrt();
+    let side = match random.below(3) {
+        0 => random.between(0.5e-6, 3e-6),
+        1 => exact,
+        _ => near(random, exact).abs(),
+    };
+    let height = side * part;
     let mut vertices = Vec::new();
     for (x, y) in [(0.0, 0.0), (side, 0.0), (side, side), (0.0, side)] {
         vertices.extend([x, y, height]);
     }
     let extents = [0.0, 0.0, 0.0, side, side, side];
     let eps = random.pick(&[1e-10, 1e-12, 0.0]);
-    let mut request =
-        Request::new("small areas", vertices, vec![0, 1, 2, 0, 2, 3], extents, eps);
-    request.resolution = side / (1 + random.below(3)) as f64;
+    let mut request = Request::new(
+        "small areas",
+        vertices,
+        vec![0, 1, 2, 0, 2, 3],
+        extents,
+        eps,
+    );
+    request.resolution = side / random.pick(&[1.0, 1.0, 2.0]);
     request
 }
 
@@ -294,7 +296,11 @@ fn wild_list(random: &mut Random, lists: &[Vec<u64>; 4]) -> Vec<[u64; 4]> {
         let (face, a, b) = (edge[0] as usize, edge[1], edge[2]);
         let third = random.pick(faces[face]);
         if third != a && third != b {
-            list.push(if random.one_in(2) { [edge[0], a, b, third] } else { [edge[0], b, a, third] });
+            list.push(if random.one_in(2) {
+                [edge[0], a, b, third]
+            } else {
+                [edge[0], b, a, third]
+            });
         }
     }
     for _ in 0..random.below(40) {
@@ -304,7 +310,7 @@ fn wild_list(random: &mut Random, lists: &[Vec<u64>; 4]) -> Vec<[u64; 4]> {
     list
 }
 
-/// Makes one triangle faulty in a way that test 10 names.
+/// Makes the list faulty in a way that test 10 names.
 fn spoil(random: &mut Random, list: &mut [[u64; 4]]) {
     if list.is_empty() {
         return;
@@ -312,19 +318,23 @@ fn spoil(random: &mut Random, list: &mut [[u64; 4]]) {
     let place = random.below(list.len());
     let corner = 1 + random.below(3);
     let other = 1 + random.below(3);
-    match random.below(6) {
+    match random.below(8) {
         0 => list[place][0] = random.pick(&[6, 7, u64::MAX, 1 << 32]),
         1 => list[place][0] = random.below(6) as u64,
         2 => list[place][corner] = list[place][other],
         3 => list[place][corner] = random.pick(&[u64::MAX, 1 << 32, 1 << 63, 1_000_000]),
         4 => list[place][corner] |= 1 << 32,
-        _ => list[place][corner] = random.below(60) as u64,
+        5 => list[place][corner] = random.below(60) as u64,
+        // Sound triangles in another order: faces descend.
+        6 => list.swap(place, random.below(list.len())),
+        _ => list.rotate_left(place),
     }
 }
 
 #[cfg(test)]
 mod tests {
     use super::*;
+    use crate::lent::Old;
 
     /// Triangulations hold the open edges of meshes that were clipped and cleaned,
     /// and close them: no side is left alone in either mode.
@@ -334,11 +344,13 @@ mod tests {
         for number in 0..400 {
             let mut random = Random::new(3, "caps", number);
             let mut request = boundary(&mut random, 7);
-            let Some(lists) = lists(&request) else { continue };
+            let Some(lists) = lists(&request) else {
+                continue;
+            };
             request.caps = sound_list(&lists).concat();
             request.mode = 1 + (number % 2) as u32;
             request.work = (OPERATION.need)(&request) as usize;
-            let mut work = Lent::new(0);
+            let mut work = Lent::new(0, Old::Junk);
             let number = (OPERATION.oracle)(&request, &mut work).reply.number;
             assert!(number == 12 || number == 11 || number == 10, "{number}");
             met += 1;
@@ -355,6 +367,9 @@ mod tests {
             }
             closed += sides.values().all(|&sum| sum == 0) as usize;
         }
-        assert!(met > 100 && closed * 10 >= met * 9, "{closed} of {met} closed");
+        assert!(
+            met > 100 && closed * 10 >= met * 9,
+            "{closed} of {met} closed"
+        );
     }
 }

@@ -10,7 +10,9 @@ use crate::request::Request;
 
 pub const OPERATION: Operation = Operation {
     name: "clean",
+    number: 3,
     generate,
+    chosen: Vec::new,
     need: |r| oracle::need_words(r.vertices.len() / 3, r.facets.len() / 3, 0, 0),
     lengths: |r| {
         let (v, f) = oracle::reference::clean_mesh(r.vertices.clone(), r.wide_facets(), r.eps);
@@ -74,7 +76,9 @@ fn ours(r: &Request, work: &mut Lent<u64>) -> Answer {
 fn generate(random: &mut Random, number: u64) -> Request {
     let mut request = match number % 8 {
         0 => small_lists(random, number / 8),
-        1 | 2 => around_cells(random),
+        1 => around_cells(random),
+        2 => one_cell(random),
+        3 if random.one_in(3) => flat_or_not(random),
         3 => flat_facets(random),
         4 => components(random),
         5 => large_keys(random),
@@ -95,11 +99,21 @@ fn small_lists(random: &mut Random, turn: u64) -> Request {
     let facets = meshes::facet_list(turn, 4, 2);
     let side = random.pick(&[1.0, 0.5, 0.25]);
     let vertices = match random.below(3) {
-        0 => vec![0.0, 0.0, 0.0, side, 0.0, 0.0, side, side, 0.0, 0.0, side, 0.0],
-        1 => vec![0.0, 0.0, 0.0, side, 0.0, 0.0, 0.0, side, 0.0, 0.0, 0.0, side],
+        0 => vec![
+            0.0, 0.0, 0.0, side, 0.0, 0.0, side, side, 0.0, 0.0, side, 0.0,
+        ],
+        1 => vec![
+            0.0, 0.0, 0.0, side, 0.0, 0.0, 0.0, side, 0.0, 0.0, 0.0, side,
+        ],
         _ => (0..12).map(|_| side * random.below(3) as f64).collect(),
     };
-    Request::new("small lists", vertices, facets, UNIT, random.pick(&[0.0, 0.25, 0.5, 1e-10]))
+    Request::new(
+        "small lists",
+        vertices,
+        facets,
+        UNIT,
+        random.pick(&[0.0, 0.25, 0.5, 1e-10]),
+    )
 }
 
 /// An eps at which cells matter; powers of two make distances exact.
@@ -134,12 +148,36 @@ fn around_cells(random: &mut Random) -> Request {
             6 => random.pick(&[0.0, -0.0, 1.5e-162, 1.6e-162]),
             _ => middle[axis] + cell * random.between(-2.0, 2.0),
         };
-        let x = if random.one_in(6) { near(random, x).abs().copysign(x) } else { x };
+        let x = if random.one_in(6) {
+            near(random, x).abs().copysign(x)
+        } else {
+            x
+        };
         vertices.push(x.clamp(-LARGEST, LARGEST));
     }
     let facets = random.below(8);
     let facets = meshes::random_facets(random, facets, count);
     Request::new("around cells", vertices, facets, UNIT, eps)
+}
+
+/// Points in and around one cell, so that a point may join one of several, each in
+/// a facet with far corners: the facets show which one it joined.
+fn one_cell(random: &mut Random) -> Request {
+    let eps = random.pick(&[1.0, 0.25, 1e-3, 1e-10]);
+    let spread = random.pick(&[0.5, 0.75, 1.2]);
+    let close = 3 + random.below(12);
+    let mut vertices: Vec<f64> = (0..3 * close)
+        .map(|_| eps * spread * random.between(-1.0, 1.0))
+        .collect();
+    let far = 3 + random.below(3);
+    for i in 0..far {
+        vertices.extend([20.0, 10.0 * i as f64, 7.0 * (i * i) as f64].map(|x| eps * x));
+    }
+    let corner = |random: &mut Random| (close + random.below(far)) as u32;
+    let facets = (0..close as u32)
+        .flat_map(|id| [id, corner(random), corner(random)])
+        .collect();
+    Request::new("one cell", vertices, facets, UNIT, eps)
 }
 
 /// Facets whose squared cross product lies at eps^4: legs of about eps, also where
@@ -151,7 +189,11 @@ fn flat_facets(random: &mut Random) -> Request {
         2 => 2f64.powi(-(random.below(30) as i32)),
         _ => random.between(1e-6, 1.0),
     };
-    let leg = if eps == 0.0 { random.pick(&[1e-81, 1e-80]) } else { eps };
+    let leg = if eps == 0.0 {
+        random.pick(&[1e-81, 1e-80])
+    } else {
+        eps
+    };
     let facets = 1 + random.below(5);
     // Far corners keep welding away; a facet's height over a side of length `wide`
     // is about eps * eps / wide.
@@ -160,12 +202,62 @@ fn flat_facets(random: &mut Random) -> Request {
     let mut vertices = Vec::new();
     for i in 0..facets + 2 {
         let x = wide * i as f64;
-        let y = if i % 2 == 0 { 0.0 } else { high * random.pick(&[1.0, 0.5, 2.0, 1.01, 0.99]) };
-        let y = if random.one_in(3) { near(random, y).abs() } else { y };
-        vertices.extend([x, y, if random.one_in(4) { leg * random.below(3) as f64 } else { 0.0 }]);
+        let y = if i % 2 == 0 {
+            0.0
+        } else {
+            high * random.pick(&[1.0, 0.5, 2.0, 1.01, 0.99])
+        };
+        let y = if random.one_in(3) {
+            near(random, y).abs()
+        } else {
+            y
+        };
+        vertices.extend([
+            x,
+            y,
+            if random.one_in(4) {
+                leg * random.below(3) as f64
+            } else {
+                0.0
+            },
+        ]);
     }
-    let facets = (0..facets as u32).flat_map(|i| [i, i + 1, i + 2]).collect();
-    Request::new("flat facets", vertices, facets, UNIT, eps)
+    let mut list: Vec<[u32; 3]> = (0..facets as u32).map(|i| [i, i + 1, i + 2]).collect();
+    // The same corners from another one on: rounding may set the two apart.
+    for _ in 0..random.below(4) {
+        let mut again = random.pick(&list);
+        again.rotate_left(1 + random.below(2));
+        list.push(again);
+    }
+    Request::new("flat facets", vertices, list.concat(), UNIT, eps)
+}
+
+/// One facet several times, from each corner on and turned round, with a squared
+/// cross product so near eps^4 that rounding sets the turns apart: the first that
+/// passes is the one that stays. A far facet keeps it company.
+fn flat_or_not(random: &mut Random) -> Request {
+    let eps = random.between(0.01, 1.0);
+    let mut point = |scale: f64| [0; 3].map(|_| scale * random.between(-1.0, 1.0));
+    let (p, along, other) = (point(4.0 * eps), point(1.0), point(1.0));
+    let dot = |a: [f64; 3], b: [f64; 3]| a[0] * b[0] + a[1] * b[1] + a[2] * b[2];
+    let unit = |a: [f64; 3]| a.map(|x| x / dot(a, a).sqrt());
+    let along = unit(along);
+    let across = unit([0, 1, 2].map(|i| other[i] - dot(other, along) * along[i]));
+    // Base 3 eps, height eps / 3: twice the area is eps squared.
+    let corner = |u: f64, v: f64| [0, 1, 2].map(|i| p[i] + eps * (u * along[i] + v * across[i]));
+    let mut vertices = [p, corner(3.0, 0.0), corner(1.5, 1.0 / 3.0)].concat();
+    vertices.extend([40.0 * eps, 0.0, 0.0, 0.0, 40.0 * eps, 0.0]);
+    let mut facets = Vec::new();
+    for turn in 0..2 + random.below(3) {
+        let mut facet = [0, 1, 2];
+        facet.rotate_left((turn + random.below(2)) % 3);
+        if random.one_in(3) {
+            facet.swap(1, 2);
+        }
+        facets.extend(facet);
+    }
+    facets.extend([0, 3, 4]);
+    Request::new("flat or not", vertices, facets, UNIT, eps)
 }
 
 /// Fans, strips and lone facets, some of them twice in another order, some joined
@@ -178,7 +270,11 @@ fn components(random: &mut Random) -> Request {
         let first = (vertices.len() / 3) as u32;
         let length = 1 + random.below(3) as u32;
         for i in 0..length + 2 {
-            vertices.extend([4.0 * part as f64 + i as f64, (i % 2) as f64, random.below(2) as f64]);
+            vertices.extend([
+                4.0 * part as f64 + i as f64,
+                (i % 2) as f64,
+                random.below(2) as f64,
+            ]);
         }
         facets.extend((0..length).map(|i| [first + i, first + i + 1, first + i + 2]));
         if random.one_in(3) && first > 0 {

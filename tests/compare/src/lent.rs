@@ -7,7 +7,12 @@ const GUARD: usize = 4;
 pub trait Cell: Copy {
     fn from_bits(bits: u64) -> Self;
     fn bits(self) -> u64;
+    /// Old contents that the program `replay` computes as well: no double is a NaN.
+    fn by_place(place: usize) -> Self;
 }
+
+/// Old contents of a number or a word in a stored request: this and its place.
+const FIRST_BY_PLACE: u32 = 3_000_000_000;
 
 impl Cell for u64 {
     fn from_bits(bits: u64) -> Self {
@@ -15,6 +20,9 @@ impl Cell for u64 {
     }
     fn bits(self) -> u64 {
         self
+    }
+    fn by_place(place: usize) -> Self {
+        u64::from(FIRST_BY_PLACE) + place as u64
     }
 }
 
@@ -25,6 +33,9 @@ impl Cell for u32 {
     fn bits(self) -> u64 {
         self.into()
     }
+    fn by_place(place: usize) -> Self {
+        FIRST_BY_PLACE + place as u32
+    }
 }
 
 impl Cell for f64 {
@@ -34,27 +45,46 @@ impl Cell for f64 {
     fn bits(self) -> u64 {
         self.to_bits()
     }
+    fn by_place(place: usize) -> Self {
+        1.5 + place as f64
+    }
 }
 
-/// Old contents: no two neighbours alike; as doubles they are signalling NaNs.
+/// No two neighbours alike; as doubles they are signalling NaNs.
 fn junk(place: usize) -> u64 {
     0x7ff4_0000_5ca1_0000 | (place as u64 & 0xffff)
 }
 
-/// A slice to be lent, filled with junk.
+/// What a slice holds before a call. The guards around it hold junk in either case.
+#[derive(Clone, Copy, PartialEq)]
+pub enum Old {
+    Junk,
+    ByPlace,
+}
+
+/// A slice to be lent, filled with old contents.
 pub struct Lent<T> {
     cells: Vec<T>,
     length: usize,
+    old: Old,
 }
 
 impl<T: Cell> Lent<T> {
-    pub fn new(length: usize) -> Self {
-        let mut lent = Lent { cells: Vec::new(), length: 0 };
+    pub fn new(length: usize, old: Old) -> Self {
+        let mut lent = Lent {
+            cells: Vec::new(),
+            length: 0,
+            old,
+        };
         lent.lend(length);
         lent
     }
 
-    /// Fills the slice with junk again, at another length; the memory is reused.
+    pub fn old(&self) -> Old {
+        self.old
+    }
+
+    /// Fills the slice with old contents again, at another length; the memory is reused.
     pub fn lend(&mut self, length: usize) -> &mut [T] {
         let all = length + 2 * GUARD;
         if self.cells.len() < all {
@@ -63,6 +93,11 @@ impl<T: Cell> Lent<T> {
         self.length = length;
         for (place, cell) in self.cells[..all].iter_mut().enumerate() {
             *cell = T::from_bits(junk(place));
+        }
+        if self.old == Old::ByPlace {
+            for (place, cell) in self.slice().iter_mut().enumerate() {
+                *cell = T::by_place(place);
+            }
         }
         self.slice()
     }
@@ -73,17 +108,22 @@ impl<T: Cell> Lent<T> {
 
     pub fn guards_stand(&self) -> bool {
         let behind = GUARD + self.length;
-        (0..GUARD).chain(behind..behind + GUARD).all(|place| {
-            self.cells[place].bits() == T::from_bits(junk(place)).bits()
-        })
+        (0..GUARD)
+            .chain(behind..behind + GUARD)
+            .all(|place| self.cells[place].bits() == T::from_bits(junk(place)).bits())
     }
 
     /// The lent part.
     pub fn contents(&self) -> Vec<u64> {
-        self.cells[GUARD..GUARD + self.length].iter().map(|cell| cell.bits()).collect()
+        self.cells[GUARD..GUARD + self.length]
+            .iter()
+            .map(|cell| cell.bits())
+            .collect()
     }
 
     pub fn is_zero(&self) -> bool {
-        self.cells[GUARD..GUARD + self.length].iter().all(|cell| cell.bits() == 0)
+        self.cells[GUARD..GUARD + self.length]
+            .iter()
+            .all(|cell| cell.bits() == 0)
     }
 }

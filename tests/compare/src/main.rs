@@ -2,13 +2,19 @@
 //! values, every element of every output, work room.
 //!
 //!     compare [--seed S] [--requests N] [--first I] [--numbers N] [--only NAME] [--self-check]
+//!     compare --store FILE [--seed S] [--count N]
 //!
+//! The second form compares nothing: it writes a sample of requests and the oracle's
+//! answers to FILE, N requests an operation, for the program crates/replay.
+//!
+//! 20,000 requests of each operation and 10,000,000 numbers if not told otherwise.
 //! Requests are numbered from 0; request I of a seed is made again by itself with
 //! `--only NAME --first I --requests 1`. Exits 1 at any difference.
 
 mod boxes;
 mod candidates;
 mod caps;
+mod chosen;
 mod clean;
 mod clip;
 mod lent;
@@ -18,16 +24,22 @@ mod operation;
 mod random;
 mod report;
 mod request;
+mod store;
 mod tolerance;
 mod triangulation;
 
-use lent::Lent;
+use lent::{Lent, Old};
 use operation::Operation;
 use std::ops::Range;
 use std::process::ExitCode;
 
 /// The mesh operations. One joins by a file that makes its record.
-const OPERATIONS: &[Operation] = &[clip::OPERATION, clean::OPERATION, candidates::OPERATION, caps::OPERATION];
+const OPERATIONS: &[Operation] = &[
+    clip::OPERATION,
+    clean::OPERATION,
+    candidates::OPERATION,
+    caps::OPERATION,
+];
 
 pub struct Options {
     pub seed: u64,
@@ -39,6 +51,9 @@ pub struct Options {
     pub only: Option<String>,
     /// Runs the oracle in our library's place: exercises the generators alone.
     pub self_check: bool,
+    /// The file for stored answers, and how many requests of each operation it gets.
+    pub store: Option<String>,
+    pub count: usize,
 }
 
 impl Options {
@@ -55,10 +70,12 @@ fn options() -> Result<Options, String> {
     let mut options = Options {
         seed: 1,
         first: 0,
-        requests: 100_000,
+        requests: 20_000,
         numbers: 10_000_000,
         only: None,
         self_check: false,
+        store: None,
+        count: 250,
     };
     let mut arguments = std::env::args().skip(1);
     while let Some(argument) = arguments.next() {
@@ -71,6 +88,8 @@ fn options() -> Result<Options, String> {
             "--numbers" => options.numbers = number(value()?)?,
             "--only" => options.only = Some(value()?),
             "--self-check" => options.self_check = true,
+            "--store" => options.store = Some(value()?),
+            "--count" => options.count = number(value()?)? as usize,
             _ => return Err(format!("unknown argument {argument}")),
         }
     }
@@ -85,20 +104,35 @@ fn main() -> ExitCode {
             return ExitCode::from(2);
         }
     };
+    if let Some(file) = &options.store {
+        return store::write(file, &options);
+    }
     let mut rows = Vec::new();
-    if !options.self_check {
+    let mut unlinked = Vec::new();
+    if cfg!(feature = "numbers") && !options.self_check {
         rows.extend(numbers::rows(&options));
-        if !options.leaves_out("tolerance") {
-            rows.push(tolerance::row(&options));
-        }
+    } else {
+        unlinked.push("numbers");
+    }
+    if !cfg!(feature = "tolerance") || options.self_check {
+        unlinked.push("tolerance");
+    } else if !options.leaves_out("tolerance") {
+        rows.push(tolerance::row(&options));
     }
     // One work room for all requests: its pages are touched once.
-    let mut work = Lent::new(0);
+    let mut work = Lent::new(0, Old::Junk);
     for operation in OPERATIONS {
-        let linked = operation.ours.is_some() || options.self_check;
-        if linked && !options.leaves_out(operation.name) {
-            rows.push(operation::row(operation, &options, &mut work));
+        if options.leaves_out(operation.name) {
+            continue;
         }
+        if operation.ours.is_some() || options.self_check {
+            rows.push(operation::row(operation, &options, &mut work));
+        } else {
+            unlinked.push(operation.name);
+        }
+    }
+    if !unlinked.is_empty() {
+        println!("not linked, not compared: {}\n", unlinked.join(", "));
     }
     if report::print(&rows) {
         ExitCode::SUCCESS

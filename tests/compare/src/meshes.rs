@@ -30,7 +30,9 @@ pub fn tolerance(extents: &Extents) -> f64 {
 
 /// Facets over `count` vertices; sometimes with a repeated corner.
 pub fn random_facets(random: &mut Random, facets: usize, count: usize) -> Vec<u32> {
-    (0..3 * facets).map(|_| random.below(count) as u32).collect()
+    (0..3 * facets)
+        .map(|_| random.below(count) as u32)
+        .collect()
 }
 
 /// The list number `turn` of at most `most` facets over numbers below `count`,
@@ -71,13 +73,21 @@ pub fn around_plane(random: &mut Random, low: f64, high: f64, eps: f64) -> f64 {
         10 => plane + eps * random.between(-2.0, 2.0),
         _ => random.between(low - (high - low), high + (high - low)),
     };
-    let x = if random.one_in(4) { near(random, x).abs().copysign(x) } else { x };
+    let x = if random.one_in(4) {
+        near(random, x).abs().copysign(x)
+    } else {
+        x
+    };
     x.clamp(-boxes::LARGEST, boxes::LARGEST)
 }
 
 /// A few facets whose corners lie around the box's planes.
 pub fn around_planes(random: &mut Random) -> Request {
-    let extents = if random.one_in(2) { [0.0, 0.0, 0.0, 1.0, 1.0, 1.0] } else { boxes::sound(random) };
+    let extents = if random.one_in(2) {
+        [0.0, 0.0, 0.0, 1.0, 1.0, 1.0]
+    } else {
+        boxes::sound(random)
+    };
     let eps = eps(random, &extents);
     let count = 3 + random.below(6);
     let mut vertices = Vec::with_capacity(3 * count);
@@ -94,9 +104,15 @@ pub fn around_planes(random: &mut Random) -> Request {
 pub fn soup(random: &mut Random) -> Request {
     let facets = 1 + random.below(40);
     let shared = random.one_in(2);
-    let count = if shared { 3 + random.below(20) } else { 3 * facets };
+    let count = if shared {
+        3 + random.below(20)
+    } else {
+        3 * facets
+    };
     let spread = random.pick(&[0.2, 1.0, 4.0]);
-    let vertices = (0..3 * count).map(|_| 0.5 + spread * random.between(-1.0, 1.0)).collect();
+    let vertices = (0..3 * count)
+        .map(|_| 0.5 + spread * random.between(-1.0, 1.0))
+        .collect();
     let facets = if shared {
         random_facets(random, facets, count)
     } else {
@@ -108,7 +124,11 @@ pub fn soup(random: &mut Random) -> Request {
 }
 
 /// A surface over a lattice of u by v cells; `at` places its corners.
-pub fn lattice(u: usize, v: usize, mut at: impl FnMut(f64, f64) -> [f64; 3]) -> (Vec<f64>, Vec<u32>) {
+pub fn lattice(
+    u: usize,
+    v: usize,
+    mut at: impl FnMut(f64, f64) -> [f64; 3],
+) -> (Vec<f64>, Vec<u32>) {
     let mut vertices = Vec::with_capacity(3 * (u + 1) * (v + 1));
     for i in 0..=u {
         for j in 0..=v {
@@ -135,12 +155,18 @@ pub fn surface(random: &mut Random, cells: usize) -> (Vec<f64>, Vec<u32>) {
     match random.below(3) {
         0 => {
             let mut noise = Random::new(random.bits(), "terrain", 0);
-            lattice(cells, cells, |u, v| [over(u), over(v), level + height * noise.between(-0.5, 0.5)])
+            lattice(cells, cells, |u, v| {
+                [over(u), over(v), level + height * noise.between(-0.5, 0.5)]
+            })
         }
         1 => {
             let (p, q) = (random.between(1.0, 12.0), random.between(1.0, 12.0));
             lattice(cells, cells, |u, v| {
-                [over(u), over(v), level + height * (p * u).sin() * (q * v).cos()]
+                [
+                    over(u),
+                    over(v),
+                    level + height * (p * u).sin() * (q * v).cos(),
+                ]
             })
         }
         _ => {
@@ -201,10 +227,19 @@ pub fn damage(random: &mut Random, request: &mut Request) {
             }
         }
         8 => request.extents[random.below(6)] = edge_of_range(random),
-        9 => request.eps = random.pick(&[1.0, 1f64.next_up(), -5e-324, f64::NAN, f64::INFINITY, 2.0]),
+        9 => {
+            request.eps = random.pick(&[1.0, 1f64.next_up(), -5e-324, f64::NAN, f64::INFINITY, 2.0])
+        }
         10 => {
-            request.resolution =
-                random.pick(&[0.0, -0.0, -1.0, 5e-324, f64::NAN, f64::INFINITY, boxes::LARGEST.next_up()])
+            request.resolution = random.pick(&[
+                0.0,
+                -0.0,
+                -1.0,
+                5e-324,
+                f64::NAN,
+                f64::INFINITY,
+                boxes::LARGEST.next_up(),
+            ])
         }
         11 => {
             let axis = random.below(3);
@@ -250,8 +285,7 @@ pub fn clipped(random: &mut Random) -> Request {
 pub fn clipped_and_cleaned(random: &mut Random) -> Request {
     let mut request = clipped(random);
     let facets = request.wide_facets();
-    let (vertices, facets) =
-        oracle::reference::clean_mesh(request.vertices, facets, request.eps);
+    let (vertices, facets) = oracle::reference::clean_mesh(request.vertices, facets, request.eps);
     request.family = "clipped and cleaned";
     request.vertices = vertices;
     request.facets = facets.iter().map(|&id| id as u32).collect();

@@ -131,16 +131,35 @@ pub fn rows(options: &Options) -> Vec<Row> {
         ("root", |random| {
             let x = double(random);
             let (o, m) = (ours::root(x).to_bits(), machine::root(x).to_bits());
-            (o, m, if o == m { String::new() } else { format!("x {:016x}", x.to_bits()) })
+            (
+                o,
+                m,
+                if o == m {
+                    String::new()
+                } else {
+                    format!("x {:016x}", x.to_bits())
+                },
+            )
         }),
         ("rounding", |random| {
             let x = double(random);
             let (o, m) = (ours::round(x).to_bits(), machine::round(x).to_bits());
-            (o, m, if o == m { String::new() } else { format!("x {:016x}", x.to_bits()) })
+            (
+                o,
+                m,
+                if o == m {
+                    String::new()
+                } else {
+                    format!("x {:016x}", x.to_bits())
+                },
+            )
         }),
         ("cell key", |random| {
             let (x, eps) = coordinate_and_eps(random);
-            let (o, m) = (ours::cell_key(x, eps) as u64, machine::cell_key(x, eps) as u64);
+            let (o, m) = (
+                ours::cell_key(x, eps) as u64,
+                machine::cell_key(x, eps) as u64,
+            );
             let text = || format!("x {:016x} eps {:016x}", x.to_bits(), eps.to_bits());
             (o, m, if o == m { String::new() } else { text() })
         }),
@@ -157,7 +176,9 @@ pub fn rows(options: &Options) -> Vec<Row> {
             row.requests += 1;
             row.replies[0] += 1;
             if ours != machine {
-                row.differs(1, || format!("{input}: ours {ours:016x}, machine {machine:016x}"));
+                row.differs(1, || {
+                    format!("{input}: ours {ours:016x}, machine {machine:016x}")
+                });
             }
         }
         rows.push(row);

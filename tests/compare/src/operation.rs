@@ -1,5 +1,6 @@
 //! How an operation is compared: its generator, its oracle, our function.
 
+use crate::chosen::Chosen;
 use crate::lent::{Cell, Lent};
 use crate::random::Random;
 use crate::report::Row;
@@ -10,8 +11,12 @@ use oracle::Reply;
 /// One of clip, clean, candidates, caps. Each has a file that makes this record.
 pub struct Operation {
     pub name: &'static str,
+    /// Its number in a file of stored answers.
+    pub number: u64,
     /// Makes request number `n`; work room and outputs are chosen afterwards.
     pub generate: fn(&mut Random, u64) -> Request,
+    /// Requests that a file of stored answers has in any case.
+    pub chosen: fn() -> Vec<Chosen>,
     /// Words of work room that test 7 asks for.
     pub need: fn(&Request) -> u64,
     /// Lengths of the result, for a request that fails at most by test 12.
@@ -42,7 +47,11 @@ fn answer(reply: Reply, work: &Lent<u64>, guards: bool, outputs: Vec<Vec<u64>>) 
     } else {
         None
     };
-    Answer { reply, outputs, fault }
+    Answer {
+        reply,
+        outputs,
+        fault,
+    }
 }
 
 /// Calls an operation that writes a mesh.
@@ -51,11 +60,16 @@ pub fn mesh_answer(
     work: &mut Lent<u64>,
     call: impl FnOnce(&mut [u64], &mut [f64], &mut [u32]) -> Reply,
 ) -> Answer {
-    let mut vertices = Lent::new(request.outputs[0]);
-    let mut facets = Lent::new(request.outputs[1]);
+    let mut vertices = Lent::new(request.outputs[0], work.old());
+    let mut facets = Lent::new(request.outputs[1], work.old());
     let reply = call(work.lend(request.work), vertices.slice(), facets.slice());
     let guards = vertices.guards_stand() && facets.guards_stand();
-    answer(reply, work, guards, vec![vertices.contents(), facets.contents()])
+    answer(
+        reply,
+        work,
+        guards,
+        vec![vertices.contents(), facets.contents()],
+    )
 }
 
 /// Calls candidates, which writes four lists of words.
@@ -64,10 +78,17 @@ pub fn lists_answer(
     work: &mut Lent<u64>,
     call: impl FnOnce(&mut [u64], [&mut [u64]; 4]) -> Reply,
 ) -> Answer {
-    let mut lists = request.outputs.map(Lent::<u64>::new);
+    let mut lists = request
+        .outputs
+        .map(|length| Lent::<u64>::new(length, work.old()));
     let reply = call(work.lend(request.work), lists.each_mut().map(Lent::slice));
     let guards = lists.iter().all(Lent::guards_stand);
-    answer(reply, work, guards, lists.iter().map(Lent::contents).collect())
+    answer(
+        reply,
+        work,
+        guards,
+        lists.iter().map(Lent::contents).collect(),
+    )
 }
 
 /// Request number `n` with work room and outputs.
@@ -76,13 +97,18 @@ pub fn request(operation: &Operation, seed: u64, number: u64, work: &mut Lent<u6
     let mut request = (operation.generate)(&mut random, number);
     let need = (operation.need)(&request);
     request.choose_work(&mut random, need);
-    let lengths = match (operation.oracle)(&request, work).reply.number {
-        0 => [0; 4],
-        12 => (operation.lengths)(&request),
-        _ => [3; 4],
-    };
+    let lengths = lengths(operation, &request, work);
     request.choose_outputs(&mut random, lengths);
     request
+}
+
+/// Lengths of the result of a request that has no outputs yet; 3 each where it is refused.
+pub fn lengths(operation: &Operation, request: &Request, work: &mut Lent<u64>) -> [usize; 4] {
+    match (operation.oracle)(request, work).reply.number {
+        0 => [0; 4],
+        12 => (operation.lengths)(request),
+        _ => [3; 4],
+    }
 }
 
 /// Runs the requests of one operation. In a self check the oracle answers twice,
@@ -96,7 +122,11 @@ pub fn row(operation: &Operation, options: &Options, work: &mut Lent<u64>) -> Ro
     for number in options.range() {
         let request = request(operation, options.seed, number, work);
         let expected = (operation.oracle)(&request, work);
-        let before = (request.vertices.clone(), request.facets.clone(), request.caps.clone());
+        let before = (
+            request.vertices.clone(),
+            request.facets.clone(),
+            request.caps.clone(),
+        );
         let got = ours(&request, work);
         row.requests += 1;
         row.replies[expected.reply.number as usize] += 1;
@@ -106,7 +136,8 @@ pub fn row(operation: &Operation, options: &Options, work: &mut Lent<u64>) -> Ro
         if got != expected || !inputs_stand {
             row.differs(request.size(), || {
                 format!(
-                    "request {number} of seed {}\n{}{}inputs {}",
+                    "compare --only {} --seed {} --first {number} --requests 1\n{}{}inputs {}",
+                    operation.name,
                     options.seed,
                     request.describe(),
                     difference(&got, &expected),

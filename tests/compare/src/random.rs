@@ -18,7 +18,9 @@ impl Random {
         for byte in name.bytes() {
             state = mix(state ^ u64::from(byte));
         }
-        Random { state: mix(state ^ number) }
+        Random {
+            state: mix(state ^ number),
+        }
     }
 
     pub fn bits(&mut self) -> u64 {

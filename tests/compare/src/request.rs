@@ -25,7 +25,13 @@ pub struct Request {
 }
 
 impl Request {
-    pub fn new(family: &'static str, vertices: Vec<f64>, facets: Vec<u32>, extents: Extents, eps: f64) -> Self {
+    pub fn new(
+        family: &'static str,
+        vertices: Vec<f64>,
+        facets: Vec<u32>,
+        extents: Extents,
+        eps: f64,
+    ) -> Self {
         Request {
             family,
             vertices,

@@ -1,4 +1,4 @@
-//! A constrained triangulation of the points of one face, to make supplied lists
+//! A constrained triangulation of each face's candidates, to make supplied lists
 //! that close a mesh as the customer's package would.
 //!
 //! Incremental Delaunay insertion with edge flips, then constraints by flipping
@@ -14,11 +14,14 @@ const NONE: usize = usize::MAX;
 type Point = [i64; 2];
 
 /// Triangles of the points, counter-clockwise.
-pub fn triangulate(points: &[[f64; 2]], constraints: &[(usize, usize)]) -> Vec<[usize; 3]> {
+fn triangulate(points: &[[f64; 2]], constraints: &[(usize, usize)]) -> Vec<[usize; 3]> {
     let lattice = to_lattice(points);
     let mut first_at = std::collections::HashMap::new();
-    let entered: Vec<usize> =
-        lattice.iter().enumerate().map(|(id, &p)| *first_at.entry(p).or_insert(id)).collect();
+    let entered: Vec<usize> = lattice
+        .iter()
+        .enumerate()
+        .map(|(id, &p)| *first_at.entry(p).or_insert(id))
+        .collect();
     let mut mesh = Triangulation::new(lattice);
     for id in (0..points.len()).filter(|&id| entered[id] == id) {
         mesh.insert(id);
@@ -30,15 +33,55 @@ pub fn triangulate(points: &[[f64; 2]], constraints: &[(usize, usize)]) -> Vec<[
     mesh.corners.iter().filter(real).copied().collect()
 }
 
+/// The candidates of each face.
+pub fn by_face(face_lists: &[u64]) -> [&[u64]; 6] {
+    let mut at = 6;
+    [0, 1, 2, 3, 4, 5].map(|face| {
+        let list = &face_lists[at..at + face_lists[face] as usize];
+        at += list.len();
+        list
+    })
+}
+
+/// A triangulation of every face that keeps its constraints, faces in order.
+pub fn sound_list(lists: &[Vec<u64>; 4]) -> Vec<[u64; 4]> {
+    let [candidates, face_lists, constraints, _] = lists;
+    let mut list = Vec::new();
+    for (face, numbers) in by_face(face_lists).into_iter().enumerate() {
+        let axes = [[1, 2], [0, 2], [0, 1]][face / 2];
+        let points: Vec<[f64; 2]> = numbers
+            .iter()
+            .map(|&id| axes.map(|axis| f64::from_bits(candidates[5 * id as usize + axis])))
+            .collect();
+        let kept: Vec<(usize, usize)> = constraints
+            .chunks_exact(3)
+            .filter(|c| c[0] == face as u64)
+            .map(|c| (c[1] as usize, c[2] as usize))
+            .collect();
+        let triangles = triangulate(&points, &kept);
+        list.extend(
+            triangles
+                .iter()
+                .map(|t| [face as u64, numbers[t[0]], numbers[t[1]], numbers[t[2]]]),
+        );
+    }
+    list
+}
+
 fn to_lattice(points: &[[f64; 2]]) -> Vec<Point> {
     let bound = |axis: usize, pick: fn(f64, f64) -> f64, start: f64| {
         points.iter().map(|p| p[axis]).fold(start, pick)
     };
     let low = [0, 1].map(|axis| bound(axis, f64::min, f64::INFINITY));
     let high = [0, 1].map(|axis| bound(axis, f64::max, f64::NEG_INFINITY));
-    let side = (high[0] - low[0]).max(high[1] - low[1]).max(f64::MIN_POSITIVE);
+    let side = (high[0] - low[0])
+        .max(high[1] - low[1])
+        .max(f64::MIN_POSITIVE);
     let place = |x: f64, axis: usize| ((x - low[axis]) / side * STEPS).round() as i64;
-    points.iter().map(|p| [place(p[0], 0), place(p[1], 1)]).collect()
+    points
+        .iter()
+        .map(|p| [place(p[0], 0), place(p[1], 1)])
+        .collect()
 }
 
 struct Triangulation {
@@ -111,7 +154,10 @@ impl Triangulation {
 
     fn relink(&mut self, t: usize, old: usize, new: usize) {
         if t != NONE {
-            let slot = self.across[t].iter().position(|&n| n == old).expect("neighbours agree");
+            let slot = self.across[t]
+                .iter()
+                .position(|&n| n == old)
+                .expect("neighbours agree");
             self.across[t][slot] = new;
         }
     }
@@ -146,7 +192,10 @@ impl Triangulation {
 
     /// The corner of u that does not belong to its neighbour t.
     fn opposite(&self, u: usize, t: usize) -> usize {
-        let slot = self.across[u].iter().position(|&n| n == t).expect("neighbours agree");
+        let slot = self.across[u]
+            .iter()
+            .position(|&n| n == t)
+            .expect("neighbours agree");
         self.corners[u][slot]
     }
 
@@ -155,7 +204,10 @@ impl Triangulation {
     fn flip(&mut self, t: usize, i: usize) -> (usize, usize) {
         let [p, q, r] = [0, 1, 2].map(|k| self.corners[t][(i + k) % 3]);
         let [u, over_q, over_r] = [0, 1, 2].map(|k| self.across[t][(i + k) % 3]);
-        let j = self.across[u].iter().position(|&n| n == t).expect("neighbours agree");
+        let j = self.across[u]
+            .iter()
+            .position(|&n| n == t)
+            .expect("neighbours agree");
         let d = self.corners[u][j];
         // u is d, r, q: across from r lies the side q d, across from q the side d r.
         let (side_qd, side_dr) = (self.across[u][(j + 1) % 3], self.across[u][(j + 2) % 3]);
@@ -171,7 +223,10 @@ impl Triangulation {
         let mut found = Vec::new();
         let mut t = self.star[a];
         loop {
-            let i = self.corners[t].iter().position(|&id| id == a).expect("the star holds it");
+            let i = self.corners[t]
+                .iter()
+                .position(|&id| id == a)
+                .expect("the star holds it");
             found.push((t, i));
             t = self.across[t][(i + 1) % 3];
             if t == NONE || t == self.star[a] {
@@ -183,7 +238,9 @@ impl Triangulation {
     /// Makes a, b an edge, or a chain of edges through the points between them.
     fn constrain(&mut self, mut a: usize, b: usize) {
         while a != b {
-            let Some(next) = self.first_stop(a, b) else { return };
+            let Some(next) = self.first_stop(a, b) else {
+                return;
+            };
             if !self.clear(a, next) {
                 return;
             }
@@ -214,7 +271,13 @@ impl Triangulation {
 
     /// Walks from a, leaving triangle t across the side opposite place i, to b or
     /// the first point on the way; answers it and the edges crossed.
-    fn crossed(&self, a: usize, b: usize, t: usize, i: usize) -> Option<(usize, Vec<(usize, usize)>)> {
+    fn crossed(
+        &self,
+        a: usize,
+        b: usize,
+        t: usize,
+        i: usize,
+    ) -> Option<(usize, Vec<(usize, usize)>)> {
         let (mut right, mut left) = (self.corners[t][(i + 1) % 3], self.corners[t][(i + 2) % 3]);
         let mut edges = vec![(right, left)];
         let (mut from, mut t) = (t, self.across[t][i]);
@@ -234,7 +297,10 @@ impl Triangulation {
             };
             edges.push((right, left));
             from = t;
-            let slot = self.corners[t].iter().position(|&id| id == leaving).expect("a corner of t");
+            let slot = self.corners[t]
+                .iter()
+                .position(|&id| id == leaving)
+                .expect("a corner of t");
             t = self.across[t][slot];
         }
         None
@@ -261,7 +327,9 @@ impl Triangulation {
             if patience == 0 {
                 return false;
             }
-            let Some((t, i)) = self.side(q, r) else { continue };
+            let Some((t, i)) = self.side(q, r) else {
+                continue;
+            };
             let (p, u) = (self.corners[t][i], self.across[t][i]);
             let d = self.opposite(u, t);
             let convex = self.turn(p, q, d) > 0 && self.turn(p, d, r) > 0;
@@ -310,17 +378,25 @@ mod tests {
             let mut random = Random::new(seed, "triangulation", 0);
             let mut points = vec![[0.0, 0.0], [1.0, 0.0], [1.0, 1.0], [0.0, 1.0]];
             let n = 1 + random.below(12);
-            points.extend((1..n).flat_map(|i| {
-                (1..n).map(move |j| [i as f64 / n as f64, j as f64 / n as f64])
-            }));
-            let inner: Vec<_> = (0..random.below(30)).map(|_| [random.unit(), random.unit()]).collect();
+            points.extend(
+                (1..n)
+                    .flat_map(|i| (1..n).map(move |j| [i as f64 / n as f64, j as f64 / n as f64])),
+            );
+            let inner: Vec<_> = (0..random.below(30))
+                .map(|_| [random.unit(), random.unit()])
+                .collect();
             let first = points.len();
             points.extend(inner);
-            let chain: Vec<_> = (first..points.len().saturating_sub(1)).map(|i| (i, i + 1)).collect();
+            let chain: Vec<_> = (first..points.len().saturating_sub(1))
+                .map(|i| (i, i + 1))
+                .collect();
             let mut kept = vec![(0, 1), (1, 2), (2, 3), (0, 3)];
             kept.extend(chain.first());
             let triangles = triangulate(&points, &kept);
-            assert!((area(&points, &triangles) - 2.0).abs() < 1e-6, "seed {seed}");
+            assert!(
+                (area(&points, &triangles) - 2.0).abs() < 1e-6,
+                "seed {seed}"
+            );
             assert_eq!(triangles.len(), 2 * points.len() - 2 - 4, "seed {seed}");
             if let Some(&(a, b)) = chain.first() {
                 let has = |t: &[usize; 3]| t.contains(&a) && t.contains(&b);
@@ -329,7 +405,10 @@ mod tests {
             // Crossing constraints need not be kept, but the cover must be.
             kept.extend(&chain);
             let triangles = triangulate(&points, &kept);
-            assert!((area(&points, &triangles) - 2.0).abs() < 1e-6, "seed {seed}");
+            assert!(
+                (area(&points, &triangles) - 2.0).abs() < 1e-6,
+                "seed {seed}"
+            );
         }
     }
 }

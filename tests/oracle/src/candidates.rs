@@ -100,7 +100,10 @@ fn open_edge(vertices: &[f64], facets: &[u32], extents: &Extents, eps: f64) -> R
     for ((a, b), sides) in bearers {
         let faces = faces_of(vertices, a, extents, eps) & faces_of(vertices, b, extents, eps);
         if sides == 1 && faces == 0 {
-            return Err(Reply { number: 9, values: [a as u64, b as u64, 0, 0] });
+            return Err(Reply {
+                number: 9,
+                values: [a as u64, b as u64, 0, 0],
+            });
         }
     }
     Ok(())
@@ -135,9 +138,14 @@ fn words(lists: &CandidateLists) -> [Vec<u64>; 4] {
     face_lists.extend(lists.faces.iter().flatten().map(|&id| id as u64));
     let mut constraints = Vec::new();
     for (face, list) in lists.constraints.iter().enumerate() {
-        constraints.extend(list.iter().flat_map(|&(a, b)| [face as u64, a as u64, b as u64]));
+        constraints.extend(
+            list.iter()
+                .flat_map(|&(a, b)| [face as u64, a as u64, b as u64]),
+        );
     }
-    let open_edges =
-        lists.open_edges.iter().flat_map(|&(face, a, b)| [face as u64, a as u64, b as u64]);
+    let open_edges = lists
+        .open_edges
+        .iter()
+        .flat_map(|&(face, a, b)| [face as u64, a as u64, b as u64]);
     [candidates, face_lists, constraints, open_edges.collect()]
 }

@@ -1,8 +1,6 @@
 //! Caps (module 6).
 
-use crate::boundary_closure::{
-    cap_mesh_to_aabb, BoundaryClosure, CandidateLists, SuppliedTri,
-};
+use crate::boundary_closure::{cap_mesh_to_aabb, BoundaryClosure, CandidateLists, SuppliedTri};
 use crate::candidates::boundary_lists;
 use crate::refusals::*;
 use crate::reply::{finish, write_mesh};
@@ -25,23 +23,24 @@ pub fn caps(
     out_vertices: &mut [f64],
     out_facets: &mut [u32],
 ) -> Reply {
-    let outcome = tested(vertices, facets, caps, extents, eps, resolution, mode, work).and_then(
-        |supplied| match supplied {
-            None => write_mesh(vertices, facets, out_vertices, out_facets),
-            Some(supplied) => {
-                let (v, f) = cap_mesh_to_aabb(
-                    vertices.to_vec(),
-                    wide(facets),
-                    aabb(extents),
-                    resolution,
-                    closure(mode),
-                    eps,
-                    &supplied,
-                );
-                write_mesh(&v, &narrow(&f), out_vertices, out_facets)
+    let outcome =
+        tested(vertices, facets, caps, extents, eps, resolution, mode, work).and_then(|supplied| {
+            match supplied {
+                None => write_mesh(vertices, facets, out_vertices, out_facets),
+                Some(supplied) => {
+                    let (v, f) = cap_mesh_to_aabb(
+                        vertices.to_vec(),
+                        wide(facets),
+                        aabb(extents),
+                        resolution,
+                        closure(mode),
+                        eps,
+                        &supplied,
+                    );
+                    write_mesh(&v, &narrow(&f), out_vertices, out_facets)
+                }
             }
-        },
-    );
+        });
     finish(outcome, work)
 }
 
@@ -94,15 +93,20 @@ fn tested(
 /// 10 BadCap, "with the first such triangle's place": "face above 5 or
 /// descending, a repeated candidate, or one not in that face's list".
 fn bad_cap(caps: &[u64], lists: &CandidateLists) -> Result<(), Reply> {
-    let listed: Vec<HashSet<u64>> =
-        lists.faces.iter().map(|list| list.iter().map(|&id| id as u64).collect()).collect();
+    let listed: Vec<HashSet<u64>> = lists
+        .faces
+        .iter()
+        .map(|list| list.iter().map(|&id| id as u64).collect())
+        .collect();
     let mut last_face = 0;
     for (place, cap) in caps.chunks_exact(4).enumerate() {
         let (face, [a, b, c]) = (cap[0], [cap[1], cap[2], cap[3]]);
         let bad = face > 5
             || face < last_face
             || (a == b || b == c || a == c)
-            || [a, b, c].iter().any(|id| !listed[face as usize].contains(id));
+            || [a, b, c]
+                .iter()
+                .any(|id| !listed[face as usize].contains(id));
         if bad {
             return Err(Reply::refused_with(10, place as u64));
         }
@@ -134,6 +138,11 @@ fn missing_edge(caps: &[u64], lists: &CandidateLists) -> Result<(), Reply> {
 /// After test 10 every word is a face or a candidate.
 pub fn supplied(caps: &[u64]) -> Vec<SuppliedTri> {
     caps.chunks_exact(4)
-        .map(|cap| (cap[0] as usize, [cap[1] as usize, cap[2] as usize, cap[3] as usize]))
+        .map(|cap| {
+            (
+                cap[0] as usize,
+                [cap[1] as usize, cap[2] as usize, cap[3] as usize],
+            )
+        })
         .collect()
 }

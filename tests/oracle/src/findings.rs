@@ -22,7 +22,14 @@ fn more_than_nine_corners() {
         [power(-34), power(-35), 1.8125 + power(-33)],
         [0.0, power(-89), -3.0],
     ]);
-    let extents = [-1.53125 * power(-37), power(-91), -3.0, 0.0, power(-38), 1.8125];
+    let extents = [
+        -1.53125 * power(-37),
+        power(-91),
+        -3.0,
+        0.0,
+        power(-38),
+        1.8125,
+    ];
     let (v, f) = clip(&thirteen, &[0, 1, 2], &extents, 0.0).unwrap();
     assert_eq!((v.len(), f.len()), (3 * 13, 3 * 11));
 }
@@ -32,7 +39,12 @@ fn more_than_nine_corners() {
 fn corner_on_the_plane_is_written_twice() {
     let facet = flat(&[[0.0, 0.0, 0.0], [1.0, 0.0, 0.0], [2.0, 1.0, 0.0]]);
     let (v, _) = clip(&facet, &[0, 1, 2], &[-8.0, -8.0, -8.0, 1.0, 8.0, 8.0], 0.0).unwrap();
-    let expected = [[1.0, 0.5, 0.0], [0.0, 0.0, 0.0], [1.0, 0.0, 0.0], [1.0, 0.0, 0.0]];
+    let expected = [
+        [1.0, 0.5, 0.0],
+        [0.0, 0.0, 0.0],
+        [1.0, 0.0, 0.0],
+        [1.0, 0.0, 0.0],
+    ];
     assert!(same_bits(&v, &flat(&expected)));
     let facet = flat(&[[0.0, 0.0, 0.5], [3.0, 0.0, 0.5], [0.0, 3.0, 0.5]]);
     let (v, f) = clip(&facet, &[0, 1, 2], &[0.0, 0.0, 0.0, 0.1, 0.1, 0.1], 1.0).unwrap();
@@ -45,7 +57,9 @@ fn corner_on_the_plane_is_written_twice() {
 fn snapping_order_and_signed_zeros() {
     let snap = |x: f64, low: f64, high: f64, eps: f64| {
         let facet = flat(&[[x, 0.2, 0.2], [x, 0.8, 0.2], [x, 0.2, 0.8]]);
-        clip(&facet, &[0, 1, 2], &[low, -9.0, -9.0, high, 9.0, 9.0], eps).unwrap().0[0]
+        clip(&facet, &[0, 1, 2], &[low, -9.0, -9.0, high, 9.0, 9.0], eps)
+            .unwrap()
+            .0[0]
     };
     assert_eq!([0.0, 0.5, 1.0].map(|x| snap(x, 0.0, 1.0, 1.0)), [1.0; 3]);
     assert_eq!(snap(0.5, 0.0, 1.0, 0.75), 0.0);
@@ -61,7 +75,13 @@ fn weld_takes_the_first_in_cell_order() {
     assert!(same_bits(&v, &points(&[0.9, -0.6])));
     // Which one it joined shows in a facet: vertices 0, 2 and 3 are three corners
     // only if the third joined the second.
-    let v = flat(&[[0.9, 0.0, 0.0], [-0.6, 0.0, 0.0], [0.2, 0.0, 0.0], [0.0, 9.0, 0.0], [0.0, 9.0, 9.0]]);
+    let v = flat(&[
+        [0.9, 0.0, 0.0],
+        [-0.6, 0.0, 0.0],
+        [0.2, 0.0, 0.0],
+        [0.0, 9.0, 0.0],
+        [0.0, 9.0, 9.0],
+    ]);
     let (_, f) = clean(&v, &[0, 2, 3, 0, 2, 4], 1.0).unwrap();
     assert_eq!(f.len(), 6);
 }
@@ -69,7 +89,12 @@ fn weld_takes_the_first_in_cell_order() {
 /// eps 0 still welds where the squared distance underflows.
 #[test]
 fn eps_zero_still_welds() {
-    let count = |x: f64| clean(&[0.0, 0.0, 0.0, x, 0.0, 0.0], &[], 0.0).unwrap().0.len();
+    let count = |x: f64| {
+        clean(&[0.0, 0.0, 0.0, x, 0.0, 0.0], &[], 0.0)
+            .unwrap()
+            .0
+            .len()
+    };
     assert_eq!((count(1.5e-162), count(1.6e-162)), (3, 6));
 }
 
@@ -78,7 +103,11 @@ fn eps_zero_still_welds() {
 fn side_order_puts_minus_zero_first() {
     let facet = flat(&[[1.0 + 0.9e-10, 1.0, 0.0], [0.5, 0.5, 0.0], [0.5, 1.0, 0.0]]);
     let [_, _, k, _] = candidates(&facet, &[0, 1, 2], &UNIT, 1e-10, 1.0).unwrap();
-    let on_zmin: Vec<_> = k.chunks_exact(3).filter(|c| c[0] == 4).map(|c| (c[1], c[2])).collect();
+    let on_zmin: Vec<_> = k
+        .chunks_exact(3)
+        .filter(|c| c[0] == 4)
+        .map(|c| (c[1], c[2]))
+        .collect();
     assert!(on_zmin.contains(&(0, 6)) && on_zmin.contains(&(0, 2)));
     assert!(!on_zmin.contains(&(2, 6)));
 }
@@ -90,12 +119,21 @@ fn edge_with_equal_ends_is_open() {
         candidates(&flat(&[p, [5.0, 6.0, 7.0]]), &facet, &UNIT, 0.0, 1.0)
     };
     let inside = [0.5, 0.5, 0.5];
-    assert_eq!(run(inside, [0, 0, 1]).unwrap_err(), Reply { number: 9, values: [0; 4] });
+    assert_eq!(
+        run(inside, [0, 0, 1]).unwrap_err(),
+        Reply {
+            number: 9,
+            values: [0; 4]
+        }
+    );
     let empty: [Vec<u64>; 4] = Default::default();
     assert_eq!(run([0.0, 0.5, 0.5], [0, 0, 1]).unwrap(), empty);
     assert_eq!(run(inside, [0, 0, 0]).unwrap(), empty);
     let twice = flat(&[inside, [0.25, 0.5, 0.5], [0.5, 0.25, 0.5]]);
-    assert_eq!(candidates(&twice, &[0, 1, 2, 0, 1, 2], &UNIT, 0.0, 1.0).unwrap(), empty);
+    assert_eq!(
+        candidates(&twice, &[0, 1, 2, 0, 1, 2], &UNIT, 0.0, 1.0).unwrap(),
+        empty
+    );
 }
 
 /// A vertex used by no facet can take over an open edge's end.
@@ -112,7 +150,12 @@ fn unused_vertex_takes_a_candidate() {
 /// cap list that would be refused by 10 is not looked at.
 #[test]
 fn watertight_mesh_comes_back() {
-    let v = flat(&[[0.2, 0.2, 0.2], [0.8, 0.2, 0.2], [0.2, 0.8, 0.2], [0.2, 0.2, 0.8]]);
+    let v = flat(&[
+        [0.2, 0.2, 0.2],
+        [0.8, 0.2, 0.2],
+        [0.2, 0.8, 0.2],
+        [0.2, 0.2, 0.8],
+    ]);
     let f = [0, 2, 1, 0, 1, 3, 1, 2, 3, 0, 3, 2];
     let (rv, rf) = caps(&v, &f, &[9, 9, 9, 9], &UNIT, 1e-10, 1.0, 2).unwrap();
     assert!(same_bits(&rv, &v) && rf == f);
@@ -149,7 +192,12 @@ fn dropped_caps_leave_vertices() {
     let [c, ..] = candidates(&v, &SQUARE_FACETS, &extents, 1e-10, side).unwrap();
     let unscaled: Vec<u64> = c
         .chunks_exact(5)
-        .flat_map(|c| [0, 1, 2].map(|i| (f64::from_bits(c[i]) / side).to_bits()).into_iter().chain([c[3], c[4]]))
+        .flat_map(|c| {
+            [0, 1, 2]
+                .map(|i| (f64::from_bits(c[i]) / side).to_bits())
+                .into_iter()
+                .chain([c[3], c[4]])
+        })
         .collect();
     let list = square_caps(&unscaled);
     let (v, f) = caps(&v, &SQUARE_FACETS, &list, &extents, 1e-10, side, 1).unwrap();
@@ -160,12 +208,21 @@ fn dropped_caps_leave_vertices() {
 /// a box from -0.0 to 0.0 has no inside.
 #[test]
 fn zeros_in_the_tests() {
-    assert_eq!(tolerance(&[-0.0, 0.0, 0.0, 0.0, 1.0, 1.0]), Reply::refused(5));
+    assert_eq!(
+        tolerance(&[-0.0, 0.0, 0.0, 0.0, 1.0, 1.0]),
+        Reply::refused(5)
+    );
     assert!(clean(&[1.0, 0.0, -0.0], &[], -0.0).is_ok());
     let facet = flat(&[[0.0, 0.0, 0.0], [1.0, 0.0, 0.0], [0.0, 1.0, 0.0]]);
-    assert_eq!(candidates(&facet, &[0, 1, 2], &UNIT, 0.0, -0.0).unwrap_err(), Reply::refused(4));
+    assert_eq!(
+        candidates(&facet, &[0, 1, 2], &UNIT, 0.0, -0.0).unwrap_err(),
+        Reply::refused(4)
+    );
     // length / resolution is infinite: tested before it is converted.
-    assert_eq!(candidates(&facet, &[0, 1, 2], &UNIT, 0.0, 5e-324).unwrap_err(), Reply::refused(6));
+    assert_eq!(
+        candidates(&facet, &[0, 1, 2], &UNIT, 0.0, 5e-324).unwrap_err(),
+        Reply::refused(6)
+    );
 }
 
 /// The tolerance of the largest box is still an eps that is accepted.
@@ -173,7 +230,23 @@ fn zeros_in_the_tests() {
 fn tolerances() {
     let bits = |extents: [f64; 6]| f64::from_bits(tolerance(&extents).values[0]);
     assert_eq!(bits([0.0, 0.0, 0.0, 0.25, 0.25, 0.25]), 1e-10);
-    assert_eq!(bits([-power(30), -power(30), -power(30), power(30), power(30), power(30)]), 0.37195507867593586);
-    assert_eq!(tolerance(&[f64::NAN, 0.0, 0.0, 1.0, 1.0, 1.0]), Reply::refused(4));
-    assert_eq!(tolerance(&[0.0, 0.0, 0.0, 1.0, 1.0, power(30).next_up()]), Reply::refused(4));
+    assert_eq!(
+        bits([
+            -power(30),
+            -power(30),
+            -power(30),
+            power(30),
+            power(30),
+            power(30)
+        ]),
+        0.37195507867593586
+    );
+    assert_eq!(
+        tolerance(&[f64::NAN, 0.0, 0.0, 1.0, 1.0, 1.0]),
+        Reply::refused(4)
+    );
+    assert_eq!(
+        tolerance(&[0.0, 0.0, 0.0, 1.0, 1.0, power(30).next_up()]),
+        Reply::refused(4)
+    );
 }

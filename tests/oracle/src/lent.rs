@@ -16,7 +16,11 @@ fn mesh(run: impl FnOnce(&mut [u64], &mut [f64], &mut [u32]) -> Reply) -> Result
     let (mut work, mut v, mut f) = (vec![JUNK; WORK], vec![old; OUTPUT], vec![7; OUTPUT]);
     let reply = run(&mut work, &mut v, &mut f);
     assert!(work.iter().all(|&word| word == 0), "work room ends zero");
-    let lengths = if reply.number == 0 { reply.values } else { [0; 4] };
+    let lengths = if reply.number == 0 {
+        reply.values
+    } else {
+        [0; 4]
+    };
     assert!(v[lengths[0] as usize..].iter().all(|x| x.to_bits() == JUNK));
     assert!(f[lengths[1] as usize..].iter().all(|&x| x == 7));
     if reply.number != 0 {

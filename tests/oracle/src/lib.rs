@@ -23,8 +23,8 @@ mod moller {
     }
 }
 
-mod caps;
 mod candidates;
+mod caps;
 mod clean;
 mod clip;
 mod refusals;
@@ -68,5 +68,8 @@ fn wide(facets: &[u32]) -> Vec<usize> {
 
 /// Back to 32 bits. No result of an accepted request has 2^32 vertices.
 fn narrow(facets: &[usize]) -> Vec<u32> {
-    facets.iter().map(|&id| u32::try_from(id).expect("a vertex number fits 32 bits")).collect()
+    facets
+        .iter()
+        .map(|&id| u32::try_from(id).expect("a vertex number fits 32 bits"))
+        .collect()
 }

@@ -29,7 +29,10 @@ fn refuse_if(condition: bool, number: u32) -> Test {
 
 /// 1 Ragged: "a list length is no multiple of 3 (cap list: of 4)".
 pub fn ragged(vertices: &[f64], facets: &[u32], caps: &[u64]) -> Test {
-    refuse_if(vertices.len() % 3 != 0 || facets.len() % 3 != 0 || caps.len() % 4 != 0, 1)
+    refuse_if(
+        vertices.len() % 3 != 0 || facets.len() % 3 != 0 || caps.len() % 4 != 0,
+        1,
+    )
 }
 
 /// 2 TooMany: "a list exceeds its count above".
@@ -100,7 +103,13 @@ pub fn need_words(vertices: usize, facets: usize, caps: usize, grid: u64) -> u64
 }
 
 /// 7 NoWorkRoom, with need.
-pub fn no_work_room(vertices: &[f64], facets: &[u32], caps: &[u64], grid: u64, work: &[u64]) -> Test {
+pub fn no_work_room(
+    vertices: &[f64],
+    facets: &[u32],
+    caps: &[u64],
+    grid: u64,
+    work: &[u64],
+) -> Test {
     let need = need_words(vertices.len() / 3, facets.len() / 3, caps.len() / 4, grid);
     if (work.len() as u64) < need {
         return Err(Reply::refused_with(7, need));
@@ -112,5 +121,10 @@ pub fn no_work_room(vertices: &[f64], facets: &[u32], caps: &[u64], grid: u64, w
 /// quotient is compared before any conversion, since `as i64` saturates.
 pub fn key_range(coordinates: &[f64], eps: f64) -> Test {
     let cell = eps.max(SMALLEST_CELL);
-    refuse_if(coordinates.iter().any(|v| (v / cell).round().abs() > KEY_CEILING), 8)
+    refuse_if(
+        coordinates
+            .iter()
+            .any(|v| (v / cell).round().abs() > KEY_CEILING),
+        8,
+    )
 }

@@ -20,11 +20,17 @@ impl Reply {
     }
 
     pub fn refused(number: u32) -> Self {
-        Reply { number, values: [0; 4] }
+        Reply {
+            number,
+            values: [0; 4],
+        }
     }
 
     pub fn refused_with(number: u32, value: u64) -> Self {
-        Reply { number, values: [value, 0, 0, 0] }
+        Reply {
+            number,
+            values: [value, 0, 0, 0],
+        }
     }
 }
 

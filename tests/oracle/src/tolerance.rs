@@ -7,7 +7,10 @@ use crate::{aabb, Extents, Reply};
 /// Done carries the bits of the tolerance. Refusals 4, 5.
 pub fn tolerance(extents: &Extents) -> Reply {
     match tested(extents) {
-        Ok(()) => Reply { number: 0, values: [bbox_eps(aabb(extents)).to_bits(), 0, 0, 0] },
+        Ok(()) => Reply {
+            number: 0,
+            values: [bbox_eps(aabb(extents)).to_bits(), 0, 0, 0],
+        },
         Err(reply) => reply,
     }
 }

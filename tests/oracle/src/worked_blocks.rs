@@ -10,7 +10,12 @@ use crate::{aabb, Reply};
 const EPS: f64 = 1.0 / 1024.0;
 const UNIT: [f64; 6] = [0.0, 0.0, 0.0, 1.0, 1.0, 1.0];
 /// C15's mesh: a square at half height in the unit cube, facing up.
-pub const SQUARE: [[f64; 3]; 4] = [[0.0, 0.0, 0.5], [1.0, 0.0, 0.5], [1.0, 1.0, 0.5], [0.0, 1.0, 0.5]];
+pub const SQUARE: [[f64; 3]; 4] = [
+    [0.0, 0.0, 0.5],
+    [1.0, 0.0, 0.5],
+    [1.0, 1.0, 0.5],
+    [0.0, 1.0, 0.5],
+];
 pub const SQUARE_FACETS: [u32; 6] = [0, 1, 2, 0, 2, 3];
 
 fn power(exponent: i32) -> f64 {
@@ -67,7 +72,12 @@ fn c5_a_corner_cut_off() {
     let facet = flat(&[[0.0, 0.0, 0.0], [4.0, 0.0, 0.0], [0.0, 4.0, 0.0]]);
     let extents = [-1.0, -1.0, -1.0, 2.0, 8.0, 8.0];
     let (v, f) = clip(&facet, &[0, 1, 2], &extents, power(-20)).unwrap();
-    let expected = flat(&[[0.0, 0.0, 0.0], [2.0, 0.0, 0.0], [2.0, 2.0, 0.0], [0.0, 4.0, 0.0]]);
+    let expected = flat(&[
+        [0.0, 0.0, 0.0],
+        [2.0, 0.0, 0.0],
+        [2.0, 2.0, 0.0],
+        [0.0, 4.0, 0.0],
+    ]);
     assert!(same_bits(&v, &expected));
     assert_eq!(f, [0, 1, 2, 0, 2, 3]);
 }
@@ -76,12 +86,20 @@ fn c5_a_corner_cut_off() {
 fn c6_and_c7_nothing_is_left() {
     let facet = flat(&[[0.0, 0.0, 0.0], [1.0, 0.0, 0.0], [0.0, 1.0, 0.0]]);
     assert_eq!(clean(&facet, &[0, 1, 2], EPS).unwrap(), (vec![], vec![]));
-    assert_eq!(clean(&facet, &[0, 1, 2, 2, 1, 0], EPS).unwrap(), (vec![], vec![]));
+    assert_eq!(
+        clean(&facet, &[0, 1, 2, 2, 1, 0], EPS).unwrap(),
+        (vec![], vec![])
+    );
 }
 
 #[test]
 fn c8_a_square_stays() {
-    let square = flat(&[[0.0, 0.0, 0.0], [1.0, 0.0, 0.0], [1.0, 1.0, 0.0], [0.0, 1.0, 0.0]]);
+    let square = flat(&[
+        [0.0, 0.0, 0.0],
+        [1.0, 0.0, 0.0],
+        [1.0, 1.0, 0.0],
+        [0.0, 1.0, 0.0],
+    ]);
     let (v, f) = clean(&square, &SQUARE_FACETS, power(-20)).unwrap();
     assert!(same_bits(&v, &square));
     assert_eq!(f, SQUARE_FACETS);
@@ -92,7 +110,13 @@ fn c9_refusal_9_and_c10_none() {
     let extents = [0.0, 0.0, 0.0, 2.0, 2.0, 2.0];
     let at = |z| flat(&[[0.0, 0.0, z], [1.0, 0.0, z], [0.0, 1.0, z]]);
     let refused = candidates(&at(1.0), &[0, 1, 2], &extents, 1e-10, 2.0).unwrap_err();
-    assert_eq!(refused, Reply { number: 9, values: [1, 2, 0, 0] });
+    assert_eq!(
+        refused,
+        Reply {
+            number: 9,
+            values: [1, 2, 0, 0]
+        }
+    );
     let lists = candidates(&at(0.0), &[0, 1, 2], &extents, 1e-10, 2.0).unwrap();
     assert_eq!(lists.map(|list| list.len()), [50, 34, 87, 15]);
 }
@@ -106,8 +130,19 @@ fn c11_and_c12_axis_points() {
 #[test]
 fn c13_segments_256_and_257() {
     let facet = flat(&[[0.0, 0.0, 0.0], [1.0, 0.0, 0.0], [0.0, 1.0, 0.0]]);
-    let run = |length: f64| candidates(&facet, &[0, 1, 2], &[0.0, 0.0, 0.0, length, 1.0, 1.0], 0.0, 1.0);
-    assert_eq!(run(256.0).unwrap().map(|list| list.len()), [5140, 2070, 6195, 15]);
+    let run = |length: f64| {
+        candidates(
+            &facet,
+            &[0, 1, 2],
+            &[0.0, 0.0, 0.0, length, 1.0, 1.0],
+            0.0,
+            1.0,
+        )
+    };
+    assert_eq!(
+        run(256.0).unwrap().map(|list| list.len()),
+        [5140, 2070, 6195, 15]
+    );
     assert_eq!(run(257.0).unwrap_err(), Reply::refused(6));
 }
 
@@ -143,11 +178,27 @@ pub fn square_caps(candidate_words: &[u64]) -> Vec<u64> {
     ] {
         for (low, high) in [(0.0, 0.5), (0.5, 1.0)] {
             let corner = |[x, y]: [f64; 2], z| at(x, y, z);
-            rectangle(face, [corner(p, low), corner(q, low), corner(q, high), corner(p, high)]);
+            rectangle(
+                face,
+                [
+                    corner(p, low),
+                    corner(q, low),
+                    corner(q, high),
+                    corner(p, high),
+                ],
+            );
         }
     }
     for (face, z) in [(4, 0.0), (5, 1.0)] {
-        rectangle(face, [at(0.0, 0.0, z), at(1.0, 0.0, z), at(1.0, 1.0, z), at(0.0, 1.0, z)]);
+        rectangle(
+            face,
+            [
+                at(0.0, 0.0, z),
+                at(1.0, 0.0, z),
+                at(1.0, 1.0, z),
+                at(0.0, 1.0, z),
+            ],
+        );
     }
     list
 }
@@ -173,7 +224,9 @@ fn c15_lower_half_positive_upper_half_negative() {
                 *sides.entry(side).or_insert(0) += 1;
             }
         }
-        assert!(sides.iter().all(|(&(a, b), &n)| n == 1 && sides.get(&(b, a)) == Some(&1)));
+        assert!(sides
+            .iter()
+            .all(|(&(a, b), &n)| n == 1 && sides.get(&(b, a)) == Some(&1)));
     }
 }
 

@@ -1,6 +1,6 @@
 use Rattle.aabb_clipping.proofs.Delivery.{cleared, cleared-length, all-zero, refused, accepted, ready}
 use native.Mathlib.Omega.{arith}
-use mathlib.Core.Path.{_≡_, refl, sym, ap, _∙_}
+use mathlib.Core.Path.{sym, _∙_}
 use borrow.Author.Needs.{needs}
 use Rattle.aabb_clipping.proofs.clip_mesh_to_aabb.Statement.{statement}
 use Rattle.aabb_clipping.proofs.clip_mesh_to_aabb.Tie as tie

@@ -17,7 +17,7 @@ use Rattle.tolerance.proofs.bbox_eps.Lts as lts
 use Rattle.geometry.proofs.point.Point.norm.Reads as norm-reads
 use Rattle.refusals.proofs.boxes.box_in_range.Reads as box-in-range-reads
 use Rattle.refusals.proofs.boxes.is_bad_box.Reads as is-bad-box-reads
-use Rattle.tolerance.proofs.at_least_one.Reads as at-least-one-reads
+use Rattle.rounding.proofs.max.Reads as max-reads
 use Rattle.tolerance.proofs.sides.Reads as sides-reads
 
 -- src/lib.rt:38:9
@@ -45,13 +45,13 @@ norm-requires : tie.Need-norm-requires
 norm-requires c κs = subst⁻¹ (λ (q : Point). T (rootable (norm2 q))) (c .sides .ensures) (sides-rootable _ (sym (c .before .before .before .before .box-in-range .ensures) ∙ not-false _ (c .before .before .before .if1 .left)))
 
 -- src/lib.rt:45:29
-at-least-one-requires : tie.Need-at-least-one-requires
-at-least-one-requires c κs = search needs
+max-requires : tie.Need-max-requires
+max-requires c κs = search needs
 
 -- src/lib.rt:35:1
 returns-3 : tie.Need-returns-3
 unfolding tolerance
-returns-3 c = tolerated _ _ (ap (λ (d : Float). 1e-10 ⊗ d) (c .at-least-one .ensures ∙ ap (λ (d : Float). larger d oneF) (c .before .norm .ensures ∙ ap norm (c .before .before .sides .ensures)))) (sym (c .before .before .before .before .before .before .box-in-range .ensures) ∙ not-false _ (c .before .before .before .before .before .if1 .left)) (sym (c .before .before .before .before .is-bad-box .ensures) ∙ c .before .before .before .if2 .left)
+returns-3 c = tolerated _ _ (ap (λ (d : Float). 1e-10 ⊗ d) (c .max .ensures ∙ ap (λ (d : Float). larger d oneF) (c .before .norm .ensures ∙ ap norm (c .before .before .sides .ensures)))) (sym (c .before .before .before .before .before .before .box-in-range .ensures) ∙ not-false _ (c .before .before .before .before .before .if1 .left)) (sym (c .before .before .before .before .is-bad-box .ensures) ∙ c .before .before .before .if2 .left)
 
 pub bbox-eps-spec : {M : Type 1} → statement M
 bbox-eps-spec =
@@ -63,5 +63,5 @@ bbox-eps-spec =
     returns-2
     sides-requires
     norm-requires
-    at-least-one-requires
+    max-requires
     returns-3)

@@ -1,4 +1,4 @@
-use Rattle.refusals.proofs.Refusals.{holds, passes, no-test}
+use Rattle.refusals.proofs.Refusals.{holds, passes, none-left}
 use mathlib.Core.Path.{_≡_, refl, sym, ap, _∙_}
 use borrow.Author.Needs.{needs}
 use Rattle.refusals.proofs.front.check_lists.Statement.{statement}
@@ -35,7 +35,7 @@ returns-3 c = sym (passes _ _ _ (sym (c .before .before .before .before .before 
 
 -- src/front.rt:69:1
 returns-4 : tie.Need-returns-4
-returns-4 c = sym (passes _ _ _ (sym (c .before .before .before .before .before .any-ragged .ensures) ∙ c .before .before .before .before .if1 .left) ∙ passes _ _ _ (sym (c .before .before .before .any-too-many .ensures) ∙ c .before .before .if2 .left) ∙ passes _ _ _ (sym (c .before .has-bad-index .ensures) ∙ c .if3 .left) ∙ no-test)
+returns-4 c = sym (passes _ _ _ (sym (c .before .before .before .before .before .any-ragged .ensures) ∙ c .before .before .before .before .if1 .left) ∙ passes _ _ _ (sym (c .before .before .before .any-too-many .ensures) ∙ c .before .before .if2 .left) ∙ passes _ _ _ (sym (c .before .has-bad-index .ensures) ∙ c .if3 .left) ∙ none-left)
 
 pub check-lists-spec : {M : Type 1} → statement M
 check-lists-spec =

@@ -1,9 +1,8 @@
 -- `zero` meets its contract: after i turns the first i words are zero. Assumes nothing.
+use Prim.Native.Nat.{_-_}
 use mathlib.Core.Path.{_∙_}
-use Prim.Native.Nat.{_≤_, _-_}
 use native.Mathlib.Omega.{arith}
-use native.Mathlib.Nat.{le-of-eq}
-use lib.ListN.{length, replicate, length-replicate, length-set}
+use lib.ListN.{length, replicate, length-replicate}
 use Rattle.words.proofs.Overlay.{Writing, writing-start, zero-turn, zero-end, overlay-whole}
 use Rattle.words.proofs.clearing.zero.Statement.{statement}
 use Rattle.words.proofs.clearing.zero.Tie as tie

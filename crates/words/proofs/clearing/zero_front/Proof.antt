@@ -1,10 +1,8 @@
 -- `zero_front` meets its contract: after k turns the first k words are zero. Assumes nothing.
-use mathlib.Core.Path.{_∙_}
-use Prim.Native.Nat.{_≤_, _-_}
+use Prim.Native.Nat.{_-_}
 use native.Mathlib.Omega.{arith}
-use native.Mathlib.Nat.{le-of-eq}
-use lib.ListN.{length, replicate, length-replicate, length-set}
-use Rattle.words.proofs.Overlay.{Writing, writing-start, zero-turn, zero-end, overlay-whole}
+use lib.ListN.{replicate, length-replicate}
+use Rattle.words.proofs.Overlay.{Writing, writing-start, zero-turn, zero-end}
 use Rattle.words.proofs.clearing.zero_front.Statement.{statement}
 use Rattle.words.proofs.clearing.zero_front.Tie as tie
 

@@ -1,8 +1,8 @@
 -- `copy_doubles` meets its contract: after k turns the first k doubles are written. Assumes nothing.
-use lib.Ieee.{nan}
-use mathlib.Core.Path.{refl}
 use Prim.Native.Nat.{_-_}
+use mathlib.Core.Path.{refl}
 use native.Mathlib.Omega.{arith}
+use lib.Ieee.{nan}
 use lib.ListN.{length}
 use Rattle.words.proofs.Overlay.{Writing, writing-start, writing-turn, writing-end}
 use Rattle.words.proofs.copying.copy_doubles.Statement.{statement}

@@ -1,6 +1,6 @@
 -- `copy_words` meets its contract: after i turns the first i words are written. Assumes nothing.
-use mathlib.Core.Path.{refl}
 use Prim.Native.Nat.{_-_}
+use mathlib.Core.Path.{refl}
 use native.Mathlib.Omega.{arith}
 use lib.ListN.{length}
 use Rattle.words.proofs.Overlay.{Writing, writing-start, writing-turn, writing-end}

@@ -1,7 +1,7 @@
 -- `put_word` meets its contract: `set` at an index beyond the end changes nothing. Assumes nothing.
 use mathlib.Core.Path.{sym}
-use lib.Seq.{set-out}
 use borrow.Author.Needs.{needs}
+use lib.Seq.{set-out}
 use Rattle.words.proofs.copying.put_word.Statement.{statement}
 use Rattle.words.proofs.copying.put_word.Tie as tie
 

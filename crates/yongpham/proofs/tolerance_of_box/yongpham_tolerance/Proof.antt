@@ -6,8 +6,8 @@ use Rattle.yongpham.proofs.tolerance_of_box.yongpham_tolerance.Tie as t
 use Rattle.yongpham.proofs.tolerance_of_box.yongpham_tolerance.Reads as reads
 use Rattle.yongpham.proofs.tolerance_of_box.yongpham_tolerance.Lts as lts
 use Rattle.tolerance.proofs.bbox_eps.Reads as bbox-eps-reads
-use Rattle.yongpham.proofs.report.report_done.Reads as report-done-reads
-use Rattle.yongpham.proofs.report.report_refusal.Reads as report-refusal-reads
+use Rattle.refusals.proofs.report.report_done.Reads as report-done-reads
+use Rattle.refusals.proofs.report.report_refusal.Reads as report-refusal-reads
 
 -- src/tolerance_of_box.rt:26:11
 bbox-eps-requires : tie.Need-bbox-eps-requires

@@ -1,0 +1,170 @@
+-- Laws that lead from a call, compared with a record, to the definitions: one for every operation that writes a mesh, and tolerance. Assumes nothing.
+--   fresh-vertices, fresh-facets    the lengths of fresh outputs;   outputs-within   where they lie
+--   same-box                        a box from the doubles of a record
+--   tolerance-decides               a reported tolerance
+--   answer-decides                  a reported reply, settled outputs and cleared work room
+--   clip-decides                    the same of clip
+--   lists-decides                   of the lists as read
+--   as-clip, no-operation, as-tolerance, as-mesh, short   by a record's operation
+use Prim.Native.Nat.{ℕ, _+_, _≤_, _<_}
+use mathlib.Core.Path.{_≡_, sym, ap, ap₂, _∙_, subst}
+use mathlib.Core.Bool.{Bool}
+use mathlib.Core.List.{List, [], _∷_, map}
+use native.Mathlib.Omega.{arith}
+use lib.ListN.{length, getD, replicate, length-map, length-replicate, getD-replicate}
+use lib.Ieee.{Float}
+use Rattle.geometry.specs.declared.aabb.AABB.{AABB}
+use Rattle.geometry.specs.Triangles.{flat}
+use Rattle.geometry.specs.Meshes.{coordinates}
+use Rattle.lists.specs.Lists.{upTo}
+use Rattle.lists.proofs.Places.{length-up}
+use Rattle.refusals.specs.Refusals.{settle, Settled, Zeroed}
+use Rattle.refusals.specs.Reports.{Reported}
+use Rattle.tolerance.specs.Tolerance.{toleranceReply}
+use Rattle.aabb_clipping.specs.Clip.{clipReply, clipResult}
+use Rattle.yongpham.specs.Calls.{ClipReported, boxOf}
+use Rattle.replay.specs.Words.{Everywhere, Decides}
+use Rattle.replay.specs.Layout.{storedReply, outputsFrom, Laid}
+use Rattle.replay.specs.Contents.{table, oldDoubles, oldWords, oldDouble, doublesIn, numbersIn}
+use Rattle.replay.specs.Agreement.{SameDoubles, SameWords, Answered, Fresh, Stored, ClipStored, MeshStored, clip, ListsStored, NoNan, ToleranceAgrees, MeshAgrees, Agrees, tolerance, mesh, doubleAt, boxIn, epsIn, reported}
+use Rattle.replay.proofs.Deciding.{ends}
+
+length-table : {A : Type 0} (f : ℕ → A) (n : ℕ) → length (table f n) ≡ n
+length-table f n = length-map (upTo n) f ∙ length-up 0 n
+
+module _ (stored w : List ℕ) (v : List Float) (f : List ℕ) (h : Fresh stored w v f) where
+  pub fresh-vertices : length v ≡ getD stored 15 0
+  fresh-vertices = ap length (h .coordinates) ∙ length-table oldDouble (getD stored 15 0)
+
+  pub fresh-facets : length f ≡ getD stored 16 0
+  fresh-facets = ap length (h .numbers) ∙ length-table (λ k. 3000000000 + k) (getD stored 16 0)
+
+-- the outputs after a call, which are as long as before, lie within the record
+pub outputs-within : (stored w : List ℕ) (v v' : List Float) (f f' : List ℕ) → Laid stored → Fresh stored w v f → length v' ≡ length v → length f' ≡ length f
+    → (24 ≤ length stored) × (outputsFrom stored + length v' + length f' ≤ length stored)
+outputs-within stored w v v' f f' l h e k = (l .head, omega (arith, fresh-vertices stored w v f h, fresh-facets stored w v f h))
+
+as-reported : (reply : List ℕ) (number : ℕ) (values : List ℕ) → Reported reply number values → number ∷ values ≡ reported reply
+as-reported reply number values h = ap (λ (n : ℕ). n ∷ values) (h .number) ∙ ap (λ (l : List ℕ). getD reply 0 0 ∷ l) (h .words)
+
+zero-each : (w w' : List ℕ) → Zeroed w w' → Everywhere (λ k. getD w' k 0 ≡ 0) (length w')
+zero-each w w' z k l =
+    let n : length w' ≡ length w = ap length (z .ends) ∙ length-replicate {A = ℕ} (length w) 0 in
+    ap (λ (x : List ℕ). getD x k 0) (z .ends) ∙ getD-replicate (length w) k 0 0 (omega arith)
+
+pub same-box : (stored : List ℕ) {a b c d e f : Float} → a ≡ doubleAt stored 6 → b ≡ doubleAt stored 7 → c ≡ doubleAt stored 8
+    → d ≡ doubleAt stored 9 → e ≡ doubleAt stored 10 → f ≡ doubleAt stored 11 → boxOf a b c d e f ≡ boxIn stored
+same-box stored {a} {b} {c} {d} {e} {f} p q r s t u = cc
+
+pub tolerance-decides : (stored : List ℕ) (box : AABB) (number : ℕ) (values : List ℕ) (r : Bool) → length stored ≡ 24 → NoNan stored 6 6 → box ≡ boxIn stored
+    → Reported (toleranceReply box) number values → Decides (number ∷ values ≡ storedReply stored) r → Decides (ToleranceAgrees stored) r
+tolerance-decides stored box number values r n h e k d =
+    let same : number ∷ values ≡ reported (toleranceReply (boxIn stored)) = as-reported (toleranceReply box) number values k ∙ ap (λ (b : AABB). reported (toleranceReply b)) e in
+    ends (ToleranceAgrees stored) d (λ p. record { whole = n; box = h; answer = sym same ∙ p }) (λ a. same ∙ a .answer)
+
+module _ (stored reply : List ℕ) (vertices : List Float) (facets : List ℕ) (number : ℕ) (values w w' : List ℕ) (v v' : List Float) (f f' : List ℕ)
+    (fresh : Fresh stored w v f)
+    (replied : Reported reply number values)
+    (coords : Settled reply vertices v v')
+    (numbers : Settled reply facets f f')
+    (cleared : Zeroed w w')
+    (long : length v' ≡ length v)
+  where
+    from : ℕ
+    from = outputsFrom stored
+
+    ends-v : v' ≡ settle reply vertices (oldDoubles (getD stored 15 0))
+    ends-v = coords .ends ∙ ap (settle reply vertices) (fresh .coordinates)
+
+    ends-f : f' ≡ settle reply facets (oldWords (getD stored 16 0))
+    ends-f = numbers .ends ∙ ap (settle reply facets) (fresh .numbers)
+
+    at-f : outputsFrom stored + length v' ≡ outputsFrom stored + getD stored 15 0
+    at-f = ap (λ (n : ℕ). outputsFrom stored + n) (long ∙ fresh-vertices stored w v f fresh)
+
+    pub answer-decides : (r : Bool) → Decides (Answered stored (number ∷ values) v' f' w') r → Decides (Stored stored reply vertices facets) r
+    answer-decides r d =
+        ends (Stored stored reply vertices facets) d
+        (λ a.
+        record {
+          replied = sym (as-reported reply number values replied) ∙ a .replied;
+          coordinates = subst (λ (l : List Float). SameDoubles stored (outputsFrom stored) l) ends-v (a .coordinates);
+          numbers =
+              subst (λ (l : List ℕ). SameWords stored (outputsFrom stored + getD stored 15 0) l) ends-f
+              (subst (λ (n : ℕ). SameWords stored n f') at-f (a .numbers));
+        })
+        (λ s.
+        record {
+          replied = as-reported reply number values replied ∙ s .replied;
+          coordinates = subst (λ (l : List Float). SameDoubles stored (outputsFrom stored) l) (sym ends-v) (s .coordinates);
+          numbers =
+              subst (λ (n : ℕ). SameWords stored n f') (sym at-f)
+              (subst (λ (l : List ℕ). SameWords stored (outputsFrom stored + getD stored 15 0) l) (sym ends-f) (s .numbers));
+          cleared = zero-each w w' cleared;
+        })
+
+module _ (stored : List ℕ) (vs : List Float) (fs : List ℕ) (box : AABB) (eps : Float) (number : ℕ) (values w w' : List ℕ) (v v' : List Float) (f f' : List ℕ)
+    (fresh : Fresh stored w v f)
+    (call : ClipReported vs fs box eps number values w w' v v' f f')
+    (same-box : box ≡ boxIn stored)
+    (same-eps : eps ≡ epsIn stored)
+    (long : length v' ≡ length v)
+  where
+    there : ClipReported vs fs (boxIn stored) (epsIn stored) number values w w' v v' f f'
+    there =
+        subst (λ (b : AABB). ClipReported vs fs b (epsIn stored) number values w w' v v' f f') same-box
+        (subst (λ (e : Float). ClipReported vs fs box e number values w w' v v' f f') same-eps call)
+
+    reply : List ℕ
+    reply = clipReply vs fs (boxIn stored) (epsIn stored) (getD stored 14 0) (getD stored 15 0 ∷ getD stored 16 0 ∷ [])
+
+    same-reply : clipReply vs fs (boxIn stored) (epsIn stored) (length w) (length v ∷ length f ∷ []) ≡ clipReply vs fs (boxIn stored) (epsIn stored) (getD stored 14 0) (getD stored 15 0 ∷ getD stored 16 0 ∷ [])
+    same-reply =
+        ap (λ (n : ℕ). clipReply vs fs (boxIn stored) (epsIn stored) n (length v ∷ length f ∷ [])) (fresh .lent)
+        ∙ ap (λ (n : ℕ). clipReply vs fs (boxIn stored) (epsIn stored) (getD stored 14 0) (n ∷ length f ∷ [])) (fresh-vertices stored w v f fresh)
+        ∙ ap (λ (n : ℕ). clipReply vs fs (boxIn stored) (epsIn stored) (getD stored 14 0) (getD stored 15 0 ∷ n ∷ [])) (fresh-facets stored w v f fresh)
+
+    pub clip-decides : (r : Bool) → Decides (Answered stored (number ∷ values) v' f' w') r → Decides (ClipStored stored vs fs) r
+    clip-decides r d =
+        answer-decides stored
+        (clipReply vs fs (boxIn stored) (epsIn stored) (getD stored 14 0) (getD stored 15 0 ∷ getD stored 16 0 ∷ []))
+        (coordinates (clipResult vs fs (boxIn stored) (epsIn stored) .points))
+        (flat (clipResult vs fs (boxIn stored) (epsIn stored) .facets))
+        number values w w' v v' f f' fresh
+        (subst (λ (l : List ℕ). Reported l number values) same-reply (there .reported))
+        (subst (λ (l : List ℕ). Settled l (coordinates (clipResult vs fs (boxIn stored) (epsIn stored) .points)) v v') same-reply (there .vertices))
+        (subst (λ (l : List ℕ). Settled l (flat (clipResult vs fs (boxIn stored) (epsIn stored) .facets)) f f') same-reply (there .facets))
+        (there .work) long r d
+
+-- lists as read: v of n coordinates, then f of m facet numbers
+pub lists-decides : (stored : List ℕ) (v : List Float) (f : List ℕ) (n k m : ℕ) (r : Bool) → n ≡ getD stored 2 0 → k ≡ getD stored 2 0 → m ≡ getD stored 3 0
+    → v ≡ doublesIn stored 24 n → f ≡ numbersIn stored (24 + k) m → Decides (MeshStored stored v f) r → Decides (ListsStored stored) r
+lists-decides stored v f n k m r a b c p q d =
+    subst (λ (l : List Float). Decides (MeshStored stored l (numbersIn stored (24 + getD stored 2 0) (getD stored 3 0))) r)
+    (p ∙ ap (doublesIn stored 24) a)
+    (subst (λ (l : List ℕ). Decides (MeshStored stored v l) r) (q ∙ ap₂ (λ (x y : ℕ). numbersIn stored (24 + x) y) b c) d)
+
+-- ---- by operation
+
+module _ (stored : List ℕ) (vs : List Float) (fs : List ℕ) where
+  pub as-clip : getD stored 1 0 ≡ 2 → MeshStored stored vs fs → ClipStored stored vs fs
+  as-clip e (clip k s) = s
+
+  pub no-operation : (getD stored 1 0 ≡ 2 → ⊥) → MeshStored stored vs fs → ⊥
+  no-operation never (clip k s) = never k
+
+mesh-number : (stored : List ℕ) (vs : List Float) (fs : List ℕ) → MeshStored stored vs fs → getD stored 1 0 ≡ 1 → ⊥
+mesh-number stored vs fs (clip k s) e = omega arith
+
+module _ (stored : List ℕ) where
+  pub as-tolerance : getD stored 1 0 ≡ 1 → Agrees stored → ToleranceAgrees stored
+  as-tolerance e (tolerance k t) = t
+  as-tolerance e (mesh m) = absurd (mesh-number stored _ _ (m .answer) e)
+
+  pub as-mesh : (getD stored 1 0 ≡ 1 → ⊥) → Agrees stored → MeshAgrees stored
+  as-mesh never (tolerance k t) = absurd (never k)
+  as-mesh never (mesh m) = m
+
+  pub short : length stored < 24 → Agrees stored → ⊥
+  short h (tolerance k t) = omega (arith, t .whole)
+  short h (mesh m) = omega (arith, m .laid .head)

@@ -1,0 +1,4 @@
+pub mod Deciding
+pub mod Comparing
+pub mod Filling
+pub mod Agreeing

@@ -1,0 +1,46 @@
+use Rattle.replay.specs.Agreement.{tolerance, mesh}
+use Rattle.replay.proofs.Agreeing.{short, as-tolerance, as-mesh}
+use Rattle.replay.proofs.Deciding.{refuted, ends}
+use denote.Ref.{now}
+use borrow.Author.Needs.{needs}
+use Rattle.replay.proofs.agreement.agrees.Statement.{statement}
+use Rattle.replay.proofs.agreement.agrees.Tie as tie
+use Rattle.replay.proofs.agreement.agrees.Reads as reads
+use Rattle.replay.proofs.agreement.agrees.Lts as lts
+use Rattle.replay.proofs.agreement.tolerance_agrees.Reads as tolerance-agrees-reads
+use Rattle.replay.proofs.meshes.mesh_agrees.Reads as mesh-agrees-reads
+
+-- src/agreement.rt:38:9
+returns : tie.Need-returns
+returns c = refuted (λ a. short (now (c .before .before .args .stored)) (c .if1 .taken) a)
+
+-- src/agreement.rt:40:8
+shared-slice-read-if2 : tie.Need-shared-slice-read-if2
+shared-slice-read-if2 c = search needs
+
+-- src/agreement.rt:41:9
+tolerance-agrees-requires : tie.Need-tolerance-agrees-requires
+tolerance-agrees-requires c κs = search needs
+
+-- src/agreement.rt:41:9
+returns-2 : tie.Need-returns-2
+returns-2 c = ends _ (c .tolerance-agrees .ensures) (λ t. tolerance (c .before .if2 .taken) t) (λ a. as-tolerance (now (c .before .before .before .before .before .args .stored)) (c .before .if2 .taken) a)
+
+-- src/agreement.rt:43:5
+mesh-agrees-requires : tie.Need-mesh-agrees-requires
+mesh-agrees-requires c κs = search needs
+
+-- src/agreement.rt:34:1
+returns-3 : tie.Need-returns-3
+returns-3 c = ends _ (c .mesh-agrees .ensures) (λ m. mesh m) (λ a. as-mesh (now (c .before .before .before .before .before .args .stored)) (c .before .if2 .left) a)
+
+pub agrees-spec : {M : Type 1} → statement M
+agrees-spec =
+    tie.close
+    (tie.spec
+    returns
+    shared-slice-read-if2
+    tolerance-agrees-requires
+    returns-2
+    mesh-agrees-requires
+    returns-3)

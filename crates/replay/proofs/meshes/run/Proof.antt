@@ -1,0 +1,87 @@
+use Rattle.replay.specs.Contents.{oldDoubles, oldWords}
+use Rattle.replay.specs.Agreement.{clip}
+use mathlib.Core.Path.{_≡_, ap, _∙_}
+use Rattle.replay.proofs.Deciding.{refuted, ends}
+use Rattle.replay.proofs.Agreeing.{as-clip, no-operation}
+use denote.Ref.{now}
+use lib.Dec.{lit<}
+use native.Mathlib.Omega.{arith}
+use borrow.Author.Needs.{needs}
+use Rattle.replay.proofs.meshes.run.Statement.{statement}
+use Rattle.replay.proofs.meshes.run.Tie as tie
+use Rattle.replay.proofs.meshes.run.Reads as reads
+use Rattle.replay.proofs.meshes.run.Lts as lts
+use Rattle.replay.proofs.contents.old_doubles.Reads as old-doubles-reads
+use Rattle.replay.proofs.contents.old_numbers.Reads as old-numbers-reads
+use Rattle.replay.proofs.contents.old_words.Reads as old-words-reads
+use Rattle.replay.proofs.meshes.clip_agrees.Reads as clip-agrees-reads
+
+-- src/meshes.rt:63:5
+old-words-requires : tie.Need-old-words-requires
+old-words-requires c κs = search needs
+
+-- src/meshes.rt:64:5
+old-doubles-requires : tie.Need-old-doubles-requires
+old-doubles-requires c κs = search needs
+
+-- src/meshes.rt:65:5
+old-numbers-requires : tie.Need-old-numbers-requires
+old-numbers-requires c κs = omega (arith, c .before .before .before .before .before .before .before .before .before .before .before .before .before .before .before .pre .0 .outputs 1 (lit< tt), c .before .before .before .before .before .before .before .before .before .before .before .before .before .before .before .pre .1 .1 .1)
+
+-- src/meshes.rt:66:8
+shared-slice-read-if1 : tie.Need-shared-slice-read-if1
+shared-slice-read-if1 c = search needs
+
+-- src/meshes.rt:67:9
+clip-agrees-requires : tie.Need-clip-agrees-requires
+clip-agrees-requires c κs = (c .before .before .before .before .before .before .before .before .before .before .before .before .before .before .before .before .before .before .before .before .before .before .before .pre .0, record { lent = c .before .before .before .before .before .before .before .before .before .before .before .before .before .before .before .old-words .kept .0 ∙ c .before .before .before .before .before .before .before .before .before .before .before .before .before .before .before .before .before .before .before .before .before .before .before .pre .1 .0; coordinates = c .before .before .before .before .before .before .before .before .before .before .before .old-doubles .ensures ∙ ap oldDoubles (c .before .before .before .before .before .before .before .before .before .before .before .before .before .before .before .before .before .before .before .before .before .before .before .pre .1 .1 .0); numbers = c .before .before .before .before .before .before .before .old-numbers .ensures ∙ ap oldWords (c .before .before .before .before .before .before .before .before .before .before .before .before .before .before .before .before .before .before .before .before .before .before .before .pre .1 .1 .1) })
+
+-- src/meshes.rt:67:9
+same-length : tie.Need-same-length
+same-length c = search needs
+
+-- src/meshes.rt:67:9
+same-length-2 : tie.Need-same-length-2
+same-length-2 c = search needs
+
+-- src/meshes.rt:67:9
+same-length-3 : tie.Need-same-length-3
+same-length-3 c = search needs
+
+-- src/meshes.rt:67:9
+returns : tie.Need-returns
+returns c = ends _ (c .before .before .before .before .before .before .clip-agrees .ensures) (λ s. clip (c .before .before .before .before .before .before .before .before .before .before .if1 .taken) s) (λ m. as-clip (now (c .before .before .before .before .before .before .before .before .before .before .before .before .before .before .before .before .before .before .before .before .before .before .before .before .before .before .before .before .before .before .args .stored)) (now (c .before .before .before .before .before .before .before .before .before .before .before .before .before .before .before .before .before .before .before .before .before .before .before .before .before .before .before .before .before .before .args .vertices)) (now (c .before .before .before .before .before .before .before .before .before .before .before .before .before .before .before .before .before .before .before .before .before .before .before .before .before .before .before .before .before .before .args .facets)) (c .before .before .before .before .before .before .before .before .before .before .if1 .taken) m)
+
+-- src/meshes.rt:51:1
+same-length-4 : tie.Need-same-length-4
+same-length-4 c = search needs
+
+-- src/meshes.rt:51:1
+same-length-5 : tie.Need-same-length-5
+same-length-5 c = search needs
+
+-- src/meshes.rt:51:1
+same-length-6 : tie.Need-same-length-6
+same-length-6 c = search needs
+
+-- src/meshes.rt:51:1
+returns-2 : tie.Need-returns-2
+returns-2 c = refuted (λ m. no-operation (now (c .before .before .before .before .before .before .before .before .before .before .before .before .before .before .before .before .before .before .before .before .args .stored)) (now (c .before .before .before .before .before .before .before .before .before .before .before .before .before .before .before .before .before .before .before .before .args .vertices)) (now (c .before .before .before .before .before .before .before .before .before .before .before .before .before .before .before .before .before .before .before .before .args .facets)) (c .if1 .left) m)
+
+pub run-spec : {M : Type 1} → statement M
+run-spec =
+    tie.close
+    (tie.spec
+    old-words-requires
+    old-doubles-requires
+    old-numbers-requires
+    shared-slice-read-if1
+    clip-agrees-requires
+    same-length
+    same-length-2
+    same-length-3
+    returns
+    same-length-4
+    same-length-5
+    same-length-6
+    returns-2)

@@ -1,0 +1,106 @@
+-- What it means that a stored answer is the definition's. Assumes nothing.
+--   SameDouble                a double that is no NaN has these bits
+--   SameDoubles, SameWords    the elements of an output are the words from `from` on
+--   Answered                  a reply, two outputs and the work room after a call are as stored, and zero
+--   Fresh                     work room and outputs before a call
+--   boxIn, epsIn              box and eps of a record
+--   reported                  a reply as a number and four values
+--   Stored                    the stored answer is this reply, with these results in front of old contents
+--   ToleranceStored, ClipStored   it is that of the operation's definition, on the record's request
+--   MeshStored, ListsStored   the same of each operation that writes a mesh, by the record's operation
+--   Numbers                   box, eps, resolution and coordinates are doubles, and facet numbers fit 32 bits
+--   Agrees                    the record is laid out as its operation's are, and its answer is the definition's
+use Prim.Native.Nat.{ℕ, _+_}
+use mathlib.Core.Path.{_≡_}
+use mathlib.Core.Bool.{false, not}
+use mathlib.Core.List.{List, [], _∷_, _++_}
+use lib.Dec.{T}
+use lib.ListN.{length, getD, take, drop, replicate}
+use lib.Ieee.{Float, nan, isNan, binary64, toBits, nanBits}
+use Rattle.geometry.specs.declared.aabb.AABB.{AABB}
+use Rattle.geometry.specs.Triangles.{flat}
+use Rattle.geometry.specs.Meshes.{coordinates}
+use Rattle.refusals.specs.Refusals.{settle}
+use Rattle.tolerance.specs.Tolerance.{toleranceReply}
+use Rattle.aabb_clipping.specs.Clip.{clipReply, clipResult}
+use Rattle.yongpham.specs.Calls.{boxOf}
+use Rattle.replay.specs.Words.{Everywhere}
+use Rattle.replay.specs.Layout.{storedReply, outputsFrom, Few, Laid}
+use Rattle.replay.specs.Contents.{doubleOf, doublesIn, numbersIn, oldDoubles, oldWords}
+
+pub record SameDouble (x : Float) (word : ℕ) : Type 0 where
+  pub number : T (not (isNan x))
+  pub bits : toBits binary64 x ≡ word
+
+abbrev pub SameDoubles : List ℕ → ℕ → List Float → Type 0
+SameDoubles stored from output = Everywhere (λ k. SameDouble (getD output k nan) (getD stored (from + k) 0)) (length output)
+
+abbrev pub SameWords : List ℕ → ℕ → List ℕ → Type 0
+SameWords stored from output = Everywhere (λ k. getD output k 0 ≡ getD stored (from + k) 0) (length output)
+
+pub record Answered (stored reply : List ℕ) (vertices : List Float) (facets work : List ℕ) : Type 0 where
+  pub replied : reply ≡ storedReply stored
+  pub coordinates : SameDoubles stored (outputsFrom stored) vertices
+  pub numbers : SameWords stored (outputsFrom stored + length vertices) facets
+  pub cleared : Everywhere (λ k. getD work k 0 ≡ 0) (length work)
+
+pub record Fresh (stored work : List ℕ) (vertices : List Float) (facets : List ℕ) : Type 0 where
+  pub lent : length work ≡ getD stored 14 0
+  pub coordinates : vertices ≡ oldDoubles (getD stored 15 0)
+  pub numbers : facets ≡ oldWords (getD stored 16 0)
+
+abbrev pub doubleAt : List ℕ → ℕ → Float
+doubleAt stored k = doubleOf (getD stored k 0)
+
+abbrev pub boxIn : List ℕ → AABB
+boxIn stored = boxOf (doubleAt stored 6) (doubleAt stored 7) (doubleAt stored 8) (doubleAt stored 9) (doubleAt stored 10) (doubleAt stored 11)
+
+abbrev pub epsIn : List ℕ → Float
+epsIn stored = doubleAt stored 12
+
+abbrev pub reported : List ℕ → List ℕ
+reported reply = getD reply 0 0 ∷ take 4 (drop 1 reply ++ replicate 4 0)
+
+pub record Stored (stored reply : List ℕ) (vertices : List Float) (facets : List ℕ) : Type 0 where
+  pub replied : reported reply ≡ storedReply stored
+  pub coordinates : SameDoubles stored (outputsFrom stored) (settle reply vertices (oldDoubles (getD stored 15 0)))
+  pub numbers : SameWords stored (outputsFrom stored + getD stored 15 0) (settle reply facets (oldWords (getD stored 16 0)))
+
+abbrev pub ToleranceStored : List ℕ → Type 0
+ToleranceStored stored = reported (toleranceReply (boxIn stored)) ≡ storedReply stored
+
+abbrev pub ClipStored : List ℕ → List Float → List ℕ → Type 0
+ClipStored stored vs fs =
+    Stored stored
+    (clipReply vs fs (boxIn stored) (epsIn stored) (getD stored 14 0) (getD stored 15 0 ∷ getD stored 16 0 ∷ []))
+    (coordinates (clipResult vs fs (boxIn stored) (epsIn stored) .points))
+    (flat (clipResult vs fs (boxIn stored) (epsIn stored) .facets))
+
+pub data MeshStored (stored : List ℕ) (vs : List Float) (fs : List ℕ) : Type 0 where
+  clip : getD stored 1 0 ≡ 2 → ClipStored stored vs fs → MeshStored stored vs fs
+
+abbrev pub ListsStored : List ℕ → Type 0
+ListsStored stored =
+    MeshStored stored (doublesIn stored 24 (getD stored 2 0)) (numbersIn stored (24 + getD stored 2 0) (getD stored 3 0))
+
+abbrev pub NoNan : List ℕ → ℕ → ℕ → Type 0
+NoNan stored from n = Everywhere (λ k. nanBits binary64 (getD stored (from + k) 0) ≡ false) n
+
+pub record Numbers (stored : List ℕ) : Type 0 where
+  pub plain : NoNan stored 6 8
+  pub coordinates : NoNan stored 24 (getD stored 2 0)
+  pub narrow : Few stored (24 + getD stored 2 0) (getD stored 3 0) 4294967295
+
+pub record MeshAgrees (stored : List ℕ) : Type 0 where
+  pub laid : Laid stored
+  pub numbers : Numbers stored
+  pub answer : ListsStored stored
+
+pub record ToleranceAgrees (stored : List ℕ) : Type 0 where
+  pub whole : length stored ≡ 24
+  pub box : NoNan stored 6 6
+  pub answer : ToleranceStored stored
+
+pub data Agrees (stored : List ℕ) : Type 0 where
+  tolerance : getD stored 1 0 ≡ 1 → ToleranceAgrees stored → Agrees stored
+  mesh : MeshAgrees stored → Agrees stored

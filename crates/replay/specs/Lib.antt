@@ -1,0 +1,4 @@
+pub mod Words
+pub mod Layout
+pub mod Contents
+pub mod Agreement

@@ -1,0 +1,45 @@
+// How many requests of an operation a file has, and how many of them agree.
+ghost use Prim.Native.Nat.{_≤_};
+use crate::agreement::agrees;
+use crate::layout::record_length;
+
+pub struct Tally {
+    pub requests: u64,
+    pub agreeing: u64,
+}
+
+// 1 for a request of this operation, else 0.
+fn request(operation: u64, stored: &[u64]) -> u64
+    ensures { λ r. ⌜ r ≤ 1 ⌝ }
+{
+    if stored.len() < 24 {
+        return 0;
+    }
+    if stored[1] == operation { 1 } else { 0 }
+}
+
+// 1 for a request of this operation that is answered as stored, else 0.
+fn agreement(operation: u64, stored: &[u64]) -> u64
+    ensures { λ r. ⌜ r ≤ 1 ⌝ }
+{
+    if request(operation, stored) == 0 {
+        return 0;
+    }
+    if agrees(stored) { 1 } else { 0 }
+}
+
+pub fn count(file: &[u64], operation: u64) -> Tally {
+    let mut requests: u64 = 0;
+    let mut agreeing: u64 = 0;
+    let mut at = 4;
+    while at < file.len() {
+        let n = record_length(&file[at..]);
+        if n == 0 {
+            break;
+        }
+        requests += request(operation, &file[at..at + n]);
+        agreeing += agreement(operation, &file[at..at + n]);
+        at += n;
+    }
+    Tally { requests, agreeing }
+}

@@ -1,0 +1,142 @@
+// The operations that write a mesh: clip.
+ghost use mathlib.Core.Path.{_≡_};
+ghost use lib.ListN.{length, getD};
+ghost use Rattle.replay.specs.Words.{Decides};
+ghost use Rattle.replay.specs.Layout.{Laid};
+ghost use Rattle.replay.specs.Agreement.{Fresh, ClipStored, MeshStored, ListsStored, Numbers, MeshAgrees};
+use crate::compare::same_answer;
+use crate::contents::double;
+use crate::contents::old_doubles;
+use crate::contents::old_numbers;
+use crate::contents::old_words;
+use crate::contents::read_doubles;
+use crate::contents::read_numbers;
+use crate::contents::room_for_doubles;
+use crate::contents::room_for_numbers;
+use crate::contents::room_for_work;
+use crate::layout::are_few;
+use crate::layout::are_numbers;
+use crate::layout::is_laid;
+use yongpham::yongpham_clip;
+
+fn clip_agrees(
+    stored: &[u64],
+    vertices: &[f64],
+    facets: &[u32],
+    work: &mut [u64],
+    out_vertices: &mut [f64],
+    out_facets: &mut [u32],
+) -> bool
+    requires { ⌜ Laid (now stored) ⌝ }
+    requires { ⌜ Fresh (now stored) (now work) (now «out_vertices») (now «out_facets») ⌝ }
+    ensures { λ r. ⌜ Decides (ClipStored (now (stored .entry)) (now (vertices .entry)) (now (facets .entry))) r ⌝ }
+{
+    let mut values = [0u64; 4];
+    let number = yongpham_clip(
+        vertices,
+        facets,
+        double(stored[6]),
+        double(stored[7]),
+        double(stored[8]),
+        double(stored[9]),
+        double(stored[10]),
+        double(stored[11]),
+        double(stored[12]),
+        work,
+        out_vertices,
+        out_facets,
+        &mut values,
+    );
+    same_answer(stored, number, &values, out_vertices, out_facets, work)
+}
+
+// Runs the request with these lists in this room. A number that is no operation's here agrees with nothing.
+fn run(
+    stored: &[u64],
+    vertices: &[f64],
+    facets: &[u32],
+    work: &mut [u64],
+    out_vertices: &mut [f64],
+    out_facets: &mut [u32],
+) -> bool
+    requires { ⌜ Laid (now stored) ⌝ }
+    requires { ⌜ (length (now work) ≡ getD (now stored) 14 0) × ((length (now «out_vertices») ≡ getD (now stored) 15 0) × (length (now «out_facets») ≡ getD (now stored) 16 0)) ⌝ }
+    ensures { λ r. ⌜ Decides (MeshStored (now (stored .entry)) (now (vertices .entry)) (now (facets .entry))) r ⌝ }
+{
+    old_words(work);
+    old_doubles(out_vertices);
+    old_numbers(out_facets);
+    if stored[1] == 2 {
+        return clip_agrees(stored, vertices, facets, work, out_vertices, out_facets);
+    }
+    false
+}
+
+fn with_room(stored: &[u64], vertices: &[f64], facets: &[u32]) -> bool
+    requires { ⌜ Laid (now stored) ⌝ }
+    ensures { λ r. ⌜ Decides (MeshStored (now (stored .entry)) (now (vertices .entry)) (now (facets .entry))) r ⌝ }
+{
+    let mut work = room_for_work();
+    let mut out_vertices = room_for_doubles();
+    let mut out_facets = room_for_numbers();
+    let lent = stored[14] as usize;
+    let out_v = stored[15] as usize;
+    let out_f = stored[16] as usize;
+    run(
+        stored,
+        vertices,
+        facets,
+        &mut work[..lent],
+        &mut out_vertices[..out_v],
+        &mut out_facets[..out_f],
+    )
+}
+
+fn read_lists(stored: &[u64], vertices: &mut [f64], facets: &mut [u32]) -> bool
+    requires { ⌜ Laid (now stored) ⌝ }
+    requires { ⌜ (length (now vertices) ≡ getD (now stored) 2 0) × (length (now facets) ≡ getD (now stored) 3 0) ⌝ }
+    ensures { λ r. ⌜ Decides (ListsStored (now (stored .entry))) r ⌝ }
+{
+    read_doubles(stored, 24, vertices);
+    read_numbers(stored, 24 + vertices.len(), facets);
+    with_room(stored, vertices, facets)
+}
+
+fn with_lists(stored: &[u64]) -> bool
+    requires { ⌜ Laid (now stored) ⌝ }
+    ensures { λ r. ⌜ Decides (ListsStored (now (stored .entry))) r ⌝ }
+{
+    let mut vertices = room_for_doubles();
+    let mut facets = room_for_numbers();
+    let v = stored[2] as usize;
+    let f = stored[3] as usize;
+    read_lists(stored, &mut vertices[..v], &mut facets[..f])
+}
+
+// Box, eps, resolution and coordinates are doubles, and facet numbers fit 32 bits.
+fn has_numbers(stored: &[u64]) -> bool
+    requires { ⌜ Laid (now stored) ⌝ }
+    ensures { λ r. ⌜ Decides (Numbers (now (stored .entry))) r ⌝ }
+{
+    if !are_numbers(stored, 6, 8) {
+        return false;
+    }
+    let v = stored[2] as usize;
+    let f = stored[3] as usize;
+    if !are_numbers(stored, 24, v) {
+        return false;
+    }
+    are_few(stored, 24 + v, f, 4294967295)
+}
+
+pub fn mesh_agrees(stored: &[u64]) -> bool
+    ensures { λ r. ⌜ Decides (MeshAgrees (now (stored .entry))) r ⌝ }
+{
+    if !is_laid(stored) {
+        return false;
+    }
+    if !has_numbers(stored) {
+        return false;
+    }
+    with_lists(stored)
+}

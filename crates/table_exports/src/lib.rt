@@ -1,0 +1,101 @@
+// TEST ONLY: the finder of components and the chains as C functions, for a program outside to link, compare and time. Nothing of the product uses this crate.
+// They ask nothing of their caller: what the tables require is tested first.
+ghost use mathlib.Core.Path.{_≡_};
+ghost use mathlib.Core.Bool.{true, false};
+ghost use Prim.Native.Nat.{ℕ, _+_, _*_, _≤_, _<_};
+ghost use lib.Dec.{eqb};
+ghost use lib.ListN.{length, getD};
+ghost use Rattle.lists.specs.Regions.{view};
+ghost use Rattle.components.specs.Components.{ComponentTable};
+ghost use Rattle.chains.specs.Links.{linkTo};
+ghost use Rattle.chains.specs.Chains.{Linked};
+ghost use Rattle.chains.specs.ByWord.{wordBucket};
+ghost use Rattle.table_exports.specs.Exports.{BelowUpTo, Answers};
+
+// Are the e words from `at` on below m?
+fn all_below(w: &[u64], at: usize, e: usize, m: usize) -> bool
+    requires { ⌜ at + e ≤ length (now w) ⌝ }
+    ensures { λ r. ⌜ (r ≡ true → BelowUpTo (now (w .entry)) at e m) ⌝ }
+{
+    let mut t = 0;
+    while t < e {
+        if w[at + t] as usize >= m {
+            return false;
+        }
+        t += 1;
+    }
+    true
+}
+
+// The components of n items, whose labels stand behind the table, which is at the front of w.
+#[no_mangle]
+pub extern "C" fn table_components(w: &mut [u64], n: usize, k: usize, m: usize) -> bool
+    ensures { λ r. ⌜ (r ≡ true → ComponentTable (view (now (w .entry)) (n + n + m) (n * k)) n k m 0 (now (w .entry)) (now (w .exit))) × (r ≡ false → now (w .exit) ≡ now (w .entry)) ⌝ }
+{
+    if k == 0 {
+        return false;
+    }
+    let long = w.len();
+    if n > long / 2 {
+        return false;
+    }
+    if m > long - n - n {
+        return false;
+    }
+    if n > (long - n - n - m) / k {
+        return false;
+    }
+    if all_below(w, n + n + m, n * k, m) {
+        components::components(w, n + n + m, n, k, m, 0);
+        true
+    } else {
+        false
+    }
+}
+
+// Answers each word asked for by its link.
+fn answer(m: &[u64], nb: usize, keys: &[u64], asked: &[u64], found: &mut [u64])
+    requires { ⌜ 0 < nb ⌝ }
+    requires { ⌜ nb ≤ 4294967296 ⌝ }
+    requires { ⌜ Linked (wordBucket (now keys) nb) (now m) 0 nb (length (now keys)) ⌝ }
+    requires { ⌜ length (now asked) ≤ length (now found) ⌝ }
+    ensures { λ _. ⌜ Answers (now (keys .entry)) (now (asked .entry)) (now (found .exit)) (length (now (asked .entry))) ⌝ }
+{
+    let mut i = 0;
+    while i < asked.len() {
+        found[i] = chains::find_word(m, 0, nb, keys, asked[i]);
+        i += 1;
+    }
+}
+
+// A table of the words of `keys` in m, and each word asked for looked up in it.
+#[no_mangle]
+pub extern "C" fn table_words(
+    m: &mut [u64],
+    nb: usize,
+    keys: &[u64],
+    asked: &[u64],
+    found: &mut [u64],
+) -> bool
+    ensures { λ r. ⌜ (r ≡ true → Answers (now (keys .entry)) (now (asked .entry)) (now (found .exit)) (length (now (asked .entry)))) × (r ≡ false → now (found .exit) ≡ now (found .entry)) ⌝ }
+{
+    if nb == 0 {
+        return false;
+    }
+    if nb > 4294967296 {
+        return false;
+    }
+    let long = m.len();
+    if nb > long / 2 {
+        return false;
+    }
+    if keys.len() > long - nb - nb {
+        return false;
+    }
+    if asked.len() > found.len() {
+        return false;
+    }
+    chains::index_words(m, 0, nb, keys);
+    answer(m, nb, keys, asked, found);
+    true
+}

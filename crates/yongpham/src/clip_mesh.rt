@@ -1,0 +1,42 @@
+ghost use mathlib.Core.List.{[], _∷_};
+ghost use lib.ListN.{length};
+ghost use Rattle.aabb_clipping.specs.Clip.{clipReply, clipResult};
+ghost use Rattle.yongpham.specs.Calls.{MeshReported, boxOf};
+use aabb_clipping::clip_mesh_to_aabb;
+use geometry::aabb::AABB;
+use refusals::report::report_mesh;
+
+// `clip_mesh_to_aabb`: values[0] and values[1] get the lengths written.
+#[no_mangle]
+pub extern "C" fn yongpham_clip(
+    vertices: &[f64],
+    facets: &[u32],
+    min_x: f64,
+    min_y: f64,
+    min_z: f64,
+    max_x: f64,
+    max_y: f64,
+    max_z: f64,
+    eps: f64,
+    work: &mut [u64],
+    out_vertices: &mut [f64],
+    out_facets: &mut [u32],
+    values: &mut [u64; 4],
+) -> u32
+    ensures { λ r. ⌜ MeshReported (clipReply (now (vertices .entry)) (now (facets .entry)) (boxOf «min_x» «min_y» «min_z» «max_x» «max_y» «max_z») eps (length (now (work .entry))) (length (now («out_vertices» .entry)) ∷ length (now («out_facets» .entry)) ∷ [])) (clipResult (now (vertices .entry)) (now (facets .entry)) (boxOf «min_x» «min_y» «min_z» «max_x» «max_y» «max_z») eps) r (now (values .exit)) (now (work .entry)) (now (work .exit)) (now («out_vertices» .entry)) (now («out_vertices» .exit)) (now («out_facets» .entry)) (now («out_facets» .exit)) ⌝ }
+{
+    let extents = AABB {
+        min_corner: [min_x, min_y, min_z],
+        max_corner: [max_x, max_y, max_z],
+    };
+    let reply = clip_mesh_to_aabb(
+        vertices,
+        facets,
+        extents,
+        eps,
+        work,
+        out_vertices,
+        out_facets,
+    );
+    report_mesh(values, reply)
+}

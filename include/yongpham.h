@@ -1,0 +1,57 @@
+/* Yongpham: a triangle surface cut to a box, cleaned and closed, with every function proved. Link libyongpham.a.
+ *
+ * A function answers document 01's number: 0 for done, else why it was turned down (the table in README.md). `values` must point to four
+ * words; all four are written: the values that the reply carries, in front of zeros. A list is a pointer and the number of its elements;
+ * pointers must be valid for what they point to, and no two of them may overlap. A list of length 0 may have any pointer that is not null.
+ *
+ * A mesh is two lists: coordinates, three doubles a vertex, and vertex numbers, three a facet, from 0. At most 65,536 vertices and as many
+ * facets; coordinates finite and at most 2^30 in magnitude, also of vertices that no facet uses.
+ *
+ * Work room is 64-bit words that a call computes in. Its old contents do not matter; all of it is zero afterwards, also when the call is
+ * turned down. To learn how much is needed, compute it by the formula given, or lend none and read the need of refusal 7.
+ *
+ * A call that is turned down leaves every output as it was. On success an output holds the result at its front and its old contents behind.
+ */
+#ifndef YONGPHAM_H
+#define YONGPHAM_H
+
+#include <stddef.h>
+#include <stdint.h>
+
+#ifdef __cplusplus
+extern "C" {
+#endif
+
+/* The tolerance of a box: 1e-10 times the larger of 1 and the length of its diagonal. It is an eps that every other function accepts.
+ *
+ *   min_x .. max_z   the two corners: finite, at most 2^30 in magnitude, min below max on every axis
+ *   values           0: the bits of the tolerance, a double (memcpy them into one)
+ *
+ * Answers 0; 4, if a corner is not finite or beyond 2^30; 5, if min is not below max on an axis.
+ */
+uint32_t yongpham_tolerance(double min_x, double min_y, double min_z, double max_x, double max_y, double max_z, uint64_t values[4]);
+
+/* Cuts a mesh to a box (Sutherland and Hodgman, each facet against the six planes in turn). A facet that is inside keeps sharing its vertices;
+ * any other is written as a fan of facets with vertices of its own. Corners within eps of a plane are moved onto it.
+ *
+ *   vertices, facets          the mesh, and the numbers of elements of its two lists
+ *   min_x .. max_z            the box, as for yongpham_tolerance
+ *   eps                       from 0 to 1; the tolerance of the box serves
+ *   work                      at least 128 * (vertices + facets) + 1024 words, where vertices and facets are counted, not their numbers
+ *   out_vertices, out_facets  the clipped mesh
+ *   values                    done: the lengths written to out_vertices and out_facets, in elements; 7: the words of work room needed;
+ *                             12: the elements needed by the first output that is too short, vertices before facets
+ *
+ * Answers 0, or 1, 2, 3, 4, 5, 7 or 12, tested in that order.
+ */
+uint32_t yongpham_clip(const double *vertices, size_t vertices_length, const uint32_t *facets, size_t facets_length,
+                       double min_x, double min_y, double min_z, double max_x, double max_y, double max_z, double eps,
+                       uint64_t *work, size_t work_length,
+                       double *out_vertices, size_t out_vertices_length, uint32_t *out_facets, size_t out_facets_length,
+                       uint64_t values[4]);
+
+#ifdef __cplusplus
+}
+#endif
+
+#endif

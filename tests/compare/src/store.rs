@@ -1,0 +1,191 @@
+//! Stored answers: a sample of requests with the oracle's answers, in a file that the
+//! program crates/replay reads. Our own library is not asked.
+//!
+//! The file is a row of 64-bit little-endian words: a header of four words, then the
+//! requests one after the other. crates/replay/README.md has the layout as a table.
+
+use crate::lent::{Cell, Lent, Old};
+use crate::operation::{self, Answer, Operation};
+use crate::request::Request;
+use crate::{tolerance, Options, OPERATIONS};
+use std::collections::BTreeMap;
+use std::process::ExitCode;
+
+/// "yongpham", as the first word of the file.
+const MAGIC: u64 = u64::from_le_bytes(*b"yongpham");
+const FORMAT: u64 = 1;
+const TOLERANCE: u64 = 1;
+/// The mesh operations that the program replays.
+const REPLAYED: &[&str] = &["clip"];
+
+/// What the program has room for: elements of each list and output, words of work room.
+const LARGEST_LIST: usize = 1_024;
+const LARGEST_WORK: usize = 20_480;
+/// Generated requests are kept small, so that the file is: elements of lists and outputs together.
+const LARGEST_GENERATED: usize = 150;
+/// How many requests are looked at for a sample.
+const LOOKED_AT: u64 = 200_000;
+
+/// A NaN has no one pattern in Rattle, so a request with one is left to the comparison.
+fn has_nan(request: &Request) -> bool {
+    let numbers = [request.eps, request.resolution];
+    let lists = [&request.vertices[..], &request.extents, &numbers];
+    lists.concat().iter().any(|x| x.is_nan())
+}
+
+fn fits(request: &Request, answer: &Answer) -> bool {
+    let lists = [
+        request.vertices.len(),
+        request.facets.len(),
+        request.caps.len(),
+    ];
+    let outputs = answer.outputs.iter().map(Vec::len);
+    request.work <= LARGEST_WORK
+        && lists
+            .into_iter()
+            .chain(outputs)
+            .all(|length| length <= LARGEST_LIST)
+}
+
+/// One request and its answer as words.
+fn record(number: u64, request: &Request, answer: &Answer) -> Vec<u64> {
+    let mut outputs = [0; 4];
+    for (place, output) in answer.outputs.iter().enumerate() {
+        outputs[place] = output.len() as u64;
+    }
+    let lengths = [
+        &request.vertices.len(),
+        &request.facets.len(),
+        &request.caps.len(),
+    ];
+    let mut words = vec![0, number];
+    words.extend(lengths.map(|&length| length as u64));
+    words.push(request.mode.into());
+    words.extend(request.extents.map(f64::to_bits));
+    words.extend([request.eps.to_bits(), request.resolution.to_bits()]);
+    words.push(request.work as u64);
+    words.extend(outputs);
+    words.push(answer.reply.number.into());
+    words.extend(answer.reply.values);
+    words.extend(request.vertices.iter().map(|x| x.bits()));
+    words.extend(request.facets.iter().map(|x| x.bits()));
+    words.extend(&request.caps);
+    words.extend(answer.outputs.concat());
+    words[0] = words.len() as u64;
+    words
+}
+
+/// Requests with their answers, and how often each family got each reply.
+struct Sample {
+    name: &'static str,
+    number: u64,
+    records: Vec<Vec<u64>>,
+    covered: BTreeMap<(&'static str, u32), usize>,
+}
+
+impl Sample {
+    fn new(name: &'static str, number: u64) -> Self {
+        Sample {
+            name,
+            number,
+            records: Vec::new(),
+            covered: BTreeMap::new(),
+        }
+    }
+
+    fn add(&mut self, request: &Request, answer: &Answer) {
+        assert!(
+            !has_nan(request) && fits(request, answer),
+            "{}",
+            request.describe()
+        );
+        assert!(answer.fault.is_none());
+        self.records.push(record(self.number, request, answer));
+        *self
+            .covered
+            .entry((request.family, answer.reply.number))
+            .or_default() += 1;
+    }
+
+    /// Whether a family with this reply has its share; every pair of the two gets some.
+    fn has_enough(&self, request: &Request, answer: &Answer, count: usize) -> bool {
+        let key = (request.family, answer.reply.number);
+        self.covered
+            .get(&key)
+            .is_some_and(|&had| had >= (count / 16).max(2))
+    }
+
+    fn print(&self) {
+        println!("{}: {} requests", self.name, self.records.len());
+        for ((family, reply), count) in &self.covered {
+            println!("    {family}, reply {reply}: {count}");
+        }
+    }
+}
+
+fn tolerance_sample(options: &Options) -> Sample {
+    let mut sample = Sample::new("tolerance", TOLERANCE);
+    let generated = (0..).map(|number| tolerance::any(options.seed, number));
+    for request in tolerance::chosen().into_iter().chain(generated) {
+        if sample.records.len() >= options.count {
+            break;
+        }
+        if !has_nan(&request) {
+            let answer = Answer {
+                reply: oracle::tolerance(&request.extents),
+                outputs: Vec::new(),
+                fault: None,
+            };
+            sample.add(&request, &answer);
+        }
+    }
+    sample
+}
+
+fn mesh_sample(operation: &Operation, options: &Options) -> Sample {
+    let mut sample = Sample::new(operation.name, operation.number);
+    let mut work = Lent::new(0, Old::ByPlace);
+    for chosen in (operation.chosen)() {
+        let request = chosen.with_room(operation, &mut work);
+        let answer = (operation.oracle)(&request, &mut work);
+        sample.add(&request, &answer);
+    }
+    for number in 0..LOOKED_AT {
+        if sample.records.len() >= options.count {
+            break;
+        }
+        let request = operation::request(operation, options.seed, number, &mut work);
+        let size = request.size() + request.outputs.iter().sum::<usize>();
+        if size > LARGEST_GENERATED || request.work > LARGEST_WORK || has_nan(&request) {
+            continue;
+        }
+        let answer = (operation.oracle)(&request, &mut work);
+        if !sample.has_enough(&request, &answer, options.count) {
+            sample.add(&request, &answer);
+        }
+    }
+    sample
+}
+
+/// Writes the file and says what it covers.
+pub fn write(file: &str, options: &Options) -> ExitCode {
+    let replayed = |operation: &&Operation| REPLAYED.contains(&operation.name);
+    let meshes = OPERATIONS.iter().filter(replayed);
+    let mut samples = vec![tolerance_sample(options)];
+    samples.extend(meshes.map(|operation| mesh_sample(operation, options)));
+    let records: Vec<&Vec<u64>> = samples.iter().flat_map(|sample| &sample.records).collect();
+    let words: usize = 4 + records.iter().map(|record| record.len()).sum::<usize>();
+    let header = vec![MAGIC, FORMAT, records.len() as u64, words as u64];
+    let bytes: Vec<u8> = std::iter::once(&header)
+        .chain(records)
+        .flatten()
+        .flat_map(|word| word.to_le_bytes())
+        .collect();
+    if let Err(error) = std::fs::write(file, bytes) {
+        eprintln!("compare: {file}: {error}");
+        return ExitCode::FAILURE;
+    }
+    samples.iter().for_each(Sample::print);
+    println!("{words} words");
+    ExitCode::SUCCESS
+}
