@@ -1,0 +1,21 @@
+-- `sort_sides` meets its contract: the records of the sides, and then their sort. Assumes nothing.
+use Rattle.edges.proofs.Steps.{sorts-sides}
+use borrow.Author.Needs.{needs}
+use Rattle.edges.proofs.table.sort_sides.Statement.{statement}
+use Rattle.edges.proofs.table.sort_sides.Tie as tie
+
+side-records-requires : tie.Need-side-records-requires
+side-records-requires c κs = search needs
+
+sort-records-requires : tie.Need-sort-records-requires
+sort-records-requires c κs = search needs
+
+same-length : tie.Need-same-length
+same-length c = search needs
+
+returns : tie.Need-returns
+returns c = sorts-sides (c .before .before .before .before .before .before .before .before .before .before .args .facets .now) (c .before .before .before .before .before .before .before .before .before .before .args .w .now) (c .before .before .before .before .before .before .side-records .last .1 .0) (c .before .before .sort-records .last .0) (c .before .before .before .before .before .before .side-records .ensures) (c .before .before .sort-records .ensures)
+
+pub sort-sides-spec : {M : Type 1} → statement M
+sort-sides-spec =
+    tie.close (tie.spec side-records-requires sort-records-requires same-length returns)
