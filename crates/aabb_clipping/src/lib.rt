@@ -18,7 +18,7 @@ use refusals::front::work_need;
 use refusals::refusal::Checked;
 use refusals::refusal::Refusal;
 use refusals::reply::MeshReply;
-use words::zero;
+use words::zero_front;
 
 // Tests 1, 2, 3, 4, 5 and 7, in that order.
 fn check(vertices: &[f64], facets: &[u32], extents: AABB, eps: f64, lent: usize) -> Checked
@@ -103,8 +103,9 @@ pub fn clip_mesh_to_aabb(
 ) -> MeshReply
     ensures { λ r. ⌜ Clipped (now (vertices .entry)) (now (facets .entry)) extents eps r (now (work .entry)) (now (work .exit)) (now («out_vertices» .entry)) (now («out_vertices» .exit)) (now («out_facets» .entry)) (now («out_facets» .exit)) ⌝ }
 {
-    zero(work);
-    match check(vertices, facets, extents, eps, work.len()) {
+    let lent = work.len();
+    zero_front(work, lent);
+    match check(vertices, facets, extents, eps, lent) {
         Checked::Passed => clip_checked(
             vertices,
             facets,
