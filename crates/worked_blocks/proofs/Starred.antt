@@ -5,11 +5,11 @@ use Prim.Native.Nat.{ℕ}
 use mathlib.Core.Bool.{Bool, true, false}
 use mathlib.Core.List.{List, [], _∷_, map, flatMap, List·Memᴰ, List·Memᴰ·head, List·Memᴰ·tail}
 use lib.Ieee.{Float, ofBits, ofInt, round, add, sub, mul, div, neg, lt, le, eq}
-use Rattle.lists.specs.Lists.{every, some, upFrom}
-use Rattle.root.specs.Doubles.{bits, magnitude, within, larger, one, units}
+use Rattle.lists.specs.Lists.{every, some, keep, place, insertBy, sortBy, upFrom}
+use Rattle.root.specs.Doubles.{bits, 1e-10, magnitude, within, larger, one, units}
 use Rattle.root.specs.Root.{root, rootOfSquare, wholeRoot}
 use Rattle.rounding.specs.Rounding as rounding
-use Rattle.rounding.specs.Rounding.{ceil, wholeUp}
+use Rattle.rounding.specs.Rounding.{halfUp, rounded, key, beyond, farKey, ceil, wholeUp}
 use Rattle.geometry.specs.declared.aabb.AABB.{AABB}
 use Rattle.geometry.specs.declared.fraction.Fraction.{Fraction}
 use Rattle.geometry.specs.declared.fraction.Fraction.the-variants.{Nothing}
@@ -17,11 +17,14 @@ use Rattle.geometry.specs.Points.{pt, along}
 use Rattle.geometry.specs.Triangles.{threes}
 use Rattle.geometry.specs.Meshes.{Mesh, meshOf, enter}
 use Rattle.refusals.specs.Refusals.{documented, firstRefusal}
-use Rattle.refusals.specs.Front.{ragged, tooMany, badIndex, inRange, epsInRange, boxInRange, badBox, workNeed, roomTests}
+use Rattle.refusals.specs.Front.{ragged, tooMany, badIndex, inRange, epsInRange, resolutionInRange, boxInRange, badBox, gridTooFine, workNeed, farKeys, roomTests}
 use Rattle.aabb_polygons.specs.Polygons.{inside, snapTo, snapped, crossing, interpolated, onPlane, crossed, sideClipped, walk, clipToPlane, clipPolygon}
 use Rattle.aabb_facets.specs.Clipped.{fan, fanned, insideBox, sharing, clipFacet, made, clipped}
 use Rattle.aabb_clipping.specs.Clip.{clipTests, clipResult, clipReply}
-use Rattle.geometry.specs.Axes.{segments, gridLine, axisPoints}
+use Rattle.geometry.specs.Axes.{segments, gridLine, axisPoints, gridSize}
+use Rattle.edges.specs.Edges.{samePair, pairBefore, openEdges}
+use Rattle.box_faces.specs.Faces.{onFace, facesOf}
+use Rattle.boundary_closure.specs.Operation.{closureTests, strayEdge, edgeTests, candidatesReply}
 
 -- ---- the document's numbers, by their bits
 
@@ -95,6 +98,16 @@ c5 =
     (clipReply points5 (0 ∷ 1 ∷ 2 ∷ []) box5 2^-20 1536 (12 ∷ 6 ∷ []), clipResult points5 (0 ∷ 1 ∷ 2 ∷ []) box5 2^-20)
     (0 ∷ 12 ∷ 6 ∷ [], meshOf (+0 ∷ +0 ∷ +0 ∷ +2 ∷ +0 ∷ +0 ∷ +2 ∷ +2 ∷ +0 ∷ +0 ∷ +4 ∷ +0 ∷ []) (0 ∷ 1 ∷ 2 ∷ 0 ∷ 2 ∷ 3 ∷ []))
 
+-- C9: "box (0,0,0) to (2,2,2), resolution 2, eps 1e-10, facet (0,0,1), (1,0,1), (0,1,1): refusal 9, pair 1, 2". The operation's reply, with just enough work room
+abbrev pub box9 : AABB
+box9 = record { «min_corner» = +0 ∷ +0 ∷ +0 ∷ []; «max_corner» = +2 ∷ +2 ∷ +2 ∷ [] }
+
+abbrev pub points9 : List Float
+points9 = +0 ∷ +0 ∷ +1 ∷ +1 ∷ +0 ∷ +1 ∷ +0 ∷ +1 ∷ +1 ∷ []
+
+abbrev pub c9 : Row
+c9 = row (candidatesReply points9 (0 ∷ 1 ∷ 2 ∷ []) box9 1e-10 +2 4608 []) (9 ∷ 1 ∷ 2 ∷ [])
+
 -- C11, C12: "axis from 0, length 8, resolution 4, eps 0: 0, 4, 8"; "length 0.5, resolution 4: two points". The first two axes of one box
 abbrev pub box11 : AABB
 box11 = record { «min_corner» = +0 ∷ +0 ∷ +0 ∷ []; «max_corner» = +8 ∷ 1/2 ∷ +8 ∷ [] }
@@ -110,7 +123,7 @@ abbrev pub c16 : Row
 c16 = row (map root (+169 ∷ +0 ∷ [])) (+13 ∷ +0 ∷ [])
 
 abbrev pub starred : List Row
-starred = c4 ∷ c5 ∷ c11 ∷ c12 ∷ c16 ∷ []
+starred = c4 ∷ c5 ∷ c9 ∷ c11 ∷ c12 ∷ c16 ∷ []
 
 -- ---- the claim
 
@@ -123,8 +136,8 @@ of-all a {r} (List·Memᴰ·head {x} {xs} e) = subst⁻¹ (λ (q : Row). q .give
 of-all a {r} (List·Memᴰ·tail {x} {xs} m) = of-all (a .1) m
 
 computed : All starred
-unfolding every some upFrom threes magnitude within inside snapTo snapped crossing interpolated onPlane crossed sideClipped walk clipToPlane clipPolygon along enter fan fanned insideBox sharing clipFacet made clipped flatMap firstRefusal documented ragged tooMany badIndex inRange epsInRange boxInRange badBox workNeed roomTests clipTests clipResult clipReply larger one units root rootOfSquare wholeRoot wholeUp ceil rounding.segments segments gridLine axisPoints ofBits ofInt round add sub mul div neg lt le eq
-computed = (refl, (refl, (refl, (refl, (refl, tt)))))
+unfolding every some keep place insertBy sortBy upFrom threes magnitude within inside snapTo snapped crossing interpolated onPlane crossed sideClipped walk clipToPlane clipPolygon along enter fan fanned insideBox sharing clipFacet made clipped flatMap firstRefusal documented ragged tooMany badIndex inRange epsInRange boxInRange badBox workNeed roomTests clipTests clipResult clipReply larger one units root rootOfSquare wholeRoot halfUp rounded key beyond farKey wholeUp ceil rounding.segments segments gridLine axisPoints gridSize resolutionInRange gridTooFine farKeys samePair pairBefore openEdges onFace facesOf closureTests strayEdge edgeTests candidatesReply ofBits ofInt round add sub mul div neg lt le eq
+computed = (refl, (refl, (refl, (refl, (refl, (refl, tt))))))
 
 pub every-row : {r : Row} → List·Memᴰ r starred → r .given ≡ r .stated
 every-row m = of-all computed m

@@ -1,0 +1,5 @@
+pub mod Pool
+pub mod Grid
+pub mod Constraints
+pub mod Candidates
+pub mod Operation
