@@ -18,7 +18,7 @@ use Rattle.edges.specs.Edges.{samePair, pairBefore, openEdges}
 use Rattle.refusals.specs.Refusals.{documented, firstRefusal}
 use Rattle.refusals.specs.Front.{ragged, tooMany, badIndex, inRange, epsInRange, resolutionInRange, boxInRange, badBox, gridTooFine, workNeed, farKeys, roomTests}
 use Rattle.box_faces.specs.Faces.{project, faceBits, onFace, facesOf}
-use Rattle.box_faces.specs.Sides.{faceSides, alongSide, onSide}
+use Rattle.box_faces.specs.Sides.{faceSides, betweenEnds, alongSide, onSide}
 use Rattle.boundary_closure.specs.Pool.{byKey, renewed, listed, numberFor, insert}
 use Rattle.boundary_closure.specs.Grid.{gridPoint, skipped, gridAt, faceGrid, grid}
 use Rattle.boundary_closure.specs.Constraints.{neighbours, sideOrder, edgePlaces, faceConstraints}
@@ -90,5 +90,5 @@ pub record WorkedBlocks : Type 0 where
   c15 : reply points15 (0 ∷ 1 ∷ 2 ∷ 0 ∷ 2 ∷ 3 ∷ []) (boxTo +1 +1 +1) 1e-10 +1 ≡ 0 ∷ 60 ∷ 38 ∷ 108 ∷ 12 ∷ []
 
 pub computed : WorkedBlocks
-unfolding every some keep place insertBy sortBy distinctFrom upFrom flatMap magnitude within larger clamped before halfUp rounded key beyond farKey ceil wholeUp rounding.segments along threes segments gridLine gridSize linkTo keyOf sameKey samePair pairBefore openEdges documented firstRefusal ragged tooMany badIndex inRange epsInRange resolutionInRange boxInRange badBox gridTooFine workNeed farKeys roomTests project faceBits onFace facesOf faceSides alongSide onSide byKey renewed listed numberFor insert gridPoint skipped gridAt faceGrid grid neighbours sideOrder edgePlaces faceConstraints enterEdge edgeSurface cornerVertices meshPool candidates candidateWords listWords closureTests strayEdge edgeTests noTwoEnds candidatesResult outputs candidatesReply ofBits toBits ofInt round add sub mul div neg lt le eq
+unfolding every some keep place insertBy sortBy distinctFrom upFrom flatMap magnitude within larger clamped before halfUp rounded key beyond farKey ceil wholeUp rounding.segments along threes segments gridLine gridSize linkTo keyOf sameKey samePair pairBefore openEdges documented firstRefusal ragged tooMany badIndex inRange epsInRange resolutionInRange boxInRange badBox gridTooFine workNeed farKeys roomTests project faceBits onFace facesOf faceSides betweenEnds alongSide onSide byKey renewed listed numberFor insert gridPoint skipped gridAt faceGrid grid neighbours sideOrder edgePlaces faceConstraints enterEdge edgeSurface cornerVertices meshPool candidates candidateWords listWords closureTests strayEdge edgeTests noTwoEnds candidatesResult outputs candidatesReply ofBits toBits ofInt round add sub mul div neg lt le eq
 computed = record { c9 = refl; c10 = refl; c13 = refl; c3b-first = refl; c3b-edges = refl; c3b = refl; c15 = refl }

@@ -5,11 +5,13 @@
 --   onFace         `point_on`: a point is within eps of the plane
 --   facesOf        `aabb_face_mask`: the faces that both of two points lie on, in face order
 --   faceBits       faces as one word: "bit f for face f"
+--   hasBit, bitCount   a word's bit for face f, and how many of its six bits are set
 --   ccwIsOutward   counter-clockwise in u and v is outward: on XMax, YMin and ZMax
-use Prim.Native.Nat.{ℕ, _+_, _^_}
+use Prim.Native.Nat.{ℕ, _+_, _/_, _%_, _^_}
 use mathlib.Core.Bool.{Bool, cond, _&&_}
 use mathlib.Core.List.{List, [], _∷_}
 use lib.Dec.{eqb}
+use lib.ListN.{length}
 use lib.Ieee.{Float}
 use Rattle.lists.specs.Lists.{keep, has}
 use Rattle.root.specs.Doubles.{_⊖_, within}
@@ -35,6 +37,12 @@ project f p = uv (along p (uAxis f)) (along p (vAxis f))
 unfoldable pub faceBits : List ℕ → ℕ
 faceBits [] = 0
 faceBits (f ∷ l) = 2 ^ f + faceBits l
+
+unfoldable pub hasBit : ℕ → ℕ → Bool
+hasBit mask f = eqb (mask / 2 ^ f % 2) 1
+
+unfoldable pub bitCount : ℕ → ℕ
+bitCount mask = length (keep (hasBit mask) faces)
 
 abbrev pub ccwIsOutward : ℕ → Bool
 ccwIsOutward f = has (1 ∷ 2 ∷ 5 ∷ []) f

@@ -1,7 +1,9 @@
 -- Points near a segment of a face (document 01, module 5; `point_on_segment2` of boundary_closure.rs). Assumes nothing.
 --   segmentLength     the length of a segment with the extent d in u and v. Shut outside this file: what is known of it is `segmentLengthIs`
---   onSegmentOf       a point lies on the segment from a to b, of the length l, within a tolerance
---   onSegment         the same, of the segment's own length
+--   minus             a difference in u and v
+--   segmentBound      how large the cross product of a point near the segment may be
+--   onSegmentBy       a point lies on the segment from a to b, for such a bound and a tolerance at the ends
+--   onSegment         `point_on_segment2`: the same for the segment's own bound
 use mathlib.Core.Path.{_≡_, refl}
 use mathlib.Core.Bool.{Bool, not, _&&_}
 use lib.Ieee.{Float, lt, le}
@@ -21,14 +23,18 @@ segmentLengthIs d = refl
 abbrev pub minus : Uv → Uv → Uv
 minus p q = uv (p .u ⊖ q .u) (p .v ⊖ q .v)
 
--- beside the line by no more than the tolerance for each unit of a length of at least 1; and between the ends, or beyond one by no more than its square
-unfoldable pub onSegmentOf : Float → Float → Uv → Uv → Uv → Bool
-onSegmentOf tolerance l p a b =
+-- the tolerance for each unit of a length of at least 1
+unfoldable pub segmentBound : Float → Uv → Uv → Float
+segmentBound tolerance a b = tolerance ⊗ larger (segmentLength (minus b a)) oneF
+
+-- beside the line by no more than the bound; and between the ends, or beyond one by no more than the tolerance's square
+unfoldable pub onSegmentBy : Float → Float → Uv → Uv → Uv → Bool
+onSegmentBy bound tolerance p a b =
     let ab = minus b a in
     let ap = minus p a in
     let bp = minus p b in
-    not (lt (tolerance ⊗ larger l oneF) (magnitude (ab .u ⊗ ap .v ⊖ ab .v ⊗ ap .u)))
+    not (lt bound (magnitude (ab .u ⊗ ap .v ⊖ ab .v ⊗ ap .u)))
     && le (ap .u ⊗ bp .u ⊕ ap .v ⊗ bp .v) (tolerance ⊗ tolerance)
 
 unfoldable pub onSegment : Float → Uv → Uv → Uv → Bool
-onSegment tolerance p a b = onSegmentOf tolerance (segmentLength (minus b a)) p a b
+onSegment tolerance p a b = onSegmentBy (segmentBound tolerance a b) tolerance p a b

@@ -1,5 +1,6 @@
 -- The sides of a face and the points along them (document 01, module 5; `face_boundary_sides` and `candidate_on_face_side` of boundary_closure.rs). Assumes nothing.
 --   sideFrom     a side by its ends          faceSides   the four sides of a face, as they run
+--   betweenEnds  t as a fraction, clamped, or nothing where it is further than `slack` beyond the ends
 --   alongSide    the fraction t at which a point stands along a side, or nothing
 --   onSide       `candidate_on_face_side`: the same of a point given by u and v
 use Prim.Native.Nat.{ℕ}
@@ -27,12 +28,14 @@ faceSides box f =
     let v1 = high box (vAxis f) in
     sideFrom (uv u0 v0) (uv u1 v0) ∷ sideFrom (uv u1 v0) (uv u1 v1) ∷ sideFrom (uv u1 v1) (uv u0 v1) ∷ sideFrom (uv u0 v1) (uv u0 v0) ∷ []
 
+-- an infinite t is beyond them
+unfoldable pub betweenEnds : Float → Float → Fraction
+betweenEnds t slack = cond (le (neg slack) t && le t (oneF ⊕ slack)) (At (clamped t)) Nothing
+
 module _ (eps : Float) where
-  -- for a side of the extent d along its axis, and a point w away from the side's line. An infinite t is answered "nothing", as is any beyond the ends
+  -- for a side of the extent d along its axis, and a point w away from the side's line
   unfoldable pub alongSide : Float → Float → Float → Fraction
-  alongSide d t w =
-      let slack = eps ⊘ larger (magnitude d) eps in
-      cond (within eps w && (le (neg slack) t && le t (oneF ⊕ slack))) (At (clamped t)) Nothing
+  alongSide d t w = cond (within eps w) (betweenEnds t (eps ⊘ larger (magnitude d) eps)) Nothing
 
   -- along u where the side is no longer in v
   unfoldable pub onSide : Side → Uv → Fraction
