@@ -1,14 +1,13 @@
 -- Laws about single steps of the functions of this crate. Assumes nothing.
 --   third, fourth     a number below 3 (below 4) that is none of those before the last is the last
 --   last-axis         an axis that is neither x nor y is z
---   or-last           a test or false
 --   le-same           a comparison of equal numbers
 --   uv-is             u and v by their coordinates
 --   far-off, near-by  the two answers of `point_on_segment2`
 --   line-is           geometry's grid line is `lineAt` for the segments that the axis needs
 use Prim.Native.Nat.{ℕ, zero, suc, _<_}
 use mathlib.Core.Path.{_≡_, refl, sym, ap, subst, _∙_}
-use mathlib.Core.Bool.{Bool, true, false, not, _&&_, _||_}
+use mathlib.Core.Bool.{Bool, true, false}
 use native.Mathlib.Omega.{arith}
 use lib.Ieee.{Float, lt, le}
 use Rattle.root.specs.Doubles.{_⊕_, _⊖_, _⊗_, magnitude}
@@ -38,10 +37,6 @@ unfolding along
 last-axis p zero a b = absurd (a refl)
 last-axis p (suc zero) a b = absurd (b refl)
 last-axis p (suc (suc k)) a b = refl
-
-pub or-last : (b : Bool) → b ≡ (b || false)
-or-last true = refl
-or-last false = refl
 
 pub le-same : {a b x y : Float} {r : Bool} → a ≡ x → b ≡ y → le a b ≡ r → le x y ≡ r
 le-same e f t = sym (λ i. le (e i) (f i)) ∙ t

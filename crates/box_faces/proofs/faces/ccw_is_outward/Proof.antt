@@ -1,4 +1,4 @@
-use Rattle.box_faces.proofs.Steps.{or-last}
+use Rattle.lists.proofs.Bools.{or-last}
 use borrow.Author.Tests.{eq-eqb, ne-eqb}
 use Rattle.lists.specs.Lists.{some}
 use mathlib.Core.Path.{_≡_, refl, sym, ap, _∙_}
@@ -20,7 +20,7 @@ returns-2 c = simp (c .if2 .taken)
 -- src/faces.rt:132:1
 returns-3 : tie.Need-returns-3
 unfolding some
-returns-3 c = simp (ne-eqb _ _ (c .before .if1 .left), ne-eqb _ _ (c .if2 .left)) (or-last _)
+returns-3 c = simp (ne-eqb _ _ (c .before .if1 .left), ne-eqb _ _ (c .if2 .left)) (sym (or-last _))
 
 pub ccw-is-outward-spec : {M : Type 1} → statement M
 ccw-is-outward-spec = tie.close (tie.spec returns returns-2 returns-3)
