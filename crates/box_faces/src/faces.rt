@@ -10,8 +10,8 @@ ghost use Rattle.box_faces.specs.Faces as defined;
 ghost use Rattle.box_faces.specs.Faces.{uAxis, vAxis, onFace, facesOf, faceBits, hasBit, bitCount, ccwIsOutward};
 use crate::uv::Uv;
 use geometry::aabb::AABB;
-use geometry::doubles::within;
 use geometry::point::Point;
+use rounding::within;
 
 // `uv_axes`, the first
 pub fn u_axis(face: usize) -> usize

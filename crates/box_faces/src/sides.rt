@@ -10,11 +10,11 @@ use crate::faces::v_axis;
 use crate::uv::Side;
 use crate::uv::Uv;
 use geometry::aabb::AABB;
-use geometry::doubles::within;
 use geometry::fraction::Fraction;
 use rounding::abs;
 use rounding::clamp01;
 use rounding::max;
+use rounding::within;
 
 // `face_boundary_sides`, the k-th
 pub fn face_boundary_side(face: usize, k: usize, extents: AABB) -> Side

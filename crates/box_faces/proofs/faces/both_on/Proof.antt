@@ -5,7 +5,7 @@ use Rattle.box_faces.proofs.faces.both_on.Statement.{statement}
 use Rattle.box_faces.proofs.faces.both_on.Tie as tie
 use Rattle.box_faces.proofs.faces.both_on.Reads as reads
 use Rattle.box_faces.proofs.faces.both_on.Lts as lts
-use Rattle.geometry.proofs.doubles.within.Reads as within-reads
+use Rattle.rounding.proofs.within.Reads as within-reads
 
 -- src/faces.rt:82:8
 within-requires : tie.Need-within-requires

@@ -8,7 +8,7 @@ use Rattle.box_faces.proofs.faces.point_on.Reads as reads
 use Rattle.box_faces.proofs.faces.point_on.Lts as lts
 use Rattle.box_faces.proofs.faces.along.Reads as along-reads
 use Rattle.box_faces.proofs.faces.plane_of.Reads as plane-of-reads
-use Rattle.geometry.proofs.doubles.within.Reads as within-reads
+use Rattle.rounding.proofs.within.Reads as within-reads
 
 -- src/faces.rt:73:9
 plane-of-requires : tie.Need-plane-of-requires

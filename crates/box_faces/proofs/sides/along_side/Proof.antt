@@ -8,7 +8,7 @@ use Rattle.box_faces.proofs.sides.along_side.Tie as tie
 use Rattle.box_faces.proofs.sides.along_side.Reads as reads
 use Rattle.box_faces.proofs.sides.along_side.Lts as lts
 use Rattle.box_faces.proofs.sides.between_ends.Reads as between-ends-reads
-use Rattle.geometry.proofs.doubles.within.Reads as within-reads
+use Rattle.rounding.proofs.within.Reads as within-reads
 use Rattle.rounding.proofs.abs.Reads as abs-reads
 use Rattle.rounding.proofs.max.Reads as max-reads
 
