@@ -1,13 +1,13 @@
 -- Laws of what the operation leaves behind: after a refusal, and after the two passes. Assumes nothing.
---   none-front, back-zero, still-zero, all-zero   parts of the lists that were lent to a pass, and came back
+--   none-front, back-zero, still-zero, cleared, all-zero   parts of the lists that were lent to a pass, and came back
 --   short-vertices, short-facets, done   what Written asks, on each of the three ways
 --   refused, accepted                    what Clipped asks, after the tests in front
 --   Ready, ready                         what is known once the tests in front have passed
 --   lists-refused, number-refused, box-refused, room-refused, all-passed   the tests in front, one after the other
-use Prim.Native.Nat.{ℕ, zero, suc, _+_, _*_, _/_, _≤_, _<_}
+use Prim.Native.Nat.{ℕ, _+_, _*_, _/_, _≤_, _<_}
 use mathlib.Core.Bool.{Bool, true, false, not, _&&_}
 use mathlib.Core.List.{List, [], _∷_, _++_}
-use mathlib.Core.Path.{_≡_, refl, sym, ap, _∙_, subst}
+use mathlib.Core.Path.{_≡_, refl, sym, ap, _∙_}
 use native.Mathlib.Omega.{arith}
 use borrow.Author.Tests.{ltb-false, lt-ltb, le-ltb}
 use lib.Dec.{ltb}
@@ -15,7 +15,8 @@ use lib.ListN.{take, drop, length, replicate, length-replicate, take-append-drop
 use lib.Seq.{sets, length-take-le}
 use lib.Ieee.{Float}
 use Rattle.lists.specs.Lists.{every}
-use Rattle.words.proofs.Overlay.{take-zeros, sets-overlay}
+use Rattle.words.specs.Overlay.{overlay}
+use Rattle.words.proofs.Overlay.{take-zeros, sets-overlay, overlay-whole}
 use Rattle.geometry.specs.declared.aabb.AABB.{AABB}
 use Rattle.geometry.specs.Triangles.{flat}
 use Rattle.geometry.specs.Meshes.{Mesh, coordinates, meshLengths}
@@ -27,10 +28,10 @@ use Rattle.refusals.specs.declared.refusal.Checked.the-variants.{Passed, Refuse
 use Rattle.refusals.specs.declared.reply.MeshReply.{MeshReply}
 use Rattle.refusals.specs.declared.reply.MeshReply.the-variants.{Done}
 use Rattle.refusals.specs.declared.reply.MeshReply.the-variants as mesh
-use Rattle.refusals.specs.Refusals.{documented, documentedMesh, Test, firstRefusal, settle, Settled, Zeroed}
-use Rattle.refusals.specs.Front.{ceiling, listTests, badIndex, inRange, epsInRange, boxInRange, badBox, workNeed, workTest, roomTests}
+use Rattle.refusals.specs.Refusals.{documented, documentedMesh, Test, firstRefusal, settle, Settled}
+use Rattle.refusals.specs.Front.{ceiling, listTests, badIndex, inRange, epsInRange, boxInRange, badBox, workNeed, roomTests}
 use Rattle.refusals.proofs.Refusals.{holds, passes, none-left, row-passed, row-refused, untouched}
-use Rattle.refusals.proofs.Replies.{reply-refused, reply-passed, short-first, short-second, roomy, head-passed, tail-passed, row-front, row-rest, Listed, listed}
+use Rattle.refusals.proofs.Replies.{reply-refused, reply-passed, short-first, short-second, roomy, head-passed, tail-passed, row-front, row-rest, listed}
 use Rattle.aabb_clipping.specs.Clip.{clipTests, clipResult, clipReply, Clipped}
 use Rattle.aabb_clipping.specs.Steps.{Written}
 
@@ -51,9 +52,16 @@ back-zero w y n e h g =
 pub still-zero : (w x : List ℕ) → x ≡ w → w ≡ replicate (length w) 0 → x ≡ replicate (length x) 0
 still-zero w x e h = e ∙ h ∙ ap (λ (k : ℕ). replicate k 0) (sym (ap length e))
 
+-- the whole of it, cleared
+pub cleared : (w z : List ℕ) → z ≡ overlay (replicate (length w) 0) w → z ≡ replicate (length w) 0
+cleared w z e = e ∙ overlay-whole (replicate (length w) 0) w (omega (arith, length-replicate {A = ℕ} (length w) 0))
+
+pub cleared-length : (w z : List ℕ) → z ≡ replicate (length w) 0 → length z ≡ length w
+cleared-length w z e = ap length e ∙ length-replicate {A = ℕ} (length w) 0
+
 -- so many zeros as the list is long
 pub all-zero : (w z : List ℕ) → z ≡ replicate (length w) 0 → z ≡ replicate (length z) 0
-all-zero w z e = e ∙ ap (λ (k : ℕ). replicate k 0) (sym (ap length e ∙ length-replicate {A = ℕ} (length w) 0))
+all-zero w z e = e ∙ ap (λ (k : ℕ). replicate k 0) (sym (cleared-length w z e))
 
 -- ---- test 12, and the writing. The counts k of vertices and j of facet numbers are the mesh's
 module _ (m : Mesh) (w w' : List ℕ) (v v' : List Float) (f f' : List ℕ) (k j : ℕ) (ek : k ≡ length (m .points)) (ej : j ≡ length (flat (m .facets)))
@@ -104,15 +112,9 @@ module _ (m : Mesh) (w w' : List ℕ) (v v' : List Float) (f f' : List ℕ) (k j
         work = record { ends = z };
       }
 
--- ---- the tests in front, made when the work room was all zero
+-- ---- the tests in front, made when the work room z was all zero
 module _ (vs : List Float) (fs : List ℕ) (box : AABB) (eps : Float) (w z : List ℕ) (x : Checked) (hz : z ≡ replicate (length w) 0)
-    (hx : x ≡ firstRefusal (clipTests vs fs box eps (length z))) (v : List Float) (f : List ℕ) where
-  long : length z ≡ length w
-  long = ap length hz ∙ length-replicate {A = ℕ} (length w) 0
-
-  found : x ≡ firstRefusal (clipTests vs fs box eps (length w))
-  found = hx ∙ ap (λ (n : ℕ). firstRefusal (clipTests vs fs box eps n)) long
-
+    (found : x ≡ firstRefusal (clipTests vs fs box eps (length w))) (v : List Float) (f : List ℕ) where
   abbrev m : Mesh
   m = clipResult vs fs box eps
 
@@ -140,7 +142,7 @@ module _ (vs : List Float) (fs : List ℕ) (box : AABB) (eps : Float) (w z : Lis
         replied = d .replied ∙ sym (reply-passed (clipTests vs fs box eps (length w)) rooms (meshLengths m) (sym found ∙ e));
         vertices = d .vertices;
         facets = d .facets;
-        work = record { ends = d .work .ends ∙ ap (λ (n : ℕ). replicate n 0) long };
+        work = record { ends = d .work .ends ∙ ap (λ (n : ℕ). replicate n 0) (cleared-length w z hz) };
       }
 
 pub record Ready (vs : List Float) (fs : List ℕ) (lent : ℕ) : Type 0 where

@@ -1,4 +1,5 @@
-// The operation clip (document 01, module 3; `clip_mesh_to_aabb` of aabb_clipping.rs).
+// The operation clip (document 01, module 3; `clip_mesh_to_aabb` of aabb_clipping.rs). `bbox_eps` of that file stands in the crate tolerance;
+// `facet_fully_inside_aabb` is left out, since no operation uses it.
 ghost use mathlib.Core.Path.{_≡_};
 ghost use mathlib.Core.Bool.{false};
 ghost use Prim.Native.Nat.{_/_, _≤_};
@@ -18,7 +19,7 @@ use refusals::front::work_need;
 use refusals::refusal::Checked;
 use refusals::refusal::Refusal;
 use refusals::reply::MeshReply;
-use words::zero;
+use words::zero_front;
 
 // Tests 1, 2, 3, 4, 5 and 7, in that order.
 fn check(vertices: &[f64], facets: &[u32], extents: AABB, eps: f64, lent: usize) -> Checked
@@ -103,8 +104,9 @@ pub fn clip_mesh_to_aabb(
 ) -> MeshReply
     ensures { λ r. ⌜ Clipped (now (vertices .entry)) (now (facets .entry)) extents eps r (now (work .entry)) (now (work .exit)) (now («out_vertices» .entry)) (now («out_vertices» .exit)) (now («out_facets» .entry)) (now («out_facets» .exit)) ⌝ }
 {
-    zero(work);
-    match check(vertices, facets, extents, eps, work.len()) {
+    let lent = work.len();
+    zero_front(work, lent);
+    match check(vertices, facets, extents, eps, lent) {
         Checked::Passed => clip_checked(
             vertices,
             facets,

@@ -4,16 +4,15 @@
 --   MarkedTo, marking-..        the loop that makes the words;   mark-a, mark-b, mark-c   the three tests of a facet
 --   all-below                   facet numbers are below the count of vertices
 use Prim.Native.Nat.{ℕ, zero, suc, _+_, _*_, _-_, _/_, _≤_, _<_}
-use mathlib.Core.Bool.{Bool, true, false, cond, not, _&&_}
-use mathlib.Core.List.{List, [], _∷_, _++_, map, flatMap, foldl, foldl-append, append-assoc, append-nil}
-use mathlib.Core.Path.{_≡_, refl, sym, ap, _∙_, subst}
+use mathlib.Core.Bool.{Bool, true, false, not, _&&_}
+use mathlib.Core.List.{List, [], _∷_, _++_, append-assoc, append-nil}
+use mathlib.Core.Path.{_≡_, refl, sym, ap, _∙_}
 use native.Mathlib.Omega.{arith}
-use native.Mathlib.Numerals.{add-one, add-two}
+use native.Mathlib.Numerals.{add-one}
 use lib.Dec.{ltb, eqb}
-use lib.ListN.{getD, take, drop, set, length, replicate, length-append, length-map, length-set, length-replicate, length-drop, drop-of-length-le}
-use lib.Seq.{sets, drop-cons, set-at, take-suc, take-all}
+use lib.ListN.{getD, drop, set, length, replicate, length-append, length-replicate, length-drop, drop-of-length-le}
+use lib.Seq.{drop-cons, set-at}
 use lib.Ieee.{Float}
-use Rattle.geometry.specs.declared.point.Point.{Point}
 use Rattle.geometry.specs.declared.aabb.AABB.{AABB}
 use borrow.Author.Tests.{ne-eqb, eq-eqb, ltb-true, not-false}
 use Rattle.lists.proofs.Every.{none-at}

@@ -2,21 +2,18 @@
 --   point-put                                  one vertex
 --   corners-start, corners-more, corners-end   the loop over corners
 --   fanFrom, fan-start, fan-more, fan-end      the loop over the triangles of a fan;   length-fan   how many numbers it has
-use Prim.Native.Nat.{ℕ, zero, suc, _+_, _*_, _-_, _/_, _≤_, _<_}
-use mathlib.Core.Bool.{Bool, true, false, cond, not, _&&_}
-use mathlib.Core.List.{List, [], _∷_, _++_, map, flatMap, foldl, foldl-append, append-assoc, append-nil}
-use mathlib.Core.Path.{_≡_, refl, sym, ap, _∙_, subst}
+use Prim.Native.Nat.{ℕ, suc, _+_, _*_, _-_, _≤_, _<_}
+use mathlib.Core.List.{List, [], _∷_, map, flatMap}
+use mathlib.Core.Path.{_≡_, sym, ap, _∙_}
 use native.Mathlib.Omega.{arith}
 use native.Mathlib.Numerals.{add-one, add-two}
-use lib.Dec.{ltb, eqb}
-use lib.ListN.{getD, take, drop, set, length, replicate, length-append, length-map, length-set, length-replicate, length-drop, drop-of-length-le}
-use lib.Seq.{sets, drop-cons, set-at, take-suc, take-all}
+use lib.ListN.{getD, drop, set, length, length-map, drop-of-length-le}
+use lib.Seq.{sets, drop-cons}
 use lib.Ieee.{Float}
 use Rattle.geometry.specs.declared.point.Point.{Point}
-use Rattle.geometry.specs.declared.aabb.AABB.{AABB}
 use Rattle.lists.specs.Lists.{upFrom}
 use Rattle.lists.proofs.Stores.{length-upFrom, upFrom-cons}
-use Rattle.geometry.specs.Triangles.{Triangle, tri, vertices, flat}
+use Rattle.geometry.specs.Triangles.{Triangle, tri, flat}
 use Rattle.geometry.specs.Meshes.{coordinates}
 use Rattle.geometry.proofs.Threes.{length-flat}
 use Rattle.aabb_facets.specs.Clipped.{fan}

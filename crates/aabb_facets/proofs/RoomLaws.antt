@@ -3,15 +3,15 @@
 --   fan-few, fan-put, fan-grows   a fan, and how many vertices and numbers it adds
 --   facet-shared, facet-fanned, facet-low   a facet
 --   Sharing, sharing-..           the loop over the three corners of a facet that is inside
-use Prim.Native.Nat.{ℕ, zero, suc, _+_, _*_, _-_, _/_, _≤_, _<_}
-use mathlib.Core.Bool.{Bool, true, false, cond, not, _&&_}
-use mathlib.Core.List.{List, [], _∷_, _++_, map, flatMap, foldl, foldl-append, append-assoc, append-nil}
+use Prim.Native.Nat.{ℕ, zero, suc, _+_, _*_, _-_, _≤_, _<_}
+use mathlib.Core.Bool.{Bool, true, false, cond, _&&_}
+use mathlib.Core.List.{List, [], _∷_, flatMap}
 use mathlib.Core.Path.{_≡_, refl, sym, ap, _∙_, subst}
 use native.Mathlib.Omega.{arith}
-use native.Mathlib.Numerals.{add-one, add-two}
-use lib.Dec.{ltb, eqb}
-use lib.ListN.{getD, take, drop, set, length, replicate, length-append, length-map, length-set, length-replicate, length-drop, drop-of-length-le}
-use lib.Seq.{sets, drop-cons, set-at, take-suc, take-all}
+use native.Mathlib.Numerals.{add-one}
+use lib.Dec.{ltb}
+use lib.ListN.{getD, set, length}
+use lib.Seq.{sets}
 use lib.Ieee.{Float}
 use Rattle.geometry.specs.declared.point.Point.{Point}
 use Rattle.geometry.specs.declared.aabb.AABB.{AABB}

@@ -10,7 +10,7 @@ use mathlib.Core.List.{List, [], _∷_, _++_, map, flatMap, foldl, foldl-append,
 use mathlib.Core.Path.{_≡_, refl, sym, ap, _∙_, subst}
 use native.Mathlib.Omega.{arith}
 use native.Mathlib.Numerals.{add-one}
-use lib.Dec.{ltb, eqb}
+use lib.Dec.{ltb}
 use lib.ListN.{getD, take, set, length, replicate, length-append}
 use lib.Seq.{sets, take-suc, take-all, getD-set-same}
 use lib.Ieee.{Float, nan}
@@ -28,7 +28,7 @@ use Rattle.aabb_polygons.specs.Polygons.{snapped, clipPolygon}
 use Rattle.aabb_polygons.specs.Steps.{cornerAt}
 use Rattle.aabb_facets.specs.declared.facets.Counts.{Counts}
 use Rattle.aabb_facets.specs.Clipped.{Made, insideBox, fan, fanned, sharing, clipFacet, made}
-use Rattle.aabb_facets.specs.Rooms.{Room, room, grow, renamed, marked, shareRoomAs, shareRoom, shareTo, fanRoom, facetRoom, marks, showsNamed, shows, Low}
+use Rattle.aabb_facets.specs.Rooms.{Room, room, grow, marked, shareRoomAs, shareRoom, shareTo, fanRoom, facetRoom, marks, showsNamed, shows, Low}
 use Rattle.aabb_facets.proofs.MarkLists.{marks-length, marks-low, marked-is, word, new-word}
 use Rattle.aabb_facets.proofs.RoomLaws.{room-eq, facet-low}
 

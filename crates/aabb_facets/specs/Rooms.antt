@@ -15,7 +15,7 @@ use lib.Ieee.{Float}
 use Rattle.geometry.specs.declared.point.Point.{Point}
 use Rattle.geometry.specs.declared.aabb.AABB.{AABB}
 use Rattle.geometry.specs.Boxes.{faces}
-use Rattle.geometry.specs.Triangles.{Triangle, flat}
+use Rattle.geometry.specs.Triangles.{flat}
 use Rattle.geometry.specs.Meshes.{Mesh, coordinates, Named}
 use Rattle.aabb_polygons.specs.Polygons.{snapped, clipPolygon}
 use Rattle.aabb_polygons.specs.Steps.{cornerAt}

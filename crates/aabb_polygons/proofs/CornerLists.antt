@@ -2,13 +2,12 @@
 --   points-length, points-at, points-cons, points-snoc   the points of a list
 --   pushed, counted     one corner more; the count that a list of corners gives
 --   at, one-more, copy-more, snap-more, three-put        loops that copy, snap and test corner by corner
-use Prim.Native.Nat.{ℕ, zero, suc, _+_, _*_, _-_, _≤_, _<_}
-use mathlib.Core.Bool.{Bool, true, false, cond, Bool·beq, _&&_, not}
-use mathlib.Core.List.{List, [], _∷_, _++_, map, append-assoc, append-nil}
+use Prim.Native.Nat.{ℕ, zero, suc, _+_, _*_, _≤_, _<_}
+use mathlib.Core.List.{List, [], _∷_, _++_, map}
 use mathlib.Core.Path.{_≡_, refl, sym, ap, _∙_}
 use native.Mathlib.Omega.{arith}
 use native.Mathlib.Numerals.{add-one}
-use lib.ListN.{getD, drop, set, length, length-append}
+use lib.ListN.{getD, set, length}
 use lib.Ieee.{Float, nan}
 use lib.Seq.{getD-set-same, getD-set-other, lt-length-set}
 use Rattle.geometry.specs.declared.point.Point.{Point}

@@ -5,14 +5,13 @@
 --   unsnapped-same                the other planes: corners that are snapped already
 --   clip-snapped                  what a plane leaves is snapped
 --   whole, whole-first, gone      a polygon wholly inside a plane, and one wholly outside
-use Prim.Native.Nat.{ℕ, zero, suc, _+_, _*_, _-_, _≤_, _<_}
+use Prim.Native.Nat.{ℕ, suc, _+_, _*_, _-_, _≤_, _<_}
 use mathlib.Core.Bool.{Bool, true, false, cond, Bool·beq, _&&_, not}
-use mathlib.Core.List.{List, [], _∷_, _++_, map, append-assoc, append-nil}
+use mathlib.Core.List.{List, [], _∷_, _++_, map}
 use mathlib.Core.Path.{_≡_, refl, sym, ap, _∙_}
 use native.Mathlib.Omega.{arith}
-use native.Mathlib.Numerals.{add-one}
-use lib.ListN.{getD, drop, set, length, length-append}
-use lib.Ieee.{Float, nan}
+use lib.ListN.{getD, drop, length, length-append}
+use lib.Ieee.{Float}
 use borrow.Author.Tests.{not-true}
 use Rattle.geometry.specs.declared.point.Point.{Point}
 use Rattle.geometry.specs.declared.aabb.AABB.{AABB}

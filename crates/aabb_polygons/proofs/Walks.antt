@@ -3,24 +3,20 @@
 --   Walked, walked-..     the loop over the corners: start, turn, end, and that there is room
 --   grown, still-snapped, all-stop, all-go, all-last   the planes in turn, "stopping under three corners"
 --   few                   no more than 28 corners
-use Prim.Native.Nat.{ℕ, zero, suc, _+_, _*_, _-_, _≤_, _<_}
-use mathlib.Core.Bool.{Bool, true, false, cond, Bool·beq, _&&_, not}
+use Prim.Native.Nat.{ℕ, suc, _+_, _*_, _-_, _≤_, _<_}
+use mathlib.Core.Bool.{Bool, true, false, cond, Bool·beq}
 use mathlib.Core.List.{List, [], _∷_, _++_, map, append-assoc, append-nil}
 use mathlib.Core.Path.{_≡_, refl, sym, ap, _∙_}
 use native.Mathlib.Omega.{arith}
-use native.Mathlib.Numerals.{add-one}
-use lib.ListN.{getD, drop, set, length, length-append}
-use lib.Ieee.{Float, nan}
+use lib.ListN.{getD, length, length-append}
+use lib.Ieee.{Float}
 use lib.Dec.{ltb}
 use borrow.Author.Tests.{lt-ltb, le-ltb}
 use Rattle.geometry.specs.declared.point.Point.{Point}
 use Rattle.geometry.specs.declared.aabb.AABB.{AABB}
-use Rattle.geometry.specs.declared.fraction.Fraction.{Fraction}
-use Rattle.geometry.specs.declared.fraction.Fraction.the-variants.{At, Nothing}
-use Rattle.geometry.specs.Points.{along, origin}
-use Rattle.geometry.specs.Boxes.{axis, plane}
+use Rattle.geometry.specs.Points.{origin}
 use Rattle.geometry.specs.Boxes.{faces}
-use Rattle.aabb_polygons.specs.Polygons.{inside, snapped, crossing, crossed, clipToPlane, clipPolygon}
+use Rattle.aabb_polygons.specs.Polygons.{inside, snapped, clipToPlane, clipPolygon}
 use Rattle.aabb_polygons.specs.Steps.{cornerAt, points, corners, sideCrossed, sideUnsnapped, walkUnsnapped, clipUnsnapped}
 use Rattle.aabb_polygons.proofs.CornerLists.{points-length, points-at, points-cons, counted}
 use Rattle.aabb_polygons.proofs.Planes.{unsnapped-short, clip-short, clip-snapped}

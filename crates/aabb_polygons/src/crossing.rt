@@ -7,9 +7,9 @@ use crate::plane::BoxPlane;
 use crate::plane::coordinate;
 use crate::plane::plane_coord;
 use geometry::aabb::AABB;
-use geometry::doubles::within;
 use geometry::fraction::Fraction;
 use geometry::point::Point;
+use rounding::within;
 
 fn crossing_at(coord: f64, a: f64, b: f64, eps: f64) -> Fraction
     ensures { λ r. ⌜ r ≡ crossing eps coord a b ⌝ }

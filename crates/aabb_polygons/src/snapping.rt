@@ -2,8 +2,8 @@
 ghost use mathlib.Core.Path.{_≡_};
 ghost use Rattle.aabb_polygons.specs.Polygons.{snapTo, snapped};
 use geometry::aabb::AABB;
-use geometry::doubles::within;
 use geometry::point::Point;
+use rounding::within;
 
 fn snap_to(v: f64, at: f64, eps: f64) -> f64
     ensures { λ r. ⌜ r ≡ snapTo eps at v ⌝ }

@@ -3,7 +3,7 @@ use Prim.Native.Nat.{ℕ, _+_, _*_, _/_, _%_, _^_, _≤_, _<_}
 use native.Mathlib.Nat.{mul-le-mul, add-mul-mod-self-right, div-lt-iff-lt-mul}
 use native.Mathlib.Omega.{arith}
 use mathlib.Core.Path.{_≡_, refl, sym, ap, _∙_}
-use Rattle.chains.specs.Hash.{prime, mixed, bucketAt, Mixes, InBucket}
+use Rattle.chains.specs.Hash.{prime, factorA, factorB, factorC, mixed, bucketAt, Mixes, InBucket}
 
 pub mixes-mix : (a b c : ℕ) → Mixes a b c (a % 4294967291 * 561705629 + b % 4294967291 * 816622479 + c % 4294967291 * 167066315)
 mixes-mix a b c = record { congruent = sym (ap (λ (k : ℕ). k % 4294967291) (split a b c) ∙ add-mul-mod-self-right (rests a b c) (wholes a b c) 4294967291); low = omega arith }
@@ -36,3 +36,16 @@ module _ (s nb : ℕ) (some : 0 < nb) (small : nb ≤ 4294967296) where
 -- congruent forms have one bucket
 pub bucket-same : (a b c s nb r : ℕ) → s % prime ≡ mixed a b c % prime → InBucket s nb r → InBucket (mixed a b c) nb r
 bucket-same a b c s nb r e h = record { is = h .is ∙ ap (λ (k : ℕ). k * nb / 4294967296) e; low = h .low }
+
+-- the form of the key one up in a word is that word's factor more
+pub mixed-up : (a b c s d : ℕ) → s % prime ≡ mixed a b c % prime → (s + d) % prime ≡ (mixed a b c + d) % prime
+mixed-up a b c s d e = omega arith
+
+pub mixed-up-a : (a b c : ℕ) → mixed (a + 1) b c ≡ mixed a b c + factorA
+mixed-up-a a b c = omega arith
+
+pub mixed-up-b : (a b c : ℕ) → mixed a (b + 1) c ≡ mixed a b c + factorB
+mixed-up-b a b c = omega arith
+
+pub mixed-up-c : (a b c : ℕ) → mixed a b (c + 1) ≡ mixed a b c + factorC
+mixed-up-c a b c = omega arith

@@ -3,10 +3,11 @@
 --   Absent P i n      no number from i up to, not including, n has the property
 --   First P i n v     v is the link to the first number from i up to n with the property
 --   Last P n v        v is the link to the last number below n with the property
-use Prim.Native.Nat.{ℕ, suc, _+_, _≤_, _<_}
+--   headLink, orElse  the link to the first id of a list; the first of two links that is one
+use Prim.Native.Nat.{ℕ, zero, suc, _+_, _≤_, _<_}
 use mathlib.Core.Path.{_≡_}
 use mathlib.Core.Bool.{Bool, cond}
-use mathlib.Core.List.{List}
+use mathlib.Core.List.{List, [], _∷_}
 use lib.Dec.{eqb}
 use lib.ListN.{length}
 use Rattle.lists.specs.Lists.{place}
@@ -37,3 +38,13 @@ pub record Final (P : ℕ → Type 0) (n k : ℕ) : Type 0 where
 pub record Last (P : ℕ → Type 0) (n v : ℕ) : Type 0 where
   pub none : v ≡ 0 → Absent P 0 n
   pub some : (k : ℕ) → v ≡ suc k → Final P n k
+
+-- the link to the first id of a list: 0 if it has none
+abbrev pub headLink : List ℕ → ℕ
+headLink [] = 0
+headLink (i ∷ l) = suc i
+
+-- the first link that is one
+abbrev pub orElse : ℕ → ℕ → ℕ
+orElse zero v = v
+orElse (suc k) v = suc k

@@ -2,12 +2,11 @@
 --   length-pointsOf, vertex-at            how many vertices, and the coordinates of one
 --   length-coordinates, coordinates-append, coordinates-pointsOf   points as coordinates; to points and back, a list is itself
 --   enter-cases, enter-length, enter-stays, entered   numbers given out by first use: what is given stays, and what was entered has a number
-use Prim.Native.Nat.{ℕ, zero, suc, _+_, _*_, _-_, _/_, _%_, _≤_, _<_}
+use Prim.Native.Nat.{ℕ, zero, suc, _+_, _*_, _/_, _%_, _<_}
 use mathlib.Core.Path.{_≡_, refl, sym, ap, _∙_, subst}
-use mathlib.Core.Bool.{Bool, true, false, cond}
-use mathlib.Core.List.{List, [], _∷_, _++_, map, flatMap}
+use mathlib.Core.Bool.{Bool, cond}
+use mathlib.Core.List.{List, [], _∷_, _++_, flatMap}
 use native.Mathlib.Omega.{arith}
-use lib.Dec.{eqb}
 use borrow.Author.Tests.{eq-eqb, ne-eqb}
 use lib.ListN.{getD, set, length, length-map, length-set, List·getD-map}
 use lib.Seq.{getD-set-same, getD-set-other}
@@ -15,7 +14,7 @@ use lib.Ieee.{Float}
 use Rattle.geometry.specs.declared.point.Point.{Point}
 use Rattle.geometry.specs.Points.{pt, origin}
 use Rattle.geometry.specs.Triangles.{Triangle, tri, threes}
-use Rattle.geometry.specs.Meshes.{pointsOf, coordinates, vertex, Named, newNumber, enter}
+use Rattle.geometry.specs.Meshes.{pointsOf, coordinates, vertex, Named, enter}
 use Rattle.geometry.proofs.Threes.{flatMap-append, length-threes, threes-at}
 
 abbrev three : Triangle Float → Point

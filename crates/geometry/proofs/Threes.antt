@@ -1,11 +1,11 @@
 -- Laws of lists taken three at a time, and back (specs/Triangles.antt). Assumes nothing.
 --   length-threes, threes-at     how many triangles, and the corners of the i-th
 --   length-flat, flat-append     flat lists; flat-threes   taken three at a time and back, a list is itself
-use Prim.Native.Nat.{ℕ, zero, suc, _+_, _*_, _/_, _%_, _≤_, _<_}
+use Prim.Native.Nat.{ℕ, zero, suc, _+_, _*_, _/_, _%_, _<_}
 use mathlib.Core.Path.{_≡_, refl, sym, ap, _∙_}
 use mathlib.Core.List.{List, [], _∷_, _++_, flatMap, append-assoc}
 use native.Mathlib.Omega.{arith}
-use lib.ListN.{getD, length, length-append}
+use lib.ListN.{getD, length}
 use Rattle.geometry.specs.Triangles.{Triangle, tri, vertices, threes, flat}
 
 pub flatMap-append : {A B : Type 0} (f : A → List B) (l m : List A) → flatMap f (l ++ m) ≡ flatMap f l ++ flatMap f m

@@ -1,8 +1,6 @@
--- Laws of `within`: it is decided by two comparisons, with no magnitude made; and it does not matter from which of two numbers the other is
--- subtracted. Of every double, NaN and infinities too. Assumes nothing.
---   within-tests             |d| ≤ eps, by d ≤ eps and -d ≤ eps;     within-yes, within-no   the same, where the first is known
+-- Laws of `within`: it does not matter from which of two numbers the other is subtracted. Of every double, NaN and infinities too. Assumes nothing.
 --   sub-turned, within-turned   |x - y| is |y - x|
-use Prim.Native.Nat.{ℕ, zero, suc, _+_, _*_, _-_, _/_, _%_, _^_, _≤_, _<_, compare}
+use Prim.Native.Nat.{ℕ, zero, suc, _+_, _*_, _-_, _/_, _%_, _^_, _<_, compare}
 use mathlib.Core.Bool.{Bool, true, false, cond, not, _&&_, _||_}
 use mathlib.Core.Path.{_≡_, refl, sym, ap, _∙_}
 use native.Mathlib.Omega.{arith}
@@ -138,80 +136,3 @@ sub-turned (fin s m e) (fin t n d) =
 pub within-turned : (x y eps : Float) → within eps (sub binary64 x y) ≡ within eps (sub binary64 y x)
 unfolding within
 within-turned x y eps = ap (λ (m : Float). le m eps) (sub-turned x y)
-
--- ---- nearness by two tests
-below-both : (t : Bool) (A B : ℕ) → (below false A t B || level false A t B) ≡ true → (below true A t B || level true A t B) ≡ true
-below-both false zero zero h = refl
-below-both false zero (suc b) h = ap (λ (x : Bool). x || level true zero false (suc b)) (lt-ltb 0 (zero + suc b) (omega arith))
-below-both false (suc a) b h = ap (λ (x : Bool). x || level true (suc a) false b) (lt-ltb 0 (suc a + b) (omega arith))
-below-both true A B h = go (eqb A B) (eqb A 0) (ltb B A) h
-  where
-    go : (x y z : Bool) → (false || (x && (false || y))) ≡ true → (z || (x && true)) ≡ true
-    go true y true g = refl
-    go true y false g = refl
-    go false y z g = absurd (let w : _≡_ {A = ℕ} 0 1 = cc in omega arith)
-
-fin-both : (m : ℕ) (e : ℤ) (y : Float) → le (fin false m e) y ≡ true → le (fin true m e) y ≡ true
-unfolding le lt eq
-fin-both m e nan h = h
-fin-both m e (inf t) h = h
-fin-both m e (fin t n d) h = below-both t (m * up e * down d) (n * up d * down e) h
-
--- a zero with any exponent
-nought : (X k : ℕ) → eqb 0 (X * 1) ≡ eqb 0 (X * 2 ^ suc k)
-nought zero k = simp (zero-mul)
-nought (suc x) k = ne-eqb 0 (suc x * 1) (λ h. omega arith) ∙ sym (ne-eqb 0 (suc x * 2 ^ suc k) (λ h. omega (arith, mul-pos (suc x) (2 ^ suc k) (omega arith) (pow-pos (suc k)))))
-
-either : (B : ℕ) → (ltb 0 B || (eqb 0 B && true)) ≡ true
-either zero = refl
-either (suc b) = ap (λ (x : Bool). x || (eqb 0 (suc b) && true)) (lt-ltb 0 (suc b) (omega arith))
-
-zero-alike : (e : ℤ) (y : Float) → le (fin false 0 (pos 0)) y ≡ le (fin false 0 e) y
-unfolding le lt eq
-zero-alike e nan = refl
-zero-alike e (inf t) = refl
-zero-alike e (fin false n d) = simp (zero-mul) (either (n * up d * 1) ∙ sym (either (n * up d * down e)))
-zero-alike (pos k) (fin true n d) = simp (zero-mul)
-zero-alike (negsuc k) (fin true n d) = simp (zero-mul) (ap (λ (b : Bool). b && true) (nought (n * up d) k))
-
-canon-le : (m : ℕ) (e : ℤ) (y : Float) → le (canon m e) y ≡ le (fin false m e) y
-canon-le zero e y = zero-alike e y
-canon-le (suc m) e y = refl
-
-both : (a b : Bool) → (a ≡ true → b ≡ true) → (a && b) ≡ a
-both true b h = h refl
-both false b h = refl
-
-both' : (a b : Bool) → (a ≡ true → b ≡ true) → (b && a) ≡ a
-both' true true h = refl
-both' true false h = h refl
-both' false true h = refl
-both' false false h = refl
-
-nan-tests : (eps : Float) → (le nan eps && le nan eps) ≡ within eps nan
-unfolding within magnitude le lt eq neg ofBits ofFields odd
-nan-tests eps = refl
-
-inf-tests : (s : Bool) (eps : Float) → (le (inf s) eps && le (inf (not s)) eps) ≡ within eps (inf s)
-unfolding within magnitude le lt eq neg ofBits ofFields odd
-inf-tests true nan = refl
-inf-tests false nan = refl
-inf-tests true (inf true) = refl
-inf-tests true (inf false) = refl
-inf-tests false (inf true) = refl
-inf-tests false (inf false) = refl
-inf-tests true (fin t n d) = refl
-inf-tests false (fin t n d) = refl
-
-pub within-tests : (d eps : Float) → (le d eps && le (neg d) eps) ≡ within eps d
-unfolding within neg
-within-tests nan eps = nan-tests eps
-within-tests (inf s) eps = inf-tests s eps
-within-tests (fin true m e) eps = both' (le (fin false m e) eps) (le (fin true m e) eps) (fin-both m e eps) ∙ sym (ap (λ (x : Float). le x eps) (mag-by true m e) ∙ canon-le m e eps)
-within-tests (fin false m e) eps = both (le (fin false m e) eps) (le (fin true m e) eps) (fin-both m e eps) ∙ sym (ap (λ (x : Float). le x eps) (mag-by false m e) ∙ canon-le m e eps)
-
-pub within-yes : (d eps : Float) → le d eps ≡ true → le (neg d) eps ≡ within eps d
-within-yes d eps h = sym (ap (λ (b : Bool). b && le (neg d) eps) h) ∙ within-tests d eps
-
-pub within-no : (d eps : Float) → le d eps ≡ false → false ≡ within eps d
-within-no d eps h = sym (ap (λ (b : Bool). b && le (neg d) eps) h) ∙ within-tests d eps

@@ -61,3 +61,40 @@ count-places {A} {B} p q d e (x ∷ l) (y ∷ r) h f = go (p x) (q y) (f 0 (omeg
     go false false g s = s
     go true false g s = absurd (true≢false g)
     go false true g s = absurd (false≢true g)
+
+-- ---- how many, by the places that pass
+
+module _ {A : Type 0} (p : A → Bool) (d : A) where
+  pub count-none : (l : List A) → ((i : ℕ) → i < length l → p (getD l i d) ≡ false) → count p l ≡ 0
+  unfolding keep
+  count-none [] h = refl
+  count-none (x ∷ l) h = rw (h 0 (omega arith)) (count-none l (λ i q. h (suc i) (omega arith)))
+
+  pub count-some : (l : List A) (i : ℕ) → i < length l → p (getD l i d) ≡ true → 1 ≤ count p l
+  unfolding keep
+  count-some [] i q e = absurd (omega arith)
+  count-some (x ∷ l) zero q e = rw e (omega arith)
+  count-some (x ∷ l) (suc i) q e = go (p x) (count-some l i (omega arith) e)
+    where
+      go : (b : Bool) → 1 ≤ count p l → 1 ≤ length (cond b (x ∷ keep p l) (keep p l))
+      go true h = omega arith
+      go false h = h
+
+  -- one place alone
+  pub count-only : (l : List A) (i : ℕ) → i < length l → p (getD l i d) ≡ true → ((j : ℕ) → j < length l → (j ≡ i → ⊥) → p (getD l j d) ≡ false) → count p l ≡ 1
+  unfolding keep
+  count-only [] i q e f = absurd (omega arith)
+  count-only (x ∷ l) zero q e f = rw e (ap suc (count-none l (λ j h. f (suc j) (omega arith) (λ z. omega arith))))
+  count-only (x ∷ l) (suc i) q e f = rw (f 0 (omega arith) (λ z. omega arith)) (count-only l i (omega arith) e (λ j h n. f (suc j) (omega arith) (λ z. n (omega arith))))
+
+  -- two places
+  pub count-two : (l : List A) (i j : ℕ) → i < j → j < length l → p (getD l i d) ≡ true → p (getD l j d) ≡ true → 2 ≤ count p l
+  unfolding keep
+  count-two [] i j h q a b = absurd (omega arith)
+  count-two (x ∷ l) i zero h q a b = absurd (omega arith)
+  count-two (x ∷ l) zero (suc j) h q a b = rw a (let c = count-some l j (omega arith) b in omega arith)
+  count-two (x ∷ l) (suc i) (suc j) h q a b = go (p x) (count-two l i j (omega arith) (omega arith) a b)
+    where
+      go : (c : Bool) → 2 ≤ count p l → 2 ≤ length (cond c (x ∷ keep p l) (keep p l))
+      go true h = omega arith
+      go false h = h

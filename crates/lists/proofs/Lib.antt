@@ -1,5 +1,5 @@
 -- Bools: tests. Every: what all pass. Members: members of the lists that the words of specs/Lists.antt make. Counts: how many pass. Places: 0, 1, .. n - 1.
--- Regions: parts of a buffer.
+-- Regions: parts of a buffer. Mapped: sorting and keeping under a function. Stores: runs of stores, and counting up.
 pub mod Bools
 pub mod Every
 pub mod Members
@@ -9,5 +9,5 @@ pub mod Places
 pub mod Orders
 pub mod SortBy
 pub mod Multiplicity
--- Stores: runs of stores, and counting up.
+pub mod Mapped
 pub mod Stores

@@ -1,8 +1,8 @@
 -- Laws of a run of stores (`sets` of lib.Seq), and of counting up. Assumes nothing.
 --   sets-append       a run in two parts          length-upFrom, upFrom-cons   numbers from k on
-use Prim.Native.Nat.{ℕ, zero, suc, _+_, _-_, _<_}
+use Prim.Native.Nat.{ℕ, zero, suc, _+_}
 use native.Mathlib.Omega.{arith}
-use mathlib.Core.Path.{_≡_, refl, sym, ap, _∙_}
+use mathlib.Core.Path.{_≡_, refl, ap, _∙_}
 use mathlib.Core.List.{List, [], _∷_, _++_}
 use lib.ListN.{length, set}
 use lib.Seq.{sets}

@@ -4,8 +4,8 @@
 --   head-passed, tail-passed, row-front, row-rest   what is known once a row of tests has passed
 --   Listed, listed                 the same of tests 1, 2 and 3
 use Prim.Native.Nat.{ℕ, _/_, _%_, _≤_, _<_}
-use mathlib.Core.Path.{_≡_, refl, sym, ap, _∙_}
-use mathlib.Core.Bool.{Bool, true, false, cond, not, _||_}
+use mathlib.Core.Path.{_≡_, refl, ap, _∙_}
+use mathlib.Core.Bool.{Bool, true, false, cond, _||_}
 use mathlib.Core.List.{List, [], _∷_, _++_}
 use borrow.Author.Tests.{lt-ltb, le-ltb, ltb-false, eqb-true, not-false}
 use lib.Dec.{ltb, eqb}

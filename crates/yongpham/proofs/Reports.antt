@@ -5,7 +5,7 @@ use Prim.Native.Nat.{ℕ}
 use lib.Ieee.{Float, binary64, toBits}
 use Rattle.geometry.specs.declared.aabb.AABB.{AABB}
 use Rattle.refusals.specs.declared.refusal.Refusal.{Refusal}
-use Rattle.refusals.specs.Refusals.{documented, documentedMesh, Settled}
+use Rattle.refusals.specs.Refusals.{documented, documentedMesh, Settled, Zeroed}
 use Rattle.tolerance.specs.declared.Tolerance.{Tolerance}
 use Rattle.tolerance.specs.declared.Tolerance.the-variants.{Of, Refused}
 use Rattle.tolerance.specs.Tolerance.{toleranceReply, documentedTolerance, Tolerated}
@@ -13,9 +13,8 @@ use Rattle.refusals.specs.Reports.{Reported}
 use Rattle.refusals.proofs.Reports.{same-reply}
 use Rattle.refusals.specs.declared.reply.MeshReply.{MeshReply}
 use Rattle.geometry.specs.Triangles.{flat}
-use Rattle.geometry.specs.Meshes.{coordinates}
-use Rattle.aabb_clipping.specs.Clip.{clipResult, Clipped}
-use Rattle.yongpham.specs.Calls.{ClipReported}
+use Rattle.geometry.specs.Meshes.{Mesh, coordinates}
+use Rattle.yongpham.specs.Calls.{MeshReported}
 
 pub tolerance-done : (b : AABB) (t : Tolerance) (eps : Float) (r : ℕ) (ws : List ℕ) → Tolerated b t → t ≡ Of eps → (r ≡ 0) × (ws ≡ toBits binary64 eps ∷ 0 ∷ 0 ∷ 0 ∷ []) → Reported (toleranceReply b) r ws
 tolerance-done b t eps r ws h e k =
@@ -24,13 +23,13 @@ tolerance-done b t eps r ws h e k =
 pub tolerance-refused : (b : AABB) (t : Tolerance) (q : Refusal) (r : ℕ) (ws : List ℕ) → Tolerated b t → t ≡ Refused q → Reported (documented q) r ws → Reported (toleranceReply b) r ws
 tolerance-refused b t q r ws h e k = same-reply (documented q) (toleranceReply b) r ws (sym (ap documentedTolerance e) ∙ h .replied) k
 
--- ---- clip
+-- ---- operations that write a mesh
 
-pub clip-reported : (vs : List Float) (fs : List ℕ) (box : AABB) (eps : Float) (reply : MeshReply) (r : ℕ) (ws w w' : List ℕ) (v v' : List Float) (f f' : List ℕ) → Clipped vs fs box eps reply w w' v v' f f' → Reported (documentedMesh reply) r ws → ClipReported vs fs box eps r ws w w' v v' f f'
-clip-reported vs fs box eps reply r ws w w' v v' f f' h k =
+pub mesh-reported : (reply : List ℕ) (result : Mesh) (m : MeshReply) (r : ℕ) (ws w w' : List ℕ) (v v' : List Float) (f f' : List ℕ) → documentedMesh m ≡ reply → Settled (documentedMesh m) (coordinates (result .points)) v v' → Settled (documentedMesh m) (flat (result .facets)) f f' → Zeroed w w' → Reported (documentedMesh m) r ws → MeshReported reply result r ws w w' v v' f f'
+mesh-reported reply result m r ws w w' v v' f f' e h k z g =
     record {
-      reported = same-reply _ _ r ws (h .replied) k;
-      vertices = subst (λ (l : List ℕ). Settled l (coordinates (clipResult vs fs box eps .points)) v v') (h .replied) (h .vertices);
-      facets = subst (λ (l : List ℕ). Settled l (flat (clipResult vs fs box eps .facets)) f f') (h .replied) (h .facets);
-      work = h .work;
+      reported = same-reply (documentedMesh m) reply r ws e g;
+      vertices = subst (λ (l : List ℕ). Settled l (coordinates (result .points)) v v') e h;
+      facets = subst (λ (l : List ℕ). Settled l (flat (result .facets)) f f') e k;
+      work = z;
     }

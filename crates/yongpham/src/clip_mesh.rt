@@ -1,4 +1,7 @@
-ghost use Rattle.yongpham.specs.Calls.{ClipReported, boxOf};
+ghost use mathlib.Core.List.{[], _∷_};
+ghost use lib.ListN.{length};
+ghost use Rattle.aabb_clipping.specs.Clip.{clipReply, clipResult};
+ghost use Rattle.yongpham.specs.Calls.{MeshReported, boxOf};
 use aabb_clipping::clip_mesh_to_aabb;
 use geometry::aabb::AABB;
 use refusals::report::report_mesh;
@@ -20,7 +23,7 @@ pub extern "C" fn yongpham_clip(
     out_facets: &mut [u32],
     values: &mut [u64; 4],
 ) -> u32
-    ensures { λ r. ⌜ ClipReported (now (vertices .entry)) (now (facets .entry)) (boxOf «min_x» «min_y» «min_z» «max_x» «max_y» «max_z») eps r (now (values .exit)) (now (work .entry)) (now (work .exit)) (now («out_vertices» .entry)) (now («out_vertices» .exit)) (now («out_facets» .entry)) (now («out_facets» .exit)) ⌝ }
+    ensures { λ r. ⌜ MeshReported (clipReply (now (vertices .entry)) (now (facets .entry)) (boxOf «min_x» «min_y» «min_z» «max_x» «max_y» «max_z») eps (length (now (work .entry))) (length (now («out_vertices» .entry)) ∷ length (now («out_facets» .entry)) ∷ [])) (clipResult (now (vertices .entry)) (now (facets .entry)) (boxOf «min_x» «min_y» «min_z» «max_x» «max_y» «max_z») eps) r (now (values .exit)) (now (work .entry)) (now (work .exit)) (now («out_vertices» .entry)) (now («out_vertices» .exit)) (now («out_facets» .entry)) (now («out_facets» .exit)) ⌝ }
 {
     let extents = AABB {
         min_corner: [min_x, min_y, min_z],

@@ -4,7 +4,7 @@ use Rattle.lists.proofs.Bools.{and-next, and-stop}
 use borrow.Author.Tests.{not-true, not-false}
 use mathlib.Core.Bool.{not}
 use native.Mathlib.Omega.{arith}
-use mathlib.Core.Path.{_≡_, refl, sym, ap, _∙_}
+use mathlib.Core.Path.{sym, ap, _∙_}
 use borrow.Author.Needs.{needs}
 use Rattle.aabb_clipping.proofs.check.Statement.{statement}
 use Rattle.aabb_clipping.proofs.check.Tie as tie

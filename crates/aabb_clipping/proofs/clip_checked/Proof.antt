@@ -8,7 +8,7 @@ use lib.ListN.{length, drop}
 use mathlib.Core.List.{List, _++_}
 use Prim.Native.Nat.{ℕ, _/_}
 use native.Mathlib.Omega.{arith}
-use mathlib.Core.Path.{_≡_, refl, sym, ap, _∙_}
+use mathlib.Core.Path.{sym, ap, _∙_}
 use borrow.Author.Needs.{needs}
 use Rattle.aabb_clipping.proofs.clip_checked.Statement.{statement}
 use Rattle.aabb_clipping.proofs.clip_checked.Tie as tie

@@ -29,19 +29,55 @@ zero-part-requires : tie.Need-zero-part-requires
 zero-part-requires c κs = search needs
 
 join-requires : tie.Need-join-requires
-join-requires c κs = let s = c .before .before .before .before .before .before .before .before .before .before .args in let u = c .before .before .before .before .before .before .before .before .before .before .pre in let rest = fresh-rest (s .w .now) (c .before .before .before .before .before .before .before .own .last .0) (c .before .before .before .zero-part .last .0) (s .n) (s .m) (s .at) (c .before .before .before .before .before .before .before .own .ensures) (c .before .before .before .zero-part .ensures) in let long = c .before .before .before .zero-part .ensures .long ∙ c .before .before .before .before .before .before .before .own .ensures .long in let same = labels-kept (s .w .now) (c .before .before .before .zero-part .last .0) (s .labels) (s .n) (s .k) (s .m) (s .at) u long rest in (joining-kept (s .w .now) (c .before .before .before .zero-part .last .0) (s .labels) (s .n) (s .k) (s .m) (s .at) u long rest, rw same (swept-start (view (s .w .now) (s .labels) (s .n * s .k)) (s .n) (s .k) (s .m) (s .at) (c .before .before .before .before .before .before .before .before .before .before .pre .some) (read-length (s .w .now) (s .labels) (s .n) (s .k) (s .m) (s .at) (c .before .before .before .before .before .before .before .before .before .before .pre)) (c .before .before .before .before .before .before .before .before .before .before .pre .below) _ _ _ (c .before .before .before .before .before .before .before .own .ensures) (c .before .before .before .zero-part .ensures)))
+join-requires c κs =
+    let s = c .before .before .before .before .before .before .before .before .before .before .args in
+    let pre = c .before .before .before .before .before .before .before .before .before .before .pre in
+    let own = c .before .before .before .before .before .before .before .own in
+    let cleared = c .before .before .before .zero-part in
+    let rest = fresh-rest (s .w .now) (own .last .0) (cleared .last .0) (s .n) (s .m) (s .at) (own .ensures) (cleared .ensures) in
+    let long = cleared .ensures .long ∙ own .ensures .long in
+    let same = labels-kept (s .w .now) (cleared .last .0) (s .labels) (s .n) (s .k) (s .m) (s .at) pre long rest in
+    let joining = joining-kept (s .w .now) (cleared .last .0) (s .labels) (s .n) (s .k) (s .m) (s .at) pre long rest in
+    let swept = swept-start (view (s .w .now) (s .labels) (s .n * s .k)) (s .n) (s .k) (s .m) (s .at) (pre .some)
+    (read-length (s .w .now) (s .labels) (s .n) (s .k) (s .m) (s .at) pre) (pre .below) _ _ _ (own .ensures) (cleared .ensures) in
+    (joining, rw same swept)
 
 flatten-requires : tie.Need-flatten-requires
 flatten-requires c κs = search needs
 
 tally-requires : tie.Need-tally-requires
-tally-requires c κs = let s = c .before .before .before .before .before .before .before .before .before .before .before .before .before .before .before .before .before .before .args in (omega arith, (c .before .before .before .flatten .ensures .kept .forest, sizes-zero (view (c .before .before .before .before .before .before .before .before .before .before .before .zero-part .last .0) (s .labels) (s .n * s .k)) (c .before .before .before .before .before .before .before .before .before .before .before .before .before .before .before .own .last .0) (c .before .before .before .before .before .before .before .before .before .before .before .zero-part .last .0) (c .before .before .before .before .before .before .before .join .last .0) (c .before .before .before .flatten .last .0) (s .n) (s .k) (s .m) (s .at) (s .n * s .k) (c .before .before .before .before .before .before .before .before .before .before .before .zero-part .ensures) (c .before .before .before .before .before .before .before .join .ensures) (c .before .before .before .flatten .ensures)))
+tally-requires c κs =
+    let s = c .before .before .before .before .before .before .before .before .before .before .before .before .before .before .before .before .before
+    .before .args in
+    let pre = c .before .before .before .before .before .before .before .before .before .before .before .before .before .before .before .before .before
+    .before .pre in
+    let own = c .before .before .before .before .before .before .before .before .before .before .before .before .before .before .before .own in
+    let cleared = c .before .before .before .before .before .before .before .before .before .before .before .zero-part in
+    let joined = c .before .before .before .before .before .before .before .join in
+    let flat = c .before .before .before .flatten in
+    let zero = sizes-zero (view (cleared .last .0) (s .labels) (s .n * s .k)) (own .last .0) (cleared .last .0) (joined .last .0) (flat .last .0) (s .n)
+    (s .k) (s .m) (s .at) (s .n * s .k) (cleared .ensures) (joined .ensures) (flat .ensures) in
+    (omega arith, (flat .ensures .kept .forest, zero))
 
 same-length : tie.Need-same-length
 same-length c = search needs
 
 returns : tie.Need-returns
-returns c = let s = c .before .before .before .before .before .before .before .before .before .before .before .before .before .before .before .before .before .before .before .before .before .args in let u = c .before .before .before .before .before .before .before .before .before .before .before .before .before .before .before .before .before .before .before .before .before .pre in let rest = fresh-rest (s .w .now) (c .before .before .before .before .before .before .before .before .before .before .before .before .before .before .before .before .before .before .own .last .0) (c .before .before .before .before .before .before .before .before .before .before .before .before .before .before .zero-part .last .0) (s .n) (s .m) (s .at) (c .before .before .before .before .before .before .before .before .before .before .before .before .before .before .before .before .before .before .own .ensures) (c .before .before .before .before .before .before .before .before .before .before .before .before .before .before .zero-part .ensures) in let long = c .before .before .before .before .before .before .before .before .before .before .before .before .before .before .zero-part .ensures .long ∙ c .before .before .before .before .before .before .before .before .before .before .before .before .before .before .before .before .before .before .own .ensures .long in let same = labels-kept (s .w .now) (c .before .before .before .before .before .before .before .before .before .before .before .before .before .before .zero-part .last .0) (s .labels) (s .n) (s .k) (s .m) (s .at) u long rest in swept-end (view (s .w .now) (s .labels) (s .n * s .k)) (s .n) (s .k) (s .m) (s .at) (c .before .before .before .before .before .before .before .before .before .before .before .before .before .before .before .before .before .before .before .before .before .pre .some) (read-length (s .w .now) (s .labels) (s .n) (s .k) (s .m) (s .at) (c .before .before .before .before .before .before .before .before .before .before .before .before .before .before .before .before .before .before .before .before .before .pre)) (c .before .before .before .before .before .before .before .before .before .before .before .before .before .before .before .before .before .before .before .before .before .pre .below) _ _ _ _ _ _ (omega arith) (c .before .before .before .before .before .before .before .before .before .before .before .before .before .before .before .before .before .before .own .ensures) (c .before .before .before .before .before .before .before .before .before .before .before .before .before .before .zero-part .ensures) (rw (← same) (c .before .before .before .before .before .before .before .before .before .before .join .ensures)) (c .before .before .before .before .before .before .flatten .ensures) (c .before .before .tally .ensures)
+returns c =
+    let s = c .before .before .before .before .before .before .before .before .before .before .before .before .before .before .before .before .before
+    .before .before .before .before .args in
+    let pre = c .before .before .before .before .before .before .before .before .before .before .before .before .before .before .before .before .before
+    .before .before .before .before .pre in
+    let own = c .before .before .before .before .before .before .before .before .before .before .before .before .before .before .before .before .before
+    .before .own in
+    let cleared = c .before .before .before .before .before .before .before .before .before .before .before .before .before .before .zero-part in
+    let rest = fresh-rest (s .w .now) (own .last .0) (cleared .last .0) (s .n) (s .m) (s .at) (own .ensures) (cleared .ensures) in
+    let long = cleared .ensures .long ∙ own .ensures .long in
+    let same = labels-kept (s .w .now) (cleared .last .0) (s .labels) (s .n) (s .k) (s .m) (s .at) pre long rest in
+    swept-end (view (s .w .now) (s .labels) (s .n * s .k)) (s .n) (s .k) (s .m) (s .at) (pre .some)
+    (read-length (s .w .now) (s .labels) (s .n) (s .k) (s .m) (s .at) pre) (pre .below) _ _ _ _ _ _ (omega arith) (own .ensures) (cleared .ensures)
+    (rw (← same) (c .before .before .before .before .before .before .before .before .before .before .join .ensures))
+    (c .before .before .before .before .before .before .flatten .ensures) (c .before .before .tally .ensures)
 
 pub components-spec : {M : Type 1} → statement M
 components-spec =

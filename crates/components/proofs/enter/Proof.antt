@@ -30,43 +30,144 @@ same-length : tie.Need-same-length
 same-length c = simp length-set (omega arith)
 
 returns : tie.Need-returns
-returns c = let s = c .before .before .before .args in record { unseen = λ e. refl; seen = λ f e. absurd (omega arith); rooted = rooted-elsewhere (s .w .now) (s .at) (s .n) (s .i) (s .r) (s .s) (s .i + 1) (omega arith) (omega arith) (c .before .before .before .pre .1 .1 .1 .1 .1) }
+returns c =
+    let s = c .before .before .before .args in
+    let pre = c .before .before .before .pre .1 .1 .1 in
+    record
+    { unseen = λ e. refl; seen = λ f e. absurd (omega arith); rooted = rooted-elsewhere (s .w .now) (s .at) (s .n) (s .i) (s .r) (s .s) (s .i + 1) (omega arith) (omega arith) (pre .1 .1) }
 
 sub-find : tie.Need-sub-find
 sub-find c = search needs
 
 find-requires : tie.Need-find-requires
-find-requires c κs = let s = c .before .before .before .before .args in (omega arith, ((c .before .before .before .before .pre .1 .1 .1 .0 (getD (s .w .now) (s .s) 0 - 1) (omega arith)), c .before .before .before .before .pre .1 .1 .1 .1 .0))
+find-requires c κs =
+    let s = c .before .before .before .before .args in
+    let pre = c .before .before .before .before .pre .1 .1 .1 in
+    let first : ℕ = getD (s .w .now) (s .s) 0 - 1 in
+    let first-in : first < s .n = pre .0 first (omega arith) in
+    (omega arith, (first-in, pre .1 .0))
 
 add-w-2 : tie.Need-add-w-2
-add-w-2 c = let s = c .before .before .before .before .before .before .before .before .args in let a = c .before .before .before .before .before .before .before .before .pre .1 .1 .1 .1 .1 .small in let f = c .before .before .before .before .before .before .before .before .pre .1 .1 .1 .0 (getD (s .w .now) (s .s) 0 - 1) (omega arith) in let t = c .before .before .before .find .ensures .small in let e = c .before .before .before .find .ensures .kept .long in omega arith
+add-w-2 c =
+    let s = c .before .before .before .before .before .before .before .before .args in
+    let pre = c .before .before .before .before .before .before .before .before .pre .1 .1 .1 in
+    let first : ℕ = getD (s .w .now) (s .s) 0 - 1 in
+    let first-in : first < s .n = pre .0 first (omega arith) in
+    let found = c .before .before .before .find in
+    let a = pre .1 .1 .small in
+    let t = found .ensures .small in
+    let e = found .ensures .kept .long in
+    omega arith
 
 mul-w-2 : tie.Need-mul-w-2
-mul-w-2 c = let s = c .before .before .before .before .before .before .before .before .args in let a = c .before .before .before .before .before .before .before .before .pre .1 .1 .1 .1 .1 .small in let f = c .before .before .before .before .before .before .before .before .pre .1 .1 .1 .0 (getD (s .w .now) (s .s) 0 - 1) (omega arith) in let t = c .before .before .before .find .ensures .small in let e = c .before .before .before .find .ensures .kept .long in omega arith
+mul-w-2 c =
+    let s = c .before .before .before .before .before .before .before .before .args in
+    let pre = c .before .before .before .before .before .before .before .before .pre .1 .1 .1 in
+    let first : ℕ = getD (s .w .now) (s .s) 0 - 1 in
+    let first-in : first < s .n = pre .0 first (omega arith) in
+    let found = c .before .before .before .find in
+    let a = pre .1 .1 .small in
+    let t = found .ensures .small in
+    let e = found .ensures .kept .long in
+    omega arith
 
 slice-write-w-2 : tie.Need-slice-write-w-2
-slice-write-w-2 c = let s = c .before .before .before .before .before .before .before .before .args in let a = c .before .before .before .before .before .before .before .before .pre .1 .1 .1 .1 .1 .small in let f = c .before .before .before .before .before .before .before .before .pre .1 .1 .1 .0 (getD (s .w .now) (s .s) 0 - 1) (omega arith) in let t = c .before .before .before .find .ensures .small in let e = c .before .before .before .find .ensures .kept .long in omega arith
+slice-write-w-2 c =
+    let s = c .before .before .before .before .before .before .before .before .args in
+    let pre = c .before .before .before .before .before .before .before .before .pre .1 .1 .1 in
+    let first : ℕ = getD (s .w .now) (s .s) 0 - 1 in
+    let first-in : first < s .n = pre .0 first (omega arith) in
+    let found = c .before .before .before .find in
+    let a = pre .1 .1 .small in
+    let t = found .ensures .small in
+    let e = found .ensures .kept .long in
+    omega arith
 
 same-length-2 : tie.Need-same-length-2
-same-length-2 c = let s = c .before .before .before .before .before .before .before .before .args in let a = c .before .before .before .before .before .before .before .before .pre .1 .1 .1 .1 .1 .small in let f = c .before .before .before .before .before .before .before .before .pre .1 .1 .1 .0 (getD (s .w .now) (s .s) 0 - 1) (omega arith) in let t = c .before .before .before .find .ensures .small in let e = c .before .before .before .find .ensures .kept .long in simp length-set (omega arith)
+same-length-2 c =
+    let s = c .before .before .before .before .before .before .before .before .args in
+    let pre = c .before .before .before .before .before .before .before .before .pre .1 .1 .1 in
+    let first : ℕ = getD (s .w .now) (s .s) 0 - 1 in
+    let first-in : first < s .n = pre .0 first (omega arith) in
+    let found = c .before .before .before .find in
+    let a = pre .1 .1 .small in
+    let t = found .ensures .small in
+    let e = found .ensures .kept .long in
+    simp length-set (omega arith)
 
 returns-2 : tie.Need-returns-2
-returns-2 c = let s = c .before .before .before .before .before .before .before .before .args in record { unseen = λ e. absurd (omega arith); seen = λ f e. let h : f ≡ getD (s .w .now) (s .s) 0 - 1 = omega arith in rw h (unite-up (s .w .now) (c .before .before .before .find .last .0) (s .at) (s .n) (s .i) (getD (s .w .now) (s .s) 0 - 1) (s .r) _ (omega arith) (omega arith) (c .before .before .before .before .before .before .before .before .pre .1 .1 .1 .0 (getD (s .w .now) (s .s) 0 - 1) (omega arith)) (c .before .before .before .before .before .before .before .before .pre .1 .1 .1 .1 .1) (c .before .before .before .find .ensures) (c .if2 .taken)); rooted = rooted-up (s .w .now) (c .before .before .before .find .last .0) (s .at) (s .n) (s .i) (getD (s .w .now) (s .s) 0 - 1) (s .r) _ (omega arith) (omega arith) (c .before .before .before .before .before .before .before .before .pre .1 .1 .1 .0 (getD (s .w .now) (s .s) 0 - 1) (omega arith)) (c .before .before .before .before .before .before .before .before .pre .1 .1 .1 .1 .1) (c .before .before .before .find .ensures) (c .if2 .taken) }
+returns-2 c =
+    let s = c .before .before .before .before .before .before .before .before .args in
+    let pre = c .before .before .before .before .before .before .before .before .pre .1 .1 .1 in
+    let first : ℕ = getD (s .w .now) (s .s) 0 - 1 in
+    let first-in : first < s .n = pre .0 first (omega arith) in
+    let found = c .before .before .before .find in
+    let united = unite-up (s .w .now) (found .last .0) (s .at) (s .n) (s .i) first (s .r) _ (omega arith) (omega arith) first-in (pre .1 .1)
+    (found .ensures) (c .if2 .taken) in
+    let rooted = rooted-up (s .w .now) (found .last .0) (s .at) (s .n) (s .i) first (s .r) _ (omega arith) (omega arith) first-in (pre .1 .1)
+    (found .ensures) (c .if2 .taken) in
+    record { unseen = λ e. absurd (omega arith); seen = λ f e. let h : f ≡ first = omega arith in rw h united; rooted = rooted }
 
 add-w-3 : tie.Need-add-w-3
-add-w-3 c = let s = c .before .before .before .before .before .before .before .before .args in let a = c .before .before .before .before .before .before .before .before .pre .1 .1 .1 .1 .1 .small in let f = c .before .before .before .before .before .before .before .before .pre .1 .1 .1 .0 (getD (s .w .now) (s .s) 0 - 1) (omega arith) in let t = c .before .before .before .find .ensures .small in let e = c .before .before .before .find .ensures .kept .long in omega arith
+add-w-3 c =
+    let s = c .before .before .before .before .before .before .before .before .args in
+    let pre = c .before .before .before .before .before .before .before .before .pre .1 .1 .1 in
+    let first : ℕ = getD (s .w .now) (s .s) 0 - 1 in
+    let first-in : first < s .n = pre .0 first (omega arith) in
+    let found = c .before .before .before .find in
+    let a = pre .1 .1 .small in
+    let t = found .ensures .small in
+    let e = found .ensures .kept .long in
+    omega arith
 
 mul-w-3 : tie.Need-mul-w-3
-mul-w-3 c = let s = c .before .before .before .before .before .before .before .before .args in let a = c .before .before .before .before .before .before .before .before .pre .1 .1 .1 .1 .1 .small in let f = c .before .before .before .before .before .before .before .before .pre .1 .1 .1 .0 (getD (s .w .now) (s .s) 0 - 1) (omega arith) in let t = c .before .before .before .find .ensures .small in let e = c .before .before .before .find .ensures .kept .long in omega arith
+mul-w-3 c =
+    let s = c .before .before .before .before .before .before .before .before .args in
+    let pre = c .before .before .before .before .before .before .before .before .pre .1 .1 .1 in
+    let first : ℕ = getD (s .w .now) (s .s) 0 - 1 in
+    let first-in : first < s .n = pre .0 first (omega arith) in
+    let found = c .before .before .before .find in
+    let a = pre .1 .1 .small in
+    let t = found .ensures .small in
+    let e = found .ensures .kept .long in
+    omega arith
 
 slice-write-w-3 : tie.Need-slice-write-w-3
-slice-write-w-3 c = let s = c .before .before .before .before .before .before .before .before .args in let a = c .before .before .before .before .before .before .before .before .pre .1 .1 .1 .1 .1 .small in let f = c .before .before .before .before .before .before .before .before .pre .1 .1 .1 .0 (getD (s .w .now) (s .s) 0 - 1) (omega arith) in let t = c .before .before .before .find .ensures .small in let e = c .before .before .before .find .ensures .kept .long in omega arith
+slice-write-w-3 c =
+    let s = c .before .before .before .before .before .before .before .before .args in
+    let pre = c .before .before .before .before .before .before .before .before .pre .1 .1 .1 in
+    let first : ℕ = getD (s .w .now) (s .s) 0 - 1 in
+    let first-in : first < s .n = pre .0 first (omega arith) in
+    let found = c .before .before .before .find in
+    let a = pre .1 .1 .small in
+    let t = found .ensures .small in
+    let e = found .ensures .kept .long in
+    omega arith
 
 same-length-3 : tie.Need-same-length-3
-same-length-3 c = let s = c .before .before .before .before .before .before .before .before .args in let a = c .before .before .before .before .before .before .before .before .pre .1 .1 .1 .1 .1 .small in let f = c .before .before .before .before .before .before .before .before .pre .1 .1 .1 .0 (getD (s .w .now) (s .s) 0 - 1) (omega arith) in let t = c .before .before .before .find .ensures .small in let e = c .before .before .before .find .ensures .kept .long in simp length-set (omega arith)
+same-length-3 c =
+    let s = c .before .before .before .before .before .before .before .before .args in
+    let pre = c .before .before .before .before .before .before .before .before .pre .1 .1 .1 in
+    let first : ℕ = getD (s .w .now) (s .s) 0 - 1 in
+    let first-in : first < s .n = pre .0 first (omega arith) in
+    let found = c .before .before .before .find in
+    let a = pre .1 .1 .small in
+    let t = found .ensures .small in
+    let e = found .ensures .kept .long in
+    simp length-set (omega arith)
 
 returns-3 : tie.Need-returns-3
-returns-3 c = let s = c .before .before .before .before .before .before .before .before .args in record { unseen = λ e. absurd (omega arith); seen = λ f e. let h : f ≡ getD (s .w .now) (s .s) 0 - 1 = omega arith in rw h (unite-down (s .w .now) (c .before .before .before .find .last .0) (s .at) (s .n) (s .i) (getD (s .w .now) (s .s) 0 - 1) (s .r) _ (omega arith) (omega arith) (c .before .before .before .before .before .before .before .before .pre .1 .1 .1 .0 (getD (s .w .now) (s .s) 0 - 1) (omega arith)) (c .before .before .before .before .before .before .before .before .pre .1 .1 .1 .1 .1) (c .before .before .before .find .ensures) (c .if2 .left)); rooted = rooted-down (s .w .now) (c .before .before .before .find .last .0) (s .at) (s .n) (s .i) (getD (s .w .now) (s .s) 0 - 1) (s .r) _ (omega arith) (omega arith) (c .before .before .before .before .before .before .before .before .pre .1 .1 .1 .0 (getD (s .w .now) (s .s) 0 - 1) (omega arith)) (c .before .before .before .before .before .before .before .before .pre .1 .1 .1 .1 .1) (c .before .before .before .find .ensures) (c .if2 .left) }
+returns-3 c =
+    let s = c .before .before .before .before .before .before .before .before .args in
+    let pre = c .before .before .before .before .before .before .before .before .pre .1 .1 .1 in
+    let first : ℕ = getD (s .w .now) (s .s) 0 - 1 in
+    let first-in : first < s .n = pre .0 first (omega arith) in
+    let found = c .before .before .before .find in
+    let united = unite-down (s .w .now) (found .last .0) (s .at) (s .n) (s .i) first (s .r) _ (omega arith) (omega arith) first-in (pre .1 .1)
+    (found .ensures) (c .if2 .left) in
+    let rooted = rooted-down (s .w .now) (found .last .0) (s .at) (s .n) (s .i) first (s .r) _ (omega arith) (omega arith) first-in (pre .1 .1)
+    (found .ensures) (c .if2 .left) in
+    record { unseen = λ e. absurd (omega arith); seen = λ f e. let h : f ≡ first = omega arith in rw h united; rooted = rooted }
 
 pub enter-spec : {M : Type 1} → statement M
 enter-spec =

@@ -54,13 +54,27 @@ mul-p-2 : tie.Need-mul-p-2 Inv-loop μ-loop
 mul-p-2 c = let l = c .before .before .loop in let a = l .inv .2 .forest (l .r) (omega arith) in let b = l .inv .2 .forest (l .p) (omega arith) in omega arith
 
 slice-read-p-2 : tie.Need-slice-read-p-2 Inv-loop μ-loop
-slice-read-p-2 c = let l = c .before .before .before .loop in let a = l .inv .2 .forest (l .r) (omega arith) in let b = l .inv .2 .forest (l .p) (omega arith) in simp length-set (omega arith)
+slice-read-p-2 c =
+    let l = c .before .before .before .loop in
+    let a = l .inv .2 .forest (l .r) (omega arith) in
+    let b = l .inv .2 .forest (l .p) (omega arith) in
+    simp length-set (omega arith)
 
 loop-less : tie.Need-loop-less Inv-loop μ-loop
-loop-less c = let l = c .before .before .before .loop in let a = l .inv .2 .forest (l .r) (omega arith) in let b = l .inv .2 .forest (l .p) (omega arith) in omega arith
+loop-less c =
+    let l = c .before .before .before .loop in
+    let a = l .inv .2 .forest (l .r) (omega arith) in
+    let b = l .inv .2 .forest (l .p) (omega arith) in
+    omega arith
 
 loop-again : tie.Need-loop-again Inv-loop μ-loop
-loop-again c = let l = c .before .before .before .loop in let a = l .inv .2 .forest (l .r) (omega arith) in let b = l .inv .2 .forest (l .p) (omega arith) in let h = halve-at _ (l .w) (c .before .before .before .before .before .args .at) (c .before .before .before .before .before .args .n) _ (l .r) (l .p) (omega arith) (omega arith) (l .inv .1) (l .inv .2) (l .inv .3) in (omega arith, refl, h .0, h .1)
+loop-again c =
+    let l = c .before .before .before .loop in
+    let a = l .inv .2 .forest (l .r) (omega arith) in
+    let b = l .inv .2 .forest (l .p) (omega arith) in
+    let s = c .before .before .before .before .before .args in
+    let h = halve-at _ (l .w) (s .at) (s .n) _ (l .r) (l .p) (omega arith) (omega arith) (l .inv .1) (l .inv .2) (l .inv .3) in
+    (omega arith, refl, h .0, h .1)
 
 same-length : tie.Need-same-length Inv-loop μ-loop
 same-length c = omega arith

@@ -54,7 +54,12 @@ loop-less : tie.Need-loop-less Inv-loop μ-loop
 loop-less c = omega arith
 
 loop-again : tie.Need-loop-again Inv-loop μ-loop
-loop-again c = let l = c .before .before .before .loop in let s = c .before .before .before .before .args in (omega arith, flatten-kept _ (l .w) (s .at) (s .n) (l .i) (omega arith) (omega arith) (l .inv .1) (l .inv .2), flatten-more _ (l .w) (s .at) (s .n) (l .i) (omega arith) (omega arith) (l .inv .1) (l .inv .2))
+loop-again c =
+    let l = c .before .before .before .loop in
+    let s = c .before .before .before .before .args in
+    let kept = flatten-kept _ (l .w) (s .at) (s .n) (l .i) (omega arith) (omega arith) (l .inv .1) (l .inv .2) in
+    let more = flatten-more _ (l .w) (s .at) (s .n) (l .i) (omega arith) (omega arith) (l .inv .1) (l .inv .2) in
+    (omega arith, kept, more)
 
 same-length : tie.Need-same-length Inv-loop μ-loop
 same-length c = omega arith

@@ -34,13 +34,16 @@ loop-less : tie.Need-loop-less Inv-loop μ-loop
 loop-less c = omega arith
 
 loop-again : tie.Need-loop-again Inv-loop μ-loop
-loop-again c = (omega arith, filled-more (λ j. j) _ (c .before .loop .w) (c .before .before .args .at) (c .before .loop .i) (omega arith) (c .before .loop .inv .1))
+loop-again c = let l = c .before .loop in (omega arith, filled-more (λ j. j) _ (l .w) (c .before .before .args .at) (l .i) (omega arith) (l .inv .1))
 
 same-length : tie.Need-same-length Inv-loop μ-loop
 same-length c = omega arith
 
 returns : tie.Need-returns Inv-loop μ-loop
-returns c = let l = c .before .loop in let f = l .inv .1 in record { long = f .long; own = λ j h. f .at j (omega arith); rest = λ x h. f .rest x (λ j a e. h j (omega arith) e) }
+returns c =
+    let l = c .before .loop in
+    let f = l .inv .1 in
+    record { long = f .long; own = λ j h. f .at j (omega arith); rest = λ x h. f .rest x (λ j a e. h j (omega arith) e) }
 
 pub own-spec : {M : Type 1} → statement M
 own-spec =

@@ -31,25 +31,61 @@ slice-read-r : tie.Need-slice-read-r Inv-loop μ-loop
 slice-read-r c = omega arith
 
 add-w : tie.Need-add-w Inv-loop μ-loop
-add-w c = let l = c .before .before .loop in let s = c .before .before .before .args in let a = c .before .before .before .pre .1 .0 (l .i) (omega arith) in let b = l .inv .rest (s .at + l .i) (λ j h e. omega arith) in omega arith
+add-w c =
+    let l = c .before .before .loop in
+    let s = c .before .before .before .args in
+    let a = c .before .before .before .pre .1 .0 (l .i) (omega arith) in
+    let b = l .inv .rest (s .at + l .i) (λ j h e. omega arith) in
+    omega arith
 
 mul-w : tie.Need-mul-w Inv-loop μ-loop
-mul-w c = let l = c .before .before .loop in let s = c .before .before .before .args in let a = c .before .before .before .pre .1 .0 (l .i) (omega arith) in let b = l .inv .rest (s .at + l .i) (λ j h e. omega arith) in omega arith
+mul-w c =
+    let l = c .before .before .loop in
+    let s = c .before .before .before .args in
+    let a = c .before .before .before .pre .1 .0 (l .i) (omega arith) in
+    let b = l .inv .rest (s .at + l .i) (λ j h e. omega arith) in
+    omega arith
 
 slice-read-w : tie.Need-slice-read-w Inv-loop μ-loop
-slice-read-w c = let l = c .before .before .before .loop in let s = c .before .before .before .before .args in let a = c .before .before .before .before .pre .1 .0 (l .i) (omega arith) in let b = l .inv .rest (s .at + l .i) (λ j h e. omega arith) in omega arith
+slice-read-w c =
+    let l = c .before .before .before .loop in
+    let s = c .before .before .before .before .args in
+    let a = c .before .before .before .before .pre .1 .0 (l .i) (omega arith) in
+    let b = l .inv .rest (s .at + l .i) (λ j h e. omega arith) in
+    omega arith
 
 add-w-2 : tie.Need-add-w-2 Inv-loop μ-loop
-add-w-2 c = let l = c .before .before .before .loop in let s = c .before .before .before .before .args in let a = c .before .before .before .before .pre .1 .0 (l .i) (omega arith) in let b = l .inv .rest (s .at + l .i) (λ j h e. omega arith) in let d = counting-low (s .w .now) (l .w) (s .at) (s .n) (l .i) (omega arith) (omega arith) (l .inv) (getD (l .w) (s .at + l .i) 0) (omega arith) in omega arith
+add-w-2 c =
+    let l = c .before .before .before .loop in
+    let s = c .before .before .before .before .args in
+    let a = c .before .before .before .before .pre .1 .0 (l .i) (omega arith) in
+    let b = l .inv .rest (s .at + l .i) (λ j h e. omega arith) in
+    let d = counting-low (s .w .now) (l .w) (s .at) (s .n) (l .i) (omega arith) (omega arith) (l .inv) (getD (l .w) (s .at + l .i) 0) (omega arith) in
+    omega arith
 
 add-w-3 : tie.Need-add-w-3 Inv-loop μ-loop
-add-w-3 c = let l = c .before .before .before .loop in let s = c .before .before .before .before .args in let a = c .before .before .before .before .pre .1 .0 (l .i) (omega arith) in let b = l .inv .rest (s .at + l .i) (λ j h e. omega arith) in omega arith
+add-w-3 c =
+    let l = c .before .before .before .loop in
+    let s = c .before .before .before .before .args in
+    let a = c .before .before .before .before .pre .1 .0 (l .i) (omega arith) in
+    let b = l .inv .rest (s .at + l .i) (λ j h e. omega arith) in
+    omega arith
 
 mul-w-2 : tie.Need-mul-w-2 Inv-loop μ-loop
-mul-w-2 c = let l = c .before .before .before .loop in let s = c .before .before .before .before .args in let a = c .before .before .before .before .pre .1 .0 (l .i) (omega arith) in let b = l .inv .rest (s .at + l .i) (λ j h e. omega arith) in omega arith
+mul-w-2 c =
+    let l = c .before .before .before .loop in
+    let s = c .before .before .before .before .args in
+    let a = c .before .before .before .before .pre .1 .0 (l .i) (omega arith) in
+    let b = l .inv .rest (s .at + l .i) (λ j h e. omega arith) in
+    omega arith
 
 slice-write-w : tie.Need-slice-write-w Inv-loop μ-loop
-slice-write-w c = let l = c .before .before .before .loop in let s = c .before .before .before .before .args in let a = c .before .before .before .before .pre .1 .0 (l .i) (omega arith) in let b = l .inv .rest (s .at + l .i) (λ j h e. omega arith) in omega arith
+slice-write-w c =
+    let l = c .before .before .before .loop in
+    let s = c .before .before .before .before .args in
+    let a = c .before .before .before .before .pre .1 .0 (l .i) (omega arith) in
+    let b = l .inv .rest (s .at + l .i) (λ j h e. omega arith) in
+    omega arith
 
 add-i : tie.Need-add-i Inv-loop μ-loop
 add-i c = omega arith
@@ -58,13 +94,21 @@ loop-less : tie.Need-loop-less Inv-loop μ-loop
 loop-less c = omega arith
 
 loop-again : tie.Need-loop-again Inv-loop μ-loop
-loop-again c = let l = c .before .before .before .loop in let s = c .before .before .before .before .args in let a = c .before .before .before .before .pre .1 .0 (l .i) (omega arith) in let b = l .inv .rest (s .at + l .i) (λ j h e. omega arith) in counting-turn (s .w .now) (l .w) (s .at) (s .n) (l .i) (omega arith) (omega arith) (l .inv) (getD (l .w) (s .at + l .i) 0) (omega arith) refl
+loop-again c =
+    let l = c .before .before .before .loop in
+    let s = c .before .before .before .before .args in
+    let a = c .before .before .before .before .pre .1 .0 (l .i) (omega arith) in
+    let b = l .inv .rest (s .at + l .i) (λ j h e. omega arith) in
+    counting-turn (s .w .now) (l .w) (s .at) (s .n) (l .i) (omega arith) (omega arith) (l .inv) (getD (l .w) (s .at + l .i) 0) (omega arith) refl
 
 same-length : tie.Need-same-length Inv-loop μ-loop
 same-length c = omega arith
 
 returns : tie.Need-returns Inv-loop μ-loop
-returns c = let l = c .before .loop in let s = c .before .before .args in counting-end (s .w .now) (l .w) (s .at) (s .n) (l .i) (omega arith) (omega arith) (l .inv)
+returns c =
+    let l = c .before .loop in
+    let s = c .before .before .args in
+    counting-end (s .w .now) (l .w) (s .at) (s .n) (l .i) (omega arith) (omega arith) (l .inv)
 
 pub tally-spec : {M : Type 1} → statement M
 tally-spec =

@@ -40,7 +40,10 @@ loop-less : tie.Need-loop-less Inv-loop μ-loop
 loop-less c = omega arith
 
 loop-again : tie.Need-loop-again Inv-loop μ-loop
-loop-again c = let l = c .before .before .before .loop in let s = c .before .before .before .before .args in (omega arith, below-more (λ (j : ℕ). getD (s .w .now) (s .at + j) 0 < s .m) (l .t) (l .inv .1) (omega arith))
+loop-again c =
+    let l = c .before .before .before .loop in
+    let s = c .before .before .before .before .args in
+    (omega arith, below-more (λ (j : ℕ). getD (s .w .now) (s .at + j) 0 < s .m) (l .t) (l .inv .1) (omega arith))
 
 returns-2 : tie.Need-returns-2 Inv-loop μ-loop
 returns-2 c = λ r j h. c .before .loop .inv .1 j (omega arith)

@@ -43,7 +43,11 @@ loop-less : tie.Need-loop-less Inv-loop μ-loop
 loop-less c = omega arith
 
 loop-again : tie.Need-loop-again Inv-loop μ-loop
-loop-again c = let l = c .before .before .before .loop in let s = c .before .before .before .before .before .before .before .before .args in let e = l .inv .1 in (omega arith, simp length-set (omega arith), answers-more (s .keys .now) (s .asked .now) (l .found) (l .i) _ (omega arith) (l .inv .2) (c .find-word .ensures))
+loop-again c =
+    let l = c .before .before .before .loop in
+    let s = c .before .before .before .before .before .before .before .before .args in
+    let e = l .inv .1 in
+    (omega arith, simp length-set (omega arith), answers-more (s .keys .now) (s .asked .now) (l .found) (l .i) _ (omega arith) (l .inv .2) (c .find-word .ensures))
 
 same-length : tie.Need-same-length Inv-loop μ-loop
 same-length c = omega arith

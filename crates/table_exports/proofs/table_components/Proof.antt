@@ -50,10 +50,16 @@ add-all-below-2 : tie.Need-add-all-below-2
 add-all-below-2 c = search needs
 
 mul-all-below : tie.Need-mul-all-below
-mul-all-below c = let s = c .before .before .before .before .before .before .args in let h = labels-fit (s .n) (s .k) (length (s .w .now) - s .n - s .n - s .m) (omega arith) (omega arith) in omega arith
+mul-all-below c =
+    let s = c .before .before .before .before .before .before .args in
+    let h = labels-fit (s .n) (s .k) (length (s .w .now) - s .n - s .n - s .m) (omega arith) (omega arith) in
+    omega arith
 
 all-below-requires : tie.Need-all-below-requires
-all-below-requires c κs = let s = c .before .before .before .before .before .before .args in let h = labels-fit (s .n) (s .k) (length (s .w .now) - s .n - s .n - s .m) (omega arith) (omega arith) in omega arith
+all-below-requires c κs =
+    let s = c .before .before .before .before .before .before .args in
+    let h = labels-fit (s .n) (s .k) (length (s .w .now) - s .n - s .n - s .m) (omega arith) (omega arith) in
+    omega arith
 
 add-components : tie.Need-add-components
 add-components c = search needs
@@ -62,7 +68,11 @@ add-components-2 : tie.Need-add-components-2
 add-components-2 c = search needs
 
 components-requires : tie.Need-components-requires
-components-requires c κs = let s = c .before .before .before .before .before .before .before .before .before .args in let h = labels-fit (s .n) (s .k) (length (s .w .now) - s .n - s .n - s .m) (omega arith) (omega arith) in record { some = omega arith; room = omega arith; fits = omega arith; apart = λ i l j q e. omega arith; below = labels-below (s .w .now) (s .n + s .n + s .m) (s .n * s .k) (s .m) (omega arith) (c .before .before .all-below .ensures (c .before .if5 .taken)) }
+components-requires c κs =
+    let s = c .before .before .before .before .before .before .before .before .before .args in
+    let h = labels-fit (s .n) (s .k) (length (s .w .now) - s .n - s .n - s .m) (omega arith) (omega arith) in
+    record
+    { some = omega arith; room = omega arith; fits = omega arith; apart = λ i l j q e. omega arith; below = labels-below (s .w .now) (s .n + s .n + s .m) (s .n * s .k) (s .m) (omega arith) (c .before .before .all-below .ensures (c .before .if5 .taken)) }
 
 same-length : tie.Need-same-length
 same-length c = search needs

@@ -1,18 +1,9 @@
 use Rattle.aabb_facets.proofs.RoomLaws.{Sharing, sharing-start, sharing-more}
-use Rattle.aabb_facets.specs.Rooms.{Room, room, shareRoom, shareTo, fanRoom, facetRoom, marks, mark, shows}
-use Rattle.aabb_facets.specs.Clipped.{made, clipped}
-use Rattle.geometry.specs.Boxes.{faces}
-use Rattle.aabb_polygons.proofs.CornerLists.{points-length, at, counted}
-use Rattle.aabb_polygons.specs.Steps.{cornerAt, corners}
-use Rattle.aabb_polygons.specs.Polygons.{snapped, clipPolygon}
-use Rattle.geometry.specs.declared.point.Point.{Point}
-use lib.Seq.{sets}
-use lib.ListN.{getD, length, drop, replicate, set, length-set}
-use mathlib.Core.List.{List, [], _∷_, _++_}
-use Prim.Native.Nat.{ℕ, _+_, _*_, _-_, _/_, _≤_, _<_}
+use Rattle.aabb_facets.specs.Rooms.{room, shareTo}
+use Rattle.aabb_polygons.proofs.CornerLists.{at}
+use Prim.Native.Nat.{_+_, _*_, _-_}
 use native.Mathlib.Omega.{arith}
-use borrow.Author.Needs.{needs}
-use mathlib.Core.Path.{_≡_, refl, sym, ap, _∙_}
+use mathlib.Core.Path.{_≡_, ap, _∙_}
 use Rattle.aabb_facets.proofs.facets.share_facet.Statement.{statement}
 use Rattle.aabb_facets.proofs.facets.share_facet.Tie as tie
 use Rattle.aabb_facets.proofs.facets.share_facet.Reads as reads

@@ -1,18 +1,13 @@
 use Rattle.geometry.specs.Meshes.{coordinates}
 use Rattle.aabb_facets.proofs.RoomLaws.{share-new, share-old}
-use Rattle.aabb_facets.specs.Rooms.{Room, room, shareRoom, shareTo, fanRoom, facetRoom, marks, mark, shows}
-use Rattle.aabb_facets.specs.Clipped.{made, clipped}
-use Rattle.geometry.specs.Boxes.{faces}
-use Rattle.aabb_polygons.proofs.CornerLists.{points-length, at, counted}
-use Rattle.aabb_polygons.specs.Steps.{cornerAt, corners}
-use Rattle.aabb_polygons.specs.Polygons.{snapped, clipPolygon}
+use Rattle.aabb_polygons.proofs.CornerLists.{at}
+use Rattle.aabb_polygons.specs.Steps.{cornerAt}
+use Rattle.aabb_polygons.specs.Polygons.{snapped}
 use Rattle.geometry.specs.declared.point.Point.{Point}
 use lib.Seq.{sets}
-use lib.ListN.{getD, length, drop, replicate, set, length-set}
-use mathlib.Core.List.{List, [], _∷_, _++_}
-use Prim.Native.Nat.{ℕ, _+_, _*_, _-_, _/_, _≤_, _<_}
-use native.Mathlib.Omega.{arith}
-use mathlib.Core.Path.{_≡_, refl, sym, ap, _∙_}
+use mathlib.Core.List.{[], _∷_}
+use Prim.Native.Nat.{_*_}
+use mathlib.Core.Path.{refl, ap, _∙_}
 use borrow.Author.Needs.{needs}
 use Rattle.aabb_facets.proofs.facets.share_vertex.Statement.{statement}
 use Rattle.aabb_facets.proofs.facets.share_vertex.Tie as tie

@@ -1,6 +1,4 @@
 use Rattle.aabb_facets.proofs.OutputLists.{point-put}
-use native.Mathlib.Omega.{arith}
-use mathlib.Core.Path.{_≡_, refl, sym, ap, _∙_}
 use borrow.Author.Needs.{needs}
 use Rattle.aabb_facets.proofs.outputs.push_vertex.Statement.{statement}
 use Rattle.aabb_facets.proofs.outputs.push_vertex.Tie as tie

@@ -1,13 +1,13 @@
 use Rattle.aabb_facets.proofs.OutputLists.{corners-start, corners-more, corners-end}
-use Rattle.aabb_polygons.proofs.CornerLists.{points-length, at, counted}
-use Rattle.aabb_polygons.specs.Steps.{cornerAt, corners}
+use Rattle.aabb_polygons.proofs.CornerLists.{points-length, at}
+use Rattle.aabb_polygons.specs.Steps.{corners}
 use Rattle.geometry.specs.Meshes.{coordinates}
 use lib.Seq.{sets}
 use lib.ListN.{length, drop}
-use Prim.Native.Nat.{ℕ, _+_, _*_, _-_, _/_, _≤_, _<_}
+use Prim.Native.Nat.{_+_, _*_, _-_, _≤_}
 use native.Mathlib.Omega.{arith}
 use borrow.Author.Needs.{needs}
-use mathlib.Core.Path.{_≡_, refl, sym, ap, _∙_}
+use mathlib.Core.Path.{_≡_, refl, sym, _∙_}
 use Rattle.aabb_facets.proofs.outputs.put_corners.Statement.{statement}
 use Rattle.aabb_facets.proofs.outputs.put_corners.Tie as tie
 use Rattle.aabb_facets.proofs.outputs.put_corners.Reads as reads

@@ -3,10 +3,10 @@ use Rattle.aabb_facets.specs.Clipped.{fan}
 use Rattle.geometry.specs.Triangles.{flat}
 use lib.Seq.{sets}
 use lib.ListN.{length}
-use Prim.Native.Nat.{ℕ, _+_, _*_, _-_, _/_, _≤_, _<_}
+use Prim.Native.Nat.{_+_, _*_, _-_, _≤_}
 use native.Mathlib.Omega.{arith}
 use borrow.Author.Needs.{needs}
-use mathlib.Core.Path.{_≡_, refl, sym, ap, _∙_}
+use mathlib.Core.Path.{_≡_, refl, sym, _∙_}
 use Rattle.aabb_facets.proofs.outputs.put_fan.Statement.{statement}
 use Rattle.aabb_facets.proofs.outputs.put_fan.Tie as tie
 use Rattle.aabb_facets.proofs.outputs.put_fan.Reads as reads

@@ -1,11 +1,8 @@
-use Rattle.aabb_facets.proofs.MarkLists.{marked-length}
 use Rattle.aabb_facets.specs.Rooms.{Room, marks}
-use Rattle.aabb_facets.specs.Clipped.{made, clipped}
-use lib.ListN.{getD, length, drop, replicate, set, length-set}
-use mathlib.Core.List.{List, [], _∷_, _++_}
-use Prim.Native.Nat.{ℕ, _+_, _*_, _-_, _/_, _≤_, _<_}
-use native.Mathlib.Omega.{arith}
-use mathlib.Core.Path.{_≡_, refl, sym, ap, _∙_}
+use Rattle.aabb_facets.specs.Clipped.{clipped}
+use lib.ListN.{replicate}
+use Prim.Native.Nat.{ℕ}
+use mathlib.Core.Path.{ap, _∙_}
 use borrow.Author.Needs.{needs}
 use Rattle.aabb_facets.proofs.passes.run_pass.Statement.{statement}
 use Rattle.aabb_facets.proofs.passes.run_pass.Tie as tie

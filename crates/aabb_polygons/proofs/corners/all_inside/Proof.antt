@@ -5,8 +5,7 @@ use Rattle.lists.proofs.Every.{every-stop, every-more, every-end}
 use Rattle.lists.specs.Lists.{every}
 use borrow.Author.Tests.{not-true, not-false}
 use Rattle.geometry.specs.declared.point.Point.{Point}
-use lib.ListN.{length, drop}
-use mathlib.Core.Bool.{not}
+use lib.ListN.{drop}
 use Prim.Native.Nat.{_≤_, _-_}
 use native.Mathlib.Omega.{arith}
 use borrow.Author.Needs.{needs}

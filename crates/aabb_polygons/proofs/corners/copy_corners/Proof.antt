@@ -1,7 +1,7 @@
 use Rattle.aabb_polygons.proofs.CornerLists.{copy-none, copy-more}
 use Rattle.aabb_polygons.specs.Steps.{corners}
 use lib.ListN.{length}
-use Prim.Native.Nat.{ℕ, _≤_, _-_}
+use Prim.Native.Nat.{_≤_, _-_}
 use native.Mathlib.Omega.{arith}
 use borrow.Author.Needs.{needs}
 use mathlib.Core.Path.{_≡_, refl, sym, ap, _∙_}

@@ -3,9 +3,8 @@ use Rattle.aabb_polygons.specs.Steps.{corners}
 use Rattle.aabb_polygons.specs.Polygons.{faceOf, inside}
 use Rattle.lists.proofs.Every.{every-stop, every-more, every-end}
 use Rattle.lists.specs.Lists.{every}
-use borrow.Author.Tests.{not-true, not-false}
 use Rattle.geometry.specs.declared.point.Point.{Point}
-use lib.ListN.{length, drop}
+use lib.ListN.{drop}
 use mathlib.Core.Bool.{not}
 use Prim.Native.Nat.{_≤_, _-_}
 use native.Mathlib.Omega.{arith}

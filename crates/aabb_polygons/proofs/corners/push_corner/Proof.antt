@@ -2,7 +2,6 @@ use Rattle.aabb_polygons.proofs.CornerLists.{pushed}
 use lib.ListN.{set, length-set}
 use Prim.Native.Nat.{_+_, _*_}
 use native.Mathlib.Omega.{arith}
-use mathlib.Core.Path.{_≡_, refl, sym, ap, _∙_}
 use borrow.Author.Needs.{needs}
 use Rattle.aabb_polygons.proofs.corners.push_corner.Statement.{statement}
 use Rattle.aabb_polygons.proofs.corners.push_corner.Tie as tie

@@ -1,6 +1,4 @@
 use Rattle.aabb_polygons.proofs.CornerLists.{three-put}
-use native.Mathlib.Omega.{arith}
-use mathlib.Core.Path.{_≡_, refl, sym, ap, _∙_}
 use borrow.Author.Needs.{needs}
 use Rattle.aabb_polygons.proofs.corners.put_triangle.Statement.{statement}
 use Rattle.aabb_polygons.proofs.corners.put_triangle.Tie as tie

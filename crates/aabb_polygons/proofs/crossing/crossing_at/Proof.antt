@@ -1,11 +1,11 @@
 use Rattle.aabb_polygons.specs.Polygons.{crossing}
-use mathlib.Core.Path.{_≡_, refl, sym, ap, _∙_}
+use mathlib.Core.Path.{sym, _∙_}
 use borrow.Author.Needs.{needs}
 use Rattle.aabb_polygons.proofs.crossing.crossing_at.Statement.{statement}
 use Rattle.aabb_polygons.proofs.crossing.crossing_at.Tie as tie
 use Rattle.aabb_polygons.proofs.crossing.crossing_at.Reads as reads
 use Rattle.aabb_polygons.proofs.crossing.crossing_at.Lts as lts
-use Rattle.geometry.proofs.doubles.within.Reads as within-reads
+use Rattle.rounding.proofs.within.Reads as within-reads
 
 -- src/crossing.rt:19:8
 within-requires : tie.Need-within-requires

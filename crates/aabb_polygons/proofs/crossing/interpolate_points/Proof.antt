@@ -1,7 +1,6 @@
 use Rattle.aabb_polygons.specs.Polygons.{interpolated}
 use Rattle.geometry.specs.Points.{along}
-use borrow.Author.Needs.{needs}
-use mathlib.Core.Path.{_≡_, refl, sym, ap, _∙_}
+use mathlib.Core.Path.{refl}
 use Rattle.aabb_polygons.proofs.crossing.interpolate_points.Statement.{statement}
 use Rattle.aabb_polygons.proofs.crossing.interpolate_points.Tie as tie
 use Rattle.aabb_polygons.proofs.crossing.interpolate_points.Reads as reads

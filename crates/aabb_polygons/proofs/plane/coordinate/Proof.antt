@@ -1,5 +1,4 @@
 use Rattle.geometry.specs.Points.{along}
-use mathlib.Core.Path.{_≡_, refl, sym, ap, _∙_}
 use borrow.Author.Needs.{needs}
 use Rattle.aabb_polygons.proofs.plane.coordinate.Statement.{statement}
 use Rattle.aabb_polygons.proofs.plane.coordinate.Tie as tie

@@ -1,7 +1,7 @@
 use Rattle.lists.specs.Lists.{every}
 use borrow.Author.Tests.{not-true, not-false}
 use Rattle.lists.proofs.Bools.{and-next, and-stop, and-last}
-use mathlib.Core.Path.{_≡_, refl, sym, ap, _∙_}
+use mathlib.Core.Path.{sym, _∙_}
 use borrow.Author.Needs.{needs}
 use Rattle.aabb_polygons.proofs.plane.point_inside_aabb.Statement.{statement}
 use Rattle.aabb_polygons.proofs.plane.point_inside_aabb.Tie as tie

@@ -1,6 +1,5 @@
 use Rattle.aabb_polygons.specs.Polygons.{inside}
 use Rattle.geometry.specs.Points.{along}
-use mathlib.Core.Path.{_≡_, refl, sym, ap, _∙_}
 use borrow.Author.Needs.{needs}
 use Rattle.aabb_polygons.proofs.plane.point_inside_plane.Statement.{statement}
 use Rattle.aabb_polygons.proofs.plane.point_inside_plane.Tie as tie

@@ -1,6 +1,5 @@
 use Rattle.aabb_polygons.specs.Polygons.{onPlane}
 use Rattle.geometry.specs.Points.{along}
-use mathlib.Core.Path.{_≡_, refl, sym, ap, _∙_}
 use borrow.Author.Needs.{needs}
 use Rattle.aabb_polygons.proofs.plane.snap_to_plane.Statement.{statement}
 use Rattle.aabb_polygons.proofs.plane.snap_to_plane.Tie as tie

@@ -2,7 +2,7 @@ use Rattle.aabb_polygons.specs.Steps.{corners}
 use Rattle.aabb_polygons.specs.Polygons.{crossed}
 use mathlib.Core.List.{append-nil}
 use native.Mathlib.Omega.{arith}
-use mathlib.Core.Path.{_≡_, refl, sym, ap, _∙_}
+use mathlib.Core.Path.{sym, _∙_}
 use borrow.Author.Needs.{needs}
 use Rattle.aabb_polygons.proofs.polygon.add_crossing.Statement.{statement}
 use Rattle.aabb_polygons.proofs.polygon.add_crossing.Tie as tie

@@ -3,7 +3,7 @@ use Rattle.aabb_polygons.specs.Steps.{corners}
 use Rattle.aabb_polygons.specs.Polygons.{faceOf}
 use mathlib.Core.List.{[]}
 use native.Mathlib.Omega.{arith}
-use mathlib.Core.Path.{_≡_, refl, sym, ap, _∙_}
+use mathlib.Core.Path.{_∙_}
 use borrow.Author.Needs.{needs}
 use Rattle.aabb_polygons.proofs.polygon.add_side.Statement.{statement}
 use Rattle.aabb_polygons.proofs.polygon.add_side.Tie as tie

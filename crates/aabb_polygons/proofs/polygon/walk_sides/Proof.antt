@@ -4,7 +4,7 @@ use lib.ListN.{length}
 use Prim.Native.Nat.{_≤_, _-_}
 use native.Mathlib.Omega.{arith}
 use borrow.Author.Needs.{needs}
-use mathlib.Core.Path.{_≡_, refl, sym, ap, _∙_}
+use mathlib.Core.Path.{_≡_, refl, _∙_}
 use Rattle.aabb_polygons.proofs.polygon.walk_sides.Statement.{statement}
 use Rattle.aabb_polygons.proofs.polygon.walk_sides.Tie as tie
 use Rattle.aabb_polygons.proofs.polygon.walk_sides.Reads as reads

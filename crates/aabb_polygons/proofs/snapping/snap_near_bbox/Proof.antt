@@ -1,6 +1,5 @@
 use Rattle.aabb_polygons.specs.Polygons.{snapped}
 use Rattle.geometry.specs.Points.{along}
-use mathlib.Core.Path.{_≡_, refl, sym, ap, _∙_}
 use borrow.Author.Needs.{needs}
 use Rattle.aabb_polygons.proofs.snapping.snap_near_bbox.Statement.{statement}
 use Rattle.aabb_polygons.proofs.snapping.snap_near_bbox.Tie as tie

@@ -1,11 +1,11 @@
 use Rattle.aabb_polygons.specs.Polygons.{snapTo}
-use mathlib.Core.Path.{_≡_, refl, sym, ap, _∙_}
+use mathlib.Core.Path.{sym, _∙_}
 use borrow.Author.Needs.{needs}
 use Rattle.aabb_polygons.proofs.snapping.snap_to.Statement.{statement}
 use Rattle.aabb_polygons.proofs.snapping.snap_to.Tie as tie
 use Rattle.aabb_polygons.proofs.snapping.snap_to.Reads as reads
 use Rattle.aabb_polygons.proofs.snapping.snap_to.Lts as lts
-use Rattle.geometry.proofs.doubles.within.Reads as within-reads
+use Rattle.rounding.proofs.within.Reads as within-reads
 
 -- src/snapping.rt:11:8
 within-requires : tie.Need-within-requires

@@ -27,31 +27,68 @@ first-requires : tie.Need-first-requires Inv-loop μ-loop
 first-requires c κs = let r = c .before .before .before .pre .1 .1 .room in let h = c .bucket .ensures .low in omega arith
 
 loop-holds : tie.Need-loop-holds Inv-loop μ-loop
-loop-holds c = let s = c .before .before .before .before .args in rw (c .first .ensures) (walk-start (s .m .now) (s .at) (s .nb) (length (s .keys .now)) _ (sought (s .keys .now) (s .key)) (word-filed (s .keys .now) (s .m .now) (s .at) (s .nb) (s .key) _ (c .before .before .before .before .pre .1 .1) (c .before .bucket .ensures .is)) (c .before .bucket .ensures .low))
+loop-holds c =
+    let s = c .before .before .before .before .args in
+    let t = sought (s .keys .now) (s .key) in
+    let b = c .before .bucket .ensures in
+    rw (c .first .ensures)
+    (walk-start (s .m .now) (s .at) (s .nb) (length (s .keys .now)) _ t (word-filed (s .keys .now) (s .m .now) (s .at) (s .nb) (s .key) _ (c .before .before .before .before .pre .1 .1) (b .is)) (b .low))
 
 sub-i : tie.Need-sub-i Inv-loop μ-loop
 sub-i c = omega arith
 
 mul-if1 : tie.Need-mul-if1 Inv-loop μ-loop
-mul-if1 c = let l = c .before .loop in let s = c .before .before .before .before .before .before .args in let h = walk-low (s .m .now) (s .at) (s .nb) (length (s .keys .now)) _ (sought (s .keys .now) (s .key)) (l .p) (l .inv) (c .loop-test .taken) in omega arith
+mul-if1 c =
+    let l = c .before .loop in
+    let s = c .before .before .before .before .before .before .args in
+    let t = sought (s .keys .now) (s .key) in
+    let h = walk-low (s .m .now) (s .at) (s .nb) (length (s .keys .now)) _ t (l .p) (l .inv) (c .loop-test .taken) in
+    omega arith
 
 shared-slice-read-if1 : tie.Need-shared-slice-read-if1 Inv-loop μ-loop
-shared-slice-read-if1 c = let l = c .before .before .loop in let s = c .before .before .before .before .before .before .before .args in walk-low (s .m .now) (s .at) (s .nb) (length (s .keys .now)) _ (sought (s .keys .now) (s .key)) (l .p) (l .inv) (c .before .loop-test .taken)
+shared-slice-read-if1 c =
+    let l = c .before .before .loop in
+    let s = c .before .before .before .before .before .before .before .args in
+    let t = sought (s .keys .now) (s .key) in
+    walk-low (s .m .now) (s .at) (s .nb) (length (s .keys .now)) _ t (l .p) (l .inv) (c .before .loop-test .taken)
 
 returns : tie.Need-returns Inv-loop μ-loop
-returns c = let l = c .before .before .before .loop in let s = c .before .before .before .before .before .before .before .before .args in word-answer (s .keys .now) (s .key) (l .p) (walk-found (s .m .now) (s .at) (s .nb) (length (s .keys .now)) _ (sought (s .keys .now) (s .key)) (l .p) (l .inv) (c .before .before .loop-test .taken) (eq-eqb (s .key) _ (sym (c .if1 .taken))))
+returns c =
+    let l = c .before .before .before .loop in
+    let s = c .before .before .before .before .before .before .before .before .args in
+    let t = sought (s .keys .now) (s .key) in
+    word-answer (s .keys .now) (s .key) (l .p)
+    (walk-found (s .m .now) (s .at) (s .nb) (length (s .keys .now)) _ t (l .p) (l .inv) (c .before .before .loop-test .taken) (eq-eqb (s .key) _ (sym (c .if1 .taken))))
 
 next-requires : tie.Need-next-requires Inv-loop μ-loop
-next-requires c κs = let l = c .before .before .before .loop in let s = c .before .before .before .before .before .before .before .before .args in walk-room (s .m .now) (s .at) (s .nb) (length (s .keys .now)) _ (sought (s .keys .now) (s .key)) (l .p) (l .inv) (c .before .before .loop-test .taken)
+next-requires c κs =
+    let l = c .before .before .before .loop in
+    let s = c .before .before .before .before .before .before .before .before .args in
+    let t = sought (s .keys .now) (s .key) in
+    walk-room (s .m .now) (s .at) (s .nb) (length (s .keys .now)) _ t (l .p) (l .inv) (c .before .before .loop-test .taken)
 
 loop-less : tie.Need-loop-less Inv-loop μ-loop
-loop-less c = let l = c .before .before .before .before .loop in let s = c .before .before .before .before .before .before .before .before .before .args in rw (c .next .ensures) (walk-less (s .m .now) (s .at) (s .nb) (length (s .keys .now)) _ (sought (s .keys .now) (s .key)) (l .p) (l .inv) (c .before .before .before .loop-test .taken))
+loop-less c =
+    let l = c .before .before .before .before .loop in
+    let s = c .before .before .before .before .before .before .before .before .before .args in
+    let t = sought (s .keys .now) (s .key) in
+    rw (c .next .ensures)
+    (walk-less (s .m .now) (s .at) (s .nb) (length (s .keys .now)) _ t (l .p) (l .inv) (c .before .before .before .loop-test .taken))
 
 loop-again : tie.Need-loop-again Inv-loop μ-loop
-loop-again c = let l = c .before .before .before .before .loop in let s = c .before .before .before .before .before .before .before .before .before .args in rw (c .next .ensures) (walk-turn (s .m .now) (s .at) (s .nb) (length (s .keys .now)) _ (sought (s .keys .now) (s .key)) (l .p) (l .inv) (c .before .before .before .loop-test .taken) (ne-eqb (s .key) _ (λ e. c .before .if1 .left (sym e))))
+loop-again c =
+    let l = c .before .before .before .before .loop in
+    let s = c .before .before .before .before .before .before .before .before .before .args in
+    let t = sought (s .keys .now) (s .key) in
+    rw (c .next .ensures)
+    (walk-turn (s .m .now) (s .at) (s .nb) (length (s .keys .now)) _ t (l .p) (l .inv) (c .before .before .before .loop-test .taken) (ne-eqb (s .key) _ (λ e. c .before .if1 .left (sym e))))
 
 returns-2 : tie.Need-returns-2 Inv-loop μ-loop
-returns-2 c = let l = c .before .loop in let s = c .before .before .before .before .before .before .args in word-answer (s .keys .now) (s .key) 0 (walk-end (s .m .now) (s .at) (s .nb) (length (s .keys .now)) _ (sought (s .keys .now) (s .key)) (l .p) (l .inv) (c .loop-test .left))
+returns-2 c =
+    let l = c .before .loop in
+    let s = c .before .before .before .before .before .before .args in
+    let t = sought (s .keys .now) (s .key) in
+    word-answer (s .keys .now) (s .key) 0 (walk-end (s .m .now) (s .at) (s .nb) (length (s .keys .now)) _ t (l .p) (l .inv) (c .loop-test .left))
 
 pub find-word-spec : {M : Type 1} → statement M
 find-word-spec =

@@ -26,7 +26,9 @@ zero-part-requires : tie.Need-zero-part-requires Inv-loop μ-loop
 zero-part-requires c κs = omega arith
 
 loop-holds : tie.Need-loop-holds Inv-loop μ-loop
-loop-holds c = let s = c .before .before .before .before .before .before .args in words-start (s .keys .now) (s .at) (s .nb) _ _ (omega arith) (c .before .before .zero-part .ensures)
+loop-holds c =
+    let s = c .before .before .before .before .before .before .args in
+    words-start (s .keys .now) (s .at) (s .nb) _ _ (omega arith) (c .before .before .zero-part .ensures)
 
 mul-bucket : tie.Need-mul-bucket Inv-loop μ-loop
 mul-bucket c = omega arith
@@ -38,7 +40,10 @@ bucket-requires : tie.Need-bucket-requires Inv-loop μ-loop
 bucket-requires c κs = omega arith
 
 enter-requires : tie.Need-enter-requires Inv-loop μ-loop
-enter-requires c κs = let l = c .before .before .before .before .loop in let s = c .before .before .before .before .before .before .before .before .before .before .before .args in (c .before .bucket .ensures .low, (omega arith, words-tail (s .keys .now) (s .at) (s .nb) _ (l .m) (l .i) (omega arith) (l .inv) (omega arith) _ (c .before .bucket .ensures .low)))
+enter-requires c κs =
+    let l = c .before .before .before .before .loop in
+    let s = c .before .before .before .before .before .before .before .before .before .before .before .args in
+    (c .before .bucket .ensures .low, (omega arith, words-tail (s .keys .now) (s .at) (s .nb) _ (l .m) (l .i) (omega arith) (l .inv) (omega arith) _ (c .before .bucket .ensures .low)))
 
 add-i : tie.Need-add-i Inv-loop μ-loop
 add-i c = omega arith
@@ -47,13 +52,20 @@ loop-less : tie.Need-loop-less Inv-loop μ-loop
 loop-less c = omega arith
 
 loop-again : tie.Need-loop-again Inv-loop μ-loop
-loop-again c = let l = c .before .before .before .before .before .before .before .loop in let s = c .before .before .before .before .before .before .before .before .before .before .before .before .before .before .args in rw (c .before .before .enter .ensures) (words-turn (s .keys .now) (s .at) (s .nb) _ (l .m) (l .i) (omega arith) (l .inv) (omega arith) _ (c .before .before .before .before .bucket .ensures))
+loop-again c =
+    let l = c .before .before .before .before .before .before .before .loop in
+    let s = c .before .before .before .before .before .before .before .before .before .before .before .before .before .before .args in
+    rw (c .before .before .enter .ensures)
+    (words-turn (s .keys .now) (s .at) (s .nb) _ (l .m) (l .i) (omega arith) (l .inv) (omega arith) _ (c .before .before .before .before .bucket .ensures))
 
 same-length : tie.Need-same-length Inv-loop μ-loop
 same-length c = omega arith
 
 returns : tie.Need-returns Inv-loop μ-loop
-returns c = let l = c .before .loop in let s = c .before .before .before .before .before .before .before .before .args in words-end (s .keys .now) (s .at) (s .nb) _ _ (l .m) (l .i) (omega arith) (c .before .before .before .before .zero-part .ensures) (l .inv)
+returns c =
+    let l = c .before .loop in
+    let s = c .before .before .before .before .before .before .before .before .args in
+    words-end (s .keys .now) (s .at) (s .nb) _ _ (l .m) (l .i) (omega arith) (c .before .before .before .before .zero-part .ensures) (l .inv)
 
 pub index-words-spec : {M : Type 1} → statement M
 index-words-spec =

@@ -15,7 +15,9 @@ bucket-at-requires : tie.Need-bucket-at-requires
 bucket-at-requires c κs = search needs
 
 returns : tie.Need-returns
-returns c = bucket-same (c .before .before .args .a) (c .before .before .args .b) (c .before .before .args .c) _ (c .before .before .args .buckets) _ (c .before .mix .ensures .congruent) (c .bucket-at .ensures)
+returns c =
+    bucket-same (c .before .before .args .a) (c .before .before .args .b) (c .before .before .args .c) _ (c .before .before .args .buckets) _
+    (c .before .mix .ensures .congruent) (c .bucket-at .ensures)
 
 pub bucket-spec : {M : Type 1} → statement M
 bucket-spec = tie.close (tie.spec mix-requires bucket-at-requires returns)

@@ -30,10 +30,18 @@ add-v : tie.Need-add-v
 add-v c = search needs
 
 mul-m : tie.Need-mul-m
-mul-m c = let s = c .before .before .before .args in let e = c .link-place .ensures in let h = place-in (s .at) (s .nb) (s .id) (s .b) (getD (s .m .now) (s .at + s .nb + s .b) 0) (omega arith) (omega arith) in omega arith
+mul-m c =
+    let s = c .before .before .before .args in
+    let e = c .link-place .ensures in
+    let h = place-in (s .at) (s .nb) (s .id) (s .b) (getD (s .m .now) (s .at + s .nb + s .b) 0) (omega arith) (omega arith) in
+    omega arith
 
 slice-write-m : tie.Need-slice-write-m
-slice-write-m c = let s = c .before .before .before .args in let e = c .link-place .ensures in let h = place-in (s .at) (s .nb) (s .id) (s .b) (getD (s .m .now) (s .at + s .nb + s .b) 0) (omega arith) (omega arith) in omega arith
+slice-write-m c =
+    let s = c .before .before .before .args in
+    let e = c .link-place .ensures in
+    let h = place-in (s .at) (s .nb) (s .id) (s .b) (getD (s .m .now) (s .at + s .nb + s .b) 0) (omega arith) (omega arith) in
+    omega arith
 
 add-m : tie.Need-add-m
 add-m c = search needs

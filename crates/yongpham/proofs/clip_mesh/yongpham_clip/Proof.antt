@@ -1,4 +1,4 @@
-use Rattle.yongpham.proofs.Reports.{clip-reported}
+use Rattle.yongpham.proofs.Reports.{mesh-reported}
 use borrow.Author.Needs.{needs}
 use Rattle.yongpham.proofs.clip_mesh.yongpham_clip.Statement.{statement}
 use Rattle.yongpham.proofs.clip_mesh.yongpham_clip.Tie as tie
@@ -29,7 +29,7 @@ same-length-3 c = search needs
 
 -- src/clip_mesh.rt:7:1
 returns : tie.Need-returns
-returns c = clip-reported _ _ _ _ _ _ _ _ _ _ _ _ _ (c .before .before .before .before .before .before .before .before .clip-mesh-to-aabb .ensures) (c .report-mesh .ensures)
+returns c = mesh-reported _ _ _ _ _ _ _ _ _ _ _ (c .before .before .before .before .before .before .before .before .clip-mesh-to-aabb .ensures .replied) (c .before .before .before .before .before .before .before .before .clip-mesh-to-aabb .ensures .vertices) (c .before .before .before .before .before .before .before .before .clip-mesh-to-aabb .ensures .facets) (c .before .before .before .before .before .before .before .before .clip-mesh-to-aabb .ensures .work) (c .report-mesh .ensures)
 
 pub yongpham-clip-spec : {M : Type 1} → statement M
 yongpham-clip-spec =
