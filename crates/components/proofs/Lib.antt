@@ -6,3 +6,4 @@ pub mod Counting
 pub mod Computed
 pub mod Once
 pub mod Numbers
+pub mod Many

@@ -1,0 +1,5 @@
+pub mod Naming
+pub mod Loop
+pub mod Statuses
+pub mod Shared
+pub mod Compacting

@@ -1,0 +1,3 @@
+pub mod Status
+pub mod Compact
+pub mod Room

@@ -1,0 +1,4 @@
+pub mod Keys
+pub mod Passing
+pub mod Facets
+pub mod Steps

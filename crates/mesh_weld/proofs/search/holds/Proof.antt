@@ -1,0 +1,103 @@
+use Rattle.mesh_weld.proofs.Searching.{differ-x, differ-y, differ-z, differ-no}
+use Rattle.mesh_weld.specs.Room.{vertexOf, cellAt}
+use Rattle.mesh_weld.specs.Cells.{near}
+use lib.ListN.{getD}
+use Prim.Native.Nat.{_+_, _*_}
+use mathlib.Core.Bool.{Bool}
+use mathlib.Core.Path.{ap, _∙_}
+use borrow.Author.Needs.{needs}
+use Rattle.mesh_weld.proofs.search.holds.Statement.{statement}
+use Rattle.mesh_weld.proofs.search.holds.Tie as tie
+
+-- the last test
+abbrev near-of : tie.Start → Bool
+near-of s = near (s .args .eps) (s .args .p) (vertexOf (s .args .vs .now) (getD (s .args .m .now) (9 * s .args .n + s .args .k) 0))
+
+mul-at : tie.Need-mul-at
+mul-at c = search needs
+
+mul-at-2 : tie.Need-mul-at-2
+mul-at-2 c = search needs
+
+add-at : tie.Need-add-at
+add-at c = search needs
+
+mul-if1 : tie.Need-mul-if1
+mul-if1 c = search needs
+
+shared-slice-read-if1 : tie.Need-shared-slice-read-if1
+shared-slice-read-if1 c = search needs
+
+returns : tie.Need-returns
+returns c = differ-x (cellAt (c .before .before .before .before .before .args .m .now) (11 * c .before .before .before .before .before .args .n + 3 * c .before .before .before .before .before .args .k)) (c .before .before .before .before .before .args .c) (near-of (c .before .before .before .before .before)) (c .if1 .taken)
+
+add-if2 : tie.Need-add-if2
+add-if2 c = search needs
+
+mul-if2 : tie.Need-mul-if2
+mul-if2 c = search needs
+
+shared-slice-read-if2 : tie.Need-shared-slice-read-if2
+shared-slice-read-if2 c = search needs
+
+returns-2 : tie.Need-returns-2
+returns-2 c = differ-y (cellAt (c .before .before .before .before .before .before .before .before .args .m .now) (11 * c .before .before .before .before .before .before .before .before .args .n + 3 * c .before .before .before .before .before .before .before .before .args .k)) (c .before .before .before .before .before .before .before .before .args .c) (near-of (c .before .before .before .before .before .before .before .before)) (c .before .before .before .if1 .left) (c .if2 .taken)
+
+add-if3 : tie.Need-add-if3
+add-if3 c = search needs
+
+mul-if3 : tie.Need-mul-if3
+mul-if3 c = search needs
+
+shared-slice-read-if3 : tie.Need-shared-slice-read-if3
+shared-slice-read-if3 c = search needs
+
+returns-3 : tie.Need-returns-3
+returns-3 c = differ-z (cellAt (c .before .before .before .before .before .before .before .before .before .before .before .args .m .now) (11 * c .before .before .before .before .before .before .before .before .before .before .before .args .n + 3 * c .before .before .before .before .before .before .before .before .before .before .before .args .k)) (c .before .before .before .before .before .before .before .before .before .before .before .args .c) (near-of (c .before .before .before .before .before .before .before .before .before .before .before)) (c .before .before .before .before .before .before .if1 .left) (c .before .before .before .if2 .left) (c .if3 .taken)
+
+mul-v : tie.Need-mul-v
+mul-v c = search needs
+
+add-v : tie.Need-add-v
+add-v c = search needs
+
+mul-v-2 : tie.Need-mul-v-2
+mul-v-2 c = search needs
+
+shared-slice-read-v : tie.Need-shared-slice-read-v
+shared-slice-read-v c = search needs
+
+point-at-requires : tie.Need-point-at-requires
+point-at-requires c κs = search needs
+
+is-near-requires : tie.Need-is-near-requires
+is-near-requires c κs = search needs
+
+returns-4 : tie.Need-returns-4
+returns-4 c = c .is-near .ensures ∙ ap (near (c .before .before .before .before .before .before .before .before .before .before .before .before .before .before .args .eps) (c .before .before .before .before .before .before .before .before .before .before .before .before .before .before .args .p)) (c .before .point-at .ensures) ∙ differ-no (cellAt (c .before .before .before .before .before .before .before .before .before .before .before .before .before .before .args .m .now) (11 * c .before .before .before .before .before .before .before .before .before .before .before .before .before .before .args .n + 3 * c .before .before .before .before .before .before .before .before .before .before .before .before .before .before .args .k)) (c .before .before .before .before .before .before .before .before .before .before .before .before .before .before .args .c) (near-of (c .before .before .before .before .before .before .before .before .before .before .before .before .before .before)) (c .before .before .before .before .before .before .before .before .before .if1 .left) (c .before .before .before .before .before .before .if2 .left) (c .before .before .before .if3 .left)
+
+pub holds-spec : {M : Type 1} → statement M
+holds-spec =
+    tie.close
+    (tie.spec
+    mul-at
+    mul-at-2
+    add-at
+    mul-if1
+    shared-slice-read-if1
+    returns
+    add-if2
+    mul-if2
+    shared-slice-read-if2
+    returns-2
+    add-if3
+    mul-if3
+    shared-slice-read-if3
+    returns-3
+    mul-v
+    add-v
+    mul-v-2
+    shared-slice-read-v
+    point-at-requires
+    is-near-requires
+    returns-4)

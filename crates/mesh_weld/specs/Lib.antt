@@ -1,0 +1,4 @@
+pub mod Joining
+pub mod Weld
+pub mod Cells
+pub mod Room
