@@ -50,6 +50,22 @@ uint32_t yongpham_clip(const double *vertices, size_t vertices_length, const uin
                        double *out_vertices, size_t out_vertices_length, uint32_t *out_facets, size_t out_facets_length,
                        uint64_t values[4]);
 
+/* Cleans a mesh: welds vertices, drops facets with a repeated corner, flat ones and duplicates, drops components of fewer than two facets, and
+ * numbers the vertices that are left by first use. If no facet passes the filters, all welded vertices come back and no facet.
+ *
+ *   vertices, facets          the mesh, as for yongpham_clip
+ *   eps                       from 0 to 1: vertices weld that lie in neighbouring cells of side max(eps, 1e-12) and no further than eps apart
+ *   work                      at least 128 * (vertices + facets) + 1024 words, as for yongpham_clip
+ *   out_vertices, out_facets  the cleaned mesh
+ *   values                    as for yongpham_clip
+ *
+ * Answers 0, or 1, 2, 3, 4, 7, 8 or 12, tested in that order. 8: a coordinate divided by max(eps, 1e-12) and rounded is beyond 2^62.
+ */
+uint32_t yongpham_clean(const double *vertices, size_t vertices_length, const uint32_t *facets, size_t facets_length, double eps,
+                        uint64_t *work, size_t work_length,
+                        double *out_vertices, size_t out_vertices_length, uint32_t *out_facets, size_t out_facets_length,
+                        uint64_t values[4]);
+
 #ifdef __cplusplus
 }
 #endif

@@ -21,7 +21,7 @@ use refusals::front::all_in_range;
 use refusals::front::check_lists;
 use refusals::front::eps_in_range;
 use refusals::front::work_need;
-use refusals::keys::has_far_key;
+use refusals::grid::has_far_key;
 use refusals::refusal::Checked;
 use refusals::refusal::Refusal;
 use refusals::reply::MeshReply;

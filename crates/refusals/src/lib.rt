@@ -2,7 +2,6 @@
 pub mod boxes;
 pub mod front;
 pub mod grid;
-pub mod keys;
 pub mod refusal;
 pub mod reply;
 pub mod report;

@@ -22,12 +22,17 @@ use Rattle.refusals.specs.Refusals.{settle, Settled, Zeroed}
 use Rattle.refusals.specs.Reports.{Reported}
 use Rattle.tolerance.specs.Tolerance.{toleranceReply}
 use Rattle.aabb_clipping.specs.Clip.{clipReply, clipResult}
-use Rattle.yongpham.specs.Calls.{ClipReported, boxOf}
+use Rattle.yongpham.specs.Calls.{MeshReported, boxOf}
 use Rattle.replay.specs.Words.{Everywhere, Decides}
 use Rattle.replay.specs.Layout.{storedReply, outputsFrom, Laid}
 use Rattle.replay.specs.Contents.{table, oldDoubles, oldWords, oldDouble, doublesIn, numbersIn}
 use Rattle.replay.specs.Agreement.{SameDoubles, SameWords, Answered, Fresh, Stored, ClipStored, MeshStored, clip, ListsStored, NoNan, ToleranceAgrees, MeshAgrees, Agrees, tolerance, mesh, doubleAt, boxIn, epsIn, reported}
 use Rattle.replay.proofs.Deciding.{ends}
+
+-- what `yongpham_clip` promises
+abbrev ClipReported : List Float → List ℕ → AABB → Float → ℕ → List ℕ → List ℕ → List ℕ → List Float → List Float → List ℕ → List ℕ → Type 0
+ClipReported vs fs box eps r values w w' v v' f f' =
+    MeshReported (clipReply vs fs box eps (length w) (length v ∷ length f ∷ [])) (clipResult vs fs box eps) r values w w' v v' f f'
 
 length-table : {A : Type 0} (f : ℕ → A) (n : ℕ) → length (table f n) ≡ n
 length-table f n = length-map (upTo n) f ∙ length-up 0 n

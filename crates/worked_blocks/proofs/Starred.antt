@@ -5,19 +5,28 @@ use Prim.Native.Nat.{ℕ}
 use mathlib.Core.Bool.{Bool, true, false}
 use mathlib.Core.List.{List, [], _∷_, map, flatMap, List·Memᴰ, List·Memᴰ·head, List·Memᴰ·tail}
 use lib.Ieee.{Float, ofBits, ofInt, round, add, sub, mul, div, neg, lt, le, eq}
-use Rattle.lists.specs.Lists.{every, some, upFrom}
+use lib.IntN.{ℤ, pos, negsuc}
+use Rattle.lists.specs.Lists.{every, some, keep, place, insertBy, sortBy, upFrom}
 use Rattle.root.specs.Doubles.{bits, magnitude, within, larger, one, units}
 use Rattle.root.specs.Root.{root, rootOfSquare, wholeRoot}
 use Rattle.rounding.specs.Rounding as rounding
-use Rattle.rounding.specs.Rounding.{ceil, wholeUp}
+use Rattle.rounding.specs.Rounding.{ceil, wholeUp, halfUp, rounded, key, beyond, farKey}
 use Rattle.geometry.specs.declared.aabb.AABB.{AABB}
 use Rattle.geometry.specs.declared.fraction.Fraction.{Fraction}
 use Rattle.geometry.specs.declared.fraction.Fraction.the-variants.{Nothing}
-use Rattle.geometry.specs.Points.{pt, along}
-use Rattle.geometry.specs.Triangles.{threes}
+use Rattle.geometry.specs.Points.{pt, along, minus, dot, cross}
+use Rattle.geometry.specs.Triangles.{threes, sortedVertices}
 use Rattle.geometry.specs.Meshes.{Mesh, meshOf, enter}
 use Rattle.refusals.specs.Refusals.{documented, firstRefusal}
-use Rattle.refusals.specs.Front.{ragged, tooMany, badIndex, inRange, epsInRange, boxInRange, badBox, workNeed, roomTests}
+use Rattle.refusals.specs.Front.{ragged, tooMany, badIndex, inRange, epsInRange, boxInRange, badBox, workNeed, farKeys, roomTests}
+use Rattle.chains.specs.Links.{linkTo}
+use Rattle.components.specs.Components.{components}
+use Rattle.mesh_weld.specs.Weld.{weldNext, weld}
+use Rattle.mesh_weld.specs.Cells.{keyOf, sameKey, around, near, firstIn, neighbours, cells}
+use Rattle.mesh_filter.specs.Filters.{hasRepeatedCorner, isFlat, sameCorners, isDuplicate, passes, passedNext, passed}
+use Rattle.mesh_compact.specs.Status.{shareVertex, isAlone, status, keptFacets}
+use Rattle.mesh_compact.specs.Compact.{numbering, renumbered, compacted}
+use Rattle.mesh_cleanup.specs.Clean.{welded, cleaned, cleanResult, cleanTests, cleanReply}
 use Rattle.aabb_polygons.specs.Polygons.{inside, snapTo, snapped, crossing, interpolated, onPlane, crossed, sideClipped, walk, clipToPlane, clipPolygon}
 use Rattle.aabb_facets.specs.Clipped.{fan, fanned, insideBox, sharing, clipFacet, made, clipped}
 use Rattle.aabb_clipping.specs.Clip.{clipTests, clipResult, clipReply}
@@ -46,6 +55,21 @@ abbrev pub 0·75×2^-53 : Float
 abbrev pub 2^-20 : Float
 2^-20 = bits 0x3eb0_0000_0000_0000
 
+abbrev pub 1/1024 : Float
+1/1024 = bits 0x3f50_0000_0000_0000
+
+abbrev pub -1/2048 : Float
+-1/2048 = bits 0xbf40_0000_0000_0000
+
+abbrev pub +1/2048 : Float
++1/2048 = bits 0x3f40_0000_0000_0000
+
+abbrev pub -3/8192 : Float
+-3/8192 = bits 0xbf38_0000_0000_0000
+
+abbrev pub +3/8192 : Float
++3/8192 = bits 0x3f38_0000_0000_0000
+
 abbrev pub 1/2 : Float
 1/2 = bits 0x3fe0_0000_0000_0000
 
@@ -71,6 +95,26 @@ pub record Row : Type 1 where
 abbrev pub row : {A : Type 0} → A → A → Row
 row g s = record { Result = _; given = g; stated = s }
 
+-- C1: "eps 1/1024, points (-1/2048,0,0), (1/2048,0,0), no facets: keys -1 and 1, two vertices, though the distance is eps". The keys, the distance test, the reply with just
+-- enough room, and the cleaned mesh
+abbrev pub points1 : List Float
+points1 = -1/2048 ∷ +0 ∷ +0 ∷ +1/2048 ∷ +0 ∷ +0 ∷ []
+
+abbrev pub c1 : Row
+c1 =
+    row {A = List ℤ × Bool × List ℕ × Mesh}
+    (map (key 1/1024) (-1/2048 ∷ +1/2048 ∷ []), near 1/1024 (pt -1/2048 +0 +0) (pt +1/2048 +0 +0), cleanReply points1 [] 1/1024 1280 (6 ∷ 0 ∷ []), cleanResult points1 [] 1/1024)
+    (negsuc 0 ∷ pos 1 ∷ [], true, 0 ∷ 6 ∷ 0 ∷ [], meshOf points1 [])
+
+-- C3: "the same eps, (±3/8192 on all axes, equal signs): cleaning keeps two, though both have key (0,0,0)"
+abbrev pub points3 : List Float
+points3 = -3/8192 ∷ -3/8192 ∷ -3/8192 ∷ +3/8192 ∷ +3/8192 ∷ +3/8192 ∷ []
+
+abbrev pub c3 : Row
+c3 =
+    row {A = List ℤ × Mesh} (map (key 1/1024) points3, cleanResult points3 [] 1/1024)
+    (pos 0 ∷ pos 0 ∷ pos 0 ∷ pos 0 ∷ pos 0 ∷ pos 0 ∷ [], meshOf points3 [])
+
 -- C4: "XMin 1, eps 0.75 × 2^-53, from x = 1 - 2^-53 to x = 0: inside differs, crossing nothing"
 abbrev pub box4 : AABB
 box4 = record { «min_corner» = +1 ∷ +1 ∷ +1 ∷ []; «max_corner» = +2 ∷ +2 ∷ +2 ∷ [] }
@@ -95,6 +139,20 @@ c5 =
     (clipReply points5 (0 ∷ 1 ∷ 2 ∷ []) box5 2^-20 1536 (12 ∷ 6 ∷ []), clipResult points5 (0 ∷ 1 ∷ 2 ∷ []) box5 2^-20)
     (0 ∷ 12 ∷ 6 ∷ [], meshOf (+0 ∷ +0 ∷ +0 ∷ +2 ∷ +0 ∷ +0 ∷ +2 ∷ +2 ∷ +0 ∷ +0 ∷ +4 ∷ +0 ∷ []) (0 ∷ 1 ∷ 2 ∷ 0 ∷ 2 ∷ 3 ∷ []))
 
+-- C6: "one sound facet cleaned: no vertex, no facet". C7: "facet 0 1 2 and facet 2 1 0: the same". With no room in the outputs
+abbrev pub points6 : List Float
+points6 = +0 ∷ +0 ∷ +0 ∷ +1 ∷ +0 ∷ +0 ∷ +0 ∷ +1 ∷ +0 ∷ []
+
+abbrev pub c6 : Row
+c6 =
+    row {A = List ℕ × Mesh} (cleanReply points6 (0 ∷ 1 ∷ 2 ∷ []) 2^-20 1536 (0 ∷ 0 ∷ []), cleanResult points6 (0 ∷ 1 ∷ 2 ∷ []) 2^-20)
+    (0 ∷ 0 ∷ 0 ∷ [], meshOf [] [])
+
+abbrev pub c7 : Row
+c7 =
+    row {A = List ℕ × Mesh} (cleanReply points6 (0 ∷ 1 ∷ 2 ∷ 2 ∷ 1 ∷ 0 ∷ []) 2^-20 1664 (0 ∷ 0 ∷ []), cleanResult points6 (0 ∷ 1 ∷ 2 ∷ 2 ∷ 1 ∷ 0 ∷ []) 2^-20)
+    (0 ∷ 0 ∷ 0 ∷ [], meshOf [] [])
+
 -- C11, C12: "axis from 0, length 8, resolution 4, eps 0: 0, 4, 8"; "length 0.5, resolution 4: two points". The first two axes of one box
 abbrev pub box11 : AABB
 box11 = record { «min_corner» = +0 ∷ +0 ∷ +0 ∷ []; «max_corner» = +8 ∷ 1/2 ∷ +8 ∷ [] }
@@ -110,7 +168,7 @@ abbrev pub c16 : Row
 c16 = row (map root (+169 ∷ +0 ∷ [])) (+13 ∷ +0 ∷ [])
 
 abbrev pub starred : List Row
-starred = c4 ∷ c5 ∷ c11 ∷ c12 ∷ c16 ∷ []
+starred = c1 ∷ c3 ∷ c4 ∷ c5 ∷ c6 ∷ c7 ∷ c11 ∷ c12 ∷ c16 ∷ []
 
 -- ---- the claim
 
@@ -123,8 +181,8 @@ of-all a {r} (List·Memᴰ·head {x} {xs} e) = subst⁻¹ (λ (q : Row). q .give
 of-all a {r} (List·Memᴰ·tail {x} {xs} m) = of-all (a .1) m
 
 computed : All starred
-unfolding every some upFrom threes magnitude within inside snapTo snapped crossing interpolated onPlane crossed sideClipped walk clipToPlane clipPolygon along enter fan fanned insideBox sharing clipFacet made clipped flatMap firstRefusal documented ragged tooMany badIndex inRange epsInRange boxInRange badBox workNeed roomTests clipTests clipResult clipReply larger one units root rootOfSquare wholeRoot wholeUp ceil rounding.segments segments gridLine axisPoints ofBits ofInt round add sub mul div neg lt le eq
-computed = (refl, (refl, (refl, (refl, (refl, tt)))))
+unfolding every some upFrom threes magnitude within inside snapTo snapped crossing interpolated onPlane crossed sideClipped walk clipToPlane clipPolygon along enter fan fanned insideBox sharing clipFacet made clipped flatMap firstRefusal documented ragged tooMany badIndex inRange epsInRange boxInRange badBox workNeed roomTests clipTests clipResult clipReply keep place insertBy sortBy halfUp rounded key beyond farKey farKeys minus dot cross keyOf sameKey around near firstIn neighbours cells linkTo weldNext weld hasRepeatedCorner isFlat sortedVertices sameCorners isDuplicate passes passedNext passed components shareVertex isAlone status keptFacets numbering renumbered compacted welded cleaned cleanResult cleanTests cleanReply larger one units root rootOfSquare wholeRoot wholeUp ceil rounding.segments segments gridLine axisPoints ofBits ofInt round add sub mul div neg lt le eq
+computed = (refl, (refl, (refl, (refl, (refl, (refl, (refl, (refl, (refl, tt)))))))))
 
 pub every-row : {r : Row} → List·Memᴰ r starred → r .given ≡ r .stated
 every-row m = of-all computed m

@@ -17,7 +17,16 @@ returns-2 : tie.Need-returns-2
 returns-2 c = let s = c .before .before .before in let a = s .args in none-small (a .kept) (a .n) (a .facets) (a .k) (a .at) (a .least) (a .m .now) (s .pre) (c .if2 .taken)
 
 components-requires : tie.Need-components-requires
-components-requires c κs = let s = c .before .before .before .before in let a = s .args in (omega arith, (omega (arith, s .pre .all-in), (omega (arith, s .pre .facets-in, s .pre .all-in), (apart (a .kept) (a .n) (a .facets) (a .k) (a .at) (a .least) (a .m .now) (s .pre), labels-low (a .kept) (a .n) (a .facets) (a .k) (a .at) (a .least) (a .m .now) (s .pre)))))
+components-requires c κs =
+    let s = c .before .before .before .before in
+    let a = s .args in
+    record {
+      some = omega arith;
+      room = omega (arith, s .pre .all-in);
+      fits = omega (arith, s .pre .facets-in, s .pre .all-in);
+      apart = apart (a .kept) (a .n) (a .facets) (a .k) (a .at) (a .least) (a .m .now) (s .pre);
+      below = labels-low (a .kept) (a .n) (a .facets) (a .k) (a .at) (a .least) (a .m .now) (s .pre);
+    }
 
 mul-table : tie.Need-mul-table
 mul-table c = search needs
