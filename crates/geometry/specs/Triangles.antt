@@ -3,14 +3,14 @@
 --   mapped               `Triangle::map`: a function of a, b, c in turn
 --   edges                the sides as they run: (a, b), (b, c), (c, a)
 --   reversed             the last two corners swapped: the opposite winding
---   containsOrientedEdge a side runs from x to y              sameThree  the same three numbers, in any order
---   sortedVertices       the three numbers, ascending
+--   containsOrientedEdge a side runs from x to y
+--   sortedVertices       the three numbers, ascending: the same for the same three in any order
 --   threes, flat         a flat list taken three at a time, and back
 use Prim.Native.Nat.{ℕ, min, max}
 use mathlib.Core.Bool.{Bool, _&&_, _||_}
 use mathlib.Core.List.{List, [], _∷_, flatMap}
 use lib.Dec.{eqb, ltb}
-use Rattle.lists.specs.Lists.{some, sortBy}
+use Rattle.lists.specs.Lists.{sortBy}
 
 pub record Triangle (A : Type 0) : Type 0 where
   pub a : A
@@ -37,13 +37,6 @@ containsOrientedEdge t x y = (eqb (t .a) x && eqb (t .b) y) || ((eqb (t .b) x &&
 
 unfoldable pub sortedVertices : Triangle ℕ → List ℕ
 sortedVertices t = sortBy ltb (vertices t)
-
--- t is one of the six orders of u
-unfoldable pub sameThree : Triangle ℕ → Triangle ℕ → Bool
-sameThree t u =
-    some (λ w. eqb (t .a) (w .a) && (eqb (t .b) (w .b) && eqb (t .c) (w .c)))
-    (tri (u .a) (u .b) (u .c) ∷ tri (u .a) (u .c) (u .b) ∷ tri (u .b) (u .a) (u .c)
-    ∷ tri (u .b) (u .c) (u .a) ∷ tri (u .c) (u .a) (u .b) ∷ tri (u .c) (u .b) (u .a) ∷ [])
 
 -- one or two left over at the end are passed over: 1 refuses such a list first
 unfoldable pub threes : {A : Type 0} → List A → List (Triangle A)

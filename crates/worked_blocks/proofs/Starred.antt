@@ -7,7 +7,7 @@ use mathlib.Core.List.{List, [], _∷_, map, flatMap, List·Memᴰ, List·Memᴰ
 use lib.Ieee.{Float, ofBits, ofInt, round, add, sub, mul, div, neg, lt, le, eq}
 use lib.IntN.{ℤ, pos, negsuc}
 use Rattle.lists.specs.Lists.{every, some, keep, place, insertBy, sortBy, upFrom}
-use Rattle.root.specs.Doubles.{bits, magnitude, within, larger, one, units}
+use Rattle.root.specs.Doubles.{bits, 1e-10, magnitude, within, larger, one, units}
 use Rattle.root.specs.Root.{root, rootOfSquare, wholeRoot}
 use Rattle.rounding.specs.Rounding as rounding
 use Rattle.rounding.specs.Rounding.{ceil, wholeUp, halfUp, rounded, key, beyond, farKey}
@@ -18,7 +18,7 @@ use Rattle.geometry.specs.Points.{pt, along, minus, dot, cross}
 use Rattle.geometry.specs.Triangles.{threes, sortedVertices}
 use Rattle.geometry.specs.Meshes.{Mesh, meshOf, enter}
 use Rattle.refusals.specs.Refusals.{documented, firstRefusal}
-use Rattle.refusals.specs.Front.{ragged, tooMany, badIndex, inRange, epsInRange, boxInRange, badBox, workNeed, farKeys, roomTests}
+use Rattle.refusals.specs.Front.{ragged, tooMany, badIndex, inRange, epsInRange, resolutionInRange, boxInRange, badBox, gridTooFine, workNeed, farKeys, roomTests}
 use Rattle.chains.specs.Links.{linkTo}
 use Rattle.components.specs.Components.{components}
 use Rattle.mesh_weld.specs.Weld.{weldNext, weld}
@@ -30,7 +30,10 @@ use Rattle.mesh_cleanup.specs.Clean.{welded, cleaned, cleanResult, cleanTests, 
 use Rattle.aabb_polygons.specs.Polygons.{inside, snapTo, snapped, crossing, interpolated, onPlane, crossed, sideClipped, walk, clipToPlane, clipPolygon}
 use Rattle.aabb_facets.specs.Clipped.{fan, fanned, insideBox, sharing, clipFacet, made, clipped}
 use Rattle.aabb_clipping.specs.Clip.{clipTests, clipResult, clipReply}
-use Rattle.geometry.specs.Axes.{segments, gridLine, axisPoints}
+use Rattle.geometry.specs.Axes.{segments, gridLine, axisPoints, gridSize}
+use Rattle.edges.specs.Edges.{samePair, pairBefore, openEdges}
+use Rattle.box_faces.specs.Faces.{onFace, facesOf}
+use Rattle.boundary_closure.specs.Operation.{closureTests, strayEdge, edgeTests, candidatesReply}
 
 -- ---- the document's numbers, by their bits
 
@@ -153,6 +156,16 @@ c7 =
     row {A = List ℕ × Mesh} (cleanReply points6 (0 ∷ 1 ∷ 2 ∷ 2 ∷ 1 ∷ 0 ∷ []) 2^-20 1664 (0 ∷ 0 ∷ []), cleanResult points6 (0 ∷ 1 ∷ 2 ∷ 2 ∷ 1 ∷ 0 ∷ []) 2^-20)
     (0 ∷ 0 ∷ 0 ∷ [], meshOf [] [])
 
+-- C9: "box (0,0,0) to (2,2,2), resolution 2, eps 1e-10, facet (0,0,1), (1,0,1), (0,1,1): refusal 9, pair 1, 2". The operation's reply, with just enough work room
+abbrev pub box9 : AABB
+box9 = record { «min_corner» = +0 ∷ +0 ∷ +0 ∷ []; «max_corner» = +2 ∷ +2 ∷ +2 ∷ [] }
+
+abbrev pub points9 : List Float
+points9 = +0 ∷ +0 ∷ +1 ∷ +1 ∷ +0 ∷ +1 ∷ +0 ∷ +1 ∷ +1 ∷ []
+
+abbrev pub c9 : Row
+c9 = row (candidatesReply points9 (0 ∷ 1 ∷ 2 ∷ []) box9 1e-10 +2 4608 []) (9 ∷ 1 ∷ 2 ∷ [])
+
 -- C11, C12: "axis from 0, length 8, resolution 4, eps 0: 0, 4, 8"; "length 0.5, resolution 4: two points". The first two axes of one box
 abbrev pub box11 : AABB
 box11 = record { «min_corner» = +0 ∷ +0 ∷ +0 ∷ []; «max_corner» = +8 ∷ 1/2 ∷ +8 ∷ [] }
@@ -168,7 +181,7 @@ abbrev pub c16 : Row
 c16 = row (map root (+169 ∷ +0 ∷ [])) (+13 ∷ +0 ∷ [])
 
 abbrev pub starred : List Row
-starred = c1 ∷ c3 ∷ c4 ∷ c5 ∷ c6 ∷ c7 ∷ c11 ∷ c12 ∷ c16 ∷ []
+starred = c1 ∷ c3 ∷ c4 ∷ c5 ∷ c6 ∷ c7 ∷ c9 ∷ c11 ∷ c12 ∷ c16 ∷ []
 
 -- ---- the claim
 
@@ -181,8 +194,8 @@ of-all a {r} (List·Memᴰ·head {x} {xs} e) = subst⁻¹ (λ (q : Row). q .give
 of-all a {r} (List·Memᴰ·tail {x} {xs} m) = of-all (a .1) m
 
 computed : All starred
-unfolding every some upFrom threes magnitude within inside snapTo snapped crossing interpolated onPlane crossed sideClipped walk clipToPlane clipPolygon along enter fan fanned insideBox sharing clipFacet made clipped flatMap firstRefusal documented ragged tooMany badIndex inRange epsInRange boxInRange badBox workNeed roomTests clipTests clipResult clipReply keep place insertBy sortBy halfUp rounded key beyond farKey farKeys minus dot cross keyOf sameKey around near firstIn neighbours cells linkTo weldNext weld hasRepeatedCorner isFlat sortedVertices sameCorners isDuplicate passes passedNext passed components shareVertex isAlone status keptFacets numbering renumbered compacted welded cleaned cleanResult cleanTests cleanReply larger one units root rootOfSquare wholeRoot wholeUp ceil rounding.segments segments gridLine axisPoints ofBits ofInt round add sub mul div neg lt le eq
-computed = (refl, (refl, (refl, (refl, (refl, (refl, (refl, (refl, (refl, tt)))))))))
+unfolding every some upFrom threes magnitude within inside snapTo snapped crossing interpolated onPlane crossed sideClipped walk clipToPlane clipPolygon along enter fan fanned insideBox sharing clipFacet made clipped flatMap firstRefusal documented ragged tooMany badIndex inRange epsInRange boxInRange badBox workNeed roomTests clipTests clipResult clipReply keep place insertBy sortBy halfUp rounded key beyond farKey farKeys minus dot cross keyOf sameKey around near firstIn neighbours cells linkTo weldNext weld hasRepeatedCorner isFlat sortedVertices sameCorners isDuplicate passes passedNext passed components shareVertex isAlone status keptFacets numbering renumbered compacted welded cleaned cleanResult cleanTests cleanReply larger one units root rootOfSquare wholeRoot wholeUp ceil rounding.segments segments gridLine axisPoints gridSize resolutionInRange gridTooFine samePair pairBefore openEdges onFace facesOf closureTests strayEdge edgeTests candidatesReply ofBits ofInt round add sub mul div neg lt le eq
+computed = (refl, (refl, (refl, (refl, (refl, (refl, (refl, (refl, (refl, (refl, tt))))))))))
 
 pub every-row : {r : Row} → List·Memᴰ r starred → r .given ≡ r .stated
 every-row m = of-all computed m

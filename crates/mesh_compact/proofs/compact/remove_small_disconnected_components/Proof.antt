@@ -20,13 +20,7 @@ components-requires : tie.Need-components-requires
 components-requires c κs =
     let s = c .before .before .before .before in
     let a = s .args in
-    record {
-      some = omega arith;
-      room = omega (arith, s .pre .all-in);
-      fits = omega (arith, s .pre .facets-in, s .pre .all-in);
-      apart = apart (a .kept) (a .n) (a .facets) (a .k) (a .at) (a .least) (a .m .now) (s .pre);
-      below = labels-low (a .kept) (a .n) (a .facets) (a .k) (a .at) (a .least) (a .m .now) (s .pre);
-    }
+    record { some = omega arith; room = omega (arith, s .pre .all-in); fits = omega (arith, s .pre .facets-in, s .pre .all-in); apart = apart (a .kept) (a .n) (a .facets) (a .k) (a .at) (a .least) (a .m .now) (s .pre); below = labels-low (a .kept) (a .n) (a .facets) (a .k) (a .at) (a .least) (a .m .now) (s .pre) }
 
 mul-table : tie.Need-mul-table
 mul-table c = search needs

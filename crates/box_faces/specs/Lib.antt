@@ -1,0 +1,4 @@
+pub mod Faces
+pub mod Segments
+pub mod Sides
+pub mod Lines
