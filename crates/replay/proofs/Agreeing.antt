@@ -2,10 +2,10 @@
 --   fresh-vertices, fresh-facets    the lengths of fresh outputs;   outputs-within   where they lie
 --   same-box                        a box from the doubles of a record
 --   tolerance-decides               a reported tolerance
---   answer-decides                  a reported reply, settled outputs and cleared work room
---   clip-decides                    the same of clip
+--   answer-decides                  a call as reported
+--   clip-reply, clip-result, clean-reply, clean-result   from the values of a call to those of the record
 --   lists-decides                   of the lists as read
---   as-clip, no-operation, as-tolerance, as-mesh, short   by a record's operation
+--   as-clip, as-clean, no-operation, as-tolerance, as-mesh, short   by a record's operation
 use Prim.Native.Nat.{ℕ, _+_, _≤_, _<_}
 use mathlib.Core.Path.{_≡_, sym, ap, ap₂, _∙_, subst}
 use mathlib.Core.Bool.{Bool}
@@ -15,24 +15,20 @@ use lib.ListN.{length, getD, replicate, length-map, length-replicate, getD-repli
 use lib.Ieee.{Float}
 use Rattle.geometry.specs.declared.aabb.AABB.{AABB}
 use Rattle.geometry.specs.Triangles.{flat}
-use Rattle.geometry.specs.Meshes.{coordinates}
+use Rattle.geometry.specs.Meshes.{Mesh, coordinates}
 use Rattle.lists.specs.Lists.{upTo}
 use Rattle.lists.proofs.Places.{length-up}
-use Rattle.refusals.specs.Refusals.{settle, Settled, Zeroed}
+use Rattle.refusals.specs.Refusals.{settle, Zeroed}
 use Rattle.refusals.specs.Reports.{Reported}
 use Rattle.tolerance.specs.Tolerance.{toleranceReply}
 use Rattle.aabb_clipping.specs.Clip.{clipReply, clipResult}
+use Rattle.mesh_cleanup.specs.Clean.{cleanReply, cleanResult}
 use Rattle.yongpham.specs.Calls.{MeshReported, boxOf}
 use Rattle.replay.specs.Words.{Everywhere, Decides}
 use Rattle.replay.specs.Layout.{storedReply, outputsFrom, Laid}
 use Rattle.replay.specs.Contents.{table, oldDoubles, oldWords, oldDouble, doublesIn, numbersIn}
-use Rattle.replay.specs.Agreement.{SameDoubles, SameWords, Answered, Fresh, Stored, ClipStored, MeshStored, clip, ListsStored, NoNan, ToleranceAgrees, MeshAgrees, Agrees, tolerance, mesh, doubleAt, boxIn, epsIn, reported}
+use Rattle.replay.specs.Agreement.{SameDoubles, SameWords, Answered, Fresh, Stored, ClipStored, CleanStored, MeshStored, clip, clean, ListsStored, NoNan, ToleranceAgrees, MeshAgrees, Agrees, tolerance, mesh, doubleAt, boxIn, epsIn, outputsIn, reported}
 use Rattle.replay.proofs.Deciding.{ends}
-
--- what `yongpham_clip` promises
-abbrev ClipReported : List Float → List ℕ → AABB → Float → ℕ → List ℕ → List ℕ → List ℕ → List Float → List Float → List ℕ → List ℕ → Type 0
-ClipReported vs fs box eps r values w w' v v' f f' =
-    MeshReported (clipReply vs fs box eps (length w) (length v ∷ length f ∷ [])) (clipResult vs fs box eps) r values w w' v v' f f'
 
 length-table : {A : Type 0} (f : ℕ → A) (n : ℕ) → length (table f n) ≡ n
 length-table f n = length-map (upTo n) f ∙ length-up 0 n
@@ -67,79 +63,72 @@ tolerance-decides stored box number values r n h e k d =
     let same : number ∷ values ≡ reported (toleranceReply (boxIn stored)) = as-reported (toleranceReply box) number values k ∙ ap (λ (b : AABB). reported (toleranceReply b)) e in
     ends (ToleranceAgrees stored) d (λ p. record { whole = n; box = h; answer = sym same ∙ p }) (λ a. same ∙ a .answer)
 
-module _ (stored reply : List ℕ) (vertices : List Float) (facets : List ℕ) (number : ℕ) (values w w' : List ℕ) (v v' : List Float) (f f' : List ℕ)
+-- A call as reported: its reply and result are the record's.
+module _ (stored reply reply₀ : List ℕ) (result result₀ : Mesh) (number : ℕ) (values w w' : List ℕ) (v v' : List Float) (f f' : List ℕ)
     (fresh : Fresh stored w v f)
-    (replied : Reported reply number values)
-    (coords : Settled reply vertices v v')
-    (numbers : Settled reply facets f f')
-    (cleared : Zeroed w w')
+    (call : MeshReported reply₀ result₀ number values w w' v v' f f')
+    (same-reply : reply₀ ≡ reply)
+    (same-result : result₀ ≡ result)
     (long : length v' ≡ length v)
   where
-    from : ℕ
-    from = outputsFrom stored
+    there : MeshReported reply result number values w w' v v' f f'
+    there =
+        subst (λ (l : List ℕ). MeshReported l result number values w w' v v' f f') same-reply
+        (subst (λ (m : Mesh). MeshReported reply₀ m number values w w' v v' f f') same-result call)
 
-    ends-v : v' ≡ settle reply vertices (oldDoubles (getD stored 15 0))
-    ends-v = coords .ends ∙ ap (settle reply vertices) (fresh .coordinates)
+    ends-v : v' ≡ settle reply (coordinates (result .points)) (oldDoubles (getD stored 15 0))
+    ends-v = there .vertices .ends ∙ ap (settle reply (coordinates (result .points))) (fresh .coordinates)
 
-    ends-f : f' ≡ settle reply facets (oldWords (getD stored 16 0))
-    ends-f = numbers .ends ∙ ap (settle reply facets) (fresh .numbers)
+    ends-f : f' ≡ settle reply (flat (result .facets)) (oldWords (getD stored 16 0))
+    ends-f = there .facets .ends ∙ ap (settle reply (flat (result .facets))) (fresh .numbers)
 
     at-f : outputsFrom stored + length v' ≡ outputsFrom stored + getD stored 15 0
     at-f = ap (λ (n : ℕ). outputsFrom stored + n) (long ∙ fresh-vertices stored w v f fresh)
 
-    pub answer-decides : (r : Bool) → Decides (Answered stored (number ∷ values) v' f' w') r → Decides (Stored stored reply vertices facets) r
+    pub answer-decides : (r : Bool) → Decides (Answered stored (number ∷ values) v' f' w') r → Decides (Stored stored reply result) r
     answer-decides r d =
-        ends (Stored stored reply vertices facets) d
+        ends (Stored stored reply result) d
         (λ a.
         record {
-          replied = sym (as-reported reply number values replied) ∙ a .replied;
-          coordinates = subst (λ (l : List Float). SameDoubles stored (outputsFrom stored) l) ends-v (a .coordinates);
+          replied = sym (as-reported reply number values (there .reported)) ∙ a .replied;
+          coords = subst (λ (l : List Float). SameDoubles stored (outputsFrom stored) l) ends-v (a .coordinates);
           numbers =
               subst (λ (l : List ℕ). SameWords stored (outputsFrom stored + getD stored 15 0) l) ends-f
               (subst (λ (n : ℕ). SameWords stored n f') at-f (a .numbers));
         })
         (λ s.
         record {
-          replied = as-reported reply number values replied ∙ s .replied;
-          coordinates = subst (λ (l : List Float). SameDoubles stored (outputsFrom stored) l) (sym ends-v) (s .coordinates);
+          replied = as-reported reply number values (there .reported) ∙ s .replied;
+          coordinates = subst (λ (l : List Float). SameDoubles stored (outputsFrom stored) l) (sym ends-v) (s .coords);
           numbers =
               subst (λ (n : ℕ). SameWords stored n f') (sym at-f)
               (subst (λ (l : List ℕ). SameWords stored (outputsFrom stored + getD stored 15 0) l) (sym ends-f) (s .numbers));
-          cleared = zero-each w w' cleared;
+          cleared = zero-each w w' (there .work);
         })
 
-module _ (stored : List ℕ) (vs : List Float) (fs : List ℕ) (box : AABB) (eps : Float) (number : ℕ) (values w w' : List ℕ) (v v' : List Float) (f f' : List ℕ)
-    (fresh : Fresh stored w v f)
-    (call : ClipReported vs fs box eps number values w w' v v' f f')
-    (same-box : box ≡ boxIn stored)
-    (same-eps : eps ≡ epsIn stored)
-    (long : length v' ≡ length v)
-  where
-    there : ClipReported vs fs (boxIn stored) (epsIn stored) number values w w' v v' f f'
-    there =
-        subst (λ (b : AABB). ClipReported vs fs b (epsIn stored) number values w w' v v' f f') same-box
-        (subst (λ (e : Float). ClipReported vs fs box e number values w w' v v' f f') same-eps call)
+module _ (stored w : List ℕ) (v : List Float) (f : List ℕ) (fresh : Fresh stored w v f) where
+  -- the lengths that a reply is computed from
+  same-lengths : (reply : ℕ → List ℕ → List ℕ) → reply (length w) (length v ∷ length f ∷ []) ≡ reply (getD stored 14 0) (outputsIn stored)
+  same-lengths reply =
+      ap (λ (n : ℕ). reply n (length v ∷ length f ∷ [])) (fresh .lent)
+      ∙ ap₂ (λ (n m : ℕ). reply (getD stored 14 0) (n ∷ m ∷ [])) (fresh-vertices stored w v f fresh) (fresh-facets stored w v f fresh)
 
-    reply : List ℕ
-    reply = clipReply vs fs (boxIn stored) (epsIn stored) (getD stored 14 0) (getD stored 15 0 ∷ getD stored 16 0 ∷ [])
+  pub clip-reply : (vs : List Float) (fs : List ℕ) {box : AABB} {eps : Float} → box ≡ boxIn stored → eps ≡ epsIn stored
+      → clipReply vs fs box eps (length w) (length v ∷ length f ∷ []) ≡ clipReply vs fs (boxIn stored) (epsIn stored) (getD stored 14 0) (outputsIn stored)
+  clip-reply vs fs b e =
+      ap₂ (λ (x : AABB) (y : Float). clipReply vs fs x y (length w) (length v ∷ length f ∷ [])) b e ∙ same-lengths (clipReply vs fs (boxIn stored) (epsIn stored))
 
-    same-reply : clipReply vs fs (boxIn stored) (epsIn stored) (length w) (length v ∷ length f ∷ []) ≡ clipReply vs fs (boxIn stored) (epsIn stored) (getD stored 14 0) (getD stored 15 0 ∷ getD stored 16 0 ∷ [])
-    same-reply =
-        ap (λ (n : ℕ). clipReply vs fs (boxIn stored) (epsIn stored) n (length v ∷ length f ∷ [])) (fresh .lent)
-        ∙ ap (λ (n : ℕ). clipReply vs fs (boxIn stored) (epsIn stored) (getD stored 14 0) (n ∷ length f ∷ [])) (fresh-vertices stored w v f fresh)
-        ∙ ap (λ (n : ℕ). clipReply vs fs (boxIn stored) (epsIn stored) (getD stored 14 0) (getD stored 15 0 ∷ n ∷ [])) (fresh-facets stored w v f fresh)
+  pub clean-reply : (vs : List Float) (fs : List ℕ) {eps : Float} → eps ≡ epsIn stored
+      → cleanReply vs fs eps (length w) (length v ∷ length f ∷ []) ≡ cleanReply vs fs (epsIn stored) (getD stored 14 0) (outputsIn stored)
+  clean-reply vs fs e =
+      ap (λ (y : Float). cleanReply vs fs y (length w) (length v ∷ length f ∷ [])) e ∙ same-lengths (cleanReply vs fs (epsIn stored))
 
-    pub clip-decides : (r : Bool) → Decides (Answered stored (number ∷ values) v' f' w') r → Decides (ClipStored stored vs fs) r
-    clip-decides r d =
-        answer-decides stored
-        (clipReply vs fs (boxIn stored) (epsIn stored) (getD stored 14 0) (getD stored 15 0 ∷ getD stored 16 0 ∷ []))
-        (coordinates (clipResult vs fs (boxIn stored) (epsIn stored) .points))
-        (flat (clipResult vs fs (boxIn stored) (epsIn stored) .facets))
-        number values w w' v v' f f' fresh
-        (subst (λ (l : List ℕ). Reported l number values) same-reply (there .reported))
-        (subst (λ (l : List ℕ). Settled l (coordinates (clipResult vs fs (boxIn stored) (epsIn stored) .points)) v v') same-reply (there .vertices))
-        (subst (λ (l : List ℕ). Settled l (flat (clipResult vs fs (boxIn stored) (epsIn stored) .facets)) f f') same-reply (there .facets))
-        (there .work) long r d
+pub clip-result : (stored : List ℕ) (vs : List Float) (fs : List ℕ) {box : AABB} {eps : Float} → box ≡ boxIn stored → eps ≡ epsIn stored
+    → clipResult vs fs box eps ≡ clipResult vs fs (boxIn stored) (epsIn stored)
+clip-result stored vs fs b e = ap₂ (clipResult vs fs) b e
+
+pub clean-result : (stored : List ℕ) (vs : List Float) (fs : List ℕ) {eps : Float} → eps ≡ epsIn stored → cleanResult vs fs eps ≡ cleanResult vs fs (epsIn stored)
+clean-result stored vs fs e = ap (cleanResult vs fs) e
 
 -- lists as read: v of n coordinates, then f of m facet numbers
 pub lists-decides : (stored : List ℕ) (v : List Float) (f : List ℕ) (n k m : ℕ) (r : Bool) → n ≡ getD stored 2 0 → k ≡ getD stored 2 0 → m ≡ getD stored 3 0
@@ -154,12 +143,19 @@ lists-decides stored v f n k m r a b c p q d =
 module _ (stored : List ℕ) (vs : List Float) (fs : List ℕ) where
   pub as-clip : getD stored 1 0 ≡ 2 → MeshStored stored vs fs → ClipStored stored vs fs
   as-clip e (clip k s) = s
+  as-clip e (clean k s) = absurd (omega arith)
 
-  pub no-operation : (getD stored 1 0 ≡ 2 → ⊥) → MeshStored stored vs fs → ⊥
-  no-operation never (clip k s) = never k
+  pub as-clean : getD stored 1 0 ≡ 3 → MeshStored stored vs fs → CleanStored stored vs fs
+  as-clean e (clip k s) = absurd (omega arith)
+  as-clean e (clean k s) = s
+
+  pub no-operation : (getD stored 1 0 ≡ 2 → ⊥) → (getD stored 1 0 ≡ 3 → ⊥) → MeshStored stored vs fs → ⊥
+  no-operation no-clip no-clean (clip k s) = no-clip k
+  no-operation no-clip no-clean (clean k s) = no-clean k
 
 mesh-number : (stored : List ℕ) (vs : List Float) (fs : List ℕ) → MeshStored stored vs fs → getD stored 1 0 ≡ 1 → ⊥
 mesh-number stored vs fs (clip k s) e = omega arith
+mesh-number stored vs fs (clean k s) e = omega arith
 
 module _ (stored : List ℕ) where
   pub as-tolerance : getD stored 1 0 ≡ 1 → Agrees stored → ToleranceAgrees stored

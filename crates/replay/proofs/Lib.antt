@@ -2,3 +2,4 @@ pub mod Deciding
 pub mod Comparing
 pub mod Filling
 pub mod Agreeing
+pub mod Tallying

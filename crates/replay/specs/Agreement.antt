@@ -5,8 +5,8 @@
 --   Fresh                     work room and outputs before a call
 --   boxIn, epsIn              box and eps of a record
 --   reported                  a reply as a number and four values
---   Stored                    the stored answer is this reply, with these results in front of old contents
---   ToleranceStored, ClipStored   it is that of the operation's definition, on the record's request
+--   Stored                    the stored answer is this reply, with this mesh in front of old contents
+--   ToleranceStored, ClipStored, CleanStored   it is that of the operation's definition, on the record's request
 --   MeshStored, ListsStored   the same of each operation that writes a mesh, by the record's operation
 --   Numbers                   box, eps, resolution and coordinates are doubles, and facet numbers fit 32 bits
 --   Agrees                    the record is laid out as its operation's are, and its answer is the definition's
@@ -19,10 +19,11 @@ use lib.ListN.{length, getD, take, drop, replicate}
 use lib.Ieee.{Float, nan, isNan, binary64, toBits, nanBits}
 use Rattle.geometry.specs.declared.aabb.AABB.{AABB}
 use Rattle.geometry.specs.Triangles.{flat}
-use Rattle.geometry.specs.Meshes.{coordinates}
+use Rattle.geometry.specs.Meshes.{Mesh, coordinates}
 use Rattle.refusals.specs.Refusals.{settle}
 use Rattle.tolerance.specs.Tolerance.{toleranceReply}
 use Rattle.aabb_clipping.specs.Clip.{clipReply, clipResult}
+use Rattle.mesh_cleanup.specs.Clean.{cleanReply, cleanResult}
 use Rattle.yongpham.specs.Calls.{boxOf}
 use Rattle.replay.specs.Words.{Everywhere}
 use Rattle.replay.specs.Layout.{storedReply, outputsFrom, Few, Laid}
@@ -61,23 +62,28 @@ epsIn stored = doubleAt stored 12
 abbrev pub reported : List ℕ → List ℕ
 reported reply = getD reply 0 0 ∷ take 4 (drop 1 reply ++ replicate 4 0)
 
-pub record Stored (stored reply : List ℕ) (vertices : List Float) (facets : List ℕ) : Type 0 where
+pub record Stored (stored reply : List ℕ) (result : Mesh) : Type 0 where
   pub replied : reported reply ≡ storedReply stored
-  pub coordinates : SameDoubles stored (outputsFrom stored) (settle reply vertices (oldDoubles (getD stored 15 0)))
-  pub numbers : SameWords stored (outputsFrom stored + getD stored 15 0) (settle reply facets (oldWords (getD stored 16 0)))
+  pub coords : SameDoubles stored (outputsFrom stored) (settle reply (coordinates (result .points)) (oldDoubles (getD stored 15 0)))
+  pub numbers : SameWords stored (outputsFrom stored + getD stored 15 0) (settle reply (flat (result .facets)) (oldWords (getD stored 16 0)))
 
 abbrev pub ToleranceStored : List ℕ → Type 0
 ToleranceStored stored = reported (toleranceReply (boxIn stored)) ≡ storedReply stored
 
+-- the lengths of the outputs lent
+abbrev pub outputsIn : List ℕ → List ℕ
+outputsIn stored = getD stored 15 0 ∷ getD stored 16 0 ∷ []
+
 abbrev pub ClipStored : List ℕ → List Float → List ℕ → Type 0
 ClipStored stored vs fs =
-    Stored stored
-    (clipReply vs fs (boxIn stored) (epsIn stored) (getD stored 14 0) (getD stored 15 0 ∷ getD stored 16 0 ∷ []))
-    (coordinates (clipResult vs fs (boxIn stored) (epsIn stored) .points))
-    (flat (clipResult vs fs (boxIn stored) (epsIn stored) .facets))
+    Stored stored (clipReply vs fs (boxIn stored) (epsIn stored) (getD stored 14 0) (outputsIn stored)) (clipResult vs fs (boxIn stored) (epsIn stored))
+
+abbrev pub CleanStored : List ℕ → List Float → List ℕ → Type 0
+CleanStored stored vs fs = Stored stored (cleanReply vs fs (epsIn stored) (getD stored 14 0) (outputsIn stored)) (cleanResult vs fs (epsIn stored))
 
 pub data MeshStored (stored : List ℕ) (vs : List Float) (fs : List ℕ) : Type 0 where
   clip : getD stored 1 0 ≡ 2 → ClipStored stored vs fs → MeshStored stored vs fs
+  clean : getD stored 1 0 ≡ 3 → CleanStored stored vs fs → MeshStored stored vs fs
 
 abbrev pub ListsStored : List ℕ → Type 0
 ListsStored stored =

@@ -1,5 +1,6 @@
 // How many requests of an operation a file has, and how many of them agree.
-ghost use Prim.Native.Nat.{_≤_};
+ghost use lib.ListN.{drop};
+ghost use Rattle.replay.specs.Counting.{OneIf, Requested, Agreeing, Tallied};
 use crate::agreement::agrees;
 use crate::layout::record_length;
 
@@ -10,7 +11,7 @@ pub struct Tally {
 
 // 1 for a request of this operation, else 0.
 fn request(operation: u64, stored: &[u64]) -> u64
-    ensures { λ r. ⌜ r ≤ 1 ⌝ }
+    ensures { λ r. ⌜ OneIf (Requested operation (now (stored .entry))) r ⌝ }
 {
     if stored.len() < 24 {
         return 0;
@@ -20,7 +21,7 @@ fn request(operation: u64, stored: &[u64]) -> u64
 
 // 1 for a request of this operation that is answered as stored, else 0.
 fn agreement(operation: u64, stored: &[u64]) -> u64
-    ensures { λ r. ⌜ r ≤ 1 ⌝ }
+    ensures { λ r. ⌜ OneIf (Agreeing operation (now (stored .entry))) r ⌝ }
 {
     if request(operation, stored) == 0 {
         return 0;
@@ -28,7 +29,9 @@ fn agreement(operation: u64, stored: &[u64]) -> u64
     if agrees(stored) { 1 } else { 0 }
 }
 
-pub fn count(file: &[u64], operation: u64) -> Tally {
+pub fn count(file: &[u64], operation: u64) -> Tally
+    ensures { λ r. ⌜ Tallied operation (drop 4 (now (file .entry))) (r .requests) (r .agreeing) ⌝ }
+{
     let mut requests: u64 = 0;
     let mut agreeing: u64 = 0;
     let mut at = 4;

@@ -3,10 +3,11 @@
 ghost use mathlib.Core.Path.{_≡_};
 ghost use mathlib.Core.Bool.{false};
 ghost use Prim.Native.Nat.{_+_, _≤_, _<_};
-ghost use lib.ListN.{length, getD};
+ghost use lib.ListN.{length, getD, drop};
 ghost use lib.Ieee.{binary64, nanBits};
 ghost use Rattle.replay.specs.Words.{recordLength, Decides, Everywhere};
 ghost use Rattle.replay.specs.Layout.{sizeOf, Few, Laid};
+ghost use Rattle.replay.specs.Counting.{Records, Answers};
 
 // "yongpham", the least byte first
 const MAGIC: u64 = 7881695654855995257;
@@ -31,7 +32,9 @@ pub fn record_length(rest: &[u64]) -> usize
 }
 
 // The records fill the file and are as many as its header says.
-fn are_records(file: &[u64], count: u64) -> bool {
+fn are_records(file: &[u64], count: u64) -> bool
+    ensures { λ r. ⌜ Decides (Records (drop 4 (now (file .entry))) count) r ⌝ }
+{
     let mut at = 4;
     let mut left = count;
     while at < file.len() {
@@ -48,7 +51,9 @@ fn are_records(file: &[u64], count: u64) -> bool {
     left == 0
 }
 
-pub fn are_answers(file: &[u64]) -> bool {
+pub fn are_answers(file: &[u64]) -> bool
+    ensures { λ r. ⌜ Decides (Answers (now (file .entry))) r ⌝ }
+{
     if file.len() < 4 {
         return false;
     }

@@ -30,6 +30,7 @@ fn replay(file: &[u64]) {
     }
     print_line(b"tolerance", count(file, 1));
     print_line(b"clip", count(file, 2));
+    print_line(b"clean", count(file, 3));
 }
 
 fn main() {

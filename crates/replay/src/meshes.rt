@@ -1,9 +1,9 @@
-// The operations that write a mesh: clip.
+// The operations that write a mesh: clip and clean.
 ghost use mathlib.Core.Path.{_≡_};
 ghost use lib.ListN.{length, getD};
 ghost use Rattle.replay.specs.Words.{Decides};
 ghost use Rattle.replay.specs.Layout.{Laid};
-ghost use Rattle.replay.specs.Agreement.{Fresh, ClipStored, MeshStored, ListsStored, Numbers, MeshAgrees};
+ghost use Rattle.replay.specs.Agreement.{Fresh, ClipStored, CleanStored, MeshStored, ListsStored, Numbers, MeshAgrees};
 use crate::compare::same_answer;
 use crate::contents::double;
 use crate::contents::old_doubles;
@@ -17,6 +17,7 @@ use crate::contents::room_for_work;
 use crate::layout::are_few;
 use crate::layout::are_numbers;
 use crate::layout::is_laid;
+use yongpham::yongpham_clean;
 use yongpham::yongpham_clip;
 
 fn clip_agrees(
@@ -50,6 +51,31 @@ fn clip_agrees(
     same_answer(stored, number, &values, out_vertices, out_facets, work)
 }
 
+fn clean_agrees(
+    stored: &[u64],
+    vertices: &[f64],
+    facets: &[u32],
+    work: &mut [u64],
+    out_vertices: &mut [f64],
+    out_facets: &mut [u32],
+) -> bool
+    requires { ⌜ Laid (now stored) ⌝ }
+    requires { ⌜ Fresh (now stored) (now work) (now «out_vertices») (now «out_facets») ⌝ }
+    ensures { λ r. ⌜ Decides (CleanStored (now (stored .entry)) (now (vertices .entry)) (now (facets .entry))) r ⌝ }
+{
+    let mut values = [0u64; 4];
+    let number = yongpham_clean(
+        vertices,
+        facets,
+        double(stored[12]),
+        work,
+        out_vertices,
+        out_facets,
+        &mut values,
+    );
+    same_answer(stored, number, &values, out_vertices, out_facets, work)
+}
+
 // Runs the request with these lists in this room. A number that is no operation's here agrees with nothing.
 fn run(
     stored: &[u64],
@@ -68,6 +94,9 @@ fn run(
     old_numbers(out_facets);
     if stored[1] == 2 {
         return clip_agrees(stored, vertices, facets, work, out_vertices, out_facets);
+    }
+    if stored[1] == 3 {
+        return clean_agrees(stored, vertices, facets, work, out_vertices, out_facets);
     }
     false
 }

@@ -4,5 +4,6 @@ mod clean;
 mod clip_mesh;
 mod tolerance_of_box;
 
+pub use clean::yongpham_clean;
 pub use clip_mesh::yongpham_clip;
 pub use tolerance_of_box::yongpham_tolerance;

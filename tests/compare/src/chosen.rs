@@ -75,13 +75,8 @@ fn sound() -> Request {
     Request::new("refused or not", vertices.concat(), facets, UNIT, 1e-10)
 }
 
-pub fn clip() -> Vec<Chosen> {
-    let mut all: Vec<Chosen> = clip_traps().into_iter().map(ample).collect();
-    let refused = list_faults()
-        .into_iter()
-        .chain(number_faults())
-        .chain(box_faults());
-    all.extend(refused.map(ample));
+/// The same request with all kinds of room.
+fn in_rooms(request: &Request) -> Vec<Chosen> {
     let rooms = [
         Room::Ample,
         Room::Exact,
@@ -91,10 +86,21 @@ pub fn clip() -> Vec<Chosen> {
         Room::Short(1),
         Room::NoOutput,
     ];
-    all.extend(rooms.map(|room| Chosen {
-        request: sound(),
+    let with = |room| Chosen {
+        request: request.clone(),
         room,
-    }));
+    };
+    rooms.map(with).into()
+}
+
+pub fn clip() -> Vec<Chosen> {
+    let mut all: Vec<Chosen> = clip_traps().into_iter().map(ample).collect();
+    let refused = list_faults(&sound())
+        .into_iter()
+        .chain(number_faults(&sound()))
+        .chain(box_faults());
+    all.extend(refused.map(ample));
+    all.extend(in_rooms(&sound()));
     // No facet, no vertex: nothing is written, into nothing.
     for facets in [Vec::new(), vec![0, 0, 0]] {
         let mut request = sound();
@@ -107,6 +113,23 @@ pub fn clip() -> Vec<Chosen> {
             room: Room::NoOutput,
         });
     }
+    all
+}
+
+pub fn clean() -> Vec<Chosen> {
+    let mut all: Vec<Chosen> = clean_traps().into_iter().map(ample).collect();
+    let base = cleanable();
+    let refused = list_faults(&base).into_iter().chain(number_faults(&base));
+    all.extend(refused.map(ample));
+    all.extend(in_rooms(&base));
+    // Refusal 7 comes before 8.
+    let mut far = base;
+    far.eps = 0.0;
+    far.vertices[7] = LARGEST;
+    all.extend([Room::Ample, Room::ShortWork].map(|room| Chosen {
+        request: far.clone(),
+        room,
+    }));
     all
 }
 
@@ -202,10 +225,128 @@ fn clip_traps() -> Vec<Request> {
     all
 }
 
+/// A mesh to clean.
+fn cleaned(family: &'static str, points: &[[f64; 3]], facets: &[u32], eps: f64) -> Request {
+    Request::new(family, points.concat(), facets.to_vec(), UNIT, eps)
+}
+
+/// Two facets that share a side, a lone one, one that is there twice, and vertices to be
+/// welded; nine facet numbers and five vertices or more, as the faults want.
+fn cleanable() -> Request {
+    let points = [
+        [0.0, 0.0, 0.0],
+        [1.0, 0.0, 0.0],
+        [9.0, 9.0, 9.0],
+        [1.0, 1.0, 0.0],
+        [0.0, 1.0, 0.0],
+        [1.0, 1e-11, -0.0],
+        [5.0, 0.0, 0.0],
+        [6.0, 0.0, 0.0],
+        [5.0, 1.0, 0.0],
+    ];
+    let facets = [0, 1, 3, 0, 3, 4, 6, 7, 8, 3, 0, 5];
+    cleaned("refused or not", &points, &facets, 1e-10)
+}
+
+fn on_axis(xs: &[f64]) -> Vec<[f64; 3]> {
+    xs.iter().map(|&x| [x, 0.0, 0.0]).collect()
+}
+
+/// What goes wrong first in a port of clean.
+fn clean_traps() -> Vec<Request> {
+    let eps = 1.0 / 1024.0;
+    let (low, high) = ([-3.0 / 8192.0; 3], [3.0 / 8192.0; 3]);
+    let square = |side: f64| {
+        [
+            [0.0, 0.0, 0.0],
+            [side, 0.0, 0.0],
+            [side, side, 0.0],
+            [0.0, side, 0.0],
+        ]
+    };
+    let two = [0, 1, 2, 0, 2, 3];
+    let mut all = vec![
+        // C1, C2, C3, C6, C7, C8, C14.
+        cleaned("worked block", &on_axis(&[-eps / 2.0, eps / 2.0]), &[], eps),
+        cleaned("worked block", &on_axis(&[0.0, eps]), &[], eps),
+        cleaned("worked block", &[low, high], &[], eps),
+        cleaned("worked block", &square(1.0), &[0, 1, 2], power(-20)),
+        cleaned(
+            "worked block",
+            &square(1.0),
+            &[0, 1, 2, 2, 1, 0],
+            power(-20),
+        ),
+        cleaned("worked block", &square(1.0), &two, power(-20)),
+        cleaned("worked block", &on_axis(&[4_611_686.0]), &[], 0.0),
+        cleaned("worked block", &on_axis(&[4_611_687.0]), &[], 0.0),
+        // The first in cell order, neither nearest nor lowest; a facet shows which.
+        cleaned("welding", &on_axis(&[0.9, -0.6, 0.2]), &[], 1.0),
+        cleaned(
+            "welding",
+            &[
+                [0.9, 0.0, 0.0],
+                [-0.6, 0.0, 0.0],
+                [0.2, 0.0, 0.0],
+                [0.0, 9.0, 0.0],
+                [0.0, 9.0, 9.0],
+            ],
+            &[0, 2, 3, 0, 2, 4],
+            1.0,
+        ),
+        // Chains: only kept vertices are joined to.
+        cleaned("welding", &on_axis(&[0.0, 0.75, 1.5, 2.25, 3.0]), &[], 1.0),
+        // Zeros of either sign are welded, and the first one's bits stay.
+        cleaned("welding", &on_axis(&[-0.0, 0.0]), &[], 0.0),
+        cleaned("welding", &on_axis(&[0.0, -0.0]), &[], -0.0),
+        // A squared distance that underflows, and one that does not.
+        cleaned("welding", &on_axis(&[0.0, 1.5e-162]), &[], 0.0),
+        cleaned("welding", &on_axis(&[0.0, 1.6e-162]), &[], 0.0),
+        // A squared cross product that underflows, and one that does not.
+        cleaned("flat", &square(1e-81), &two, 0.0),
+        cleaned("flat", &square(1e-80), &two, 0.0),
+        // A dropped facet is no earlier one of the same corners.
+        cleaned(
+            "flat",
+            &square(1.0),
+            &[0, 0, 2, 0, 1, 2, 1, 2, 0, 0, 2, 3],
+            1e-10,
+        ),
+        // No facet passes: the welded vertices come back. One passes, none is kept: nothing does.
+        cleaned("components", &square(1.0), &[0, 0, 1, 2, 2, 3], 1e-10),
+        cleaned("components", &square(1.0), &[0, 0, 1, 1, 2, 3], 1e-10),
+        cleaned("components", &square(1.0), &[], 1e-10),
+        cleaned("components", &[], &[], 1e-10),
+        // Components by a shared vertex alone; vertices are numbered by first use.
+        cleaned(
+            "components",
+            &[
+                [0.0, 0.0, 0.0],
+                [1.0, 0.0, 0.0],
+                [0.0, 1.0, 0.0],
+                [4.0, 0.0, 0.0],
+                [5.0, 0.0, 0.0],
+                [4.0, 1.0, 0.0],
+                [8.0, 0.0, 0.0],
+                [9.0, 0.0, 0.0],
+                [8.0, 1.0, 0.0],
+            ],
+            &[6, 7, 8, 3, 4, 5, 2, 1, 0, 0, 5, 4],
+            1e-10,
+        ),
+    ];
+    // Keys at 2^62, and one step of eps less.
+    for eps in [power(-32), power(-32).next_down()] {
+        all.push(cleaned("keys", &on_axis(&[LARGEST, -LARGEST]), &[], eps));
+        all.push(cleaned("keys", &on_axis(&[-LARGEST, 0.0]), &[], eps));
+    }
+    all
+}
+
 /// Refusals 1 and 3, and that 1 comes before 3 and 3 before 4.
-fn list_faults() -> Vec<Request> {
+fn list_faults(base: &Request) -> Vec<Request> {
     let with = |change: fn(&mut Request)| {
-        let mut request = sound();
+        let mut request = base.clone();
         change(&mut request);
         request
     };
@@ -215,35 +356,35 @@ fn list_faults() -> Vec<Request> {
         with(|r| r.vertices.push(0.5)),
         with(|r| r.facets.truncate(8)),
         with(|r| r.facets.push(0)),
-        with(|r| r.facets[8] = 5),
+        with(|r| r.facets[8] = (r.vertices.len() / 3) as u32),
         with(|r| r.facets[0] = u32::MAX),
         with(|r| r.vertices.clear()),
         with(|r| {
-            r.facets[8] = 5;
+            r.facets[8] = u32::MAX;
             r.vertices.push(0.5);
         }),
         with(|r| {
-            r.facets[8] = 5;
+            r.facets[8] = u32::MAX;
             r.vertices[0] = f64::INFINITY;
         }),
     ]
 }
 
 /// Refusal 4 of a coordinate and of eps, and the numbers that are just accepted.
-fn number_faults() -> Vec<Request> {
+fn number_faults(base: &Request) -> Vec<Request> {
     let largest = [LARGEST, LARGEST.next_up(), f64::MAX, f64::INFINITY];
     let mut all = Vec::new();
     for x in largest.into_iter().chain(largest.map(|x| -x)) {
-        let mut request = sound();
+        let mut request = base.clone();
         // A coordinate of the vertex that no facet uses.
         request.vertices[7] = x;
         all.push(request);
-        let mut request = sound();
+        let mut request = base.clone();
         request.vertices[12] = x;
         all.push(request);
     }
     for eps in [1.0, 1f64.next_up(), -0.0, -5e-324, f64::INFINITY, -1.0] {
-        let mut request = sound();
+        let mut request = base.clone();
         request.eps = eps;
         all.push(request);
     }

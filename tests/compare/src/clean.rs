@@ -1,6 +1,7 @@
 //! Clean: `yongpham_clean` beside the oracle, and the requests for it.
 
 use crate::boxes::LARGEST;
+use crate::chosen;
 use crate::lent::Lent;
 use crate::meshes;
 use crate::numbers::near;
@@ -12,7 +13,7 @@ pub const OPERATION: Operation = Operation {
     name: "clean",
     number: 3,
     generate,
-    chosen: Vec::new,
+    chosen: chosen::clean,
     need: |r| oracle::need_words(r.vertices.len() / 3, r.facets.len() / 3, 0, 0),
     lengths: |r| {
         let (v, f) = oracle::reference::clean_mesh(r.vertices.clone(), r.wide_facets(), r.eps);

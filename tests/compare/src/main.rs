@@ -3,9 +3,11 @@
 //!
 //!     compare [--seed S] [--requests N] [--first I] [--numbers N] [--only NAME] [--self-check]
 //!     compare --store FILE [--seed S] [--count N]
+//!     compare --check FILE
 //!
 //! The second form compares nothing: it writes a sample of requests and the oracle's
-//! answers to FILE, N requests an operation, for the program crates/replay.
+//! answers to FILE, N requests an operation, for the program crates/replay. The third
+//! asks the oracle again for each request of FILE.
 //!
 //! 20,000 requests of each operation and 10,000,000 numbers if not told otherwise.
 //! Requests are numbered from 0; request I of a seed is made again by itself with
@@ -54,6 +56,8 @@ pub struct Options {
     /// The file for stored answers, and how many requests of each operation it gets.
     pub store: Option<String>,
     pub count: usize,
+    /// A file of stored answers to be checked.
+    pub check: Option<String>,
 }
 
 impl Options {
@@ -75,6 +79,7 @@ fn options() -> Result<Options, String> {
         only: None,
         self_check: false,
         store: None,
+        check: None,
         count: 250,
     };
     let mut arguments = std::env::args().skip(1);
@@ -89,6 +94,7 @@ fn options() -> Result<Options, String> {
             "--only" => options.only = Some(value()?),
             "--self-check" => options.self_check = true,
             "--store" => options.store = Some(value()?),
+            "--check" => options.check = Some(value()?),
             "--count" => options.count = number(value()?)? as usize,
             _ => return Err(format!("unknown argument {argument}")),
         }
@@ -106,6 +112,9 @@ fn main() -> ExitCode {
     };
     if let Some(file) = &options.store {
         return store::write(file, &options);
+    }
+    if let Some(file) = &options.check {
+        return store::check(file);
     }
     let mut rows = Vec::new();
     let mut unlinked = Vec::new();

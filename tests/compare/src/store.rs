@@ -1,5 +1,6 @@
 //! Stored answers: a sample of requests with the oracle's answers, in a file that the
-//! program crates/replay reads. Our own library is not asked.
+//! program crates/replay reads. Our own library is not asked. A file is checked by asking
+//! the oracle again.
 //!
 //! The file is a row of 64-bit little-endian words: a header of four words, then the
 //! requests one after the other. crates/replay/README.md has the layout as a table.
@@ -16,7 +17,7 @@ const MAGIC: u64 = u64::from_le_bytes(*b"yongpham");
 const FORMAT: u64 = 1;
 const TOLERANCE: u64 = 1;
 /// The mesh operations that the program replays.
-const REPLAYED: &[&str] = &["clip"];
+const REPLAYED: &[&str] = &["clip", "clean"];
 
 /// What the program has room for: elements of each list and output, words of work room.
 const LARGEST_LIST: usize = 1_024;
@@ -75,6 +76,75 @@ fn record(number: u64, request: &Request, answer: &Answer) -> Vec<u64> {
     words
 }
 
+/// The request of a record, as `record` writes it.
+fn request(words: &[u64]) -> Request {
+    let length = |place: usize| words[place] as usize;
+    let double = |place: usize| f64::from_bits(words[place]);
+    let (v, f, c) = (24 + length(2), length(3), length(4));
+    let vertices = words[24..v].iter().map(|&bits| f64::from_bits(bits));
+    let facets = words[v..v + f].iter().map(|&number| number as u32);
+    let extents = [6, 7, 8, 9, 10, 11].map(double);
+    let mut request = Request::new(
+        "stored",
+        vertices.collect(),
+        facets.collect(),
+        extents,
+        double(12),
+    );
+    request.caps = words[v + f..v + f + c].to_vec();
+    request.resolution = double(13);
+    request.mode = words[5] as u32;
+    request.work = length(14);
+    request.outputs = [15, 16, 17, 18].map(length);
+    request
+}
+
+/// The oracle's answer to a request of the operation with this number.
+fn ask(number: u64, request: &Request, work: &mut Lent<u64>) -> Option<Answer> {
+    if number == TOLERANCE {
+        return Some(Answer {
+            reply: oracle::tolerance(&request.extents),
+            outputs: Vec::new(),
+            fault: None,
+        });
+    }
+    let operation = OPERATIONS.iter().find(|o| o.number == number)?;
+    Some((operation.oracle)(request, work))
+}
+
+/// Asks the oracle again for each request of a file, and compares the records whole.
+pub fn check(file: &str) -> ExitCode {
+    let bytes = match std::fs::read(file) {
+        Ok(bytes) => bytes,
+        Err(error) => {
+            eprintln!("compare: {file}: {error}");
+            return ExitCode::FAILURE;
+        }
+    };
+    let word = |bytes: &[u8]| u64::from_le_bytes(bytes.try_into().expect("eight bytes"));
+    let words: Vec<u64> = bytes.chunks_exact(8).map(word).collect();
+    let mut work = Lent::new(0, Old::ByPlace);
+    let (mut requests, mut differences, mut rest) = (0, 0, &words[4..]);
+    while !rest.is_empty() {
+        let (stored, behind) = rest.split_at(rest[0] as usize);
+        let asked = request(stored);
+        let again = ask(stored[1], &asked, &mut work).map(|a| record(stored[1], &asked, &a));
+        requests += 1;
+        if again.as_deref() != Some(stored) {
+            differences += 1;
+            println!("request {} differs\n{}", requests - 1, asked.describe());
+        }
+        rest = behind;
+    }
+    println!("stored answers: {requests} requests, {differences} differ from the oracle's");
+    let header = [MAGIC, FORMAT, requests, words.len() as u64];
+    if differences == 0 && words[..4] == header && bytes.len() == 8 * words.len() {
+        ExitCode::SUCCESS
+    } else {
+        ExitCode::FAILURE
+    }
+}
+
 /// Requests with their answers, and how often each family got each reply.
 struct Sample {
     name: &'static str,
@@ -125,17 +195,14 @@ impl Sample {
 
 fn tolerance_sample(options: &Options) -> Sample {
     let mut sample = Sample::new("tolerance", TOLERANCE);
+    let mut work = Lent::new(0, Old::ByPlace);
     let generated = (0..).map(|number| tolerance::any(options.seed, number));
     for request in tolerance::chosen().into_iter().chain(generated) {
         if sample.records.len() >= options.count {
             break;
         }
         if !has_nan(&request) {
-            let answer = Answer {
-                reply: oracle::tolerance(&request.extents),
-                outputs: Vec::new(),
-                fault: None,
-            };
+            let answer = ask(TOLERANCE, &request, &mut work).expect("the oracle has tolerance");
             sample.add(&request, &answer);
         }
     }

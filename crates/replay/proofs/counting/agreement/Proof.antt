@@ -1,0 +1,33 @@
+use Rattle.replay.proofs.Deciding.{clash}
+use Rattle.replay.proofs.Tallying.{one, none-of}
+use native.Mathlib.Omega.{arith}
+use borrow.Author.Needs.{needs}
+use Rattle.replay.proofs.counting.agreement.Statement.{statement}
+use Rattle.replay.proofs.counting.agreement.Tie as tie
+use Rattle.replay.proofs.counting.agreement.Reads as reads
+use Rattle.replay.proofs.counting.agreement.Lts as lts
+use Rattle.replay.proofs.agreement.agrees.Reads as agrees-reads
+use Rattle.replay.proofs.counting.request.Reads as request-reads
+
+-- src/counting.rt:26:8
+request-requires : tie.Need-request-requires
+request-requires c κs = search needs
+
+-- src/counting.rt:27:9
+returns : tie.Need-returns
+returns c = none-of (λ a. omega (arith, c .before .request .ensures .complete (a .0), c .if1 .taken))
+
+-- src/counting.rt:29:8
+agrees-requires : tie.Need-agrees-requires
+agrees-requires c κs = search needs
+
+-- src/counting.rt:23:1
+returns-2 : tie.Need-returns-2
+returns-2 c = one (c .before .before .before .request .ensures .sound (omega (arith, c .before .before .before .request .ensures .few, c .before .before .if1 .left)), c .before .agrees .ensures .sound (c .if2 .taken))
+
+-- src/counting.rt:23:1
+returns-3 : tie.Need-returns-3
+returns-3 c = none-of (λ a. clash (c .before .agrees .ensures .complete (a .1)) (c .if2 .left))
+
+pub agreement-spec : {M : Type 1} → statement M
+agreement-spec = tie.close (tie.spec request-requires returns agrees-requires returns-2 returns-3)
