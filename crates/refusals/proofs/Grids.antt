@@ -4,23 +4,18 @@ use mathlib.Core.Path.{_≡_, refl, sym, ap, _∙_}
 use mathlib.Core.Bool.{Bool, true, false, _||_}
 use native.Mathlib.Nat.{mul-le-mul}
 use native.Mathlib.Omega.{arith}
-use borrow.Author.Tests.{lt-ltb, le-ltb, ltb-false}
-use lib.Dec.{ltb, ltb→lt, nltb→le}
+use borrow.Author.Tests.{ltb-false}
+use lib.Dec.{ltb}
 use lib.Ieee.{Float}
 use Rattle.lists.specs.Lists.{some}
-use Rattle.lists.proofs.Bools.{by-test, or-none-left, or-none-right}
+use Rattle.lists.proofs.Bools.{or-none-left, or-none-right}
+use Rattle.rounding.proofs.Segments.{capped-over}
 use Rattle.geometry.specs.declared.aabb.AABB.{AABB}
 use Rattle.geometry.specs.Axes.{segments, gridSize}
 use Rattle.refusals.specs.Front.{gridTooFine}
 
-over-cut : (s : ℕ) → ltb 256 (min s 257) ≡ ltb 256 s
-over-cut s =
-    by-test (λ b. ltb 256 (min s 257) ≡ b) (ltb 256 s)
-    (λ t. let h = ltb→lt 256 s t in lt-ltb 256 (min s 257) (let r : 256 < min s 257 = omega arith in r))
-    (λ t. let h = nltb→le 256 s t in le-ltb 256 (min s 257) (let r : min s 257 ≤ 256 = omega arith in r))
-
 pub cut-over : (n s : ℕ) → n ≡ min s 257 → ltb 256 n ≡ ltb 256 s
-cut-over n s e = ap (ltb 256) e ∙ over-cut s
+cut-over n s e = ap (ltb 256) e ∙ capped-over s
 
 pub cut-is : (n s : ℕ) → n ≡ min s 257 → s ≤ 256 → n ≡ s
 cut-is n s e h = e ∙ omega arith

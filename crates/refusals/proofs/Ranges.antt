@@ -9,15 +9,15 @@ use Rattle.lists.specs.Lists.{every}
 use Rattle.lists.proofs.Bools.{and-left, and-right}
 use Rattle.root.specs.Doubles.{2^30}
 use Rattle.root.specs.Bounds.{Within}
-use Rattle.root.proofs.Bounds.{within-tests}
+use Rattle.root.proofs.Powers.{in-range}
 use Rattle.geometry.specs.declared.aabb.AABB.{AABB}
 use Rattle.geometry.specs.Boxes.{low, high}
 use Rattle.refusals.specs.Front.{inRange, boxInRange, epsInRange}
 
 pub in-range-within : (x : Float) → inRange x ≡ true → Within (2 ^ 30) x
-unfolding inRange ofBits neg
+unfolding inRange
 in-range-within x e =
-    within-tests x 1 30 (subst T (sym (and-right (le (neg 2^30) x) (le x 2^30) e)) tt) (subst T (sym (and-left (le (neg 2^30) x) (le x 2^30) e)) tt)
+    in-range x (subst T (sym (and-left (le (neg 2^30) x) (le x 2^30) e)) tt) (subst T (sym (and-right (le (neg 2^30) x) (le x 2^30) e)) tt)
 
 -- both corners on the axes 0, 1, 2
 pub record CornersWithin (b : AABB) (k : ℕ) : Type 0 where
