@@ -250,3 +250,45 @@ fn tolerances() {
         Reply::refused(4)
     );
 }
+
+/// Test 11 where all candidates of a face lie on one line: a triangulation has no
+/// inner face there, and 11 refuses all the same (docs/DIFFERENCES.md, 6).
+#[test]
+fn missing_edge_on_a_face_of_one_line() {
+    let extents = [0.0, 0.0, 0.0, 1.0, 1e-13, 1.0];
+    let v = flat(&[[0.0, 0.0, 0.25], [0.0, 0.0, 0.75], [0.5, 0.0, 0.5]]);
+    let [c, lists, _, edges] = candidates(&v, &[0, 1, 2], &extents, 1e-10, 1.0).unwrap();
+    let (counts, numbers) = lists.split_at(6);
+    let on = |face: usize| {
+        let start: u64 = counts[..face].iter().sum();
+        &numbers[start as usize..(start + counts[face]) as usize]
+    };
+    // XMin: more than two candidates, all with y = 0.
+    assert!(on(0).len() > 2);
+    assert!(on(0)
+        .iter()
+        .all(|&i| f64::from_bits(c[5 * i as usize + 1]) == 0.0));
+    // The first open edge listed is one of XMin; every edge of YMin and YMax is supplied.
+    assert_eq!(edges[0], 0);
+    let mut list = Vec::new();
+    for face in [2, 3] {
+        let l = on(face);
+        for edge in edges.chunks_exact(3).filter(|edge| edge[0] == face as u64) {
+            let third = l.iter().find(|&&i| i != edge[1] && i != edge[2]).unwrap();
+            list.extend([face as u64, edge[1], edge[2], *third]);
+        }
+    }
+    let run = |list: &[u64]| caps(&v, &[0, 1, 2], list, &extents, 1e-10, 1.0, 1);
+    assert_eq!(run(&list).unwrap_err(), Reply::refused_with(11, 0));
+    // A triangle without area on XMin is enough for 11.
+    let mut flat_one = Vec::new();
+    for edge in edges.chunks_exact(3).filter(|edge| edge[0] == 0) {
+        let third = on(0)
+            .iter()
+            .find(|&&i| i != edge[1] && i != edge[2])
+            .unwrap();
+        flat_one.extend([0, edge[1], edge[2], *third]);
+    }
+    flat_one.extend(&list);
+    assert!(run(&flat_one).is_ok());
+}
