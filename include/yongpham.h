@@ -66,6 +66,37 @@ uint32_t yongpham_clean(const double *vertices, size_t vertices_length, const ui
                         double *out_vertices, size_t out_vertices_length, uint32_t *out_facets, size_t out_facets_length,
                         uint64_t values[4]);
 
+/* What a triangulator is given to close a mesh along the faces of a box: points that caps may use (candidates), which of them each face may
+ * use, and the edges that a triangulation of a face must hold (constraints); and the mesh's open edges. Faces are numbered 0 to 5: min and max
+ * of x, y, z. An edge is open if exactly one facet side bears it; each must lie on a face of the box.
+ *
+ *   vertices, facets   the mesh, as for yongpham_clip; usually one that yongpham_clean wrote
+ *   min_x .. max_z     the box, as for yongpham_tolerance
+ *   eps                from 0 to 1; the tolerance of the box serves
+ *   resolution         above 0 and at most 2^30: the length of a segment of the grids that are laid over the faces. An axis is cut into
+ *                      (its length / the larger of resolution and eps, rounded up) segments, at least 1 and at most 256
+ *   work               at least 128 * (vertices + facets + G) + 1024 words; with a, b and c segments on the three axes, G is
+ *                      2 * ((a + 1) * (b + 1) + (a + 1) * (c + 1) + (b + 1) * (c + 1))
+ *   candidates         five words a candidate: the bits of x, y and z; mesh vertex + 1, or 0 where it is none; the faces it lies on, bit f for
+ *                      face f. A candidate's number is its place here, from 0
+ *   face_lists         six counts, one a face, then the candidates' numbers, face by face
+ *   constraints        three words each: the face, and two places in that face's list, the smaller first, ascending
+ *   open_edges         three words each: the face, and two candidates in the order in which the facet's side runs; an edge on several faces
+ *                      stands once for each
+ *   values             done: the lengths written to the four outputs, in words, all 0 if there is no facet or no open edge keeps two ends;
+ *                      7: the words of work room needed; 9: the smallest pair of vertices of an open edge that lies on no face;
+ *                      12: the words needed by the first output that is too short, in the order above
+ *
+ * Answers 0, or 1, 2, 3, 4, 5, 6, 7, 8, 9 or 12, tested in that order. 8: a coordinate, or one of a box corner, divided by max(eps, 1e-12)
+ * and rounded is beyond 2^62.
+ */
+uint32_t yongpham_candidates(const double *vertices, size_t vertices_length, const uint32_t *facets, size_t facets_length,
+                             double min_x, double min_y, double min_z, double max_x, double max_y, double max_z, double eps, double resolution,
+                             uint64_t *work, size_t work_length,
+                             uint64_t *candidates, size_t candidates_length, uint64_t *face_lists, size_t face_lists_length,
+                             uint64_t *constraints, size_t constraints_length, uint64_t *open_edges, size_t open_edges_length,
+                             uint64_t values[4]);
+
 #ifdef __cplusplus
 }
 #endif

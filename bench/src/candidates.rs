@@ -33,7 +33,7 @@ extern "C" {
 
 pub fn rows(rounds: usize) {
     for facets in SIZES {
-        for segments in [16, 64] {
+        for segments in [16, 64, 256] {
             row(rounds, segments, &surface(facets, 0.5, 1.0));
         }
     }

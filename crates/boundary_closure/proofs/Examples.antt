@@ -21,10 +21,11 @@ use Rattle.refusals.specs.Refusals.{documented, firstRefusal}
 use Rattle.refusals.specs.Front.{ragged, tooMany, badIndex, inRange, epsInRange, resolutionInRange, boxInRange, badBox, gridTooFine, workNeed, farKeys, roomTests}
 use Rattle.box_faces.specs.Faces.{project, faceBits, onFace, facesOf}
 use Rattle.box_faces.specs.Sides.{faceSides, betweenEnds, alongSide, onSide}
-use Rattle.boundary_closure.specs.Pool.{byKey, renewed, listed, numberFor, insert}
-use Rattle.boundary_closure.specs.Grid.{gridPoint, skipped, gridAt, faceGrid, grid}
-use Rattle.boundary_closure.specs.Constraints.{neighbours, sideOrder, edgePlaces, faceConstraints}
-use Rattle.boundary_closure.specs.Candidates.{enterEdge, edgeSurface, cornerVertices, meshPool, candidates, candidateWords, listWords}
+use Rattle.candidate_pool.specs.Pool.{byKey, renewed, listed, numberFor, insert}
+use Rattle.candidate_grids.specs.Grid.{gridPoint, skipped, gridAt, faceGrid, grid}
+use Rattle.candidate_constraints.specs.Constraints.{neighbours, sideOrder, edgePlaces, faceConstraints}
+use Rattle.candidate_edges.specs.Surface.{enterEdge, edgeSurface, cornerVertices, meshPool}
+use Rattle.boundary_closure.specs.Candidates.{candidates, candidateWords, listWords}
 use Rattle.boundary_closure.specs.Operation.{closureTests, strayEdge, edgeTests, noTwoEnds, candidatesResult, outputs, candidatesReply}
 
 abbrev +0 : Float

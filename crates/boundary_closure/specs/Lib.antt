@@ -1,7 +1,4 @@
-pub mod Pool
-pub mod Grid
-pub mod Constraints
 pub mod Candidates
 pub mod Operation
 -- What the inner functions do: no part of what the product promises.
-pub mod Room
+pub mod Steps

@@ -1,7 +1,7 @@
 -- The operation candidates (document 01, the table of refusals, module 5 and "Agreement"): its tests in the table's order, its reply, and what it leaves in
 -- outputs and work room. Assumes nothing.
 --   documentedCandidates   "this paper's number and values" of a reply
---   oneResolution          document 01's one resolution, for each axis        setting   what the parameters stand for
+--   onEach, oneResolution  one number, document 01's one resolution, for each axis        setting   what the parameters stand for
 --   closureTests           1 to 7: those of caps too, whose cap list has the length `caps`
 --   strayEdge              the first open edge that lies on no face           edgeTests   8 and 9
 --   candidatesResult       what is written: nothing at "the same two points"
@@ -16,6 +16,7 @@ use lib.Ieee.{Float}
 use Rattle.lists.specs.Lists.{every, place}
 use Rattle.root.specs.Doubles.{_⊗_, 1e-9}
 use Rattle.geometry.specs.declared.aabb.AABB.{AABB}
+use Rattle.geometry.specs.Boxes.{axis}
 use Rattle.geometry.specs.Triangles.{flat}
 use Rattle.geometry.specs.Meshes.{Mesh, meshOf}
 use Rattle.geometry.specs.Axes.{gridSize}
@@ -25,20 +26,25 @@ use Rattle.refusals.specs.Refusals.{documented, Test, unless, replyTo, Settled,
 use Rattle.refusals.specs.Front.{ceiling, listTests, inRange, epsInRange, resolutionInRange, boxInRange, badBox, byAxis, gridTooFine, workNeed, workTest, farKeys, boxFarKeys, roomTests}
 use Rattle.boundary_closure.specs.declared.reply.CandidatesReply.{CandidatesReply}
 use Rattle.boundary_closure.specs.declared.reply.CandidatesReply.the-variants.{Done, Refused}
-use Rattle.boundary_closure.specs.Pool.{byKey}
-use Rattle.boundary_closure.specs.Grid.{Setting}
-use Rattle.boundary_closure.specs.Candidates.{Candidates, noCandidates, edgeFaces, edgeSurface, candidates, candidateWords, listWords}
+use Rattle.candidate_pool.specs.Pool.{byKey}
+use Rattle.candidate_pool.specs.Setting.{Setting}
+use Rattle.candidate_edges.specs.Surface.{edgeFaces, edgeSurface}
+use Rattle.boundary_closure.specs.Candidates.{Candidates, noCandidates, candidates, candidateWords, listWords}
 
 unfoldable pub documentedCandidates : CandidatesReply → List ℕ
 documentedCandidates (Done c l k e) = 0 ∷ c ∷ l ∷ k ∷ e ∷ []
 documentedCandidates (Refused r) = documented r
 
-abbrev pub oneResolution : Float → ℕ → Float
-oneResolution r = byAxis (r ∷ r ∷ r ∷ [])
+abbrev pub onEach : Float → ℕ → Float
+onEach r = byAxis (r ∷ r ∷ r ∷ [])
 
--- "within resolution × 1e-9", on every face
+abbrev pub oneResolution : Float → ℕ → Float
+oneResolution r = onEach r
+
+-- "within resolution × 1e-9", on every face: it goes by the axis that the face is across
 abbrev pub setting : AABB → Float → Float → Setting
-setting box eps r = record { box = box; eps = eps; resolution = oneResolution r; skip = λ f. r ⊗ 1e-9; rule = byKey eps }
+setting box eps r =
+    record { box = box; eps = eps; resolution = oneResolution r; skip = λ f. onEach (r ⊗ 1e-9) (axis f); rule = byKey eps }
 
 module _ (vs : List Float) (fs : List ℕ) (box : AABB) (eps resolution : Float) where
   abbrev pub mesh : Mesh
@@ -54,7 +60,7 @@ module _ (vs : List Float) (fs : List ℕ) (box : AABB) (eps resolution : Float)
       ∷ workTest (workNeed (length vs / 3) (length fs / 3) (caps / 4) (gridSize box eps (oneResolution resolution))) lent ∷ []
 
   unfoldable pub strayEdge : ℕ
-  strayEdge = place (λ e. eqb (length (edgeFaces (setting box eps resolution) mesh e)) 0) (openEdges (mesh .facets))
+  strayEdge = place (λ e. eqb (length (edgeFaces box eps mesh e)) 0) (openEdges (mesh .facets))
 
   -- open edges ascend, so the first that lies on no face is "the smallest such pair"
   unfoldable pub edgeTests : List Test
@@ -69,7 +75,7 @@ module _ (vs : List Float) (fs : List ℕ) (box : AABB) (eps resolution : Float)
 
   -- "if no open edge keeps two ends": after 9 each open edge has a face, so one that keeps them is listed
   unfoldable pub noTwoEnds : Bool
-  noTwoEnds = eqb (length (edgeSurface (setting box eps resolution) mesh .edges)) 0
+  noTwoEnds = eqb (length (edgeSurface box eps (byKey eps) mesh .edges)) 0
 
   -- "succeeds at the same two points with all four lengths 0"
   unfoldable pub candidatesResult : Candidates

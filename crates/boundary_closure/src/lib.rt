@@ -1,3 +1,8 @@
 // Candidates for the corners of caps (document 01, module 5; boundary_closure.rs).
-pub mod keys;
+mod front;
+pub mod outputs;
 pub mod reply;
+pub mod surface;
+pub mod tests;
+
+pub use front::cap_candidates;

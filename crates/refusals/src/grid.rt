@@ -12,7 +12,7 @@ use rounding::max;
 use rounding::quantized_key;
 
 // The segments of an axis, and 257 where it needs more than 256.
-fn segments_of(extents: AABB, eps: f64, resolution: [f64; 3], axis: usize) -> usize
+pub fn segments_of(extents: AABB, eps: f64, resolution: [f64; 3], axis: usize) -> usize
     requires { ⌜ axis < 3 ⌝ }
     ensures { λ r. ⌜ r ≡ min (segments extents eps (byAxis resolution) axis) 257 ⌝ }
 {

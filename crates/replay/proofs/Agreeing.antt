@@ -5,7 +5,8 @@
 --   answer-decides                  a call as reported
 --   clip-reply, clip-result, clean-reply, clean-result   from the values of a call to those of the record
 --   lists-decides                   of the lists as read
---   as-clip, as-clean, no-operation, as-tolerance, as-mesh, short   by a record's operation
+--   as-reported, zero-each, length-table   a reply as reported, work room that ends zero, the length of a table
+--   as-clip, as-clean, no-operation, as-candidates, as-mesh, as-tolerance, as-lists, short   by a record's operation
 use Prim.Native.Nat.{ℕ, _+_, _≤_, _<_}
 use mathlib.Core.Path.{_≡_, sym, ap, ap₂, _∙_, subst}
 use mathlib.Core.Bool.{Bool}
@@ -27,10 +28,10 @@ use Rattle.yongpham.specs.Calls.{MeshReported, boxOf}
 use Rattle.replay.specs.Words.{Everywhere, Decides}
 use Rattle.replay.specs.Layout.{storedReply, outputsFrom, Laid}
 use Rattle.replay.specs.Contents.{table, oldDoubles, oldWords, oldDouble, doublesIn, numbersIn}
-use Rattle.replay.specs.Agreement.{SameDoubles, SameWords, Answered, Fresh, Stored, ClipStored, CleanStored, MeshStored, clip, clean, ListsStored, NoNan, ToleranceAgrees, MeshAgrees, Agrees, tolerance, mesh, doubleAt, boxIn, epsIn, outputsIn, reported}
+use Rattle.replay.specs.Agreement.{SameDoubles, SameWords, Answered, Fresh, Stored, ClipStored, CleanStored, CandidatesStored, MeshStored, clip, clean, AnswerStored, mesh, candidates, ListsStored, NoNan, ToleranceAgrees, ListsAgree, Agrees, tolerance, lists, doubleAt, boxIn, epsIn, outputsIn, reported}
 use Rattle.replay.proofs.Deciding.{ends}
 
-length-table : {A : Type 0} (f : ℕ → A) (n : ℕ) → length (table f n) ≡ n
+pub length-table : {A : Type 0} (f : ℕ → A) (n : ℕ) → length (table f n) ≡ n
 length-table f n = length-map (upTo n) f ∙ length-up 0 n
 
 module _ (stored w : List ℕ) (v : List Float) (f : List ℕ) (h : Fresh stored w v f) where
@@ -45,10 +46,10 @@ pub outputs-within : (stored w : List ℕ) (v v' : List Float) (f f' : List ℕ)
     → (24 ≤ length stored) × (outputsFrom stored + length v' + length f' ≤ length stored)
 outputs-within stored w v v' f f' l h e k = (l .head, omega (arith, fresh-vertices stored w v f h, fresh-facets stored w v f h))
 
-as-reported : (reply : List ℕ) (number : ℕ) (values : List ℕ) → Reported reply number values → number ∷ values ≡ reported reply
+pub as-reported : (reply : List ℕ) (number : ℕ) (values : List ℕ) → Reported reply number values → number ∷ values ≡ reported reply
 as-reported reply number values h = ap (λ (n : ℕ). n ∷ values) (h .number) ∙ ap (λ (l : List ℕ). getD reply 0 0 ∷ l) (h .words)
 
-zero-each : (w w' : List ℕ) → Zeroed w w' → Everywhere (λ k. getD w' k 0 ≡ 0) (length w')
+pub zero-each : (w w' : List ℕ) → Zeroed w w' → Everywhere (λ k. getD w' k 0 ≡ 0) (length w')
 zero-each w w' z k l =
     let n : length w' ≡ length w = ap length (z .ends) ∙ length-replicate {A = ℕ} (length w) 0 in
     ap (λ (x : List ℕ). getD x k 0) (z .ends) ∙ getD-replicate (length w) k 0 0 (omega arith)
@@ -132,11 +133,11 @@ clean-result stored vs fs e = ap (cleanResult vs fs) e
 
 -- lists as read: v of n coordinates, then f of m facet numbers
 pub lists-decides : (stored : List ℕ) (v : List Float) (f : List ℕ) (n k m : ℕ) (r : Bool) → n ≡ getD stored 2 0 → k ≡ getD stored 2 0 → m ≡ getD stored 3 0
-    → v ≡ doublesIn stored 24 n → f ≡ numbersIn stored (24 + k) m → Decides (MeshStored stored v f) r → Decides (ListsStored stored) r
+    → v ≡ doublesIn stored 24 n → f ≡ numbersIn stored (24 + k) m → Decides (AnswerStored stored v f) r → Decides (ListsStored stored) r
 lists-decides stored v f n k m r a b c p q d =
-    subst (λ (l : List Float). Decides (MeshStored stored l (numbersIn stored (24 + getD stored 2 0) (getD stored 3 0))) r)
+    subst (λ (l : List Float). Decides (AnswerStored stored l (numbersIn stored (24 + getD stored 2 0) (getD stored 3 0))) r)
     (p ∙ ap (doublesIn stored 24) a)
-    (subst (λ (l : List ℕ). Decides (MeshStored stored v l) r) (q ∙ ap₂ (λ (x y : ℕ). numbersIn stored (24 + x) y) b c) d)
+    (subst (λ (l : List ℕ). Decides (AnswerStored stored v l) r) (q ∙ ap₂ (λ (x y : ℕ). numbersIn stored (24 + x) y) b c) d)
 
 -- ---- by operation
 
@@ -153,19 +154,33 @@ module _ (stored : List ℕ) (vs : List Float) (fs : List ℕ) where
   no-operation no-clip no-clean (clip k s) = no-clip k
   no-operation no-clip no-clean (clean k s) = no-clean k
 
-mesh-number : (stored : List ℕ) (vs : List Float) (fs : List ℕ) → MeshStored stored vs fs → getD stored 1 0 ≡ 1 → ⊥
-mesh-number stored vs fs (clip k s) e = omega arith
-mesh-number stored vs fs (clean k s) e = omega arith
+-- the operations that write a mesh are 2 and 3
+mesh-number : (stored : List ℕ) (vs : List Float) (fs : List ℕ) → MeshStored stored vs fs → (2 ≤ getD stored 1 0) × (getD stored 1 0 ≤ 3)
+mesh-number stored vs fs (clip k s) = (omega arith, omega arith)
+mesh-number stored vs fs (clean k s) = (omega arith, omega arith)
+
+lists-number : (stored : List ℕ) (vs : List Float) (fs : List ℕ) → AnswerStored stored vs fs → 2 ≤ getD stored 1 0
+lists-number stored vs fs (mesh m) = mesh-number stored vs fs m .0
+lists-number stored vs fs (candidates k s) = omega arith
+
+module _ (stored : List ℕ) (vs : List Float) (fs : List ℕ) where
+  pub as-candidates : getD stored 1 0 ≡ 4 → AnswerStored stored vs fs → CandidatesStored stored vs fs
+  as-candidates e (mesh m) = absurd (omega (arith, mesh-number stored vs fs m .1))
+  as-candidates e (candidates k s) = s
+
+  pub as-mesh : (getD stored 1 0 ≡ 4 → ⊥) → AnswerStored stored vs fs → MeshStored stored vs fs
+  as-mesh never (mesh m) = m
+  as-mesh never (candidates k s) = absurd (never k)
 
 module _ (stored : List ℕ) where
   pub as-tolerance : getD stored 1 0 ≡ 1 → Agrees stored → ToleranceAgrees stored
   as-tolerance e (tolerance k t) = t
-  as-tolerance e (mesh m) = absurd (mesh-number stored _ _ (m .answer) e)
+  as-tolerance e (lists l) = absurd (omega (arith, lists-number stored _ _ (l .answer)))
 
-  pub as-mesh : (getD stored 1 0 ≡ 1 → ⊥) → Agrees stored → MeshAgrees stored
-  as-mesh never (tolerance k t) = absurd (never k)
-  as-mesh never (mesh m) = m
+  pub as-lists : (getD stored 1 0 ≡ 1 → ⊥) → Agrees stored → ListsAgree stored
+  as-lists never (tolerance k t) = absurd (never k)
+  as-lists never (lists l) = l
 
   pub short : length stored < 24 → Agrees stored → ⊥
   short h (tolerance k t) = omega (arith, t .whole)
-  short h (mesh m) = omega (arith, m .laid .head)
+  short h (lists l) = omega (arith, l .laid .head)

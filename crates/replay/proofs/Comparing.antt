@@ -1,8 +1,9 @@
 -- Laws of comparisons: of two lists of words, of a reply, and of a double with its bits. Assumes nothing.
 --   Alike                        two lists that agree below i: start, more, end;   other-length, other-at   two that do not
 --   other-number, same-values    a reply: its number differs; it agrees, and the values decide
+--   part-decides                 a list beside the part of a record that begins at `from`
 --   number-itself, same-bits, no-number   a double beside its bits
-use Prim.Native.Nat.{ℕ, _+_, _*_, _≤_, _<_}
+use Prim.Native.Nat.{ℕ, _+_, _*_, _-_, _≤_, _<_}
 use mathlib.Core.Path.{_≡_, refl, sym, ap, ap₂, _∙_, subst}
 use mathlib.Core.Bool.{Bool, true, false, not, _&&_, _||_, Bool·beq}
 use mathlib.Core.List.{List, _∷_}
@@ -12,12 +13,12 @@ use borrow.Author.Count.{below-none, below-more}
 use borrow.Author.Tests.{eqb-true, eq-eqb}
 use lib.Dec.{T, eqb}
 use lib.Ieee.{Float, nan, inf, fin, binary64, up, down, level, eq, isNan, toBits}
-use lib.ListN.{length, getD, take, drop}
-use lib.Seq.{ext-getD, drop-cons}
+use lib.ListN.{length, getD, take, drop, length-drop}
+use lib.Seq.{ext-getD, drop-cons, getD-take, getD-drop, length-take-le}
 use Rattle.replay.specs.Words.{Decides}
-use Rattle.replay.proofs.Deciding.{refuted, shown}
+use Rattle.replay.proofs.Deciding.{refuted, shown, ends}
 use Rattle.replay.specs.Layout.{storedReply}
-use Rattle.replay.specs.Agreement.{SameDouble}
+use Rattle.replay.specs.Agreement.{SameDouble, SameWords}
 
 -- ---- two lists of words
 
@@ -40,6 +41,21 @@ module _ (a b : List ℕ) where
 
   pub alike-end : (i : ℕ) → length a ≡ length b → Alike a b i → length a ≤ i → Decides (a ≡ b) true
   alike-end i e h l = shown (ext-getD 0 a b e (λ k m. h .same k (lt-of-lt-of-le m l)))
+
+-- ---- a list beside a part of a record
+
+module _ (stored output : List ℕ) (from n : ℕ) (long : n ≡ length output) (within : from + length output ≤ length stored) where
+  part-at : (i : ℕ) → i < n → getD (take n (drop from stored)) i 0 ≡ getD stored (from + i) 0
+  part-at i h = getD-take n (drop from stored) i 0 h ∙ getD-drop from stored i 0
+
+  part-length : length output ≡ length (take n (drop from stored))
+  part-length = sym long ∙ sym (length-take-le n (drop from stored) (simp length-drop (omega arith)))
+
+  pub part-decides : (r : Bool) → Decides (output ≡ take n (drop from stored)) r → Decides (SameWords stored from output) r
+  part-decides r d =
+      ends (SameWords stored from output) d
+      (λ p i h. ap (λ (l : List ℕ). getD l i 0) p ∙ part-at i (omega arith))
+      (λ s. ext-getD 0 output (take n (drop from stored)) part-length (λ i h. s i h ∙ sym (part-at i (omega arith))))
 
 -- ---- replies: a number, then four values
 

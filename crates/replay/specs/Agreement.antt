@@ -3,11 +3,14 @@
 --   SameDoubles, SameWords    the elements of an output are the words from `from` on
 --   Answered                  a reply, two outputs and the work room after a call are as stored, and zero
 --   Fresh                     work room and outputs before a call
---   boxIn, epsIn              box and eps of a record
+--   OutputsLent               four outputs are as long as the record says
+--   SameOutputs, CandidatesAnswered, CandidatesFresh   the same as Answered and Fresh of the operation that writes four lists of words
+--   boxIn, epsIn, resolutionIn   box, eps and resolution of a record
 --   reported                  a reply as a number and four values
---   Stored                    the stored answer is this reply, with this mesh in front of old contents
---   ToleranceStored, ClipStored, CleanStored   it is that of the operation's definition, on the record's request
---   MeshStored, ListsStored   the same of each operation that writes a mesh, by the record's operation
+--   Stored, WordsStored       the stored answer is this reply, with this mesh, or these candidates, in front of old contents
+--   ToleranceStored, ClipStored, CleanStored, CandidatesStored   it is that of the operation's definition, on the record's request
+--   MeshStored                the same of each operation that writes a mesh, by the record's operation
+--   AnswerStored, ListsStored   and of each operation that takes lists
 --   Numbers                   box, eps, resolution and coordinates are doubles, and facet numbers fit 32 bits
 --   Agrees                    the record is laid out as its operation's are, and its answer is the definition's
 use Prim.Native.Nat.{ℕ, _+_}
@@ -24,6 +27,8 @@ use Rattle.refusals.specs.Refusals.{settle}
 use Rattle.tolerance.specs.Tolerance.{toleranceReply}
 use Rattle.aabb_clipping.specs.Clip.{clipReply, clipResult}
 use Rattle.mesh_cleanup.specs.Clean.{cleanReply, cleanResult}
+use Rattle.boundary_closure.specs.Candidates.{Candidates, candidateWords, listWords}
+use Rattle.boundary_closure.specs.Operation.{candidatesReply, candidatesResult}
 use Rattle.yongpham.specs.Calls.{boxOf}
 use Rattle.replay.specs.Words.{Everywhere}
 use Rattle.replay.specs.Layout.{storedReply, outputsFrom, Few, Laid}
@@ -50,6 +55,35 @@ pub record Fresh (stored work : List ℕ) (vertices : List Float) (facets : List
   pub coordinates : vertices ≡ oldDoubles (getD stored 15 0)
   pub numbers : facets ≡ oldWords (getD stored 16 0)
 
+-- ---- four outputs of words: candidates c, face lists l, constraints k, open edges e
+
+pub record OutputsLent (stored c l k e : List ℕ) : Type 0 where
+  pub candidates : length c ≡ getD stored 15 0
+  pub face-lists : length l ≡ getD stored 16 0
+  pub constraints : length k ≡ getD stored 17 0
+  pub open-edges : length e ≡ getD stored 18 0
+
+-- one behind the other
+pub record SameOutputs (stored c l k e : List ℕ) : Type 0 where
+  pub candidates : SameWords stored (outputsFrom stored) c
+  pub face-lists : SameWords stored (outputsFrom stored + getD stored 15 0) l
+  pub constraints : SameWords stored (outputsFrom stored + getD stored 15 0 + getD stored 16 0) k
+  pub open-edges : SameWords stored (outputsFrom stored + getD stored 15 0 + getD stored 16 0 + getD stored 17 0) e
+
+pub record CandidatesAnswered (stored reply c l k e work : List ℕ) : Type 0 where
+  pub replied : reply ≡ storedReply stored
+  pub cleared : Everywhere (λ n. getD work n 0 ≡ 0) (length work)
+  pub outputs : SameOutputs stored c l k e
+
+pub record CandidatesFresh (stored work c l k e : List ℕ) : Type 0 where
+  pub lent : length work ≡ getD stored 14 0
+  pub candidates : c ≡ oldWords (getD stored 15 0)
+  pub face-lists : l ≡ oldWords (getD stored 16 0)
+  pub constraints : k ≡ oldWords (getD stored 17 0)
+  pub open-edges : e ≡ oldWords (getD stored 18 0)
+
+-- ---- a record's request, and the definitions' answers to it
+
 abbrev pub doubleAt : List ℕ → ℕ → Float
 doubleAt stored k = doubleOf (getD stored k 0)
 
@@ -59,6 +93,9 @@ boxIn stored = boxOf (doubleAt stored 6) (doubleAt stored 7) (doubleAt stored 8)
 abbrev pub epsIn : List ℕ → Float
 epsIn stored = doubleAt stored 12
 
+abbrev pub resolutionIn : List ℕ → Float
+resolutionIn stored = doubleAt stored 13
+
 abbrev pub reported : List ℕ → List ℕ
 reported reply = getD reply 0 0 ∷ take 4 (drop 1 reply ++ replicate 4 0)
 
@@ -67,12 +104,24 @@ pub record Stored (stored reply : List ℕ) (result : Mesh) : Type 0 where
   pub coords : SameDoubles stored (outputsFrom stored) (settle reply (coordinates (result .points)) (oldDoubles (getD stored 15 0)))
   pub numbers : SameWords stored (outputsFrom stored + getD stored 15 0) (settle reply (flat (result .facets)) (oldWords (getD stored 16 0)))
 
+pub record WordsStored (stored reply : List ℕ) (result : Candidates) : Type 0 where
+  pub replied : reported reply ≡ storedReply stored
+  pub outputs :
+      SameOutputs stored
+      (settle reply (candidateWords (result .all)) (oldWords (getD stored 15 0)))
+      (settle reply (listWords (result .lists)) (oldWords (getD stored 16 0)))
+      (settle reply (flat (result .constraints)) (oldWords (getD stored 17 0)))
+      (settle reply (flat (result .edges)) (oldWords (getD stored 18 0)))
+
 abbrev pub ToleranceStored : List ℕ → Type 0
 ToleranceStored stored = reported (toleranceReply (boxIn stored)) ≡ storedReply stored
 
--- the lengths of the outputs lent
+-- the lengths of the outputs lent: two, and four
 abbrev pub outputsIn : List ℕ → List ℕ
 outputsIn stored = getD stored 15 0 ∷ getD stored 16 0 ∷ []
+
+abbrev pub fourIn : List ℕ → List ℕ
+fourIn stored = getD stored 15 0 ∷ getD stored 16 0 ∷ getD stored 17 0 ∷ getD stored 18 0 ∷ []
 
 abbrev pub ClipStored : List ℕ → List Float → List ℕ → Type 0
 ClipStored stored vs fs =
@@ -81,13 +130,23 @@ ClipStored stored vs fs =
 abbrev pub CleanStored : List ℕ → List Float → List ℕ → Type 0
 CleanStored stored vs fs = Stored stored (cleanReply vs fs (epsIn stored) (getD stored 14 0) (outputsIn stored)) (cleanResult vs fs (epsIn stored))
 
+abbrev pub CandidatesStored : List ℕ → List Float → List ℕ → Type 0
+CandidatesStored stored vs fs =
+    WordsStored stored
+    (candidatesReply vs fs (boxIn stored) (epsIn stored) (resolutionIn stored) (getD stored 14 0) (fourIn stored))
+    (candidatesResult vs fs (boxIn stored) (epsIn stored) (resolutionIn stored))
+
 pub data MeshStored (stored : List ℕ) (vs : List Float) (fs : List ℕ) : Type 0 where
   clip : getD stored 1 0 ≡ 2 → ClipStored stored vs fs → MeshStored stored vs fs
   clean : getD stored 1 0 ≡ 3 → CleanStored stored vs fs → MeshStored stored vs fs
 
+pub data AnswerStored (stored : List ℕ) (vs : List Float) (fs : List ℕ) : Type 0 where
+  mesh : MeshStored stored vs fs → AnswerStored stored vs fs
+  candidates : getD stored 1 0 ≡ 4 → CandidatesStored stored vs fs → AnswerStored stored vs fs
+
 abbrev pub ListsStored : List ℕ → Type 0
 ListsStored stored =
-    MeshStored stored (doublesIn stored 24 (getD stored 2 0)) (numbersIn stored (24 + getD stored 2 0) (getD stored 3 0))
+    AnswerStored stored (doublesIn stored 24 (getD stored 2 0)) (numbersIn stored (24 + getD stored 2 0) (getD stored 3 0))
 
 abbrev pub NoNan : List ℕ → ℕ → ℕ → Type 0
 NoNan stored from n = Everywhere (λ k. nanBits binary64 (getD stored (from + k) 0) ≡ false) n
@@ -97,7 +156,7 @@ pub record Numbers (stored : List ℕ) : Type 0 where
   pub coordinates : NoNan stored 24 (getD stored 2 0)
   pub narrow : Few stored (24 + getD stored 2 0) (getD stored 3 0) 4294967295
 
-pub record MeshAgrees (stored : List ℕ) : Type 0 where
+pub record ListsAgree (stored : List ℕ) : Type 0 where
   pub laid : Laid stored
   pub numbers : Numbers stored
   pub answer : ListsStored stored
@@ -109,4 +168,4 @@ pub record ToleranceAgrees (stored : List ℕ) : Type 0 where
 
 pub data Agrees (stored : List ℕ) : Type 0 where
   tolerance : getD stored 1 0 ≡ 1 → ToleranceAgrees stored → Agrees stored
-  mesh : MeshAgrees stored → Agrees stored
+  lists : ListsAgree stored → Agrees stored

@@ -4,7 +4,7 @@ ghost use Rattle.replay.specs.Agreement.{ToleranceAgrees, Agrees};
 use crate::compare::same_reply;
 use crate::contents::double;
 use crate::layout::are_numbers;
-use crate::meshes::mesh_agrees;
+use crate::requests::lists_agree;
 use yongpham::yongpham_tolerance;
 
 // A box alone: a record of 24 words.
@@ -40,5 +40,5 @@ pub fn agrees(stored: &[u64]) -> bool
     if stored[1] == 1 {
         return tolerance_agrees(stored);
     }
-    mesh_agrees(stored)
+    lists_agree(stored)
 }

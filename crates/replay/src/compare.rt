@@ -73,6 +73,14 @@ pub fn same_numbers(stored: &[u64], from: usize, output: &[u32]) -> bool
     true
 }
 
+pub fn same_list(stored: &[u64], from: usize, output: &[u64]) -> bool
+    requires { ⌜ from + length (now output) ≤ length (now stored) ⌝ }
+    ensures { λ r. ⌜ Decides (SameWords (now (stored .entry)) from (now (output .entry))) r ⌝ }
+{
+    let end = from + output.len();
+    same_words(output, &stored[from..end])
+}
+
 pub fn is_zero(room: &[u64]) -> bool
     ensures { λ r. ⌜ Decides (Everywhere (λ k. getD (now (room .entry)) k 0 ≡ 0) (length (now (room .entry)))) r ⌝ }
 {

@@ -18,6 +18,12 @@ pub fn room_for_numbers() -> [u32; 1024]
     [0; 1024]
 }
 
+pub fn room_for_words() -> [u64; 1024]
+    ensures { λ r. ⌜ 1024 ≡ length r ⌝ }
+{
+    [0; 1024]
+}
+
 pub fn room_for_work() -> [u64; 20480]
     ensures { λ r. ⌜ 20480 ≡ length r ⌝ }
 {

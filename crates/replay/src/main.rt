@@ -1,12 +1,14 @@
 // Replays stored answers: requests with the answers that the Rust gave (README.md), each run again here. It writes a line an operation: its
 // name, how many requests the file has of it, and how many of these are answered as the Rust answered them.
 mod agreement;
+mod candidates;
 mod compare;
 mod contents;
 mod counting;
 mod file;
 mod layout;
 mod meshes;
+mod requests;
 
 use counting::Tally;
 use counting::count;
@@ -31,6 +33,7 @@ fn replay(file: &[u64]) {
     print_line(b"tolerance", count(file, 1));
     print_line(b"clip", count(file, 2));
     print_line(b"clean", count(file, 3));
+    print_line(b"candidates", count(file, 4));
 }
 
 fn main() {

@@ -3,20 +3,15 @@ ghost use mathlib.Core.Path.{_≡_};
 ghost use lib.ListN.{length, getD};
 ghost use Rattle.replay.specs.Words.{Decides};
 ghost use Rattle.replay.specs.Layout.{Laid};
-ghost use Rattle.replay.specs.Agreement.{Fresh, ClipStored, CleanStored, MeshStored, ListsStored, Numbers, MeshAgrees};
+ghost use Rattle.replay.specs.Agreement.{Fresh, ClipStored, CleanStored, MeshStored};
 use crate::compare::same_answer;
 use crate::contents::double;
 use crate::contents::old_doubles;
 use crate::contents::old_numbers;
 use crate::contents::old_words;
-use crate::contents::read_doubles;
-use crate::contents::read_numbers;
 use crate::contents::room_for_doubles;
 use crate::contents::room_for_numbers;
 use crate::contents::room_for_work;
-use crate::layout::are_few;
-use crate::layout::are_numbers;
-use crate::layout::is_laid;
 use yongpham::yongpham_clean;
 use yongpham::yongpham_clip;
 
@@ -101,7 +96,7 @@ fn run(
     false
 }
 
-fn with_room(stored: &[u64], vertices: &[f64], facets: &[u32]) -> bool
+pub fn mesh_answer_agrees(stored: &[u64], vertices: &[f64], facets: &[u32]) -> bool
     requires { ⌜ Laid (now stored) ⌝ }
     ensures { λ r. ⌜ Decides (MeshStored (now (stored .entry)) (now (vertices .entry)) (now (facets .entry))) r ⌝ }
 {
@@ -119,53 +114,4 @@ fn with_room(stored: &[u64], vertices: &[f64], facets: &[u32]) -> bool
         &mut out_vertices[..out_v],
         &mut out_facets[..out_f],
     )
-}
-
-fn read_lists(stored: &[u64], vertices: &mut [f64], facets: &mut [u32]) -> bool
-    requires { ⌜ Laid (now stored) ⌝ }
-    requires { ⌜ (length (now vertices) ≡ getD (now stored) 2 0) × (length (now facets) ≡ getD (now stored) 3 0) ⌝ }
-    ensures { λ r. ⌜ Decides (ListsStored (now (stored .entry))) r ⌝ }
-{
-    read_doubles(stored, 24, vertices);
-    read_numbers(stored, 24 + vertices.len(), facets);
-    with_room(stored, vertices, facets)
-}
-
-fn with_lists(stored: &[u64]) -> bool
-    requires { ⌜ Laid (now stored) ⌝ }
-    ensures { λ r. ⌜ Decides (ListsStored (now (stored .entry))) r ⌝ }
-{
-    let mut vertices = room_for_doubles();
-    let mut facets = room_for_numbers();
-    let v = stored[2] as usize;
-    let f = stored[3] as usize;
-    read_lists(stored, &mut vertices[..v], &mut facets[..f])
-}
-
-// Box, eps, resolution and coordinates are doubles, and facet numbers fit 32 bits.
-fn has_numbers(stored: &[u64]) -> bool
-    requires { ⌜ Laid (now stored) ⌝ }
-    ensures { λ r. ⌜ Decides (Numbers (now (stored .entry))) r ⌝ }
-{
-    if !are_numbers(stored, 6, 8) {
-        return false;
-    }
-    let v = stored[2] as usize;
-    let f = stored[3] as usize;
-    if !are_numbers(stored, 24, v) {
-        return false;
-    }
-    are_few(stored, 24 + v, f, 4294967295)
-}
-
-pub fn mesh_agrees(stored: &[u64]) -> bool
-    ensures { λ r. ⌜ Decides (MeshAgrees (now (stored .entry))) r ⌝ }
-{
-    if !is_laid(stored) {
-        return false;
-    }
-    if !has_numbers(stored) {
-        return false;
-    }
-    with_lists(stored)
 }

@@ -2,6 +2,7 @@
 use mathlib.Core.Path.{_≡_, sym, ap, _∙_, subst}
 use mathlib.Core.List.{List, [], _∷_}
 use Prim.Native.Nat.{ℕ}
+use lib.ListN.{length}
 use lib.Ieee.{Float, binary64, toBits}
 use Rattle.geometry.specs.declared.aabb.AABB.{AABB}
 use Rattle.refusals.specs.declared.refusal.Refusal.{Refusal}
@@ -14,7 +15,11 @@ use Rattle.refusals.proofs.Reports.{same-reply}
 use Rattle.refusals.specs.declared.reply.MeshReply.{MeshReply}
 use Rattle.geometry.specs.Triangles.{flat}
 use Rattle.geometry.specs.Meshes.{Mesh, coordinates}
-use Rattle.yongpham.specs.Calls.{MeshReported}
+use Rattle.boundary_closure.specs.declared.reply.CandidatesReply.{CandidatesReply}
+use Rattle.boundary_closure.specs.declared.reply.CandidatesReply.the-variants as candidates
+use Rattle.boundary_closure.specs.Candidates.{Candidates, candidateWords, listWords}
+use Rattle.boundary_closure.specs.Operation.{documentedCandidates, candidatesReply, candidatesResult, Delivered}
+use Rattle.yongpham.specs.Calls.{MeshReported, CandidatesReported}
 
 pub tolerance-done : (b : AABB) (t : Tolerance) (eps : Float) (r : ℕ) (ws : List ℕ) → Tolerated b t → t ≡ Of eps → (r ≡ 0) × (ws ≡ toBits binary64 eps ∷ 0 ∷ 0 ∷ 0 ∷ []) → Reported (toleranceReply b) r ws
 tolerance-done b t eps r ws h e k =
@@ -33,3 +38,27 @@ mesh-reported reply result m r ws w w' v v' f f' e h k z g =
       facets = subst (λ (l : List ℕ). Settled l (flat (result .facets)) f f') e k;
       work = z;
     }
+
+-- ---- candidates
+
+pub candidates-done : (reply : CandidatesReply) (c l k e r : ℕ) (ws : List ℕ) → reply ≡ candidates.Done c l k e → (r ≡ 0) × (ws ≡ c ∷ l ∷ k ∷ e ∷ []) → Reported (documentedCandidates reply) r ws
+unfolding documentedCandidates
+candidates-done reply c l k e r ws q h = same-reply (0 ∷ c ∷ l ∷ k ∷ e ∷ []) (documentedCandidates reply) r ws (ap documentedCandidates (sym q)) (record { number = h .0; words = h .1 })
+
+pub candidates-refused : (reply : CandidatesReply) (refusal : Refusal) (r : ℕ) (ws : List ℕ) → reply ≡ candidates.Refused refusal → Reported (documented refusal) r ws → Reported (documentedCandidates reply) r ws
+unfolding documentedCandidates
+candidates-refused reply refusal r ws q h = same-reply (documented refusal) (documentedCandidates reply) r ws (ap documentedCandidates (sym q)) h
+
+module _ (vs : List Float) (fs : List ℕ) (box : AABB) (eps resolution : Float) (m : CandidatesReply) (w w' c c' l l' k k' e e' : List ℕ) where
+  pub candidates-reported : (r : ℕ) (ws : List ℕ) → Delivered vs fs box eps resolution m w w' c c' l l' k k' e e' → Reported (documentedCandidates m) r ws
+      → CandidatesReported (candidatesReply vs fs box eps resolution (length w) (length c ∷ length l ∷ length k ∷ length e ∷ [])) (candidatesResult vs fs box eps resolution) r ws w w' c c' l l' k k' e e'
+  candidates-reported r ws d g =
+      let result = candidatesResult vs fs box eps resolution in
+      record {
+        reported = same-reply (documentedCandidates m) _ r ws (d .replied) g;
+        candidates = subst (λ (p : List ℕ). Settled p (candidateWords (result .all)) c c') (d .replied) (d .candidates);
+        face-lists = subst (λ (p : List ℕ). Settled p (listWords (result .lists)) l l') (d .replied) (d .face-lists);
+        constraints = subst (λ (p : List ℕ). Settled p (flat (result .constraints)) k k') (d .replied) (d .constraints);
+        open-edges = subst (λ (p : List ℕ). Settled p (flat (result .edges)) e e') (d .replied) (d .open-edges);
+        work = d .work;
+      }

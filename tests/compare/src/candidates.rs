@@ -1,6 +1,7 @@
 //! Candidates: `yongpham_candidates` beside the oracle, and the requests for it.
 
 use crate::boxes::{self, LARGEST};
+use crate::chosen;
 use crate::lent::Lent;
 use crate::meshes;
 use crate::numbers::near;
@@ -13,7 +14,7 @@ pub const OPERATION: Operation = Operation {
     name: "candidates",
     number: 4,
     generate,
-    chosen: Vec::new,
+    chosen: chosen::candidates,
     need: |r| oracle::need_words(r.vertices.len() / 3, r.facets.len() / 3, 0, grid(r)),
     lengths: |r| {
         oracle::reference::cap_candidates(

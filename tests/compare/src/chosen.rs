@@ -1,6 +1,8 @@
 //! Requests chosen by hand for the file of stored answers: the traps that document 01
 //! names, each refusal, and the refusals in their order.
 
+mod candidates;
+
 use crate::boxes::LARGEST;
 use crate::clip::KNOWN;
 use crate::lent::Lent;
@@ -20,6 +22,8 @@ pub enum Room {
     /// One element less than the result in the output of this place.
     Short(usize),
     NoOutput,
+    /// Neither work room nor outputs.
+    Nothing,
 }
 
 pub struct Chosen {
@@ -39,6 +43,10 @@ impl Chosen {
             Room::NoWork => request.work = 0,
             Room::Short(place) => request.outputs[place] -= 1,
             Room::NoOutput => request.outputs = [0; 4],
+            Room::Nothing => {
+                request.work = 0;
+                request.outputs = [0; 4];
+            }
         }
         request
     }
@@ -98,7 +106,7 @@ pub fn clip() -> Vec<Chosen> {
     let refused = list_faults(&sound())
         .into_iter()
         .chain(number_faults(&sound()))
-        .chain(box_faults());
+        .chain(box_faults(&sound()));
     all.extend(refused.map(ample));
     all.extend(in_rooms(&sound()));
     // No facet, no vertex: nothing is written, into nothing.
@@ -131,6 +139,10 @@ pub fn clean() -> Vec<Chosen> {
         room,
     }));
     all
+}
+
+pub fn candidates() -> Vec<Chosen> {
+    candidates::chosen()
 }
 
 /// What goes wrong first in a port of clip.
@@ -392,7 +404,7 @@ fn number_faults(base: &Request) -> Vec<Request> {
 }
 
 /// Refusals 4 and 5 of the box.
-fn box_faults() -> Vec<Request> {
+fn box_faults(base: &Request) -> Vec<Request> {
     let mut all = Vec::new();
     for place in 0..6 {
         let outward = if place < 3 { -1.0 } else { 1.0 };
@@ -405,7 +417,7 @@ fn box_faults() -> Vec<Request> {
             opposite,
             opposite - outward,
         ] {
-            let mut request = sound();
+            let mut request = base.clone();
             request.extents[place] = x;
             all.push(request);
         }

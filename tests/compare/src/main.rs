@@ -6,7 +6,7 @@
 //!     compare --check FILE
 //!
 //! The second form compares nothing: it writes a sample of requests and the oracle's
-//! answers to FILE, N requests an operation, for the program crates/replay. The third
+//! answers to FILE, at most N requests an operation, for the program crates/replay. The third
 //! asks the oracle again for each request of FILE.
 //!
 //! 20,000 requests of each operation and 10,000,000 numbers if not told otherwise.

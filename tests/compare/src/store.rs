@@ -16,14 +16,49 @@ use std::process::ExitCode;
 const MAGIC: u64 = u64::from_le_bytes(*b"yongpham");
 const FORMAT: u64 = 1;
 const TOLERANCE: u64 = 1;
-/// The mesh operations that the program replays.
-const REPLAYED: &[&str] = &["clip", "clean"];
+/// A mesh operation that the program replays, and how many of its requests the file gets beside
+/// those chosen by hand: the file is small, so they are.
+struct Replayed {
+    name: &'static str,
+    /// Requests in all.
+    most: usize,
+    /// Elements of lists and outputs together, of a generated request.
+    largest: usize,
+    /// Generated requests of a family with the same reply.
+    of_a_kind: usize,
+    /// Whether generated requests are to be refused too, or done with nothing.
+    any_reply: bool,
+}
+
+const REPLAYED: &[Replayed] = &[
+    Replayed {
+        name: "clip",
+        most: 250,
+        largest: 150,
+        of_a_kind: 15,
+        any_reply: true,
+    },
+    Replayed {
+        name: "clean",
+        most: 250,
+        largest: 150,
+        of_a_kind: 15,
+        any_reply: true,
+    },
+    // A result is long: the refusals are chosen by hand, and what is generated writes.
+    Replayed {
+        name: "candidates",
+        most: 170,
+        largest: 280,
+        of_a_kind: 2,
+        any_reply: false,
+    },
+];
 
 /// What the program has room for: elements of each list and output, words of work room.
 const LARGEST_LIST: usize = 1_024;
 const LARGEST_WORK: usize = 20_480;
-/// Generated requests are kept small, so that the file is: elements of lists and outputs together.
-const LARGEST_GENERATED: usize = 150;
+const LARGEST_FILE: usize = 65_536;
 /// How many requests are looked at for a sample.
 const LOOKED_AT: u64 = 200_000;
 
@@ -178,15 +213,18 @@ impl Sample {
     }
 
     /// Whether a family with this reply has its share; every pair of the two gets some.
-    fn has_enough(&self, request: &Request, answer: &Answer, count: usize) -> bool {
+    fn has_enough(&self, request: &Request, answer: &Answer, share: usize) -> bool {
         let key = (request.family, answer.reply.number);
-        self.covered
-            .get(&key)
-            .is_some_and(|&had| had >= (count / 16).max(2))
+        self.covered.get(&key).is_some_and(|&had| had >= share)
     }
 
     fn print(&self) {
-        println!("{}: {} requests", self.name, self.records.len());
+        let words: usize = self.records.iter().map(Vec::len).sum();
+        println!(
+            "{}: {} requests, {words} words",
+            self.name,
+            self.records.len()
+        );
         for ((family, reply), count) in &self.covered {
             println!("    {family}, reply {reply}: {count}");
         }
@@ -209,7 +247,7 @@ fn tolerance_sample(options: &Options) -> Sample {
     sample
 }
 
-fn mesh_sample(operation: &Operation, options: &Options) -> Sample {
+fn mesh_sample(operation: &Operation, replayed: &Replayed, options: &Options) -> Sample {
     let mut sample = Sample::new(operation.name, operation.number);
     let mut work = Lent::new(0, Old::ByPlace);
     for chosen in (operation.chosen)() {
@@ -218,16 +256,18 @@ fn mesh_sample(operation: &Operation, options: &Options) -> Sample {
         sample.add(&request, &answer);
     }
     for number in 0..LOOKED_AT {
-        if sample.records.len() >= options.count {
+        if sample.records.len() >= options.count.min(replayed.most) {
             break;
         }
         let request = operation::request(operation, options.seed, number, &mut work);
         let size = request.size() + request.outputs.iter().sum::<usize>();
-        if size > LARGEST_GENERATED || request.work > LARGEST_WORK || has_nan(&request) {
+        if size > replayed.largest || request.work > LARGEST_WORK || has_nan(&request) {
             continue;
         }
         let answer = (operation.oracle)(&request, &mut work);
-        if !sample.has_enough(&request, &answer, options.count) {
+        let writes = answer.reply.number == 0 && answer.reply.values[0] > 0;
+        let wanted = replayed.any_reply || writes;
+        if wanted && !sample.has_enough(&request, &answer, replayed.of_a_kind) {
             sample.add(&request, &answer);
         }
     }
@@ -236,12 +276,18 @@ fn mesh_sample(operation: &Operation, options: &Options) -> Sample {
 
 /// Writes the file and says what it covers.
 pub fn write(file: &str, options: &Options) -> ExitCode {
-    let replayed = |operation: &&Operation| REPLAYED.contains(&operation.name);
-    let meshes = OPERATIONS.iter().filter(replayed);
     let mut samples = vec![tolerance_sample(options)];
-    samples.extend(meshes.map(|operation| mesh_sample(operation, options)));
+    for replayed in REPLAYED {
+        let operation = OPERATIONS.iter().find(|o| o.name == replayed.name);
+        let operation = operation.expect("an operation of this name");
+        samples.push(mesh_sample(operation, replayed, options));
+    }
     let records: Vec<&Vec<u64>> = samples.iter().flat_map(|sample| &sample.records).collect();
     let words: usize = 4 + records.iter().map(|record| record.len()).sum::<usize>();
+    if words > LARGEST_FILE {
+        eprintln!("compare: {words} words, and the program has room for {LARGEST_FILE}");
+        return ExitCode::FAILURE;
+    }
     let header = vec![MAGIC, FORMAT, records.len() as u64, words as u64];
     let bytes: Vec<u8> = std::iter::once(&header)
         .chain(records)

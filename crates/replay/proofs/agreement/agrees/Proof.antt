@@ -1,5 +1,5 @@
-use Rattle.replay.specs.Agreement.{tolerance, mesh}
-use Rattle.replay.proofs.Agreeing.{short, as-tolerance, as-mesh}
+use Rattle.replay.specs.Agreement.{tolerance, lists}
+use Rattle.replay.proofs.Agreeing.{short, as-tolerance, as-lists}
 use Rattle.replay.proofs.Deciding.{refuted, ends}
 use denote.Ref.{now}
 use borrow.Author.Needs.{needs}
@@ -8,7 +8,7 @@ use Rattle.replay.proofs.agreement.agrees.Tie as tie
 use Rattle.replay.proofs.agreement.agrees.Reads as reads
 use Rattle.replay.proofs.agreement.agrees.Lts as lts
 use Rattle.replay.proofs.agreement.tolerance_agrees.Reads as tolerance-agrees-reads
-use Rattle.replay.proofs.meshes.mesh_agrees.Reads as mesh-agrees-reads
+use Rattle.replay.proofs.requests.lists_agree.Reads as lists-agree-reads
 
 -- src/agreement.rt:38:9
 returns : tie.Need-returns
@@ -27,12 +27,12 @@ returns-2 : tie.Need-returns-2
 returns-2 c = ends _ (c .tolerance-agrees .ensures) (λ t. tolerance (c .before .if2 .taken) t) (λ a. as-tolerance (now (c .before .before .before .before .before .args .stored)) (c .before .if2 .taken) a)
 
 -- src/agreement.rt:43:5
-mesh-agrees-requires : tie.Need-mesh-agrees-requires
-mesh-agrees-requires c κs = search needs
+lists-agree-requires : tie.Need-lists-agree-requires
+lists-agree-requires c κs = search needs
 
 -- src/agreement.rt:34:1
 returns-3 : tie.Need-returns-3
-returns-3 c = ends _ (c .mesh-agrees .ensures) (λ m. mesh m) (λ a. as-mesh (now (c .before .before .before .before .before .args .stored)) (c .before .if2 .left) a)
+returns-3 c = ends _ (c .lists-agree .ensures) (λ m. lists m) (λ a. as-lists (now (c .before .before .before .before .before .args .stored)) (c .before .if2 .left) a)
 
 pub agrees-spec : {M : Type 1} → statement M
 agrees-spec =
@@ -42,5 +42,5 @@ agrees-spec =
     shared-slice-read-if2
     tolerance-agrees-requires
     returns-2
-    mesh-agrees-requires
+    lists-agree-requires
     returns-3)

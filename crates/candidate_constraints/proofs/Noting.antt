@@ -1,0 +1,115 @@
+-- `note_places`: what its loop keeps, as it starts, one turn, and its end; and that later stores leave the places. Assumes nothing.
+--   some-place, has-place, place-is             the place of a member
+--   Noting, noting-start, noting-named, noting-end; noted-low
+--   member-low, place-low, placed-same          after it
+use Prim.Native.Nat.{ℕ, suc, _+_, _*_, _≤_, _<_}
+use mathlib.Core.Bool.{Bool, true, false, cond, _||_}
+use mathlib.Core.List.{List, [], _∷_}
+use mathlib.Core.Path.{_≡_, sym, ap, subst, _∙_}
+use native.Mathlib.Decide.{ℕ-discrete}
+use native.Mathlib.Omega.{arith}
+use lib.Dec.{T, eqb, eqb→eq}
+use lib.ListN.{length, getD, set}
+use lib.Seq.{getD-set-same, getD-set-other}
+use Rattle.lists.specs.Lists.{some, has, place}
+use Rattle.lists.proofs.Members.{place-at}
+use Rattle.candidate_pool.specs.Pool.{Pool, faceList}
+use Rattle.candidate_pool.specs.Standing.{poolAt}
+use Rattle.candidate_constraints.specs.Steps.{Kept, Shown, Placed}
+use Rattle.candidate_constraints.proofs.Frames.{kept-same, kept-set, kept-then}
+use Rattle.candidate_constraints.proofs.Showing.{list-length, list-at, list-low, list-room, all-length, pool-same}
+
+-- ---- the place of the first that passes
+pub some-place : {A : Type 0} (p : A → Bool) (l : List A) → T (some p l) → place p l < length l
+unfolding some place
+some-place p [] t = absurd t
+some-place p (x ∷ l) t = go (p x) t (some-place p l)
+  where
+    go : (b : Bool) → T (b || some p l) → (T (some p l) → place p l < length l) → cond b 0 (suc (place p l)) < suc (length l)
+    go true t f = omega arith
+    go false t f = let h = f t in omega arith
+
+pub has-place : (l : List ℕ) (c : ℕ) → has l c ≡ true → place (eqb c) l < length l
+has-place l c e = some-place (eqb c) l (subst T (sym e) tt)
+
+pub place-is : (l : List ℕ) (c : ℕ) → has l c ≡ true → getD l (place (eqb c) l) 0 ≡ c
+place-is l c e = sym (eqb→eq c (getD l (place (eqb c) l) 0) (place-at (eqb c) 0 l (has-place l c e)))
+
+module _ (n f : ℕ) (w₀ : List ℕ) where
+  abbrev pub idAt : ℕ → ℕ
+  idAt j = getD w₀ (8 + 11 * n + f * n + j) 0
+
+  pub record Noting (w : List ℕ) (i : ℕ) : Type 0 where
+    pub within : i ≤ getD w₀ f 0
+    pub kept : Kept (8 + 17 * n) (8 + 18 * n) w₀ w
+    pub at : (j : ℕ) → j < i → getD w (8 + 17 * n + idAt j) 0 ≡ j
+
+  pub noting-start : Noting w₀ 0
+  noting-start = record { within = omega arith; kept = kept-same (8 + 17 * n) (8 + 18 * n) w₀; at = λ j h. absurd (omega arith) }
+
+  module _ (s : Shown n w₀) (hf : f < 6) (room : 8 + 18 * n ≤ length w₀) (w : List ℕ) (i : ℕ) (o : Noting w i) where
+    -- candidate i of the list, as the loop reads it
+    pub noted-id : i < getD w₀ f 0 → getD w (8 + 11 * n + f * n + i) 0 ≡ idAt i
+    noted-id h = o .kept .low (8 + 11 * n + f * n + i) (omega (arith, s .lengths f hf, list-room n f hf))
+
+    pub noted-low : i < getD w₀ f 0 → getD w (8 + 11 * n + f * n + i) 0 < n
+    noted-low h = omega (arith, noted-id h, list-low n w₀ s f hf i h, s .few)
+
+    apart : (j k : ℕ) → j < k → k < getD w₀ f 0 → idAt j ≡ idAt k → ⊥
+    apart j k h g e =
+        s .tidy .once f j k hf h (omega (arith, list-length n w₀ s f hf)) (list-at n w₀ s f hf j (omega arith) ∙ e ∙ sym (list-at n w₀ s f hf k g))
+
+    pub noting-turn : i < getD w₀ f 0 → Noting (set w (8 + 17 * n + getD w (8 + 11 * n + f * n + i) 0) i) (i + 1)
+    noting-turn h =
+        subst (λ (x : ℕ). Noting (set w (8 + 17 * n + x) i) (i + 1)) (sym (noted-id h))
+        (record {
+          within = omega arith;
+          kept = kept-then (8 + 17 * n) (8 + 18 * n) w₀ w (set w (8 + 17 * n + idAt i) i) (o .kept)
+              (kept-set (8 + 17 * n) (8 + 18 * n) (8 + 17 * n + idAt i) i w (omega arith) (omega (arith, noted-id h, noted-low h)));
+          at = λ j g. each j g (ℕ-discrete j i);
+        })
+      where
+        inside : 8 + 17 * n + idAt i < length w
+        inside = omega (arith, noted-id h, noted-low h, o .kept .long)
+
+        each : (j : ℕ) → j < i + 1 → Dec (j ≡ i) → getD (set w (8 + 17 * n + idAt i) i) (8 + 17 * n + idAt j) 0 ≡ j
+        each j g (yes e) = ap (λ (k : ℕ). getD (set w (8 + 17 * n + idAt i) i) (8 + 17 * n + idAt k) 0) e ∙ getD-set-same w (8 + 17 * n + idAt i) i 0 inside ∙ sym e
+        each j g (no d) =
+            let l : j < i = omega arith in
+            getD-set-other w (8 + 17 * n + idAt i) (8 + 17 * n + idAt j) i 0 (λ e. apart j i l h (omega arith)) ∙ o .at j l
+
+    -- the same with the names that the code has for two places
+    pub noting-named : (list places : ℕ) → list ≡ 8 + 11 * n + f * n → places ≡ 8 + 17 * n → i < getD w₀ f 0 → Noting (set w (places + getD w (list + i) 0) i) (i + 1)
+    noting-named list places a b h = subst (λ (u : List ℕ). Noting u (i + 1)) (λ t. set w (sym b t + getD w (sym a t + i) 0) i) (noting-turn h)
+
+    pub noting-end : getD w₀ f 0 ≤ i → Kept (8 + 17 * n) (8 + 18 * n) w₀ w × Placed n f w
+    noting-end h = (o .kept, λ c e. found c e)
+      where
+        same : poolAt n w ≡ poolAt n w₀
+        same = pool-same n w₀ w s (o .kept .long) (o .kept .low)
+
+        found : Placed n f w
+        found c e =
+            let L = faceList (poolAt n w₀) f in
+            let e' : has L c ≡ true = ap (λ (p : Pool). has (faceList p f) c) (sym same) ∙ e in
+            let q = has-place L c e' in
+            let k : place (eqb c) L < getD w₀ f 0 = omega (arith, list-length n w₀ s f hf) in
+            ap (λ (x : ℕ). getD w (8 + 17 * n + x) 0) (sym (place-is L c e') ∙ list-at n w₀ s f hf (place (eqb c) L) k)
+            ∙ o .at (place (eqb c) L) (omega arith) ∙ ap (λ (p : Pool). place (eqb c) (faceList p f)) (sym same)
+
+-- ---- later
+module _ (n f : ℕ) (w : List ℕ) (s : Shown n w) (hf : f < 6) where
+  -- a member of a face's list is a candidate's number
+  pub member-low : (c : ℕ) → has (faceList (poolAt n w) f) c ≡ true → c < n
+  member-low c e =
+      let L = faceList (poolAt n w) f in
+      omega (arith, place-is L c e, s .tidy .low f (place (eqb c) L) hf (has-place L c e), all-length n w, s .few)
+
+  pub place-low : (c : ℕ) → has (faceList (poolAt n w) f) c ≡ true → place (eqb c) (faceList (poolAt n w) f) < n
+  place-low c e = omega (arith, has-place (faceList (poolAt n w) f) c e, list-length n w s f hf, s .lengths f hf)
+
+  pub placed-same : (w' : List ℕ) → Placed n f w → length w' ≡ length w → ((x : ℕ) → x < 8 + 18 * n → getD w' x 0 ≡ getD w x 0) → Placed n f w'
+  placed-same w' p long low c e =
+      let same = pool-same n w w' s long (λ x h. low x (omega arith)) in
+      let e' : has (faceList (poolAt n w) f) c ≡ true = ap (λ (p : Pool). has (faceList p f) c) (sym same) ∙ e in
+      low (8 + 17 * n + c) (omega (arith, member-low c e')) ∙ p c e' ∙ ap (λ (p : Pool). place (eqb c) (faceList p f)) (sym same)

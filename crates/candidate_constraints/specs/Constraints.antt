@@ -1,0 +1,52 @@
+-- Constraints of a face: pairs of places in its list (document 01, module 5; `build_face_cdt` and `add_face_box_boundary_constraints` of boundary_closure.rs). Assumes nothing.
+--   neighbours        each two that follow each other
+--   standing          a place with its fraction along a side, if it stands on it
+--   sideOrder         the places on a side, "sorted by clamped t in `total_cmp` order, stable"
+--   edgePlaces        the places of an open edge's two candidates
+--   faceConstraints   "smaller place first, listed ascending, once"
+use Prim.Native.Nat.{ℕ}
+use mathlib.Core.Bool.{cond}
+use mathlib.Core.List.{List, [], _∷_, _++_, map, flatMap}
+use lib.Dec.{eqb, ltb}
+use lib.ListN.{getD, length}
+use lib.Ieee.{Float}
+use Rattle.lists.specs.Lists.{keep, place, sortBy, distinct, upTo}
+use Rattle.root.specs.Doubles.{before}
+use Rattle.geometry.specs.declared.aabb.AABB.{AABB}
+use Rattle.geometry.specs.declared.fraction.Fraction.{Fraction}
+use Rattle.geometry.specs.declared.fraction.Fraction.the-variants.{At, Nothing}
+use Rattle.geometry.specs.Triangles.{Triangle, tri}
+use Rattle.box_faces.specs.declared.uv.Side.{Side}
+use Rattle.box_faces.specs.Faces.{project}
+use Rattle.box_faces.specs.Sides.{faceSides, onSide}
+use Rattle.edges.specs.Edges.{sortedPair, samePair, pairBefore}
+use Rattle.candidate_pool.specs.Pool.{Pool, pointOf, faceList}
+
+unfoldable pub neighbours : List ℕ → List (ℕ × ℕ)
+neighbours [] = []
+neighbours (a ∷ []) = []
+neighbours (a ∷ b ∷ l) = (a, b) ∷ neighbours (b ∷ l)
+
+abbrev pub standing : ℕ → Fraction → List (Float × ℕ)
+standing i (At t) = (t, i) ∷ []
+standing i Nothing = []
+
+module _ (box : AABB) (eps : Float) (edges : List (Triangle ℕ)) (pool : Pool) (f : ℕ) where
+  unfoldable pub sideOrder : Side → List ℕ
+  sideOrder s =
+      let l = faceList pool f in
+      map (λ x. x .1)
+      (sortBy (λ x y. before (x .0) (y .0))
+      (flatMap (λ i. standing i (onSide eps s (project f (pointOf pool (getD l i 0))))) (upTo (length l))))
+
+  unfoldable pub edgePlaces : List (ℕ × ℕ)
+  edgePlaces =
+      let l = faceList pool f in
+      map (λ e. (place (eqb (e .b)) l, place (eqb (e .c)) l)) (keep (λ e. eqb (e .a) f) edges)
+
+  -- "neighbours along each box side .. plus open edges; none on a face with under three candidates": face and two places
+  unfoldable pub faceConstraints : List (Triangle ℕ)
+  faceConstraints =
+      let pairs = flatMap (λ s. neighbours (sideOrder s)) (faceSides box f) ++ edgePlaces in
+      let listed = map (λ q. tri f (sortedPair q .0) (sortedPair q .1)) (distinct samePair (sortBy pairBefore pairs)) in
+      cond (ltb (length (faceList pool f)) 3) [] listed

@@ -1,0 +1,160 @@
+-- `enter_edge` meets its contract: the record names the side of open edge i, both of whose ends are entered before its words are stored (`edge-done`). Assumes nothing.
+use Prim.Native.Nat.{ℕ, _+_, _*_, _/_, _<_}
+use mathlib.Core.Path.{sym, subst}
+use native.Mathlib.Omega.{arith}
+use borrow.Author.Needs.{needs}
+use lib.ListN.{length, getD}
+use Rattle.geometry.specs.Triangles.{threes}
+use Rattle.geometry.specs.Meshes.{vertex, pointsOf}
+use Rattle.edges.specs.Edges.{sides, openEdges}
+use Rattle.candidate_edges.proofs.Faces.{mask-small}
+use Rattle.candidate_edges.proofs.Ends.{from-low, to-low, side-is, side-low, ready-next}
+use Rattle.candidate_edges.proofs.Turns.{edge-done}
+use Rattle.candidate_edges.proofs.open.enter_edge.Statement.{statement}
+use Rattle.candidate_edges.proofs.open.enter_edge.Tie as tie
+
+table-at-requires : tie.Need-table-at-requires
+table-at-requires c κs = search needs
+
+mul-side : tie.Need-mul-side
+mul-side c = search needs
+
+add-side : tie.Need-add-side
+add-side c = search needs
+
+add-side-2 : tie.Need-add-side-2
+add-side-2 c = search needs
+
+mul-side-2 : tie.Need-mul-side-2
+mul-side-2 c = search needs
+
+slice-read-side : tie.Need-slice-read-side
+slice-read-side c = search needs
+
+side-mask-requires : tie.Need-side-mask-requires
+side-mask-requires c κs =
+    let s = c .before .before .before .before .before in
+    let a = s .args in
+    let t = c .before .table-at in
+    let f = s .pre .0 .fits in
+    ((f .threes, side-low (a .facets .now) (a .w .now) (8 + 62 * a .n + 54 * (length (a .facets .now) / 3)) (t .result) (length (openEdges (threes (a .facets .now)))) (a .i) (s .pre .0 .table) (t .ensures) (s .pre .1)), f .numbers)
+
+edge-from-requires : tie.Need-edge-from-requires
+edge-from-requires c κs =
+    let s = c .before .before .before .before .before .before in
+    let a = s .args in
+    let t = c .before .before .table-at in
+    (s .pre .0 .fits .threes, side-low (a .facets .now) (a .w .now) (8 + 62 * a .n + 54 * (length (a .facets .now) / 3)) (t .result) (length (openEdges (threes (a .facets .now)))) (a .i) (s .pre .0 .table) (t .ensures) (s .pre .1))
+
+cast-put-edge : tie.Need-cast-put-edge
+cast-put-edge c = search needs
+
+edge-to-requires : tie.Need-edge-to-requires
+edge-to-requires c κs =
+    let s = c .before .before .before .before .before .before .before in
+    let a = s .args in
+    let t = c .before .before .before .table-at in
+    (s .pre .0 .fits .threes, side-low (a .facets .now) (a .w .now) (8 + 62 * a .n + 54 * (length (a .facets .now) / 3)) (t .result) (length (openEdges (threes (a .facets .now)))) (a .i) (s .pre .0 .table) (t .ensures) (s .pre .1))
+
+cast-put-edge-2 : tie.Need-cast-put-edge-2
+cast-put-edge-2 c = search needs
+
+enter-vertex-requires : tie.Need-enter-vertex-requires
+enter-vertex-requires c κs =
+    let s = c .before .before .before .before .before .before .before .before .before in
+    let a = s .args in
+    let t = c .before .before .before .before .before .table-at in
+    let m = c .before .before .before .side-mask in
+    let f = s .pre .0 .fits in
+    let j = getD (a .w .now) (t .result + 2 * a .i + 1) 0 in
+    let named = side-low (a .facets .now) (a .w .now) (8 + 62 * a .n + 54 * (length (a .facets .now) / 3)) (t .result) (length (openEdges (threes (a .facets .now)))) (a .i) (s .pre .0 .table) (t .ensures) (s .pre .1) in
+    let e = getD (sides (threes (a .facets .now))) j (0, 0) in
+    let from = from-low (a .facets .now) (length (a .vertices .now) / 3) j (f .threes) (f .numbers) named in
+    let to = to-low (a .facets .now) (length (a .vertices .now) / 3) j (f .threes) (f .numbers) named in
+    let small = subst (λ (x : ℕ). x < 64) (sym (m .ensures)) (mask-small (a .extents) (a .eps) (vertex (pointsOf (a .vertices .now)) (e .0)) (vertex (pointsOf (a .vertices .now)) (e .1))) in
+    (s .pre .0 .ready, (omega (arith, c .before .before .edge-from .ensures, c .before .edge-to .ensures), small))
+
+enter-vertex-requires-2 : tie.Need-enter-vertex-requires-2
+enter-vertex-requires-2 c κs =
+    let s = c .before .before .before .before .before .before .before .before .before .before .before .before .before in
+    let a = s .args in
+    let t = c .before .before .before .before .before .before .before .before .before .table-at in
+    let m = c .before .before .before .before .before .before .before .side-mask in
+    let f = s .pre .0 .fits in
+    let j = getD (a .w .now) (t .result + 2 * a .i + 1) 0 in
+    let named = side-low (a .facets .now) (a .w .now) (8 + 62 * a .n + 54 * (length (a .facets .now) / 3)) (t .result) (length (openEdges (threes (a .facets .now)))) (a .i) (s .pre .0 .table) (t .ensures) (s .pre .1) in
+    let e = getD (sides (threes (a .facets .now))) j (0, 0) in
+    let from = from-low (a .facets .now) (length (a .vertices .now) / 3) j (f .threes) (f .numbers) named in
+    let to = to-low (a .facets .now) (length (a .vertices .now) / 3) j (f .threes) (f .numbers) named in
+    let small = subst (λ (x : ℕ). x < 64) (sym (m .ensures)) (mask-small (a .extents) (a .eps) (vertex (pointsOf (a .vertices .now)) (e .0)) (vertex (pointsOf (a .vertices .now)) (e .1))) in
+    (ready-next _ _ _ _ _ _ _ _ (s .pre .0 .ready) (c .before .before .before .enter-vertex .ensures), (omega (arith, c .before .before .before .before .before .before .edge-from .ensures, c .before .before .before .before .before .edge-to .ensures), small))
+
+edges-at-requires : tie.Need-edges-at-requires
+edges-at-requires c κs =
+    let f = c .before .before .before .before .before .before .before .before .before .before .before .before .before .before .before .before .before .pre .0 .fits in
+    (f .small, f .few)
+
+mul-put-edge : tie.Need-mul-put-edge
+mul-put-edge c =
+    let f = c .before .before .before .before .before .before .before .before .before .before .before .before .before .before .before .before .before .before .pre .0 .fits in
+    let k = c .before .before .before .before .before .before .before .before .before .before .before .before .before .before .before .before .before .before .pre .0 .table .within in
+    let h = c .before .before .before .before .before .before .before .before .before .before .before .before .before .before .before .before .before .before .pre .1 in
+    omega arith
+
+add-put-edge : tie.Need-add-put-edge
+add-put-edge c =
+    let f = c .before .before .before .before .before .before .before .before .before .before .before .before .before .before .before .before .before .before .pre .0 .fits in
+    let k = c .before .before .before .before .before .before .before .before .before .before .before .before .before .before .before .before .before .before .pre .0 .table .within in
+    let h = c .before .before .before .before .before .before .before .before .before .before .before .before .before .before .before .before .before .before .pre .1 in
+    omega (arith, c .edges-at .ensures)
+
+put-edge-requires : tie.Need-put-edge-requires
+put-edge-requires c κs =
+    let f = c .before .before .before .before .before .before .before .before .before .before .before .before .before .before .before .before .before .before .pre .0 .fits in
+    let k = c .before .before .before .before .before .before .before .before .before .before .before .before .before .before .before .before .before .before .pre .0 .table .within in
+    let h = c .before .before .before .before .before .before .before .before .before .before .before .before .before .before .before .before .before .before .pre .1 in
+    omega (arith, c .edges-at .ensures, c .before .before .before .before .before .before .before .before .enter-vertex .ensures .inserted .long, c .before .before .before .before .enter-vertex2 .ensures .inserted .long)
+
+same-length : tie.Need-same-length
+same-length c = search needs
+
+returns : tie.Need-returns
+returns c =
+    let s = c .before .before .before .before .before .before .before .before .before .before .before .before .before .before .before .before .before .before .before .before .before in
+    let a = s .args in
+    let t = c .before .before .before .before .before .before .before .before .before .before .before .before .before .before .before .before .before .table-at in
+    let m = c .before .before .before .before .before .before .before .before .before .before .before .before .before .before .before .side-mask in
+    let from = c .before .before .before .before .before .before .before .before .before .before .before .before .before .before .edge-from in
+    let to = c .before .before .before .before .before .before .before .before .before .before .before .before .before .edge-to in
+    let v = c .before .before .before .before .before .before .before .before .before .before .before .enter-vertex in
+    let u = c .before .before .before .before .before .before .before .enter-vertex2 in
+    let e = c .before .before .before .edges-at in
+    let p = c .before .before .put-edge in
+    edge-done (a .vertices .now) (a .facets .now) (a .extents) (a .eps) (a .n) (a .i) (getD (a .w .now) (t .result + 2 * a .i + 1) 0) (e .result) (from .result) (to .result) (m .result) (v .result .0) (u .result .0) (p .result)
+    (a .w .now) (v .last .0) (u .last .0) (p .last .0) (s .pre .0) (s .pre .1)
+    (side-is (a .facets .now) (a .w .now) (8 + 62 * a .n + 54 * (length (a .facets .now) / 3)) (t .result) (length (openEdges (threes (a .facets .now)))) (a .i) (s .pre .0 .table) (t .ensures) (s .pre .1))
+    (e .ensures) (m .ensures) (from .ensures) (to .ensures) (v .ensures) (u .ensures) (p .ensures)
+
+pub enter-edge-spec : {M : Type 1} → statement M
+enter-edge-spec =
+    tie.close
+    (tie.spec
+    table-at-requires
+    mul-side
+    add-side
+    add-side-2
+    mul-side-2
+    slice-read-side
+    side-mask-requires
+    edge-from-requires
+    cast-put-edge
+    edge-to-requires
+    cast-put-edge-2
+    enter-vertex-requires
+    enter-vertex-requires-2
+    edges-at-requires
+    mul-put-edge
+    add-put-edge
+    put-edge-requires
+    same-length
+    returns)

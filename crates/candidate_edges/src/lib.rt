@@ -1,0 +1,3 @@
+// Open edges and corner vertices as candidates (document 01, module 5; boundary_closure.rs).
+pub mod corners;
+pub mod open;

@@ -1,0 +1,157 @@
+-- The loop that gathers the open edges of a face as segments. Assumes nothing.
+--   point-of-pool               a candidate's point in the pool and in the room
+--   Gathering                   its invariant
+--   gather-start, gather-pass, gather-one, gather-end   its start, a turn at an edge of other faces, a turn at one of the face, its end
+--   edge-ready                  what storing an edge asks
+use Prim.Native.Nat.{ℕ, _+_, _*_, _≤_, _<_}
+use native.Mathlib.Omega.{arith}
+use native.Mathlib.Decide.{ℕ-discrete}
+use mathlib.Core.Path.{_≡_, refl, sym, ap, subst, _∙_}
+use mathlib.Core.Bool.{Bool, true, false, _||_}
+use mathlib.Core.List.{List}
+use lib.ListN.{length, getD}
+use lib.Ieee.{Float}
+use Rattle.lists.specs.Lists.{some, upFrom, upTo}
+use Rattle.lists.specs.Regions.{Outside}
+use Rattle.lists.proofs.Bools.{and-next, and-stop, or-last}
+use Rattle.lists.proofs.Places.{at-map-up}
+use Rattle.box_faces.specs.declared.uv.Uv.{Uv}
+use Rattle.box_faces.specs.Faces.{project, hasBit}
+use Rattle.box_faces.specs.Segments.{onSegment}
+use Rattle.candidate_pool.specs.Pool.{Candidate, noCandidate, pointOf}
+use Rattle.candidate_pool.specs.Standing.{candidateAt, countAt, pointAt, poolAt, Stored}
+use Rattle.candidate_grids.specs.Steps.{SegmentAt, hitAt, skipsAt, EdgeReady, SegmentGathered, edgeHit, EdgesReady, Gathered}
+use Rattle.candidate_grids.proofs.Counting.{some-more}
+use Rattle.candidate_grids.proofs.Frames.{point-same, stored-same, segment-same, skips-same}
+
+pub point-of-pool : (n : ℕ) (w : List ℕ) (c : ℕ) → c < countAt w → pointOf (poolAt n w) c ≡ pointAt w (8 + 5 * c)
+unfolding poolAt
+point-of-pool n w c h = ap (λ (k : Candidate). k .point) (at-map-up (candidateAt w) noCandidate 0 (countAt w) c h ∙ ap (candidateAt w) (let e : 0 + c ≡ c = omega arith in e))
+
+pub record Gathering (n nf k face : ℕ) (tolerance : Float) (w v : List ℕ) (count i : ℕ) : Type 0 where
+  pub few : count ≤ i
+  pub most : i ≤ k
+  pub segments : (j : ℕ) → j < count → SegmentAt v (8 + 62 * n + 39 * nf + 5 * j)
+  pub skips : (p : Uv) → skipsAt v (8 + 62 * n + 39 * nf) count tolerance p ≡ some (edgeHit (poolAt n w) w (8 + 62 * n + 30 * nf) face tolerance p) (upTo i)
+  pub long : length v ≡ length w
+  pub rest : (x : ℕ) → x < 8 + 62 * n + 39 * nf → getD v x 0 ≡ getD w x 0
+
+module _ (n nf k face : ℕ) (tolerance : Float) (w : List ℕ) where
+  abbrev E : ℕ
+  E = 8 + 62 * n + 30 * nf
+
+  abbrev S : ℕ
+  S = 8 + 62 * n + 39 * nf
+
+  pub gather-start : Gathering n nf k face tolerance w w 0 0
+  unfolding skipsAt some upFrom
+  gather-start = record { few = omega arith; most = omega arith; segments = λ j h. absurd (omega arith); skips = λ p. refl; long = refl; rest = λ x h. refl }
+
+  module _ (R : EdgesReady n nf k face tolerance w) (v : List ℕ) (count i : ℕ) (G : Gathering n nf k face tolerance w v count i) (lt : i < k) where
+    edges-few : k ≤ 3 * nf
+    edges-few = R .edges
+
+    word : (j : ℕ) → j < 3 → getD v (E + 3 * i + j) 0 ≡ getD w (E + 3 * i + j) 0
+    word j h = G .rest (E + 3 * i + j) (let e = edges-few in omega arith)
+
+    first : getD v (E + 3 * i) 0 ≡ getD w (E + 3 * i) 0
+    first = G .rest (E + 3 * i) (let e = edges-few in omega arith)
+
+    bit : (b : Bool) → b ≡ hasBit (getD v (E + 3 * i + 2) 0) face → hasBit (getD w (E + 3 * i + 2) 0) face ≡ b
+    bit b e = sym (e ∙ ap (λ (m : ℕ). hasBit m face) (word 2 (omega arith)))
+
+    pub gather-pass : (b : Bool) → b ≡ hasBit (getD v (E + 3 * i + 2) 0) face → b ≡ false → Gathering n nf k face tolerance w v count (i + 1)
+    unfolding edgeHit
+    gather-pass b e f =
+        record {
+          few = let a = G .few in omega arith;
+          most = omega arith;
+          segments = G .segments;
+          skips = λ p.
+              G .skips p ∙ sym (or-last (some (edgeHit (poolAt n w) w E face tolerance p) (upTo i)))
+              ∙ ap (λ (c : Bool). some (edgeHit (poolAt n w) w E face tolerance p) (upTo i) || c) (sym (and-stop (hasBit (getD w (E + 3 * i + 2) 0) face) _ (bit b e ∙ f)))
+              ∙ sym (some-more (edgeHit (poolAt n w) w E face tolerance p) i);
+          long = G .long;
+          rest = G .rest;
+        }
+
+    module _ (b : Bool) (e : b ≡ hasBit (getD v (E + 3 * i + 2) 0) face) (t : b ≡ true) where
+      from-in : getD w (E + 3 * i) 0 < countAt w
+      from-in = R .from i lt (bit b e ∙ t)
+
+      to-in : getD w (E + 3 * i + 1) 0 < countAt w
+      to-in = R .to i lt (bit b e ∙ t)
+
+      same-at : (c : ℕ) → c < countAt w → (x : ℕ) → x < 5 → getD v (8 + 5 * c + x) 0 ≡ getD w (8 + 5 * c + x) 0
+      same-at c h x l = G .rest (8 + 5 * c + x) (let f = R .few in omega arith)
+
+      same-first : (c : ℕ) → c < countAt w → getD v (8 + 5 * c) 0 ≡ getD w (8 + 5 * c) 0
+      same-first c h = G .rest (8 + 5 * c) (let f = R .few in omega arith)
+
+      stored : (c d : ℕ) → d ≡ c → c < countAt w → Stored v (8 + 5 * d)
+      stored c d q h =
+          subst (λ (x : ℕ). Stored v (8 + 5 * x)) (sym q) (stored-same w v (8 + 5 * c) (same-first c h) (same-at c h 1 (omega arith)) (same-at c h 2 (omega arith)) (R .stored c h))
+
+      in-room : (c d : ℕ) → d ≡ c → c < countAt w → 8 + 5 * d + 2 < length v
+      in-room c d q h = let f = R .few in let s = R .size in let l = G .long in omega arith
+
+      pub edge-ready : EdgeReady (S + 5 * count) (E + 3 * i) tolerance v
+      edge-ready =
+          record {
+            size = let s = R .size in let l = G .long in let f = G .few in let m = edges-few in omega arith;
+            before = let m = edges-few in omega arith;
+            from = stored (getD w (E + 3 * i) 0) (getD v (E + 3 * i) 0) first from-in;
+            from-in = in-room (getD w (E + 3 * i) 0) (getD v (E + 3 * i) 0) first from-in;
+            to = stored (getD w (E + 3 * i + 1) 0) (getD v (E + 3 * i + 1) 0) (word 1 (omega arith)) to-in;
+            to-in = in-room (getD w (E + 3 * i + 1) 0) (getD v (E + 3 * i + 1) 0) (word 1 (omega arith)) to-in;
+            tolerance-in = R .tolerance-in;
+          }
+
+      point : (c d : ℕ) → d ≡ c → c < countAt w → project face (pointAt v (8 + 5 * d)) ≡ project face (pointOf (poolAt n w) c)
+      point c d q h =
+          ap (project face)
+          (ap (λ (x : ℕ). pointAt v (8 + 5 * x)) q ∙ point-same w v (8 + 5 * c) (same-first c h) (same-at c h 1 (omega arith)) (same-at c h 2 (omega arith)) ∙ sym (point-of-pool n w c h))
+
+      pub gather-one : (u : List ℕ) → SegmentGathered (S + 5 * count) (E + 3 * i) face tolerance v u → Gathering n nf k face tolerance w u (count + 1) (i + 1)
+      unfolding edgeHit skipsAt
+      gather-one u g =
+          record {
+            few = let a = G .few in omega arith;
+            most = omega arith;
+            segments = λ j h. at j (ℕ-discrete j count) h;
+            skips = λ p.
+                some-more (λ j. hitAt u (S + 5 * j) tolerance p) count
+                ∙ ap (λ (c : Bool). c || hitAt u (S + 5 * count) tolerance p) (skips-same v u S count (λ x a l. kept x (λ y h q. omega arith)) tolerance p ∙ G .skips p)
+                ∙ ap (λ (c : Bool). some (edgeHit (poolAt n w) w E face tolerance p) (upTo i) || c) (hit p)
+                ∙ sym (some-more (edgeHit (poolAt n w) w E face tolerance p) i);
+            long = g .long ∙ G .long;
+            rest = λ x h. kept x (λ y l q. omega arith) ∙ G .rest x h;
+          }
+        where
+          kept : (x : ℕ) → Outside x (S + 5 * count) 5 → getD u x 0 ≡ getD v x 0
+          kept x h = g .rest x h
+
+          at : (j : ℕ) → Dec (j ≡ count) → j < count + 1 → SegmentAt u (S + 5 * j)
+          at j (yes q) h = subst (λ (x : ℕ). SegmentAt u (S + 5 * x)) (sym q) (g .segment)
+          at j (no d) h =
+              let l : j < count = omega arith in
+              segment-same v u (S + 5 * j) (λ x a. kept (S + 5 * j + x) (λ y b q. omega arith)) (G .segments j l)
+
+          hit : (p : Uv) → hitAt u (S + 5 * count) tolerance p ≡ edgeHit (poolAt n w) w E face tolerance p i
+          hit p =
+              g .hits p
+              ∙ ap (λ (x : Uv). onSegment tolerance p x (project face (pointAt v (8 + 5 * getD v (E + 3 * i + 1) 0)))) (point (getD w (E + 3 * i) 0) (getD v (E + 3 * i) 0) first from-in)
+              ∙ ap (λ (x : Uv). onSegment tolerance p (project face (pointOf (poolAt n w) (getD w (E + 3 * i) 0))) x) (point (getD w (E + 3 * i + 1) 0) (getD v (E + 3 * i + 1) 0) (word 1 (omega arith)) to-in)
+              ∙ sym (and-next (hasBit (getD w (E + 3 * i + 2) 0) face) _ _ (bit b e ∙ t) refl)
+
+  pub gather-end : (v : List ℕ) (count i : ℕ) → Gathering n nf k face tolerance w v count i → k ≤ i → Gathered n nf k face tolerance w v count
+  gather-end v count i G h =
+      let m = G .most in
+      let q : i ≡ k = omega arith in
+      record {
+        few = let f = G .few in omega arith;
+        segments = G .segments;
+        skips = λ p. G .skips p ∙ ap (λ (x : ℕ). some (edgeHit (poolAt n w) w E face tolerance p) (upTo x)) q;
+        long = G .long;
+        rest = G .rest;
+      }

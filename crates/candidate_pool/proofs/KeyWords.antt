@@ -1,0 +1,91 @@
+-- The words of keys tell the keys apart, so the search by words is the definition's search by keys. Assumes nothing.
+--   rounded-fits   a key is a number of 64 bits, with sign, whatever the double
+--   words-keys     two keys of points have the same words exactly if they are the same
+--   found-is       what the search finds is what "One key, one candidate" finds among the points
+use Prim.Native.Nat.{ℕ, zero, suc, _+_, _*_, _-_, _^_, _≤_, _<_, min}
+use mathlib.Core.Path.{_≡_, refl, ap, subst, _∙_}
+use mathlib.Core.Bool.{Bool, true, false, not, _&&_}
+use mathlib.Core.List.{List}
+use native.Mathlib.Omega.{arith}
+use borrow.Author.Tests.{eqb-true, eq-eqb, ne-eqb}
+use lib.Dec.{T, eqb}
+use lib.IntN.{ℤ, pos, negsuc, negℤ}
+use lib.ListN.{getD, length}
+use lib.Ieee.{Float, nan, inf, fin, up, down}
+use mir.Syntax.{w64}
+use mir.Val.{SFits}
+use Rattle.lists.specs.Lists.{upTo}
+use Rattle.lists.proofs.Bools.{by-test}
+use Rattle.rounding.specs.Rounding.{halfUp, rounded, key, keyWord}
+use Rattle.rounding.proofs.Keys.{same-word}
+use Rattle.geometry.specs.declared.point.Point.{Point}
+use Rattle.geometry.specs.Points.{origin}
+use Rattle.chains.specs.Links.{linkTo}
+use Rattle.chains.proofs.Firsts.{linkTo-places}
+use Rattle.mesh_weld.specs.Cells.{keyOf, same, sameKey}
+use Rattle.candidate_pool.specs.Pool.{byKey}
+use Rattle.candidate_pool.specs.Room.{keyWords, keyAt, sameWords}
+use Rattle.candidate_pool.proofs.Searching.{keyIs}
+
+-- ---- keys fit
+
+least-fits : (n : ℕ) → n ≤ 2 ^ 63 → SFits w64 (negℤ (pos n))
+least-fits zero h = record { sfits = omega arith }
+least-fits (suc n) h = record { sfits = omega arith }
+
+pub rounded-fits : (x : Float) → SFits w64 (rounded x)
+unfolding rounded
+rounded-fits nan = record { sfits = omega arith }
+rounded-fits (inf true) = record { sfits = omega arith }
+rounded-fits (inf false) = record { sfits = omega arith }
+rounded-fits (fin true m e) = least-fits (min (2 ^ 63) (halfUp (m * up e) (down e))) (low (halfUp (m * up e) (down e)))
+  where
+    low : (n : ℕ) → min (2 ^ 63) n ≤ 2 ^ 63
+    low n = omega arith
+rounded-fits (fin false m e) = record { sfits = low (halfUp (m * up e) (down e)) }
+  where
+    low : (n : ℕ) → min (2 ^ 63 - 1) n < 2 ^ 63
+    low n = omega arith
+
+pub key-fits : (eps x : Float) → SFits w64 (key eps x)
+unfolding key
+key-fits eps x = rounded-fits _
+
+-- ---- words and keys
+
+same-is : (j k : ℤ) → T (same j k) → j ≡ k
+same-is (pos m) (pos n) t = ap pos (eqb-true m n (holds (eqb m n) t))
+  where
+    holds : (b : Bool) → T b → b ≡ true
+    holds true t = refl
+same-is (negsuc m) (negsuc n) t = ap negsuc (eqb-true m n (holds (eqb m n) t))
+  where
+    holds : (b : Bool) → T b → b ≡ true
+    holds true t = refl
+
+same-self : (k : ℤ) → same k k ≡ true
+same-self (pos n) = eq-eqb n n refl
+same-self (negsuc n) = eq-eqb n n refl
+
+word-same : (j k : ℤ) → SFits w64 j → SFits w64 k → eqb (keyWord j) (keyWord k) ≡ same j k
+word-same j k f g =
+    by-test (λ b. eqb (keyWord j) (keyWord k) ≡ b) (same j k)
+    (λ t. eq-eqb (keyWord j) (keyWord k) (ap keyWord (same-is j k t)))
+    (λ t. ne-eqb (keyWord j) (keyWord k)
+    (λ e. subst (λ (b : Bool). T (not b)) (ap (λ i. same i k) (same-word j k f g e) ∙ same-self k) t))
+
+pub words-keys : (eps : Float) (p q : Point) → sameWords (keyWords (keyOf eps p)) (keyWords (keyOf eps q)) ≡ sameKey (keyOf eps p) (keyOf eps q)
+unfolding sameWords sameKey keyOf
+words-keys eps p q =
+    let x = word-same (key eps (p .x)) (key eps (q .x)) (key-fits eps (p .x)) (key-fits eps (q .x)) in
+    let y = word-same (key eps (p .y)) (key eps (q .y)) (key-fits eps (p .y)) (key-fits eps (q .y)) in
+    let z = word-same (key eps (p .z)) (key eps (q .z)) (key-fits eps (p .z)) (key-fits eps (q .z)) in
+    λ i. x i && (y i && z i)
+
+-- ---- the search
+
+pub found-is : (eps : Float) (p : Point) (l : List Point) (w : List ℕ) (n : ℕ) → ((i : ℕ) → i < length l → keyAt w (8 + 5 * n + 3 * i) ≡ keyWords (keyOf eps (getD l i origin))) → linkTo (keyIs w n (keyWords (keyOf eps p))) (upTo (length l)) ≡ byKey eps .find p l
+unfolding byKey
+found-is eps p l w n stands =
+    linkTo-places (λ q. sameKey (keyOf eps q) (keyOf eps p)) origin l (keyIs w n (keyWords (keyOf eps p)))
+    (λ i h. ap (λ k. sameWords k (keyWords (keyOf eps p))) (stands i h) ∙ words-keys eps (getD l i origin) p)

@@ -1,0 +1,53 @@
+-- "One key, one candidate" is a lawful joining rule: it is symmetric, what is found joins, and where nothing is found none joins. Assumes nothing.
+--   key-symmetric   two keys are one either way
+--   key-lawful      the rule's laws
+use Prim.Native.Nat.{ℕ, zero-le}
+use mathlib.Core.Path.{_≡_, refl, sym, subst, _∙_}
+use mathlib.Core.Bool.{Bool, true, false, _&&_}
+use lib.Dec.{T, T-not, eqb, eqb→eq, eqb-refl}
+use lib.IntN.{ℤ, pos, negsuc}
+use lib.ListN.{getD}
+use lib.Ieee.{Float}
+use borrow.Author.Tests.{eq-eqb, ne-eqb}
+use Rattle.lists.proofs.Bools.{by-test}
+use Rattle.geometry.specs.declared.point.Point.{Point}
+use Rattle.chains.proofs.Firsts.{linkTo-first}
+use Rattle.mesh_weld.specs.Joining.{Lawful}
+use Rattle.mesh_weld.specs.Cells.{Key, keyOf, same, sameKey}
+use Rattle.candidate_pool.specs.Pool.{byKey}
+
+eqb-symmetric : (a b : ℕ) → eqb a b ≡ eqb b a
+eqb-symmetric a b =
+    by-test (λ t. t ≡ eqb b a) (eqb a b) (λ t. sym (eq-eqb b a (sym (eqb→eq a b t))))
+    (λ t. sym (ne-eqb b a (λ e. T-not (eqb a b) t (subst (λ (x : ℕ). T (eqb a x)) (sym e) (eqb-refl a)))))
+
+same-symmetric : (a b : ℤ) → same a b ≡ same b a
+same-symmetric (pos a) (pos b) = eqb-symmetric a b
+same-symmetric (pos a) (negsuc b) = refl
+same-symmetric (negsuc a) (pos b) = refl
+same-symmetric (negsuc a) (negsuc b) = eqb-symmetric a b
+
+pub key-symmetric : (a b : Key) → sameKey a b ≡ sameKey b a
+unfolding sameKey
+key-symmetric a b = λ i. same-symmetric (a .x) (b .x) i && (same-symmetric (a .y) (b .y) i && same-symmetric (a .z) (b .z) i)
+
+-- a test that holds, and one that does not
+holds : (b : Bool) → T b → b ≡ true
+holds true t = refl
+
+fails : (b : Bool) → (T b → ⊥) → b ≡ false
+fails true f = absurd (f tt)
+fails false f = refl
+
+pub key-lawful : (eps : Float) → Lawful Point (byKey eps)
+unfolding byKey
+key-lawful eps =
+    record {
+      symmetric = λ p q. key-symmetric (keyOf eps p) (keyOf eps q);
+      found = λ p l k e.
+          let f = linkTo-first (λ q. sameKey (keyOf eps q) (keyOf eps p)) p l .some k e in
+          (f .within, key-symmetric (keyOf eps p) (keyOf eps (getD l k p)) ∙ holds (sameKey (keyOf eps (getD l k p)) (keyOf eps p)) (f .has));
+      none = λ p l e k h.
+          key-symmetric (keyOf eps p) (keyOf eps (getD l k p))
+          ∙ fails (sameKey (keyOf eps (getD l k p)) (keyOf eps p)) (λ t. linkTo-first (λ q. sameKey (keyOf eps q) (keyOf eps p)) p l .none e k zero-le h t);
+    }

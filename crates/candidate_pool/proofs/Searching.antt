@@ -1,0 +1,40 @@
+-- Laws of the search by key. Assumes nothing.
+--   keyIs         the test of the search: candidate i has the key
+--   key-words-are a key by its three words
+--   words-same    keys that pass the test are equal
+--   key-filed     a candidate with the key is filed under the key's bucket
+use Prim.Native.Nat.{ℕ, _+_, _*_}
+use mathlib.Core.Path.{_≡_, refl}
+use mathlib.Core.Bool.{Bool, true, _&&_}
+use mathlib.Core.List.{List}
+use lib.Dec.{T, eqb}
+use borrow.Author.Tests.{eqb-true}
+use Rattle.lists.proofs.Bools.{and-left, and-right}
+use Rattle.chains.specs.Chains.{Filed}
+use Rattle.chains.proofs.Walking.{filed-by-key}
+use Rattle.candidate_pool.specs.declared.keys.KeyWords.{KeyWords}
+use Rattle.candidate_pool.specs.Room.{keyAt, sameWords, keyBucket, KeyTable}
+
+abbrev pub keyIs : List ℕ → ℕ → KeyWords → ℕ → Bool
+keyIs w n key i = sameWords (keyAt w (8 + 5 * n + 3 * i)) key
+
+pub key-words-are : {a b c x y z : ℕ} → a ≡ x → b ≡ y → c ≡ z → _≡_ {A = KeyWords} (record { x = a; y = b; z = c }) (record { x = x; y = y; z = z })
+key-words-are e f g = λ i. record { x = e i; y = f i; z = g i }
+
+-- a test that holds
+passed : (b : Bool) → T b → b ≡ true
+passed true t = refl
+
+pub words-same : (a b : KeyWords) → sameWords a b ≡ true → a ≡ b
+unfolding sameWords
+words-same a b t =
+    let x = eqb-true (a .x) (b .x) (and-left (eqb (a .x) (b .x)) (eqb (a .y) (b .y) && eqb (a .z) (b .z)) t) in
+    let r = and-right (eqb (a .x) (b .x)) (eqb (a .y) (b .y) && eqb (a .z) (b .z)) t in
+    let y = eqb-true (a .y) (b .y) (and-left (eqb (a .y) (b .y)) (eqb (a .z) (b .z)) r) in
+    let z = eqb-true (a .z) (b .z) (and-right (eqb (a .y) (b .y)) (eqb (a .z) (b .z)) r) in
+    λ i. record { x = x i; y = y i; z = z i }
+
+pub key-filed : (w : List ℕ) (n count : ℕ) (key : KeyWords) (b : ℕ) → KeyTable w n count → b ≡ keyBucket n key → Filed w (8 + 8 * n) n count b (keyIs w n key)
+key-filed w n count key b k e =
+    filed-by-key (keyBucket n) (λ i. keyAt w (8 + 5 * n + 3 * i)) w (8 + 8 * n) n count key b (keyIs w n key) (k .linked) e
+    (λ i h t. words-same (keyAt w (8 + 5 * n + 3 * i)) key (passed (keyIs w n key i) t))

@@ -1,0 +1,6 @@
+pub mod Pool
+pub mod Setting
+-- What the inner functions do: no part of what the product promises.
+pub mod Room
+pub mod Standing
+pub mod Steps

@@ -1,0 +1,64 @@
+// Candidates by their keys (boundary_closure.rs, `quantized_point_key` and `point_to_candidate`). The room of n candidates stands in w: their keys from 8 + 5 n on, three
+// words each, and from 8 + 8 n on the bucket chains, n heads, n tails and n nexts.
+ghost use mathlib.Core.Path.{_≡_};
+ghost use Prim.Native.Nat.{_+_, _*_, _<_};
+ghost use lib.ListN.{length};
+ghost use Rattle.lists.specs.Lists.{upTo};
+ghost use Rattle.chains.specs.Links.{linkTo};
+ghost use Rattle.mesh_weld.specs.Cells.{keyOf};
+ghost use Rattle.candidate_pool.specs.Room.{keyWords, keyAt, sameWords, keyBucket, KeyTable};
+use chains::first;
+use chains::next;
+use geometry::point::Point;
+use rounding::key_word;
+use rounding::quantized_key;
+
+// A point's key, each number as a word.
+pub struct KeyWords {
+    pub x: u64,
+    pub y: u64,
+    pub z: u64,
+}
+
+// `quantized_point_key`. It is total: beyond the range of keys the nearest one of it.
+pub fn quantized_point_key(p: Point, eps: f64) -> KeyWords
+    ensures { λ r. ⌜ r ≡ keyWords (keyOf eps p) ⌝ }
+{
+    KeyWords {
+        x: key_word(quantized_key(p.x, eps)),
+        y: key_word(quantized_key(p.y, eps)),
+        z: key_word(quantized_key(p.z, eps)),
+    }
+}
+
+fn is_key_at(w: &[u64], at: usize, key: KeyWords) -> bool
+    requires { ⌜ at + 2 < length (now w) ⌝ }
+    ensures { λ r. ⌜ r ≡ sameWords (keyAt (now (w .entry)) at) key ⌝ }
+{
+    if w[at] == key.x {
+        if w[at + 1] == key.y {
+            w[at + 2] == key.z
+        } else {
+            false
+        }
+    } else {
+        false
+    }
+}
+
+// The link to the first of `count` candidates with the key, by the chain of its bucket b.
+pub fn find_key(w: &[u64], n: usize, count: usize, key: KeyWords, b: usize) -> u64
+    requires { ⌜ KeyTable (now w) n count ⌝ }
+    requires { ⌜ (b ≡ keyBucket n key) × (b < n) ⌝ }
+    ensures { λ r. ⌜ r ≡ linkTo (λ i. sameWords (keyAt (now (w .entry)) (8 + 5 * n + 3 * i)) key) (upTo count) ⌝ }
+{
+    let mut link = first(w, 8 + 8 * n, b);
+    while link != 0 {
+        let i = (link - 1) as usize;
+        if is_key_at(w, 8 + 5 * n + 3 * i, key) {
+            return link;
+        }
+        link = next(w, 8 + 8 * n, n, i);
+    }
+    0
+}

@@ -1,0 +1,154 @@
+// boundary_closure.rs, `insert_candidate`: "One key, one candidate". A candidate is found by the bucket chain of its key. Its word of faces says whether
+// it is in a face's list already, where the Rust's `push_unique` searches the list.
+ghost use mathlib.Core.Path.{_≡_};
+ghost use mathlib.Core.List.{[], _∷_};
+ghost use Prim.Native.Nat.{_+_, _*_, _≤_, _<_};
+ghost use lib.ListN.{length};
+ghost use Rattle.candidate_pool.specs.Pool.{byKey, numberFor};
+ghost use Rattle.candidate_pool.specs.Room.{KeyTable};
+ghost use Rattle.candidate_pool.specs.Standing.{facesIn, countAt, pointAt, poolAt, candidate, PointIn, Stored, Holds, RoomFor, Inserted, FaceAdded, Cleared};
+ghost use Rattle.candidate_pool.specs.Steps.{BitsOf, pointPut, candidatePut, FacesAdded};
+use crate::keys::KeyWords;
+use crate::keys::find_key;
+use crate::keys::quantized_point_key;
+use crate::room::chain_at;
+use crate::room::keys_at;
+use crate::room::list_at;
+use box_faces::faces::has_face;
+use chains::bucket;
+use chains::enter;
+use geometry::numbers::CandidateVertexId;
+use geometry::numbers::MeshVertexId;
+use geometry::point::Point;
+use words::zero_part;
+
+// The room of no candidate.
+pub fn clear_pool(w: &mut [u64], n: usize, eps: f64)
+    requires { ⌜ (n < 268435456) × (8 + 17 * n ≤ length (now w)) ⌝ }
+    ensures { λ _. ⌜ Cleared eps n (now (w .entry)) (now (w .exit)) ⌝ }
+{
+    zero_part(w, 0, 8);
+    zero_part(w, chain_at(n), 2 * n);
+}
+
+fn put_point(w: &mut [u64], id: usize, p: Point, mesh: u64)
+    requires { ⌜ PointIn p × (8 + 5 * id + 3 < length (now w)) ⌝ }
+    ensures { λ _. ⌜ (now (w .exit) ≡ pointPut (now (w .entry)) id p mesh) × BitsOf p ⌝ }
+{
+    let at = 8 + 5 * id;
+    w[at] = f64::to_bits(p.x);
+    w[at + 1] = f64::to_bits(p.y);
+    w[at + 2] = f64::to_bits(p.z);
+    w[at + 3] = mesh;
+}
+
+// A new candidate, on no face yet.
+fn push_candidate(w: &mut [u64], n: usize, p: Point, mesh: u64, key: KeyWords, b: usize) -> usize
+    requires { ⌜ PointIn p × (countAt (now w) < n) × (b < n) ⌝ }
+    requires { ⌜ KeyTable (now w) n (countAt (now w)) × (8 + 17 * n ≤ length (now w)) ⌝ }
+    ensures { λ r. ⌜ (r ≡ countAt (now (w .entry))) × (now (w .exit) ≡ candidatePut (now (w .entry)) n (countAt (now (w .entry))) p mesh key b) × BitsOf p ⌝ }
+{
+    let id = w[6] as usize;
+    w[6] = id as u64 + 1;
+    put_point(w, id, p, mesh);
+    w[8 + 5 * id + 4] = 0;
+    let at = keys_at(n) + 3 * id;
+    w[at] = key.x;
+    w[at + 1] = key.y;
+    w[at + 2] = key.z;
+    enter(w, chain_at(n), n, id, b);
+    id
+}
+
+// The candidate at p: found by its key, or new. "a later mesh vertex replaces number and point": mesh is 0 where there is none.
+fn place_candidate(w: &mut [u64], n: usize, p: Point, mesh: u64, eps: f64) -> usize
+    requires { ⌜ Holds eps n (now w) ⌝ }
+    requires { ⌜ PointIn p ⌝ }
+    requires { ⌜ RoomFor eps n (now w) (candidate p mesh []) ⌝ }
+    ensures { λ r. ⌜ Inserted eps n (candidate p mesh []) (now (w .entry)) (now (w .exit)) × (r ≡ numberFor (byKey eps) (poolAt n (now (w .entry))) (candidate p mesh [])) ⌝ }
+{
+    let key = quantized_point_key(p, eps);
+    let b = bucket(key.x, key.y, key.z, n as u64) as usize;
+    let link = find_key(w, n, w[6] as usize, key, b);
+    if link == 0 {
+        return push_candidate(w, n, p, mesh, key, b);
+    }
+    let id = (link - 1) as usize;
+    if mesh != 0 {
+        put_point(w, id, p, mesh);
+    }
+    id
+}
+
+// "faces add up": the face is added to the candidate, and the candidate to the face's list, unless it is there.
+fn push_face(w: &mut [u64], n: usize, id: usize, face: usize, eps: f64)
+    requires { ⌜ Holds eps n (now w) ⌝ }
+    requires { ⌜ (id < countAt (now w)) × (face < 6) ⌝ }
+    ensures { λ _. ⌜ FaceAdded eps n id face (now (w .entry)) (now (w .exit)) ⌝ }
+{
+    let at = 8 + 5 * id + 4;
+    let faces = w[at];
+    if has_face(faces, face) {
+        return;
+    }
+    w[at] = faces + (1 << face as u64);
+    let k = w[face] as usize;
+    w[list_at(n, face) + k] = id as u64;
+    w[face] = k as u64 + 1;
+}
+
+fn push_faces(w: &mut [u64], n: usize, id: usize, mask: u64, eps: f64)
+    requires { ⌜ Holds eps n (now w) ⌝ }
+    requires { ⌜ id < countAt (now w) ⌝ }
+    ensures { λ _. ⌜ FacesAdded eps n id mask (now (w .entry)) (now (w .exit)) ⌝ }
+{
+    let mut face = 0;
+    while face < 6 {
+        if has_face(mask, face) {
+            push_face(w, n, id, face, eps);
+        }
+        face += 1;
+    }
+}
+
+// `insert_candidate`, of a mesh vertex with the faces of a mask
+pub fn insert_candidate(
+    w: &mut [u64],
+    n: usize,
+    p: Point,
+    v: MeshVertexId,
+    mask: u64,
+    eps: f64,
+) -> CandidateVertexId
+    requires { ⌜ Holds eps n (now w) ⌝ }
+    requires { ⌜ PointIn p × (mask < 64) × (v .0 < 4294967296) ⌝ }
+    requires { ⌜ RoomFor eps n (now w) (candidate p (v .0 + 1) (facesIn mask)) ⌝ }
+    ensures { λ r. ⌜ Inserted eps n (candidate p (v .0 + 1) (facesIn mask)) (now (w .entry)) (now (w .exit)) × (r .0 ≡ numberFor (byKey eps) (poolAt n (now (w .entry))) (candidate p (v .0 + 1) (facesIn mask))) ⌝ }
+{
+    let id = place_candidate(w, n, p, v.0 as u64 + 1, eps);
+    push_faces(w, n, id, mask, eps);
+    CandidateVertexId(id)
+}
+
+// `insert_candidate`, of a point of a face's grid
+pub fn insert_grid_point(w: &mut [u64], n: usize, p: Point, face: usize, eps: f64)
+    requires { ⌜ Holds eps n (now w) ⌝ }
+    requires { ⌜ PointIn p × (face < 6) ⌝ }
+    requires { ⌜ RoomFor eps n (now w) (candidate p 0 (face ∷ [])) ⌝ }
+    ensures { λ _. ⌜ Inserted eps n (candidate p 0 (face ∷ [])) (now (w .entry)) (now (w .exit)) ⌝ }
+{
+    let id = place_candidate(w, n, p, 0, eps);
+    push_face(w, n, id, face, eps);
+}
+
+pub fn point_of(w: &[u64], id: CandidateVertexId) -> Point
+    requires { ⌜ Stored (now w) (8 + 5 * id .0) × (8 + 5 * id .0 + 2 < length (now w)) ⌝ }
+    ensures { λ r. ⌜ r ≡ pointAt (now (w .entry)) (8 + 5 * id .0) ⌝ }
+{
+    let at = 8 + 5 * id.0;
+    Point {
+        x: f64::from_bits(w[at]),
+        y: f64::from_bits(w[at + 1]),
+        z: f64::from_bits(w[at + 2]),
+    }
+}
