@@ -97,6 +97,42 @@ uint32_t yongpham_candidates(const double *vertices, size_t vertices_length, con
                              uint64_t *constraints, size_t constraints_length, uint64_t *open_edges, size_t open_edges_length,
                              uint64_t values[4]);
 
+/* Closes a mesh along the faces of a box: it adds some of the cap triangles given, which triangulate faces over the candidates that
+ * yongpham_candidates numbered for the same mesh, box, eps and resolution. Each is first turned so that it faces out of the box. Selected is a
+ * triangle on an open edge's face that, so turned, holds the edge against the direction in which the facet's side runs; and each, on whatever
+ * face, that shares with a selected one a side that is no open edge. Positive adds the selected triangles, negative all others.
+ *
+ *   vertices, facets          the mesh, as for yongpham_candidates
+ *   cap_list                  four 64-bit words a triangle, and the number of words: its face, 0 to 5, and three different candidates of that
+ *                             face, by their numbers. Faces ascend: all triangles of one before those of the next. At most 1,048,576 triangles.
+ *                             Each open edge must be a side of a triangle given for its face, unless the face has fewer than three candidates
+ *   min_x .. max_z            the box, as for yongpham_tolerance
+ *   eps, resolution           as for yongpham_candidates, and the same two numbers
+ *   mode                      0: none, the mesh comes back as it is; 1: positive, as if values outside the box were above the isovalue;
+ *                             2: negative, as if they were below it
+ *   work                      at least 128 * (vertices + facets + cap triangles + G) + 1024 words, G as for yongpham_candidates
+ *   out_vertices, out_facets  the closed mesh. Vertices: those given, none of them moved, and behind them each candidate that is none of them and
+ *                             that a triangle to be added uses. Facets: those given, in negative mode with their last two corners exchanged, and
+ *                             behind them the triangles added, in the order given, but for those of a double area of at most 1e-12 and, of
+ *                             several with the same three corners, all but the first
+ *   values                    done: the lengths written to out_vertices and out_facets, in elements; 7: the words of work room needed;
+ *                             9: the smallest pair of vertices of an open edge that lies on no face; 10: the place in the cap list, counted in
+ *                             triangles from 0, of the first faulty one; 11: the place in open_edges, counted in edges from 0, of the first that
+ *                             is no side of a triangle given for its face; 12: the elements needed by the first output that is too short,
+ *                             vertices before facets
+ *
+ * Answers 0, or 1, 2, 3, 4, 5, 6, 7, 8, 9, 10, 11 or 12, tested in that order; 4 also, if mode is above 2. 8 as for yongpham_candidates.
+ * In mode 0, and of a mesh without a facet, 8 to 11 are not tested; where no open edge keeps two ends, 10 and 11 are not. The mesh then comes
+ * back unchanged, in negative mode too.
+ */
+uint32_t yongpham_caps(const double *vertices, size_t vertices_length, const uint32_t *facets, size_t facets_length,
+                       const uint64_t *cap_list, size_t cap_list_length,
+                       double min_x, double min_y, double min_z, double max_x, double max_y, double max_z, double eps, double resolution,
+                       uint32_t mode,
+                       uint64_t *work, size_t work_length,
+                       double *out_vertices, size_t out_vertices_length, uint32_t *out_facets, size_t out_facets_length,
+                       uint64_t values[4]);
+
 #ifdef __cplusplus
 }
 #endif

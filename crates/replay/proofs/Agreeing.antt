@@ -3,16 +3,16 @@
 --   same-box                        a box from the doubles of a record
 --   tolerance-decides               a reported tolerance
 --   answer-decides                  a call as reported
---   clip-reply, clip-result, clean-reply, clean-result   from the values of a call to those of the record
---   lists-decides                   of the lists as read
+--   clip-reply, clip-result, clean-reply, clean-result, caps-reply, caps-result   from the values of a call to those of the record
+--   lent-caps, lists-decides        the cap list as lent, and a request of the lists as read
 --   as-reported, zero-each, length-table   a reply as reported, work room that ends zero, the length of a table
---   as-clip, as-clean, no-operation, as-candidates, as-mesh, as-tolerance, as-lists, short   by a record's operation
-use Prim.Native.Nat.{ℕ, _+_, _≤_, _<_}
+--   as-clip, as-clean, as-caps, no-operation, as-candidates, as-mesh, as-tolerance, as-lists, short   by a record's operation
+use Prim.Native.Nat.{ℕ, _+_, _-_, _≤_, _<_}
 use mathlib.Core.Path.{_≡_, sym, ap, ap₂, _∙_, subst}
 use mathlib.Core.Bool.{Bool}
 use mathlib.Core.List.{List, [], _∷_, map}
 use native.Mathlib.Omega.{arith}
-use lib.ListN.{length, getD, replicate, length-map, length-replicate, getD-replicate}
+use lib.ListN.{length, getD, take, drop, replicate, length-map, length-replicate, getD-replicate}
 use lib.Ieee.{Float}
 use Rattle.geometry.specs.declared.aabb.AABB.{AABB}
 use Rattle.geometry.specs.Triangles.{flat}
@@ -24,11 +24,12 @@ use Rattle.refusals.specs.Reports.{Reported}
 use Rattle.tolerance.specs.Tolerance.{toleranceReply}
 use Rattle.aabb_clipping.specs.Clip.{clipReply, clipResult}
 use Rattle.mesh_cleanup.specs.Clean.{cleanReply, cleanResult}
-use Rattle.yongpham.specs.Calls.{MeshReported, boxOf}
+use Rattle.caps.specs.Operation.{capsResult}
+use Rattle.yongpham.specs.Calls.{MeshReported, boxOf, modeOf, calledReply}
 use Rattle.replay.specs.Words.{Everywhere, Decides}
 use Rattle.replay.specs.Layout.{storedReply, outputsFrom, Laid}
 use Rattle.replay.specs.Contents.{table, oldDoubles, oldWords, oldDouble, doublesIn, numbersIn}
-use Rattle.replay.specs.Agreement.{SameDoubles, SameWords, Answered, Fresh, Stored, ClipStored, CleanStored, CandidatesStored, MeshStored, clip, clean, AnswerStored, mesh, candidates, ListsStored, NoNan, ToleranceAgrees, ListsAgree, Agrees, tolerance, lists, doubleAt, boxIn, epsIn, outputsIn, reported}
+use Rattle.replay.specs.Agreement.{SameDoubles, SameWords, Answered, Fresh, Stored, ClipStored, CleanStored, CandidatesStored, CapsStored, MeshStored, clip, clean, caps, AnswerStored, mesh, candidates, ListsStored, NoNan, ToleranceAgrees, ListsAgree, Agrees, tolerance, lists, doubleAt, boxIn, epsIn, resolutionIn, modeIn, capsIn, outputsIn, reported}
 use Rattle.replay.proofs.Deciding.{ends}
 
 pub length-table : {A : Type 0} (f : ℕ → A) (n : ℕ) → length (table f n) ≡ n
@@ -124,12 +125,38 @@ module _ (stored w : List ℕ) (v : List Float) (f : List ℕ) (fresh : Fresh st
   clean-reply vs fs e =
       ap (λ (y : Float). cleanReply vs fs y (length w) (length v ∷ length f ∷ [])) e ∙ same-lengths (cleanReply vs fs (epsIn stored))
 
+  pub caps-reply : (vs : List Float) (fs : List ℕ) {capList : List ℕ} {box : AABB} {eps resolution : Float} {mode : ℕ}
+      → capList ≡ capsIn stored → box ≡ boxIn stored → eps ≡ epsIn stored → resolution ≡ resolutionIn stored → mode ≡ modeIn stored
+      → calledReply vs fs capList box eps resolution mode (length w) (length v ∷ length f ∷ [])
+      ≡ calledReply vs fs (capsIn stored) (boxIn stored) (epsIn stored) (resolutionIn stored) (modeIn stored) (getD stored 14 0) (outputsIn stored)
+  caps-reply vs fs {capList} {box} {eps} {resolution} {mode} c b e r m =
+      ap₂ (λ (x : List ℕ) (y : AABB). calledReply vs fs x y eps resolution mode (length w) (length v ∷ length f ∷ [])) c b
+      ∙ ap₂ (λ (x y : Float). calledReply vs fs (capsIn stored) (boxIn stored) x y mode (length w) (length v ∷ length f ∷ [])) e r
+      ∙ ap (λ (x : ℕ). calledReply vs fs (capsIn stored) (boxIn stored) (epsIn stored) (resolutionIn stored) x (length w) (length v ∷ length f ∷ [])) m
+      ∙ same-lengths (calledReply vs fs (capsIn stored) (boxIn stored) (epsIn stored) (resolutionIn stored) (modeIn stored))
+
 pub clip-result : (stored : List ℕ) (vs : List Float) (fs : List ℕ) {box : AABB} {eps : Float} → box ≡ boxIn stored → eps ≡ epsIn stored
     → clipResult vs fs box eps ≡ clipResult vs fs (boxIn stored) (epsIn stored)
 clip-result stored vs fs b e = ap₂ (clipResult vs fs) b e
 
 pub clean-result : (stored : List ℕ) (vs : List Float) (fs : List ℕ) {eps : Float} → eps ≡ epsIn stored → cleanResult vs fs eps ≡ cleanResult vs fs (epsIn stored)
 clean-result stored vs fs e = ap (cleanResult vs fs) e
+
+pub caps-result : (stored : List ℕ) (vs : List Float) (fs : List ℕ) {capList : List ℕ} {box : AABB} {eps resolution : Float} {mode : ℕ}
+    → capList ≡ capsIn stored → box ≡ boxIn stored → eps ≡ epsIn stored → resolution ≡ resolutionIn stored → mode ≡ modeIn stored
+    → capsResult vs fs capList box eps resolution (modeOf mode)
+    ≡ capsResult vs fs (capsIn stored) (boxIn stored) (epsIn stored) (resolutionIn stored) (modeOf (modeIn stored))
+caps-result stored vs fs {capList} {box} {eps} {resolution} {mode} c b e r m =
+    ap₂ (λ (x : List ℕ) (y : AABB). capsResult vs fs x y eps resolution (modeOf mode)) c b
+    ∙ ap₂ (λ (x y : Float). capsResult vs fs (capsIn stored) (boxIn stored) x y (modeOf mode)) e r
+    ∙ ap (λ (x : ℕ). capsResult vs fs (capsIn stored) (boxIn stored) (epsIn stored) (resolutionIn stored) (modeOf x)) m
+
+-- the cap list, lent from behind the facet numbers to its end
+pub lent-caps : (stored : List ℕ)
+    → take (24 + getD stored 2 0 + getD stored 3 0 + getD stored 4 0 - (24 + getD stored 2 0 + getD stored 3 0)) (drop (24 + getD stored 2 0 + getD stored 3 0) stored) ≡ capsIn stored
+lent-caps stored =
+    let n : 24 + getD stored 2 0 + getD stored 3 0 + getD stored 4 0 - (24 + getD stored 2 0 + getD stored 3 0) ≡ getD stored 4 0 = omega arith in
+    ap (λ (x : ℕ). take x (drop (24 + getD stored 2 0 + getD stored 3 0) stored)) n
 
 -- lists as read: v of n coordinates, then f of m facet numbers
 pub lists-decides : (stored : List ℕ) (v : List Float) (f : List ℕ) (n k m : ℕ) (r : Bool) → n ≡ getD stored 2 0 → k ≡ getD stored 2 0 → m ≡ getD stored 3 0
@@ -145,19 +172,28 @@ module _ (stored : List ℕ) (vs : List Float) (fs : List ℕ) where
   pub as-clip : getD stored 1 0 ≡ 2 → MeshStored stored vs fs → ClipStored stored vs fs
   as-clip e (clip k s) = s
   as-clip e (clean k s) = absurd (omega arith)
+  as-clip e (caps k s) = absurd (omega arith)
 
   pub as-clean : getD stored 1 0 ≡ 3 → MeshStored stored vs fs → CleanStored stored vs fs
   as-clean e (clip k s) = absurd (omega arith)
   as-clean e (clean k s) = s
+  as-clean e (caps k s) = absurd (omega arith)
 
-  pub no-operation : (getD stored 1 0 ≡ 2 → ⊥) → (getD stored 1 0 ≡ 3 → ⊥) → MeshStored stored vs fs → ⊥
-  no-operation no-clip no-clean (clip k s) = no-clip k
-  no-operation no-clip no-clean (clean k s) = no-clean k
+  pub as-caps : getD stored 1 0 ≡ 5 → MeshStored stored vs fs → CapsStored stored vs fs
+  as-caps e (clip k s) = absurd (omega arith)
+  as-caps e (clean k s) = absurd (omega arith)
+  as-caps e (caps k s) = s
 
--- the operations that write a mesh are 2 and 3
-mesh-number : (stored : List ℕ) (vs : List Float) (fs : List ℕ) → MeshStored stored vs fs → (2 ≤ getD stored 1 0) × (getD stored 1 0 ≤ 3)
-mesh-number stored vs fs (clip k s) = (omega arith, omega arith)
-mesh-number stored vs fs (clean k s) = (omega arith, omega arith)
+  pub no-operation : (getD stored 1 0 ≡ 2 → ⊥) → (getD stored 1 0 ≡ 3 → ⊥) → (getD stored 1 0 ≡ 5 → ⊥) → MeshStored stored vs fs → ⊥
+  no-operation no-clip no-clean no-caps (clip k s) = no-clip k
+  no-operation no-clip no-clean no-caps (clean k s) = no-clean k
+  no-operation no-clip no-clean no-caps (caps k s) = no-caps k
+
+-- the operations that write a mesh are 2, 3 and 5
+mesh-number : (stored : List ℕ) (vs : List Float) (fs : List ℕ) → MeshStored stored vs fs → (2 ≤ getD stored 1 0) × (getD stored 1 0 ≡ 4 → ⊥)
+mesh-number stored vs fs (clip k s) = (omega arith, λ e. omega arith)
+mesh-number stored vs fs (clean k s) = (omega arith, λ e. omega arith)
+mesh-number stored vs fs (caps k s) = (omega arith, λ e. omega arith)
 
 lists-number : (stored : List ℕ) (vs : List Float) (fs : List ℕ) → AnswerStored stored vs fs → 2 ≤ getD stored 1 0
 lists-number stored vs fs (mesh m) = mesh-number stored vs fs m .0
@@ -165,7 +201,7 @@ lists-number stored vs fs (candidates k s) = omega arith
 
 module _ (stored : List ℕ) (vs : List Float) (fs : List ℕ) where
   pub as-candidates : getD stored 1 0 ≡ 4 → AnswerStored stored vs fs → CandidatesStored stored vs fs
-  as-candidates e (mesh m) = absurd (omega (arith, mesh-number stored vs fs m .1))
+  as-candidates e (mesh m) = absurd (mesh-number stored vs fs m .1 e)
   as-candidates e (candidates k s) = s
 
   pub as-mesh : (getD stored 1 0 ≡ 4 → ⊥) → AnswerStored stored vs fs → MeshStored stored vs fs

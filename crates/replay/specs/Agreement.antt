@@ -5,15 +5,15 @@
 --   Fresh                     work room and outputs before a call
 --   OutputsLent               four outputs are as long as the record says
 --   SameOutputs, CandidatesAnswered, CandidatesFresh   the same as Answered and Fresh of the operation that writes four lists of words
---   boxIn, epsIn, resolutionIn   box, eps and resolution of a record
+--   boxIn, epsIn, resolutionIn, modeIn, capsIn   box, eps, resolution, mode and cap list of a record
 --   reported                  a reply as a number and four values
 --   Stored, WordsStored       the stored answer is this reply, with this mesh, or these candidates, in front of old contents
---   ToleranceStored, ClipStored, CleanStored, CandidatesStored   it is that of the operation's definition, on the record's request
+--   ToleranceStored, ClipStored, CleanStored, CandidatesStored, CapsStored   it is that of the operation's definition, on the record's request
 --   MeshStored                the same of each operation that writes a mesh, by the record's operation
 --   AnswerStored, ListsStored   and of each operation that takes lists
---   Numbers                   box, eps, resolution and coordinates are doubles, and facet numbers fit 32 bits
+--   Numbers                   box, eps, resolution and coordinates are doubles, and mode and facet numbers fit 32 bits
 --   Agrees                    the record is laid out as its operation's are, and its answer is the definition's
-use Prim.Native.Nat.{ℕ, _+_}
+use Prim.Native.Nat.{ℕ, _+_, _%_}
 use mathlib.Core.Path.{_≡_}
 use mathlib.Core.Bool.{false, not}
 use mathlib.Core.List.{List, [], _∷_, _++_}
@@ -29,7 +29,8 @@ use Rattle.aabb_clipping.specs.Clip.{clipReply, clipResult}
 use Rattle.mesh_cleanup.specs.Clean.{cleanReply, cleanResult}
 use Rattle.boundary_closure.specs.Candidates.{Candidates, candidateWords, listWords}
 use Rattle.boundary_closure.specs.Operation.{candidatesReply, candidatesResult}
-use Rattle.yongpham.specs.Calls.{boxOf}
+use Rattle.caps.specs.Operation.{capsResult}
+use Rattle.yongpham.specs.Calls.{boxOf, modeOf, calledReply}
 use Rattle.replay.specs.Words.{Everywhere}
 use Rattle.replay.specs.Layout.{storedReply, outputsFrom, Few, Laid}
 use Rattle.replay.specs.Contents.{doubleOf, doublesIn, numbersIn, oldDoubles, oldWords}
@@ -96,6 +97,14 @@ epsIn stored = doubleAt stored 12
 abbrev pub resolutionIn : List ℕ → Float
 resolutionIn stored = doubleAt stored 13
 
+-- the low half, where `Numbers` says that the other is 0
+abbrev pub modeIn : List ℕ → ℕ
+modeIn stored = getD stored 5 0 % 4294967296
+
+-- behind coordinates and facet numbers
+abbrev pub capsIn : List ℕ → List ℕ
+capsIn stored = take (getD stored 4 0) (drop (24 + getD stored 2 0 + getD stored 3 0) stored)
+
 abbrev pub reported : List ℕ → List ℕ
 reported reply = getD reply 0 0 ∷ take 4 (drop 1 reply ++ replicate 4 0)
 
@@ -136,9 +145,16 @@ CandidatesStored stored vs fs =
     (candidatesReply vs fs (boxIn stored) (epsIn stored) (resolutionIn stored) (getD stored 14 0) (fourIn stored))
     (candidatesResult vs fs (boxIn stored) (epsIn stored) (resolutionIn stored))
 
+abbrev pub CapsStored : List ℕ → List Float → List ℕ → Type 0
+CapsStored stored vs fs =
+    Stored stored
+    (calledReply vs fs (capsIn stored) (boxIn stored) (epsIn stored) (resolutionIn stored) (modeIn stored) (getD stored 14 0) (outputsIn stored))
+    (capsResult vs fs (capsIn stored) (boxIn stored) (epsIn stored) (resolutionIn stored) (modeOf (modeIn stored)))
+
 pub data MeshStored (stored : List ℕ) (vs : List Float) (fs : List ℕ) : Type 0 where
   clip : getD stored 1 0 ≡ 2 → ClipStored stored vs fs → MeshStored stored vs fs
   clean : getD stored 1 0 ≡ 3 → CleanStored stored vs fs → MeshStored stored vs fs
+  caps : getD stored 1 0 ≡ 5 → CapsStored stored vs fs → MeshStored stored vs fs
 
 pub data AnswerStored (stored : List ℕ) (vs : List Float) (fs : List ℕ) : Type 0 where
   mesh : MeshStored stored vs fs → AnswerStored stored vs fs
@@ -152,6 +168,7 @@ abbrev pub NoNan : List ℕ → ℕ → ℕ → Type 0
 NoNan stored from n = Everywhere (λ k. nanBits binary64 (getD stored (from + k) 0) ≡ false) n
 
 pub record Numbers (stored : List ℕ) : Type 0 where
+  pub mode : Few stored 5 1 4294967295
   pub plain : NoNan stored 6 8
   pub coordinates : NoNan stored 24 (getD stored 2 0)
   pub narrow : Few stored (24 + getD stored 2 0) (getD stored 3 0) 4294967295

@@ -52,7 +52,7 @@ pub fn read_doubles(stored: &[u64], from: usize, list: &mut [f64])
 }
 
 // The low half of a word; a caller has ruled out that the high half is not 0.
-fn low_half(word: u64) -> u32
+pub fn low_half(word: u64) -> u32
     ensures { λ r. ⌜ r ≡ word % 4294967296 ⌝ }
 {
     (word % 4294967296) as u32

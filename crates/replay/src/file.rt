@@ -4,11 +4,11 @@ ghost use Prim.Native.Nat.{_+_, _*_, _≤_, _<_};
 ghost use lib.ListN.{length, take};
 ghost use Rattle.replay.specs.Words.{wordOf};
 
-// Room for a file of 512 KB. The `ensures` gives the length, which lending the array as a slice needs.
-pub fn room() -> [u64; 65536]
-    ensures { λ r. ⌜ 65536 ≡ length r ⌝ }
+// Room for a file of 1 MB. The `ensures` gives the length, which lending the array as a slice needs.
+pub fn room() -> [u64; 131072]
+    ensures { λ r. ⌜ 131072 ≡ length r ⌝ }
 {
-    [0; 65536]
+    [0; 131072]
 }
 
 fn wide(x: u8) -> u64

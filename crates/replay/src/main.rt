@@ -34,6 +34,7 @@ fn replay(file: &[u64]) {
     print_line(b"clip", count(file, 2));
     print_line(b"clean", count(file, 3));
     print_line(b"candidates", count(file, 4));
+    print_line(b"caps", count(file, 5));
 }
 
 fn main() {

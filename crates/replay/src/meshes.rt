@@ -1,17 +1,19 @@
-// The operations that write a mesh: clip and clean.
+// The operations that write a mesh: clip, clean and caps.
 ghost use mathlib.Core.Path.{_≡_};
 ghost use lib.ListN.{length, getD};
 ghost use Rattle.replay.specs.Words.{Decides};
 ghost use Rattle.replay.specs.Layout.{Laid};
-ghost use Rattle.replay.specs.Agreement.{Fresh, ClipStored, CleanStored, MeshStored};
+ghost use Rattle.replay.specs.Agreement.{Fresh, ClipStored, CleanStored, CapsStored, MeshStored};
 use crate::compare::same_answer;
 use crate::contents::double;
+use crate::contents::low_half;
 use crate::contents::old_doubles;
 use crate::contents::old_numbers;
 use crate::contents::old_words;
 use crate::contents::room_for_doubles;
 use crate::contents::room_for_numbers;
 use crate::contents::room_for_work;
+use yongpham::yongpham_caps;
 use yongpham::yongpham_clean;
 use yongpham::yongpham_clip;
 
@@ -71,6 +73,43 @@ fn clean_agrees(
     same_answer(stored, number, &values, out_vertices, out_facets, work)
 }
 
+// The cap list is of words, so that it is lent as it lies in the record.
+fn caps_agrees(
+    stored: &[u64],
+    vertices: &[f64],
+    facets: &[u32],
+    work: &mut [u64],
+    out_vertices: &mut [f64],
+    out_facets: &mut [u32],
+) -> bool
+    requires { ⌜ Laid (now stored) ⌝ }
+    requires { ⌜ Fresh (now stored) (now work) (now «out_vertices») (now «out_facets») ⌝ }
+    ensures { λ r. ⌜ Decides (CapsStored (now (stored .entry)) (now (vertices .entry)) (now (facets .entry))) r ⌝ }
+{
+    let from = 24 + stored[2] as usize + stored[3] as usize;
+    let end = from + stored[4] as usize;
+    let mut values = [0u64; 4];
+    let number = yongpham_caps(
+        vertices,
+        facets,
+        &stored[from..end],
+        double(stored[6]),
+        double(stored[7]),
+        double(stored[8]),
+        double(stored[9]),
+        double(stored[10]),
+        double(stored[11]),
+        double(stored[12]),
+        double(stored[13]),
+        low_half(stored[5]),
+        work,
+        out_vertices,
+        out_facets,
+        &mut values,
+    );
+    same_answer(stored, number, &values, out_vertices, out_facets, work)
+}
+
 // Runs the request with these lists in this room. A number that is no operation's here agrees with nothing.
 fn run(
     stored: &[u64],
@@ -92,6 +131,9 @@ fn run(
     }
     if stored[1] == 3 {
         return clean_agrees(stored, vertices, facets, work, out_vertices, out_facets);
+    }
+    if stored[1] == 5 {
+        return caps_agrees(stored, vertices, facets, work, out_vertices, out_facets);
     }
     false
 }

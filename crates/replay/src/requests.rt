@@ -45,11 +45,14 @@ fn with_lists(stored: &[u64]) -> bool
     read_lists(stored, &mut vertices[..v], &mut facets[..f])
 }
 
-// Box, eps, resolution and coordinates are doubles, and facet numbers fit 32 bits.
+// Box, eps, resolution and coordinates are doubles, and mode and facet numbers fit 32 bits.
 fn has_numbers(stored: &[u64]) -> bool
     requires { ⌜ Laid (now stored) ⌝ }
     ensures { λ r. ⌜ Decides (Numbers (now (stored .entry))) r ⌝ }
 {
+    if !are_few(stored, 5, 1, 4294967295) {
+        return false;
+    }
     if !are_numbers(stored, 6, 8) {
         return false;
     }

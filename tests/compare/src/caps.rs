@@ -1,6 +1,7 @@
 //! Caps: `yongpham_caps` beside the oracle, and the requests for it.
 
 use crate::candidates::{boundary, grid};
+use crate::chosen;
 use crate::lent::Lent;
 use crate::meshes;
 use crate::numbers::near;
@@ -13,7 +14,7 @@ pub const OPERATION: Operation = Operation {
     name: "caps",
     number: 5,
     generate,
-    chosen: Vec::new,
+    chosen: chosen::caps,
     need: |r| {
         oracle::need_words(
             r.vertices.len() / 3,

@@ -2,6 +2,7 @@
 //! names, each refusal, and the refusals in their order.
 
 mod candidates;
+mod caps;
 
 use crate::boxes::LARGEST;
 use crate::clip::KNOWN;
@@ -143,6 +144,10 @@ pub fn clean() -> Vec<Chosen> {
 
 pub fn candidates() -> Vec<Chosen> {
     candidates::chosen()
+}
+
+pub fn caps() -> Vec<Chosen> {
+    caps::chosen()
 }
 
 /// What goes wrong first in a port of clip.

@@ -111,7 +111,7 @@ pub fn lengths(operation: &Operation, request: &Request, work: &mut Lent<u64>) -
     }
 }
 
-/// Runs the requests of one operation. In a self check the oracle answers twice,
+/// Runs the requests of one operation, before them those chosen by hand. In a self check the oracle answers twice,
 /// which shows that the requests are made and answered the same each time.
 pub fn row(operation: &Operation, options: &Options, work: &mut Lent<u64>) -> Row {
     let mut row = Row::new(operation.name);
@@ -119,34 +119,61 @@ pub fn row(operation: &Operation, options: &Options, work: &mut Lent<u64>) -> Ro
         Some(ours) if !options.self_check => ours,
         _ => operation.oracle,
     };
+    let chosen = match options.first {
+        0 => (operation.chosen)(),
+        _ => Vec::new(),
+    };
+    for (place, chosen) in chosen.into_iter().enumerate() {
+        let request = chosen.with_room(operation, work);
+        compare(&mut row, &request, work, (operation.oracle, ours), || {
+            format!("chosen request {place} of {}", operation.name)
+        });
+    }
     for number in options.range() {
         let request = request(operation, options.seed, number, work);
-        let expected = (operation.oracle)(&request, work);
-        let before = (
-            request.vertices.clone(),
-            request.facets.clone(),
-            request.caps.clone(),
-        );
-        let got = ours(&request, work);
-        row.requests += 1;
-        row.replies[expected.reply.number as usize] += 1;
-        let inputs_stand = same(&before.0, &request.vertices)
-            && same(&before.1, &request.facets)
-            && same(&before.2, &request.caps);
-        if got != expected || !inputs_stand {
-            row.differs(request.size(), || {
-                format!(
-                    "compare --only {} --seed {} --first {number} --requests 1\n{}{}inputs {}",
-                    operation.name,
-                    options.seed,
-                    request.describe(),
-                    difference(&got, &expected),
-                    if inputs_stand { "unchanged" } else { "CHANGED" }
-                )
-            });
-        }
+        compare(&mut row, &request, work, (operation.oracle, ours), || {
+            format!(
+                "compare --only {} --seed {} --first {number} --requests 1",
+                operation.name, options.seed
+            )
+        });
     }
     row
+}
+
+type Ask = fn(&Request, &mut Lent<u64>) -> Answer;
+
+/// Asks both for one request, which `name` says how to find again.
+fn compare(
+    row: &mut Row,
+    request: &Request,
+    work: &mut Lent<u64>,
+    (oracle, ours): (Ask, Ask),
+    name: impl FnOnce() -> String,
+) {
+    let expected = oracle(request, work);
+    let before = (
+        request.vertices.clone(),
+        request.facets.clone(),
+        request.caps.clone(),
+    );
+    let got = ours(request, work);
+    row.requests += 1;
+    row.replies[expected.reply.number as usize] += 1;
+    let inputs_stand = same(&before.0, &request.vertices)
+        && same(&before.1, &request.facets)
+        && same(&before.2, &request.caps);
+    if got != expected || !inputs_stand {
+        row.differs(request.size(), || {
+            format!(
+                "{}\n{}{}inputs {}",
+                name(),
+                request.describe(),
+                difference(&got, &expected),
+                if inputs_stand { "unchanged" } else { "CHANGED" }
+            )
+        });
+    }
 }
 
 fn same<T: Cell>(a: &[T], b: &[T]) -> bool {

@@ -53,12 +53,19 @@ const REPLAYED: &[Replayed] = &[
         of_a_kind: 2,
         any_reply: false,
     },
+    Replayed {
+        name: "caps",
+        most: 250,
+        largest: 500,
+        of_a_kind: 5,
+        any_reply: true,
+    },
 ];
 
 /// What the program has room for: elements of each list and output, words of work room.
 const LARGEST_LIST: usize = 1_024;
 const LARGEST_WORK: usize = 20_480;
-const LARGEST_FILE: usize = 65_536;
+const LARGEST_FILE: usize = 131_072;
 /// How many requests are looked at for a sample.
 const LOOKED_AT: u64 = 200_000;
 

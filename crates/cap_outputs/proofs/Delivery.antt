@@ -1,0 +1,204 @@
+-- Laws of the reply and of both outputs: the tests in front, test 12, and the writing. Assumes nothing.
+--   refused, passed                      a row of tests in front of others, that refused or passed
+--   short-vertices, short-facets, done   test 12, and a mesh written
+--   mesh-numbers, mesh-facets            a mesh as it came is the lists that it came in
+--   caps-few, many-few, own-least, fresh-room, fresh-stored, low-at   what the writing of a closed mesh asks
+--   vertices-long, vertices-laid, firsts-long, facets-long, facets-laid   a closed mesh, in two parts
+use Prim.Native.Nat.{ℕ, _+_, _*_, _-_, _/_, _%_, _≤_, _<_}
+use native.Mathlib.Omega.{arith}
+use mathlib.Core.Bool.{Bool}
+use mathlib.Core.List.{List, [], _∷_, _++_}
+use mathlib.Core.Path.{_≡_, refl, sym, ap, _∙_}
+use lib.Dec.{eqb}
+use lib.ListN.{length, getD, length-append, length-map}
+use lib.Seq.{sets}
+use lib.Ieee.{Float}
+use Rattle.lists.specs.Lists.{keep, upTo}
+use Rattle.lists.specs.Regions.{view}
+use Rattle.lists.proofs.Places.{length-up}
+use Rattle.lists.proofs.Counts.{count-le}
+use Rattle.lists.proofs.Stores.{sets-append}
+use Rattle.words.specs.Overlay.{overlay}
+use Rattle.words.proofs.Overlay.{sets-overlay}
+use Rattle.geometry.specs.Triangles.{threes, flat}
+use Rattle.geometry.specs.Meshes.{Mesh, meshOf, pointsOf, coordinates, meshLengths}
+use Rattle.geometry.proofs.Threes.{length-flat, flat-append, flat-threes}
+use Rattle.geometry.proofs.Meshes.{coordinates-append, coordinates-pointsOf}
+use Rattle.refusals.specs.declared.refusal.Refusal.{Refusal}
+use Rattle.refusals.specs.declared.refusal.Refusal.the-variants.{NoRoom}
+use Rattle.refusals.specs.declared.refusal.Checked.the-variants.{Passed}
+use Rattle.refusals.specs.declared.refusal.Checked.the-variants as checked
+use Rattle.refusals.specs.declared.reply.MeshReply.{MeshReply}
+use Rattle.refusals.specs.declared.reply.MeshReply.the-variants.{Done, Refused}
+use Rattle.refusals.specs.Refusals.{documented, documentedMesh, Test, firstRefusal, replyTo, settle, Settled}
+use Rattle.refusals.proofs.Refusals.{untouched}
+use Rattle.refusals.proofs.Replies.{reply-refused, reply-passed, short-first, short-second, roomy}
+use Rattle.candidate_pool.specs.Standing.{Stored}
+use Rattle.cap_closing.specs.Closing.{ownFacets}
+use Rattle.cap_closing.specs.Entering.{freshAt, leftAt, firstsAt, verticesAt, freshIn, facetIn, firstsIn}
+use Rattle.cap_outputs.specs.Written.{rooms, Answered, pointsIn, allCapWords, standing, Deliverable}
+use Rattle.cap_outputs.proofs.Blocks.{fresh-long, own-long, caps-are}
+
+-- ---- no output is touched
+
+same : {A : Type 0} (x : Refusal) (new old : List A) → Settled (documentedMesh (Refused x)) new old old
+unfolding documentedMesh
+same x new old = record { ends = sym (untouched x new old) }
+
+turned-down : (ts : List Test) (m : Mesh) (v : List Float) (f : List ℕ) (x : Refusal) → documented x ≡ replyTo ts (meshLengths m) → Answered ts m (Refused x) v v f f
+unfolding documentedMesh
+turned-down ts m v f x h = record { replied = h; vertices = same x (coordinates (m .points)) v; facets = same x (flat (m .facets)) f }
+
+pub refused : (ts us : List Test) (m : Mesh) (v : List Float) (f : List ℕ) (x : Refusal) → firstRefusal ts ≡ checked.Refused x → Answered (ts ++ us) m (Refused x) v v f f
+refused ts us m v f x h = turned-down (ts ++ us) m v f x (sym (reply-refused ts us (meshLengths m) x h))
+
+pub passed : (ts us : List Test) (m : Mesh) (x : MeshReply) (v v' : List Float) (f f' : List ℕ) → firstRefusal ts ≡ Passed → Answered us m x v v' f f' → Answered (ts ++ us) m x v v' f f'
+passed ts us m x v v' f f' h d = record { replied = d .replied ∙ sym (reply-passed ts us (meshLengths m) h); vertices = d .vertices; facets = d .facets }
+
+-- ---- test 12: a mesh of x coordinates and y numbers
+
+module _ (m : Mesh) (x y : ℕ) (ex : x ≡ length (coordinates (m .points))) (ey : y ≡ length (flat (m .facets))) (v : List Float) (f : List ℕ) where
+  abbrev nx : ℕ
+  nx = length (coordinates (m .points))
+
+  abbrev ny : ℕ
+  ny = length (flat (m .facets))
+
+  pub short-vertices : length v < x → Answered (rooms m v f) m (Refused (NoRoom x)) v v f f
+  short-vertices h =
+      turned-down (rooms m v f) m v f (NoRoom x)
+      (ap (λ (z : ℕ). documented (NoRoom z)) ex ∙ sym (short-first nx ny (length v) (length f) (meshLengths m) (omega (arith, ex))))
+
+  pub short-facets : x ≤ length v → length f < y → Answered (rooms m v f) m (Refused (NoRoom y)) v v f f
+  short-facets h g =
+      turned-down (rooms m v f) m v f (NoRoom y)
+      (ap (λ (z : ℕ). documented (NoRoom z)) ey ∙ sym (short-second nx ny (length v) (length f) (meshLengths m) (omega (arith, ex)) (omega (arith, ey))))
+
+  pub done : x ≤ length v → y ≤ length f → (v' : List Float) (f' : List ℕ) → v' ≡ overlay (coordinates (m .points)) v → f' ≡ overlay (flat (m .facets)) f
+      → Answered (rooms m v f) m (Done x y) v v' f f'
+  unfolding documentedMesh settle
+  done h g v' f' a b =
+      record {
+        replied = (λ t. 0 ∷ ex t ∷ ey t ∷ []) ∙ sym (roomy nx ny (length v) (length f) (meshLengths m) (omega (arith, ex)) (omega (arith, ey)));
+        vertices = record { ends = a };
+        facets = record { ends = b };
+      }
+
+-- ---- the mesh as it came
+
+module _ (vs : List Float) (fs : List ℕ) (whole-vertices : length vs % 3 ≡ 0) (whole-facets : length fs % 3 ≡ 0) where
+  pub mesh-numbers : vs ≡ coordinates (meshOf vs fs .points)
+  mesh-numbers = sym (coordinates-pointsOf vs whole-vertices)
+
+  pub mesh-facets : fs ≡ flat (meshOf vs fs .facets)
+  mesh-facets = sym (flat-threes fs whole-facets)
+
+-- ---- the closed mesh, in two parts
+
+-- first `a` from 0 on, then `b` behind it
+two-parts : {A : Type 0} (old mid new a b : List A) (at : ℕ) → at ≡ length a → mid ≡ sets old 0 a → new ≡ sets mid at b → length (a ++ b) ≤ length old → new ≡ overlay (a ++ b) old
+two-parts old mid new a b at e h k room =
+    let q : at ≡ 0 + length a = omega arith in
+    k ∙ (λ t. sets (h t) (q t) b) ∙ sym (sets-append old 0 a b) ∙ sets-overlay (a ++ b) old room
+
+-- va, fa, la and ra: where the tables stand, as they were computed
+module _ (vs : List Float) (fs : List ℕ) (n nc left caps : ℕ) (positive : Bool) (w : List ℕ) (D : Deliverable vs fs n nc left caps w) where
+  abbrev nf : ℕ
+  nf = length fs / 3
+
+  abbrev nv : ℕ
+  nv = length vs / 3
+
+  abbrev m : Mesh
+  m = standing vs fs n nc positive left w
+
+  pub caps-few : caps ≤ 1048576
+  caps-few =
+      let a = D .count in
+      let b = length-map (keep (λ i. eqb (getD w (firstsAt n nf nc + i) 0) 1) (upTo left)) (facetIn n nf nc w) in
+      let c = count-le (λ i. eqb (getD w (firstsAt n nf nc + i) 0) 1) (upTo left) in
+      let d = length-up 0 left in
+      omega (arith, a, b, c, d, D .left-few, D .few-caps)
+
+  module _ (va : ℕ) (ev : va ≡ verticesAt n nf nc) where
+    abbrev many : ℕ
+    many = getD w va 0
+
+    many-is : many ≡ getD w (verticesAt n nf nc) 0
+    many-is = ap (λ (x : ℕ). getD w x 0) ev
+
+    pub many-few : many ≤ 65536 + 1048576
+    many-few = let e = many-is in omega (arith, e, D .most, D .few-vertices, D .small)
+
+    pub own-least : nv ≤ many
+    own-least = let e = many-is in omega (arith, e, D .own)
+
+    abbrev newest : ℕ → List Float
+    newest fa = coordinates (pointsIn w (view w fa (many - nv)))
+
+    newest-is : (fa : ℕ) → fa ≡ freshAt n nf nc → coordinates (pointsIn w (freshIn n nf nc w nv)) ≡ newest fa
+    newest-is fa e = λ t. coordinates (pointsIn w (view w (sym e t) (sym many-is t - nv)))
+
+    pub fresh-room : (fa : ℕ) → fa ≡ freshAt n nf nc → fa + (many - nv) ≤ length w
+    fresh-room fa e = let a = many-is in omega (arith, e, a, D .size, D .most, D .own)
+
+    pub fresh-stored : (fa : ℕ) → fa ≡ freshAt n nf nc → (i : ℕ) → i < many - nv → Stored w (8 + 5 * getD w (fa + i) 0) × (8 + 5 * getD w (fa + i) 0 + 2 < length w)
+    fresh-stored fa e i h =
+        let a = many-is in
+        let b : getD w (fa + i) 0 ≡ getD w (freshAt n nf nc + i) 0 = ap (λ (x : ℕ). getD w (x + i) 0) e in
+        let c = D .fresh i (omega (arith, a, h)) in
+        (D .stored (getD w (fa + i) 0) (omega (arith, b, c)), omega (arith, b, c, D .few, D .size))
+
+    vertices-are : (fa : ℕ) → fa ≡ freshAt n nf nc → coordinates (m .points) ≡ vs ++ newest fa
+    vertices-are fa e =
+        coordinates-append (pointsOf vs) (pointsIn w (freshIn n nf nc w nv))
+        ∙ (λ t. coordinates-pointsOf vs (D .whole-vertices) t ++ newest-is fa e t)
+
+    pub vertices-long : 3 * many ≡ length (coordinates (m .points))
+    vertices-long =
+        let a = ap length (vertices-are (freshAt n nf nc) refl) ∙ length-append vs (newest (freshAt n nf nc)) in
+        let b = fresh-long w (freshAt n nf nc) (many - nv) (fresh-room (freshAt n nf nc) refl) in
+        let c = own-least in
+        omega (arith, a, b, c, D .whole-vertices)
+
+    pub vertices-laid : (fa : ℕ) → fa ≡ freshAt n nf nc → (v mid new : List Float) → 3 * many ≤ length v → mid ≡ overlay vs v → new ≡ sets mid (length vs) (newest fa)
+        → new ≡ overlay (coordinates (m .points)) v
+    vertices-laid fa e v mid new h a b =
+        let l = vertices-long in
+        let c = ap length (vertices-are fa e) in
+        let d = length-append vs (newest fa) in
+        two-parts v mid new vs (newest fa) (length vs) refl (a ∙ sym (sets-overlay vs v (omega (arith, h, l, c, d)))) b (omega (arith, h, l, c))
+        ∙ ap (λ (x : List Float). overlay x v) (sym (vertices-are fa e))
+
+  abbrev own : List ℕ
+  own = flat (ownFacets positive (threes fs))
+
+  abbrev firsts : ℕ → ℕ → List ℕ
+  firsts la ra = allCapWords w la ra left
+
+  firsts-are : (la ra : ℕ) → la ≡ leftAt n nf nc → ra ≡ firstsAt n nf nc → flat (firstsIn n nf nc w left) ≡ firsts la ra
+  firsts-are la ra el er = sym (caps-are w (leftAt n nf nc) (firstsAt n nf nc) left) ∙ (λ t. firsts (sym el t) (sym er t))
+
+  facets-are : (la ra : ℕ) → la ≡ leftAt n nf nc → ra ≡ firstsAt n nf nc → flat (m .facets) ≡ own ++ firsts la ra
+  facets-are la ra el er = flat-append (ownFacets positive (threes fs)) (firstsIn n nf nc w left) ∙ ap (λ (l : List ℕ). own ++ l) (firsts-are la ra el er)
+
+  pub firsts-long : (la ra : ℕ) → la ≡ leftAt n nf nc → ra ≡ firstsAt n nf nc → length (firsts la ra) ≡ 3 * caps
+  firsts-long la ra el er = sym (ap length (firsts-are la ra el er)) ∙ length-flat (firstsIn n nf nc w left) ∙ ap (λ (x : ℕ). 3 * x) (sym (D .count))
+
+  pub low-at : (la : ℕ) → la ≡ leftAt n nf nc → (j : ℕ) → j < 3 * left → getD w (la + j) 0 < 2097152
+  low-at la e j h = let a = ap (λ (x : ℕ). getD w (x + j) 0) e in let b = D .low j h in omega (arith, a, b)
+
+  pub facets-long : length fs + 3 * caps ≡ length (flat (m .facets))
+  facets-long =
+      let a = ap length (facets-are (leftAt n nf nc) (firstsAt n nf nc) refl refl) ∙ length-append own (firsts (leftAt n nf nc) (firstsAt n nf nc)) in
+      let b = own-long fs (D .whole-facets) positive in
+      let c = firsts-long (leftAt n nf nc) (firstsAt n nf nc) refl refl in
+      omega (arith, a, b, c)
+
+  pub facets-laid : (la ra : ℕ) → la ≡ leftAt n nf nc → ra ≡ firstsAt n nf nc → (f mid new : List ℕ) → length fs + 3 * caps ≤ length f → mid ≡ sets f 0 own → new ≡ sets mid (length fs) (firsts la ra)
+      → new ≡ overlay (flat (m .facets)) f
+  facets-laid la ra el er f mid new h a b =
+      let l = facets-long in
+      let c = ap length (facets-are la ra el er) in
+      two-parts f mid new own (firsts la ra) (length fs) (sym (own-long fs (D .whole-facets) positive)) a b (omega (arith, h, l, c))
+      ∙ ap (λ (x : List ℕ). overlay x f) (sym (facets-are la ra el er))

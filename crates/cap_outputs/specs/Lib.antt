@@ -1,0 +1,2 @@
+-- What the inner functions do: no part of what the product promises.
+pub mod Written

@@ -1,0 +1,94 @@
+-- What the inner functions of this crate ask and leave, over plain words. Assumes nothing.
+--   SmallEdge      an open edge's two candidates fit the packing, where it has a face
+--   sideWords      side s of the turned triangles, as two words of the room
+--   Recorded       m records were written, of the pairs P 0, P 1, .., numbered from `first` on
+--   keyIn, whichIn the key of record i, and the edge or side that it is of
+--   SortedPairs    p records in ascending order of their keys, of edges and sides that differ
+--   FirstOf        m is the place of the first record with the key of record i
+--   FirstsPut      by the edge or side of each record stands the place of the first record with its key
+--   Added          a word of faces got the faces that p has
+--   Noted          to each word that was 0 were added the bits of those of 0 .. m - 1 that are aimed at it
+--   edgeMask, edgeTarget    the faces of open edge j, if it has two ends, and the word that they are added to
+--   sideFace, sideTarget    the same of side s
+--   TablesFor      there is room for the tables
+--   missingFace    a face with three candidates or more that is not among those of the word `held`
+use Prim.Native.Nat.{ℕ, _+_, _*_, _/_, _≤_, _<_}
+use mathlib.Core.Path.{_≡_}
+use mathlib.Core.Bool.{Bool, cond, not, _&&_, _||_}
+use mathlib.Core.List.{List}
+use lib.Dec.{eqb, leb, ltb}
+use lib.ListN.{length, getD}
+use Rattle.lists.specs.Lists.{some, upTo}
+use Rattle.sorting.specs.Buffer.{recordOf}
+use Rattle.box_faces.specs.Faces.{hasBit}
+use Rattle.edges.specs.Table.{keyOf, nextSide}
+use Rattle.cap_triangles.specs.Room.{numbersAt, upAt, downAt, heldAt, Above}
+
+abbrev pub SmallEdge : List ℕ → ℕ → Type 0
+SmallEdge w at = (getD w (at + 2) 0 ≡ 0 → ⊥) → (getD w at 0 < 4294967296) × (getD w (at + 1) 0 < 4294967296)
+
+abbrev pub sideWords : List ℕ → ℕ → ℕ → ℕ × ℕ
+sideWords w at s = (getD w (at + s) 0, getD w (at + nextSide s) 0)
+
+pub record Recorded (P : ℕ → ℕ × ℕ) (w w' : List ℕ) (at first m : ℕ) : Type 0 where
+  pub above : Above at w w'
+  pub done : (j : ℕ) → j < m → recordOf w' (at + 2 * j) ≡ (keyOf (P j), first + j)
+
+abbrev pub keyIn : List ℕ → ℕ → ℕ → ℕ
+keyIn w at i = getD w (at + 2 * i) 0
+
+abbrev pub whichIn : List ℕ → ℕ → ℕ → ℕ
+whichIn w at i = getD w (at + 2 * i + 1) 0
+
+pub record SortedPairs (w : List ℕ) (at p : ℕ) : Type 0 where
+  pub ascend : (i j : ℕ) → i ≤ j → j < p → keyIn w at i ≤ keyIn w at j
+  pub low : (i : ℕ) → i < p → whichIn w at i < p
+  pub differ : (i j : ℕ) → i < j → j < p → whichIn w at i ≡ whichIn w at j → ⊥
+
+pub record FirstOf (w : List ℕ) (at i m : ℕ) : Type 0 where
+  pub low : m ≤ i
+  pub same : keyIn w at m ≡ keyIn w at i
+  pub none : (j : ℕ) → j < m → keyIn w at j ≡ keyIn w at i → ⊥
+
+pub record FirstsPut (w w' : List ℕ) (at numbers p : ℕ) : Type 0 where
+  pub above : Above numbers w w'
+  pub first : (i : ℕ) → i < p → FirstOf w at i (getD w' (numbers + whichIn w at i) 0)
+
+pub record Added (w w' : List ℕ) (at : ℕ) (p : ℕ → Bool) : Type 0 where
+  pub long : length w' ≡ length w
+  pub bits : (f : ℕ) → f < 6 → hasBit (getD w' at 0) f ≡ (hasBit (getD w at 0) f || p f)
+  pub small : getD w' at 0 < 64
+  pub rest : (x : ℕ) → (x ≡ at → ⊥) → getD w' x 0 ≡ getD w x 0
+
+pub record Noted (target : ℕ → ℕ) (bits : ℕ → ℕ → Bool) (w w' : List ℕ) (m : ℕ) : Type 0 where
+  pub long : length w' ≡ length w
+  pub at : (x f : ℕ) → f < 6 → getD w x 0 ≡ 0 → hasBit (getD w' x 0) f ≡ some (λ j. eqb (target j) x && bits j f) (upTo m)
+  pub small : (x : ℕ) → getD w x 0 ≡ 0 → getD w' x 0 < 64
+  pub rest : (x : ℕ) → ((j : ℕ) → j < m → target j ≡ x → ⊥) → getD w' x 0 ≡ getD w x 0
+
+module _ (n nf nc : ℕ) (w : List ℕ) where
+  abbrev pub edgeMask : ℕ → ℕ
+  edgeMask j =
+      cond (eqb (getD w (8 + 62 * n + 30 * nf + 3 * j) 0) (getD w (8 + 62 * n + 30 * nf + 3 * j + 1) 0)) 0
+      (getD w (8 + 62 * n + 30 * nf + 3 * j + 2) 0)
+
+  abbrev pub edgeTarget : ℕ → ℕ
+  edgeTarget j =
+      cond (ltb (getD w (8 + 62 * n + 30 * nf + 3 * j) 0) (getD w (8 + 62 * n + 30 * nf + 3 * j + 1) 0)) (upAt n nf nc) (downAt n nf nc)
+      + getD w (numbersAt n nf nc + j) 0
+
+  abbrev pub sideTarget : ℕ → ℕ → ℕ
+  sideTarget k s = heldAt n nf nc + getD w (numbersAt n nf nc + k + s) 0
+
+  pub record TablesFor (k : ℕ) : Type 0 where
+    pub small : n < 268435456
+    pub few : nf < 268435456
+    pub caps : nc < 268435456
+    pub edges : k ≤ 3 * nf
+    pub size : 9 + 64 * n + 93 * nf + 47 * nc ≤ length w
+
+abbrev pub sideFace : List ℕ → ℕ → ℕ
+sideFace capList s = getD capList (s / 3 * 4) 0
+
+abbrev pub missingFace : List ℕ → ℕ → ℕ → Bool
+missingFace w held f = leb 3 (getD w f 0) && not (hasBit held f)

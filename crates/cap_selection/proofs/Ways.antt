@@ -1,0 +1,185 @@
+-- Laws of pairs and of the ways they run, whatever room they stand in. Assumes nothing.
+--   truth, test            a test as a fact, and back
+--   word-bit, no-bit       a word of faces that is not 0 has a face; 0 has none
+--   some-same, some-or     one of the tests passes
+--   down-against, up-against   an open edge of a side's pair that runs the other way, by which way the side runs
+--   sideOf, sides-at       side s of the triangles; and the sides of triangle i
+--   seed-parts             an open edge is held backwards by one of three sides
+use Prim.Native.Nat.{ℕ, zero, suc, _+_, _*_, _/_, _%_, _^_, _<_}
+use native.Mathlib.Omega.{arith}
+use mathlib.Core.Path.{_≡_, refl, sym, ap, ap₂, _∙_, subst}
+use mathlib.Core.Bool.{Bool, true, false, _&&_, _||_}
+use mathlib.Core.List.{List, [], _∷_, map, flatMap}
+use mathlib.Core.Logic.{_⊎_, inr, ⊎-elim}
+use borrow.Author.Tests.{ltb-true, lt-ltb, eqb-true, eqb-false, eq-eqb}
+use lib.Dec.{T, eqb, ltb}
+use lib.ListN.{length, getD}
+use Rattle.lists.specs.Lists.{some}
+use Rattle.lists.proofs.Bools.{and-left, and-right, and-next}
+use Rattle.lists.proofs.Orders.{cases}
+use Rattle.geometry.specs.Triangles.{Triangle, edges, containsOrientedEdge}
+use Rattle.box_faces.specs.Faces.{hasBit}
+use Rattle.edges.specs.Edges.{sides, samePair}
+use Rattle.edges.proofs.Keys.{same-pair, pair-same, both-ways}
+use Rattle.cap_triangles.specs.Selection.{Cap, capAt}
+
+-- ---- a test as a fact, and back
+
+pub truth : {b : Bool} → T b → b ≡ true
+truth {b} t = go b t
+  where
+    go : (b : Bool) → T b → b ≡ true
+    go true t = refl
+    go false t = absurd t
+
+pub test : {b : Bool} → b ≡ true → T b
+test e = subst T (sym e) tt
+
+-- ---- words of faces
+
+abbrev Bit : ℕ → Type 0
+Bit m = (f : ℕ) × (f < 6) × (hasBit m f ≡ true)
+
+even : (x : ℕ) → eqb (x % 2) 1 ≡ false → x % 2 ≡ 0
+even x e = let n = eqb-false (x % 2) 1 e in omega arith
+
+unset : (m : ℕ) → m < 64 → (m ≡ 0 → ⊥) → hasBit m 0 ≡ false → hasBit m 1 ≡ false → hasBit m 2 ≡ false → hasBit m 3 ≡ false → hasBit m 4 ≡ false → hasBit m 5 ≡ false → ⊥
+unfolding hasBit
+unset m h n a b c d e f =
+    n (zero-word m h (even (m / 2 ^ 0) a) (even (m / 2 ^ 1) b) (even (m / 2 ^ 2) c) (even (m / 2 ^ 3) d) (even (m / 2 ^ 4) e) (even (m / 2 ^ 5) f))
+  where
+    zero-word : (m : ℕ) → m < 64 → m / 2 ^ 0 % 2 ≡ 0 → m / 2 ^ 1 % 2 ≡ 0 → m / 2 ^ 2 % 2 ≡ 0 → m / 2 ^ 3 % 2 ≡ 0 → m / 2 ^ 4 % 2 ≡ 0 → m / 2 ^ 5 % 2 ≡ 0 → m ≡ 0
+    zero-word m h a b c d e f =
+        let l5 : m < 32 = half5 m h f in
+        let l4 : m < 16 = half4 m l5 e in
+        let l3 : m < 8 = half3 m l4 d in
+        let l2 : m < 4 = half2 m l3 c in
+        let l1 : m < 2 = half1 m l2 b in
+        half0 m l1 a
+      where
+        half5 : (m : ℕ) → m < 64 → m / 2 ^ 5 % 2 ≡ 0 → m < 32
+        half5 m h e = omega arith
+
+        half4 : (m : ℕ) → m < 32 → m / 2 ^ 4 % 2 ≡ 0 → m < 16
+        half4 m h e = omega arith
+
+        half3 : (m : ℕ) → m < 16 → m / 2 ^ 3 % 2 ≡ 0 → m < 8
+        half3 m h e = omega arith
+
+        half2 : (m : ℕ) → m < 8 → m / 2 ^ 2 % 2 ≡ 0 → m < 4
+        half2 m h e = omega arith
+
+        half1 : (m : ℕ) → m < 4 → m / 2 ^ 1 % 2 ≡ 0 → m < 2
+        half1 m h e = omega arith
+
+        half0 : (m : ℕ) → m < 2 → m / 2 ^ 0 % 2 ≡ 0 → m ≡ 0
+        half0 m h e = omega arith
+
+pub word-bit : (m : ℕ) → m < 64 → (m ≡ 0 → ⊥) → Bit m
+word-bit m h n =
+    or 0 (omega arith) (λ a. or 1 (omega arith) (λ b. or 2 (omega arith) (λ c. or 3 (omega arith) (λ d. or 4 (omega arith) (λ e. or 5 (omega arith) (λ f. absurd (unset m h n a b c d e f)))))))
+  where
+    or : (f : ℕ) → f < 6 → (hasBit m f ≡ false → Bit m) → Bit m
+    or f l else = ⊎-elim (λ (e : hasBit m f ≡ true). (f, l, e)) else (cases (hasBit m f))
+
+pub no-bit : (f : ℕ) → f < 6 → hasBit 0 f ≡ false
+unfolding hasBit
+no-bit zero h = refl
+no-bit (suc zero) h = refl
+no-bit (suc (suc zero)) h = refl
+no-bit (suc (suc (suc zero))) h = refl
+no-bit (suc (suc (suc (suc zero)))) h = refl
+no-bit (suc (suc (suc (suc (suc zero))))) h = refl
+no-bit (suc (suc (suc (suc (suc (suc f)))))) h = absurd (omega arith)
+
+-- ---- tests of a list
+
+module _ {A : Type 0} (p q : A → Bool) where
+  pub some-same : (l : List A) → ((x : A) → p x ≡ q x) → some p l ≡ some q l
+  unfolding some
+  some-same [] h = refl
+  some-same (x ∷ l) h = ap₂ _||_ (h x) (some-same l h)
+
+  swap : (a b c d : Bool) → ((a || b) || (c || d)) ≡ ((a || c) || (b || d))
+  swap true b c d = refl
+  swap false true true d = refl
+  swap false true false d = refl
+  swap false false c d = refl
+
+  pub some-or : (l : List A) → some (λ x. p x || q x) l ≡ (some p l || some q l)
+  unfolding some
+  some-or [] = refl
+  some-or (x ∷ l) = ap (λ (b : Bool). (p x || q x) || b) (some-or l) ∙ swap (p x) (q x) (some p l) (some q l)
+
+-- ---- the way that a pair runs
+
+-- the side x, y; the open edge b, c
+module _ (x y b c : ℕ) where
+  backwards : (eqb x c && eqb y b) ≡ true → (x ≡ c) × (y ≡ b)
+  backwards e = (eqb-true x c (and-left (eqb x c) (eqb y b) e), eqb-true y b (and-right (eqb x c) (eqb y b) e))
+
+  back : x ≡ c → y ≡ b → (eqb x c && eqb y b) ≡ true
+  back e f = and-next (eqb x c) (eqb y b) true (eq-eqb x c e) (eq-eqb y b f)
+
+  pub down-against : x < y → (samePair (x, y) (b, c) && ltb c b) ≡ (eqb x c && eqb y b)
+  down-against h =
+      both-ways (samePair (x, y) (b, c) && ltb c b) (eqb x c && eqb y b)
+      (λ e.
+      let l = ltb-true c b (and-right (samePair (x, y) (b, c)) (ltb c b) e) in
+      ⊎-elim (λ (s : (x ≡ b) × (y ≡ c)). let u = s .0 in let v = s .1 in absurd (omega arith)) (λ (s : (x ≡ c) × (y ≡ b)). back (s .0) (s .1))
+      (same-pair (x, y) (b, c) (and-left (samePair (x, y) (b, c)) (ltb c b) e)))
+      (λ e.
+      let s = backwards e in
+      let u = s .0 in
+      let v = s .1 in
+      and-next (samePair (x, y) (b, c)) (ltb c b) true (pair-same (x, y) (b, c) (inr s)) (lt-ltb c b (omega arith)))
+
+  pub up-against : y < x → (samePair (x, y) (b, c) && ltb b c) ≡ (eqb x c && eqb y b)
+  up-against h =
+      both-ways (samePair (x, y) (b, c) && ltb b c) (eqb x c && eqb y b)
+      (λ e.
+      let l = ltb-true b c (and-right (samePair (x, y) (b, c)) (ltb b c) e) in
+      ⊎-elim (λ (s : (x ≡ b) × (y ≡ c)). let u = s .0 in let v = s .1 in absurd (omega arith)) (λ (s : (x ≡ c) × (y ≡ b)). back (s .0) (s .1))
+      (same-pair (x, y) (b, c) (and-left (samePair (x, y) (b, c)) (ltb b c) e)))
+      (λ e.
+      let s = backwards e in
+      let u = s .0 in
+      let v = s .1 in
+      and-next (samePair (x, y) (b, c)) (ltb b c) true (pair-same (x, y) (b, c) (inr s)) (lt-ltb b c (omega arith)))
+
+-- ---- the sides of triangles
+
+abbrev pub cornersOf : List Cap → List (Triangle ℕ)
+cornersOf caps = map (λ t. t .corners) caps
+
+abbrev pub sideOf : List Cap → ℕ → ℕ × ℕ
+sideOf caps s = getD (sides (cornersOf caps)) s (0, 0)
+
+pub sides-at : (caps : List Cap) (i a : ℕ) → i < length caps → a < 3 → sideOf caps (i * 3 + a) ≡ getD (edges (capAt caps i .corners)) a (0, 0)
+unfolding flatMap
+sides-at [] i a h g = absurd (omega arith)
+sides-at (t ∷ caps) zero zero h g = refl
+sides-at (t ∷ caps) zero (suc zero) h g = refl
+sides-at (t ∷ caps) zero (suc (suc zero)) h g = refl
+sides-at (t ∷ caps) zero (suc (suc (suc a))) h g = absurd (omega arith)
+sides-at (t ∷ caps) (suc i) a h g =
+    let z : suc i * 3 + a ≡ suc (suc (suc (i * 3 + a))) = omega arith in
+    ap (sideOf (t ∷ caps)) z ∙ sides-at caps i a (omega arith) g
+
+-- the open edge e of the face f runs against the side s
+abbrev pub against : ℕ → ℕ × ℕ → Triangle ℕ → Bool
+against f s e = eqb (e .a) f && (eqb (s .0) (e .c) && eqb (s .1) (e .b))
+
+pub seed-parts : (boundary : List (Triangle ℕ)) (f : ℕ) (t : Triangle ℕ)
+    → some (λ e. eqb (e .a) f && containsOrientedEdge t (e .c) (e .b)) boundary
+    ≡ (some (against f (t .a, t .b)) boundary || (some (against f (t .b, t .c)) boundary || some (against f (t .c, t .a)) boundary))
+unfolding containsOrientedEdge
+seed-parts boundary f t =
+    some-same (λ e. eqb (e .a) f && containsOrientedEdge t (e .c) (e .b)) (λ e. against f (t .a, t .b) e || (against f (t .b, t .c) e || against f (t .c, t .a) e)) boundary
+    (λ e. spread (eqb (e .a) f) (eqb (t .a) (e .c) && eqb (t .b) (e .b)) (eqb (t .b) (e .c) && eqb (t .c) (e .b)) (eqb (t .c) (e .c) && eqb (t .a) (e .b)))
+    ∙ some-or (against f (t .a, t .b)) (λ e. against f (t .b, t .c) e || against f (t .c, t .a) e) boundary
+    ∙ ap (λ (b : Bool). some (against f (t .a, t .b)) boundary || b) (some-or (against f (t .b, t .c)) (against f (t .c, t .a)) boundary)
+  where
+    spread : (f a b c : Bool) → (f && (a || (b || c))) ≡ ((f && a) || ((f && b) || (f && c)))
+    spread true a b c = refl
+    spread false a b c = refl

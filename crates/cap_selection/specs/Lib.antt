@@ -1,0 +1,3 @@
+-- What the inner functions do: no part of what the product promises.
+pub mod Chosen
+pub mod Steps

@@ -1,0 +1,101 @@
+-- Demand 3 of what the definitions compute. Assumes nothing.
+--   entered-behind    entering adds vertices behind those there are
+--   closed-meets      the mesh of a selection is what demand 3 says; result-meets of the definition's mesh, for every input
+--   demand-decides    demand 3 leaves no other mesh
+--   closes            what an operation that settles the definition's mesh writes is what demand 3 says
+use Prim.Native.Nat.{ℕ, _+_}
+use mathlib.Core.Path.{_≡_, refl, sym, ap, _∙_, subst}
+use mathlib.Core.Bool.{Bool, true, false, cond}
+use mathlib.Core.List.{List, [], _∷_, _++_, map, foldl}
+use lib.Dec.{T, eqb}
+use lib.ListN.{length, getD, set}
+use lib.Ieee.{Float}
+use Rattle.geometry.specs.declared.point.Point.{Point}
+use Rattle.geometry.specs.declared.aabb.AABB.{AABB}
+use Rattle.geometry.specs.Triangles.{Triangle, flat}
+use Rattle.geometry.specs.Meshes.{Mesh, meshOf, coordinates, Named, enter}
+use Rattle.refusals.specs.declared.reply.MeshReply.{MeshReply}
+use Rattle.refusals.specs.declared.reply.MeshReply.the-variants.{Done, Refused}
+use Rattle.refusals.specs.Refusals.{documentedMesh, settle, Settled}
+use Rattle.candidate_pool.specs.Pool.{Pool, pointOf}
+use Rattle.cap_triangles.specs.Selection.{Cap, outwardCaps, selected, Selects}
+use Rattle.cap_triangles.proofs.Selecting.{selected-selects, selects-unique}
+use Rattle.caps.specs.declared.mode.BoundaryClosure.{BoundaryClosure}
+use Rattle.cap_closing.specs.Closing.{taken, entered, capFacets, ownFacets, closed, DemandThree}
+use Rattle.caps.specs.Operation.{isPositive, unchanged, caps, surface, pool, capsResult, turnedDown, Closes}
+
+append-nil : {A : Type 0} (l : List A) → l ++ [] ≡ l
+append-nil [] = refl
+append-nil (x ∷ l) = ap (λ r. x ∷ r) (append-nil l)
+
+append-assoc : {A : Type 0} (k l m : List A) → (k ++ l) ++ m ≡ k ++ (l ++ m)
+append-assoc [] l m = refl
+append-assoc (x ∷ k) l m = ap (λ r. x ∷ r) (append-assoc k l m)
+
+-- one corner
+enter-behind : (at : ℕ → Point) (n : Named) (v : ℕ) → (l : List Point) × (enter at n v .points ≡ n .points ++ l)
+unfolding enter
+enter-behind at n v = go (eqb (getD (n .given) v 0) 0)
+  where
+    go : (b : Bool) → (l : List Point) × (cond b (record { given = set (n .given) v (length (n .points) + 1); points = n .points ++ (at v ∷ []) }) n .points ≡ n .points ++ l)
+    go true = (at v ∷ [], refl)
+    go false = ([], sym (append-nil (n .points)))
+
+fold-behind : (at : ℕ → Point) (n : Named) (vs : List ℕ) → (l : List Point) × (foldl (enter at) n vs .points ≡ n .points ++ l)
+fold-behind at n [] = ([], sym (append-nil (n .points)))
+fold-behind at n (v ∷ vs) =
+    let a = enter-behind at n v in
+    let r = fold-behind at (enter at n v) vs in
+    (a .0 ++ r .0, r .1 ∙ ap (λ p. p ++ r .0) (a .1) ∙ append-assoc (n .points) (a .0) (r .0))
+
+pub entered-behind : (pool : Pool) (points : List Point) (ts : List (Triangle ℕ)) → (l : List Point) × (entered pool points ts .points ≡ points ++ l)
+unfolding entered
+entered-behind pool points ts = fold-behind (pointOf pool) (record { given = map (λ c. c .mesh) (pool .all); points = points }) (flat ts)
+
+module _ (pool : Pool) (boundary : List (Triangle ℕ)) (caps : List Cap) (positive : Bool) (mesh : Mesh) where
+  pub closed-meets : (chosen : List Bool) → Selects boundary (outwardCaps pool caps) chosen → DemandThree pool boundary caps positive mesh (closed pool caps positive mesh chosen)
+  unfolding closed
+  closed-meets chosen s =
+      let ts = taken positive chosen (outwardCaps pool caps) in
+      let a = entered-behind pool (mesh .points) ts in
+      record { chosen = chosen; selects = s; entries = entered pool (mesh .points) ts; entering = refl; added = a .0; behind = a .1; points = refl; facets = refl }
+
+  -- the mesh is the computed one
+  pub demand-decides : (out : Mesh) → DemandThree pool boundary caps positive mesh out → out ≡ closed pool caps positive mesh (selected boundary (outwardCaps pool caps))
+  unfolding closed
+  demand-decides out d =
+      let e = selects-unique boundary (outwardCaps pool caps) (d .chosen) (selected boundary (outwardCaps pool caps)) (d .selects) (selected-selects boundary (outwardCaps pool caps)) in
+      subst (λ (c : List Bool). out ≡ closed pool caps positive mesh c) e
+      (same-mesh out (d .chosen) (d .points ∙ ap (λ n. n .points) (d .entering))
+      (d .facets ∙ ap (λ n. ownFacets positive (mesh .facets) ++ capFacets n (taken positive (d .chosen) (outwardCaps pool caps))) (d .entering)))
+    where
+      same-mesh : (out : Mesh) (chosen : List Bool) → out .points ≡ closed pool caps positive mesh chosen .points → out .facets ≡ closed pool caps positive mesh chosen .facets
+          → out ≡ closed pool caps positive mesh chosen
+      same-mesh out chosen p q = λ i. record { points = p i; facets = q i }
+
+module _ (vs : List Float) (fs capList : List ℕ) (box : AABB) (eps resolution : Float) (mode : BoundaryClosure) where
+  abbrev result : Mesh
+  result = capsResult vs fs capList box eps resolution mode
+
+  abbrev Demand : Mesh → Type 0
+  Demand out =
+      DemandThree (pool vs fs capList box eps resolution mode) (surface vs fs capList box eps resolution mode .edges) (caps vs fs capList box eps resolution mode) (isPositive mode) (meshOf vs fs) out
+
+  pub result-meets : unchanged vs fs capList box eps resolution mode ≡ false → Demand result
+  unfolding capsResult
+  result-meets e =
+      let p = pool vs fs capList box eps resolution mode in
+      let s = surface vs fs capList box eps resolution mode .edges in
+      let c = caps vs fs capList box eps resolution mode in
+      subst (λ (b : Bool). Demand (cond b (meshOf vs fs) (closed p c (isPositive mode) (meshOf vs fs) (selected s (outwardCaps p c))))) (sym e)
+      (closed-meets p s c (isPositive mode) (meshOf vs fs) (selected s (outwardCaps p c)) (selected-selects s (outwardCaps p c)))
+
+  -- what is settled in the outputs of a call that is not turned down is what demand 3 says
+  pub closes : (r : MeshReply) (v v' : List Float) (f f' : List ℕ) → Settled (documentedMesh r) (coordinates (result .points)) v v' → Settled (documentedMesh r) (flat (result .facets)) f f'
+      → turnedDown r ≡ false → unchanged vs fs capList box eps resolution mode ≡ false → Closes vs fs capList box eps resolution mode v v' f f'
+  unfolding documentedMesh settle
+  closes (Done a b) v v' f f' h g t e = record { out = result; demand = result-meets e; vertices = h .ends; facets = g .ends }
+  closes (Refused r) v v' f f' h g t e = absurd (true-false t)
+    where
+      true-false : true ≡ false → ⊥
+      true-false q = subst T q tt

@@ -1,0 +1,153 @@
+-- Every candidate names a vertex of the mesh, or none: what is inserted does. Assumes nothing.
+--   Low            no candidate of the pool names a vertex beyond m
+--   low-insert, low-fold   kept by what is inserted
+--   full-low       of the candidates of a mesh      words-low     as they stand in the room      words-kept    and stay
+use Prim.Native.Nat.{ℕ, zero, suc, _+_, _*_, _/_, _≤_, _<_}
+use native.Mathlib.Omega.{arith}
+use mathlib.Core.Bool.{Bool, true, false, cond, _&&_}
+use mathlib.Core.Path.{_≡_, refl, sym, ap, _∙_, subst}
+use mathlib.Core.List.{List, [], _∷_, _++_, map, flatMap, foldl}
+use lib.Dec.{eqb, leb}
+use lib.ListN.{length, getD, set, length-map}
+use lib.Ieee.{Float}
+use Rattle.lists.specs.Lists.{keep, upTo}
+use Rattle.lists.proofs.Mapped.{Each, each-places, each-keep}
+use Rattle.lists.proofs.Places.{length-up, at-map-up}
+use Rattle.geometry.specs.declared.point.Point.{Point}
+use Rattle.geometry.specs.declared.aabb.AABB.{AABB}
+use Rattle.geometry.specs.Triangles.{Triangle}
+use Rattle.geometry.specs.Boxes.{faces}
+use Rattle.geometry.specs.Meshes.{Mesh, meshOf, pointsOf}
+use Rattle.geometry.proofs.Meshes.{length-pointsOf}
+use Rattle.mesh_weld.specs.Joining.{Joining}
+use Rattle.box_faces.specs.Faces.{uAxis, vAxis, project}
+use Rattle.candidate_pool.specs.Pool.{Candidate, Pool, noCandidate, byKey, renewed, enteredAs, linkFor, insert}
+use Rattle.candidate_pool.specs.Setting.{Setting}
+use Rattle.candidate_pool.specs.Standing.{countAt, candidateAt, poolAt}
+use Rattle.candidate_edges.specs.Surface.{meshCandidate, edgeFaces, cornerVertices, edgeSurface, meshPool}
+use Rattle.candidate_edges.specs.Steps.{Sourced}
+use Rattle.candidate_grids.specs.Grid.{gridPoint, interior, skipped, gridAt, faceGrid, grid, segmentsOf}
+use Rattle.boundary_closure.specs.Operation.{setting}
+use Rattle.boundary_closure.specs.Steps.{fullPool}
+use Rattle.cap_triangles.specs.Room.{Above}
+use Rattle.cap_closing.specs.Entering.{MeshWords}
+
+abbrev pub LowAll : ℕ → List Candidate → Type 0
+LowAll m l = (c : ℕ) → getD l c noCandidate .mesh ≤ m
+
+abbrev pub Low : ℕ → Pool → Type 0
+Low m p = LowAll m (p .all)
+
+abbrev Names : ℕ → Candidate → Type 0
+Names m e = e .mesh ≤ m
+
+-- beyond its end a list has no candidate, which names none
+low-all : (m : ℕ) (l : List Candidate) → ((c : ℕ) → c < length l → getD l c noCandidate .mesh ≤ m) → LowAll m l
+low-all m [] h c = omega arith
+low-all m (x ∷ l) h zero = h 0 (omega arith)
+low-all m (x ∷ l) h (suc c) = low-all m l (λ i k. h (suc i) (omega arith)) c
+
+low-append : (m : ℕ) (l : List Candidate) (e : Candidate) → LowAll m l → Names m e → LowAll m (l ++ (e ∷ []))
+low-append m [] e h k zero = k
+low-append m [] e h k (suc c) = omega arith
+low-append m (x ∷ l) e h k zero = h 0
+low-append m (x ∷ l) e h k (suc c) = low-append m l e (λ i. h (suc i)) k c
+
+low-set : (m : ℕ) (l : List Candidate) (i : ℕ) (e : Candidate) → LowAll m l → Names m e → LowAll m (set l i e)
+low-set m [] i e h k c = h c
+low-set m (x ∷ l) zero e h k zero = k
+low-set m (x ∷ l) zero e h k (suc c) = h (suc c)
+low-set m (x ∷ l) (suc i) e h k zero = h 0
+low-set m (x ∷ l) (suc i) e h k (suc c) = low-set m l i e (λ j. h (suc j)) k c
+
+renewed-low : (m : ℕ) (c e : Candidate) → Names m c → Names m e → Names m (renewed c e)
+unfolding renewed
+renewed-low m c e h k = go (eqb (e .mesh) 0)
+  where
+    go : (b : Bool) → cond b (c .mesh) (e .mesh) ≤ m
+    go true = h
+    go false = k
+
+module _ (J : Joining Point) (m : ℕ) where
+  entered-low : (l : List Candidate) (e : Candidate) (link : ℕ) → LowAll m l → Names m e → LowAll m (enteredAs l e link)
+  entered-low l e zero h k = low-append m l e h k
+  entered-low l e (suc i) h k = low-set m l i (renewed (getD l i noCandidate) e) h (renewed-low m (getD l i noCandidate) e (h i) k)
+
+  pub low-insert : (p : Pool) (e : Candidate) → Low m p → Names m e → Low m (insert J p e)
+  unfolding insert
+  low-insert p e h k = entered-low (p .all) e (linkFor J p e) h k
+
+  pub low-fold : (p : Pool) (l : List Candidate) → Low m p → Each (Names m) l → Low m (foldl (insert J) p l)
+  low-fold p [] h k = h
+  low-fold p (e ∷ l) h k = low-fold (insert J p e) l (low-insert p e h (k .0)) (k .1)
+
+-- ---- what is inserted
+
+each-append : (P : Candidate → Type 0) (l r : List Candidate) → Each P l → Each P r → Each P (l ++ r)
+each-append P [] r h k = k
+each-append P (x ∷ l) r h k = (h .0, each-append P l r (h .1) k)
+
+each-flat : {A : Type 0} (P : Candidate → Type 0) (f : A → List Candidate) (l : List A) → ((x : A) → Each P (f x)) → Each P (flatMap f l)
+unfolding flatMap
+each-flat P f [] h = tt
+each-flat P f (x ∷ l) h = each-append P (f x) (flatMap f l) (h x) (each-flat P f l h)
+
+corners-low : (box : AABB) (eps : Float) (mesh : Mesh) → Each (Names (length (mesh .points))) (cornerVertices box eps mesh)
+unfolding cornerVertices
+corners-low box eps mesh =
+    let at : ℕ → Candidate = λ v. meshCandidate mesh v (edgeFaces box eps mesh (v, v)) in
+    let l = length (mesh .points) in
+    each-keep (λ c. leb 2 (length (c .on))) (Names l) (map at (upTo l))
+    (each-places (Names l) noCandidate (map at (upTo l))
+    (λ i h.
+    let k : i < l = let a = length-map (upTo l) at in let b = length-up 0 l in omega (arith, a, b) in
+    let e = ap (λ (c : Candidate). c .mesh) (at-map-up at noCandidate 0 l i k) in
+    omega (arith, e, k)))
+
+-- a grid point names none
+grid-low : (s : Setting) (edges : List (Triangle ℕ)) (p : Pool) (m : ℕ) → Each (Names m) (grid s edges p)
+unfolding grid faceGrid gridAt
+grid-low s edges p m =
+    each-flat (Names m) (faceGrid s edges p) faces
+    (λ f.
+    each-flat (Names m) (λ i. flatMap (λ j. gridAt s edges p f i j) (upTo (segmentsOf s (vAxis f) + 1))) (upTo (segmentsOf s (uAxis f) + 1))
+    (λ i. each-flat (Names m) (λ j. gridAt s edges p f i j) (upTo (segmentsOf s (vAxis f) + 1)) (λ j. point-low f i j)))
+  where
+    one : (b : Bool) (x : Point) (on : List ℕ) → Each (Names m) (cond b [] (record { point = x; mesh = 0; on = on } ∷ []))
+    one true x on = tt
+    one false x on = (omega arith, tt)
+
+    point-low : (f i j : ℕ) → Each (Names m) (gridAt s edges p f i j)
+    point-low f i j =
+        one (interior s (uAxis f) i && (interior s (vAxis f) j && skipped s edges p f (project f (gridPoint s f i j)))) (gridPoint s f i j) (f ∷ [])
+
+pub full-low : (vs : List Float) (fs : List ℕ) (box : AABB) (eps resolution : Float) → Sourced (pointsOf vs) eps (edgeSurface box eps (byKey eps) (meshOf vs fs) .pool)
+    → Low (length vs / 3) (fullPool (setting box eps resolution) (meshOf vs fs))
+unfolding meshPool
+full-low vs fs box eps resolution S =
+    let mesh = meshOf vs fs in
+    let first = edgeSurface box eps (byKey eps) mesh .pool in
+    let m = length (pointsOf vs) in
+    let a : Low m first = low-all m (first .all) (S .low) in
+    let b = low-fold (byKey eps) m first (cornerVertices box eps mesh) a (corners-low box eps mesh) in
+    let c = low-fold (byKey eps) m (meshPool box eps (byKey eps) mesh) (grid (setting box eps resolution) (edgeSurface box eps (byKey eps) mesh .edges) (meshPool box eps (byKey eps) mesh)) b
+    (grid-low (setting box eps resolution) (edgeSurface box eps (byKey eps) mesh .edges) (meshPool box eps (byKey eps) mesh) m) in
+    λ i. let h = c i in let l = length-pointsOf vs in omega (arith, h, l)
+
+-- ---- in the room
+
+pub words-low : (n m : ℕ) (w : List ℕ) (p : Pool) → poolAt n w ≡ p → Low m p → MeshWords m w
+unfolding poolAt
+words-low n m w p e h c k =
+    let a = ap (λ (q : Pool). getD (q .all) c noCandidate .mesh) e in
+    let z : 0 + c ≡ c = omega arith in
+    let b : getD (poolAt n w .all) c noCandidate .mesh ≡ getD w (8 + 5 * c + 3) 0 = ap (λ (x : Candidate). x .mesh) (at-map-up (candidateAt w) noCandidate 0 (countAt w) c k) ∙ ap (λ (x : ℕ). getD w (8 + 5 * x + 3) 0) z in
+    let d = h c in
+    omega (arith, a, b, d)
+
+pub words-kept : (b n m : ℕ) (w w' : List ℕ) → Above b w w' → 8 + 17 * n ≤ b → countAt w ≤ n → MeshWords m w → MeshWords m w'
+words-kept b n m w w' r h few k c l =
+    let e = r .below 6 (omega arith) in
+    let q = r .below (8 + 5 * c + 3) (omega (arith, e, l, few)) in
+    let d = k c (omega (arith, e, l)) in
+    omega (arith, q, d)
