@@ -1,4 +1,10 @@
--- What the functions for C report, from what the operations promise.
+-- What the functions for C report, from what the operations promise. Assumes nothing.
+--   tolerance-done, tolerance-refused          the tolerance
+--   mesh-reported                              an operation that writes a mesh
+--   candidates-done, candidates-refused, candidates-reported   candidates
+--   mode-none, mode-positive, mode-negative    a mode from its number
+--   no-mode-passed, no-mode-refused            the reply to a number that is no mode, after tests 1, 2 and 3
+--   caps-none, caps-reported                   caps, of a number that is no mode and of one that is
 use mathlib.Core.Path.{_≡_, refl, sym, ap, _∙_, subst}
 use mathlib.Core.Bool.{Bool, true, false, cond}
 use mathlib.Core.List.{List, [], _∷_, _++_}
