@@ -14,6 +14,7 @@ pub const OPERATION: Operation = Operation {
     name: "candidates",
     number: 4,
     generate,
+    small: (19_683, lattice_facet),
     chosen: chosen::candidates,
     need: |r| oracle::need_words(r.vertices.len() / 3, r.facets.len() / 3, 0, grid(r)),
     lengths: |r| {
@@ -162,7 +163,7 @@ pub fn boundary(random: &mut Random, number: u64) -> Request {
 
 /// A spacing that gives few segments, also where the quotient is a step away from a
 /// whole number, and now and then either end of the range.
-fn resolution(random: &mut Random, extents: &Extents) -> f64 {
+pub fn resolution(random: &mut Random, extents: &Extents) -> f64 {
     let axis = random.below(3);
     let side = extents[axis + 3] - extents[axis];
     let segments = (1 + random.below(6)) as f64;
@@ -182,7 +183,7 @@ fn resolution(random: &mut Random, extents: &Extents) -> f64 {
 }
 
 /// Makes the grid coarser until it is small; what test 6 refuses stays.
-fn tame(request: &mut Request) {
+pub fn tame(request: &mut Request) {
     while grid(request) > GRID_BOUND && request.resolution < LARGEST {
         request.resolution = (2.0 * request.resolution).min(LARGEST);
     }
@@ -216,7 +217,7 @@ fn unused_vertices(random: &mut Random, request: &mut Request) {
 
 /// Every facet with corners among the 27 points of a box's corners, side middles,
 /// face middles and middle, in turn.
-fn lattice_facet(random: &mut Random, mut turn: u64) -> Request {
+pub fn lattice_facet(random: &mut Random, mut turn: u64) -> Request {
     let mut vertices = Vec::new();
     for _ in 0..9 {
         vertices.push((turn % 3) as f64 / 2.0);

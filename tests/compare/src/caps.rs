@@ -1,6 +1,6 @@
 //! Caps: `yongpham_caps` beside the oracle, and the requests for it.
 
-use crate::candidates::{boundary, grid};
+use crate::candidates::{boundary, grid, lattice_facet};
 use crate::chosen;
 use crate::lent::Lent;
 use crate::meshes;
@@ -14,6 +14,7 @@ pub const OPERATION: Operation = Operation {
     name: "caps",
     number: 5,
     generate,
+    small: (2_048 + 2 * 19_683, small),
     chosen: chosen::caps,
     need: |r| {
         oracle::need_words(
@@ -172,6 +173,13 @@ fn lists(r: &Request) -> Option<[Vec<u64>; 4]> {
     Some(run(lengths).1)
 }
 
+/// Whether a request that was done with these lengths got its mesh back because no open
+/// edge keeps two ends.
+pub fn comes_back(r: &Request, lengths: &[u64; 4]) -> bool {
+    let same = lengths[0] as usize == r.vertices.len() && lengths[1] as usize == r.facets.len();
+    same && lists(r).is_none()
+}
+
 fn generate(random: &mut Random, number: u64) -> Request {
     let mut request = if random.one_in(10) {
         small_areas(random)
@@ -201,6 +209,58 @@ fn generate(random: &mut Random, number: u64) -> Request {
         20 => request.caps.resize(4 * 1_048_577, 0),
         21 => request.caps.resize(4 * 1_048_577 - 3, 0),
         _ => {}
+    }
+    request
+}
+
+/// C15 with every choice of diagonals, then every facet among a box's 27 points with a
+/// triangulation of each face; in both modes.
+fn small(random: &mut Random, turn: u64) -> Request {
+    let mut request = if turn < 2_048 {
+        diagonals(turn / 2)
+    } else {
+        let mut request = lattice_facet(random, (turn - 2_048) / 2);
+        request.caps = lists(&request).map_or_else(Vec::new, |lists| sound_list(&lists).concat());
+        request
+    };
+    request.mode = 1 + (turn % 2) as u32;
+    request
+}
+
+/// C15's ten rectangles, each with its face: of its candidates 0 to 3 are the mesh vertices 0,
+/// 1, 3, 2, and 4 to 11 the box corners, z inside y inside x.
+const RECTANGLES: [[u64; 5]; 10] = [
+    [0, 4, 6, 2, 0],
+    [0, 0, 2, 7, 5],
+    [1, 8, 10, 3, 1],
+    [1, 1, 3, 11, 9],
+    [2, 4, 8, 1, 0],
+    [2, 0, 1, 9, 5],
+    [3, 6, 10, 3, 2],
+    [3, 2, 3, 11, 7],
+    [4, 4, 8, 10, 6],
+    [5, 5, 9, 11, 7],
+];
+
+/// The square across the unit box at half its height; bit i of `choice` picks the diagonal of
+/// rectangle i.
+fn diagonals(choice: u64) -> Request {
+    let corners = [[0.0, 0.0], [1.0, 0.0], [1.0, 1.0], [0.0, 1.0]];
+    let vertices = corners.iter().flat_map(|&[x, y]| [x, y, 0.5]).collect();
+    let extents = [0.0, 0.0, 0.0, 1.0, 1.0, 1.0];
+    let mut request = Request::new(
+        "diagonals",
+        vertices,
+        vec![0, 1, 2, 0, 2, 3],
+        extents,
+        1e-10,
+    );
+    for (i, [face, a, b, c, d]) in RECTANGLES.into_iter().enumerate() {
+        request.caps.extend(if choice >> i & 1 == 0 {
+            [face, a, b, c, face, a, c, d]
+        } else {
+            [face, b, c, d, face, b, d, a]
+        });
     }
     request
 }

@@ -13,6 +13,7 @@ pub const OPERATION: Operation = Operation {
     name: "clean",
     number: 3,
     generate,
+    small: (4_161, small_lists),
     chosen: chosen::clean,
     need: |r| oracle::need_words(r.vertices.len() / 3, r.facets.len() / 3, 0, 0),
     lengths: |r| {

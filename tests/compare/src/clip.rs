@@ -12,6 +12,7 @@ pub const OPERATION: Operation = Operation {
     name: "clip",
     number: 2,
     generate,
+    small: (LISTS + 262_144, small),
     chosen: chosen::clip,
     need: |r| oracle::need_words(r.vertices.len() / 3, r.facets.len() / 3, 0, 0),
     lengths: |r| {
@@ -105,6 +106,18 @@ fn generate(random: &mut Random, number: u64) -> Request {
         meshes::damage(random, &mut request);
     }
     request
+}
+
+/// Lists of up to two facets, numbers below four.
+const LISTS: u64 = 4_161;
+
+/// Every list of `small_lists`, then every facet of `lattice_facet`.
+fn small(random: &mut Random, turn: u64) -> Request {
+    if turn < LISTS {
+        small_lists(random, turn)
+    } else {
+        lattice_facet(random, turn - LISTS)
+    }
 }
 
 /// Every facet with corners on a small lattice around the box, in turn: outside,

@@ -2,12 +2,18 @@
 //! values, every element of every output, work room.
 //!
 //!     compare [--seed S] [--requests N] [--first I] [--numbers N] [--only NAME] [--self-check]
+//!     compare --small [--seed S] [--only NAME]
+//!     compare --damaged [--seed S] [--requests N] [--first I] [--only NAME]
+//!     compare --full [--seed S] [--only NAME]
 //!     compare --store FILE [--seed S] [--count N]
 //!     compare --check FILE
+//!     compare --property [--seed S] [--requests N] [--first I] [--self-check]
 //!
-//! The second form compares nothing: it writes a sample of requests and the oracle's
-//! answers to FILE, at most N requests an operation, for the program crates/replay. The third
-//! asks the oracle again for each request of FILE.
+//! --small compares all small requests of each operation, --damaged those with several faults at
+//! once, --full those at full size, with their times (full.rs). --store compares nothing: it writes a sample of requests and the oracle's
+//! answers to FILE, at most N requests an operation, for the program crates/replay. --check
+//! asks the oracle again for each request of FILE. --property asks our library alone whether it
+//! closes surfaces (property.rs).
 //!
 //! 20,000 requests of each operation and 10,000,000 numbers if not told otherwise.
 //! Requests are numbered from 0; request I of a seed is made again by itself with
@@ -19,19 +25,25 @@ mod caps;
 mod chosen;
 mod clean;
 mod clip;
+mod damaged;
+mod early;
+mod full;
 mod lent;
 mod meshes;
 mod numbers;
 mod operation;
+mod property;
 mod random;
 mod report;
 mod request;
+mod small;
 mod store;
 mod tolerance;
 mod triangulation;
 
 use lent::{Lent, Old};
 use operation::Operation;
+use report::Row;
 use std::ops::Range;
 use std::process::ExitCode;
 
@@ -53,11 +65,36 @@ pub struct Options {
     pub only: Option<String>,
     /// Runs the oracle in our library's place: exercises the generators alone.
     pub self_check: bool,
+    /// Runs the property in place of the comparison.
+    pub property: bool,
+    /// Leaves numbers and tolerance out.
+    pub meshes_alone: bool,
+    /// What makes the row of a mesh operation.
+    pub requests_of: fn(&Operation, &Options, &mut Lent<u64>) -> Row,
     /// The file for stored answers, and how many requests of each operation it gets.
     pub store: Option<String>,
     pub count: usize,
     /// A file of stored answers to be checked.
     pub check: Option<String>,
+}
+
+impl Default for Options {
+    fn default() -> Self {
+        Options {
+            seed: 1,
+            first: 0,
+            requests: 20_000,
+            numbers: 10_000_000,
+            only: None,
+            self_check: false,
+            property: false,
+            meshes_alone: false,
+            requests_of: operation::row,
+            store: None,
+            check: None,
+            count: 250,
+        }
+    }
 }
 
 impl Options {
@@ -71,19 +108,10 @@ impl Options {
 }
 
 fn options() -> Result<Options, String> {
-    let mut options = Options {
-        seed: 1,
-        first: 0,
-        requests: 20_000,
-        numbers: 10_000_000,
-        only: None,
-        self_check: false,
-        store: None,
-        check: None,
-        count: 250,
-    };
+    let mut options = Options::default();
     let mut arguments = std::env::args().skip(1);
     while let Some(argument) = arguments.next() {
+        options.meshes_alone |= ["--small", "--damaged", "--full"].contains(&argument.as_str());
         let mut value = || arguments.next().ok_or(format!("{argument} wants a value"));
         let number = |text: String| text.parse::<u64>().map_err(|e| format!("{text}: {e}"));
         match argument.as_str() {
@@ -93,6 +121,10 @@ fn options() -> Result<Options, String> {
             "--numbers" => options.numbers = number(value()?)?,
             "--only" => options.only = Some(value()?),
             "--self-check" => options.self_check = true,
+            "--property" => options.property = true,
+            "--small" => options.requests_of = small::row,
+            "--damaged" => options.requests_of = damaged::row,
+            "--full" => options.requests_of = full::row,
             "--store" => options.store = Some(value()?),
             "--check" => options.check = Some(value()?),
             "--count" => options.count = number(value()?)? as usize,
@@ -100,6 +132,25 @@ fn options() -> Result<Options, String> {
         }
     }
     Ok(options)
+}
+
+/// The rows of numbers and tolerance, and which of the two are not linked.
+fn leaves(options: &Options) -> (Vec<Row>, Vec<&'static str>) {
+    let (mut rows, mut unlinked) = (Vec::new(), Vec::new());
+    if options.meshes_alone {
+        return (rows, unlinked);
+    }
+    if cfg!(feature = "numbers") && !options.self_check {
+        rows.extend(numbers::rows(options));
+    } else {
+        unlinked.push("numbers");
+    }
+    if !cfg!(feature = "tolerance") || options.self_check {
+        unlinked.push("tolerance");
+    } else if !options.leaves_out("tolerance") {
+        rows.push(tolerance::row(options));
+    }
+    (rows, unlinked)
 }
 
 fn main() -> ExitCode {
@@ -116,18 +167,10 @@ fn main() -> ExitCode {
     if let Some(file) = &options.check {
         return store::check(file);
     }
-    let mut rows = Vec::new();
-    let mut unlinked = Vec::new();
-    if cfg!(feature = "numbers") && !options.self_check {
-        rows.extend(numbers::rows(&options));
-    } else {
-        unlinked.push("numbers");
+    if options.property {
+        return property::run(&options);
     }
-    if !cfg!(feature = "tolerance") || options.self_check {
-        unlinked.push("tolerance");
-    } else if !options.leaves_out("tolerance") {
-        rows.push(tolerance::row(&options));
-    }
+    let (mut rows, mut unlinked) = leaves(&options);
     // One work room for all requests: its pages are touched once.
     let mut work = Lent::new(0, Old::Junk);
     for operation in OPERATIONS {
@@ -135,7 +178,7 @@ fn main() -> ExitCode {
             continue;
         }
         if operation.ours.is_some() || options.self_check {
-            rows.push(operation::row(operation, &options, &mut work));
+            rows.push((options.requests_of)(operation, &options, &mut work));
         } else {
             unlinked.push(operation.name);
         }

@@ -1,6 +1,7 @@
 //! How an operation is compared: its generator, its oracle, our function.
 
 use crate::chosen::Chosen;
+use crate::early;
 use crate::lent::{Cell, Lent};
 use crate::random::Random;
 use crate::report::Row;
@@ -15,6 +16,8 @@ pub struct Operation {
     pub number: u64,
     /// Makes request number `n`; work room and outputs are chosen afterwards.
     pub generate: fn(&mut Random, u64) -> Request,
+    /// How many small requests there are, and the one of a number: all of a kind, in turn.
+    pub small: (u64, fn(&mut Random, u64) -> Request),
     /// Requests that a file of stored answers has in any case.
     pub chosen: fn() -> Vec<Chosen>,
     /// Words of work room that test 7 asks for.
@@ -24,6 +27,18 @@ pub struct Operation {
     pub oracle: fn(&Request, &mut Lent<u64>) -> Answer,
     /// Our function; `None` where the feature is off.
     pub ours: Option<fn(&Request, &mut Lent<u64>) -> Answer>,
+}
+
+pub type Ask = fn(&Request, &mut Lent<u64>) -> Answer;
+
+impl Operation {
+    /// Our function, or the oracle in a self check.
+    pub fn asked(&self, options: &Options) -> Ask {
+        match self.ours {
+            Some(ours) if !options.self_check => ours,
+            _ => self.oracle,
+        }
+    }
 }
 
 /// What a call left behind.
@@ -94,12 +109,43 @@ pub fn lists_answer(
 /// Request number `n` with work room and outputs.
 pub fn request(operation: &Operation, seed: u64, number: u64, work: &mut Lent<u64>) -> Request {
     let mut random = Random::new(seed, operation.name, number);
-    let mut request = (operation.generate)(&mut random, number);
+    let request = (operation.generate)(&mut random, number);
+    with_room(operation, &mut random, request, work)
+}
+
+/// Chooses work room and outputs.
+pub fn with_room(
+    operation: &Operation,
+    random: &mut Random,
+    mut request: Request,
+    work: &mut Lent<u64>,
+) -> Request {
     let need = (operation.need)(&request);
-    request.choose_work(&mut random, need);
+    request.choose_work(random, need);
     let lengths = lengths(operation, &request, work);
-    request.choose_outputs(&mut random, lengths);
+    request.choose_outputs(random, lengths);
     request
+}
+
+/// Lengthens the outputs until the result fits, and answers the last reply with the outputs.
+pub fn fitted(ask: Ask, request: &mut Request, work: &mut Lent<u64>) -> Answer {
+    request.outputs = [0; 4];
+    let mut short = 0;
+    loop {
+        let answer = ask(request, work);
+        if answer.reply.number != 12 {
+            return answer;
+        }
+        // The first short output: those before it have their length.
+        let need = answer.reply.values[0] as usize;
+        while short < 3 && request.outputs[short] >= need {
+            short += 1;
+        }
+        if request.outputs[short] >= need {
+            return answer;
+        }
+        request.outputs[short] = need;
+    }
 }
 
 /// Lengths of the result of a request that has no outputs yet; 3 each where it is refused.
@@ -115,23 +161,20 @@ pub fn lengths(operation: &Operation, request: &Request, work: &mut Lent<u64>) -
 /// which shows that the requests are made and answered the same each time.
 pub fn row(operation: &Operation, options: &Options, work: &mut Lent<u64>) -> Row {
     let mut row = Row::new(operation.name);
-    let ours = match operation.ours {
-        Some(ours) if !options.self_check => ours,
-        _ => operation.oracle,
-    };
+    let ours = operation.asked(options);
     let chosen = match options.first {
         0 => (operation.chosen)(),
         _ => Vec::new(),
     };
     for (place, chosen) in chosen.into_iter().enumerate() {
         let request = chosen.with_room(operation, work);
-        compare(&mut row, &request, work, (operation.oracle, ours), || {
+        compare(&mut row, &request, work, (operation, ours), || {
             format!("chosen request {place} of {}", operation.name)
         });
     }
     for number in options.range() {
         let request = request(operation, options.seed, number, work);
-        compare(&mut row, &request, work, (operation.oracle, ours), || {
+        compare(&mut row, &request, work, (operation, ours), || {
             format!(
                 "compare --only {} --seed {} --first {number} --requests 1",
                 operation.name, options.seed
@@ -141,17 +184,15 @@ pub fn row(operation: &Operation, options: &Options, work: &mut Lent<u64>) -> Ro
     row
 }
 
-type Ask = fn(&Request, &mut Lent<u64>) -> Answer;
-
 /// Asks both for one request, which `name` says how to find again.
-fn compare(
+pub fn compare(
     row: &mut Row,
     request: &Request,
     work: &mut Lent<u64>,
-    (oracle, ours): (Ask, Ask),
+    (operation, ours): (&Operation, Ask),
     name: impl FnOnce() -> String,
 ) {
-    let expected = oracle(request, work);
+    let expected = (operation.oracle)(request, work);
     let before = (
         request.vertices.clone(),
         request.facets.clone(),
@@ -160,10 +201,14 @@ fn compare(
     let got = ours(request, work);
     row.requests += 1;
     row.replies[expected.reply.number as usize] += 1;
+    if let Some(point) = early::point(operation, request, &expected) {
+        row.early[point] += 1;
+    }
     let inputs_stand = same(&before.0, &request.vertices)
         && same(&before.1, &request.facets)
         && same(&before.2, &request.caps);
     if got != expected || !inputs_stand {
+        *row.families.entry(request.family).or_default() += 1;
         row.differs(request.size(), || {
             format!(
                 "{}\n{}{}inputs {}",

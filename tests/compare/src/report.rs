@@ -1,11 +1,18 @@
 //! One row of the printed table for each operation.
 
+use crate::early::NAMES;
+use std::collections::BTreeMap;
+
 /// How often each reply came (number 0 to 12), and what differed.
 pub struct Row {
     pub name: &'static str,
     pub requests: u64,
     pub replies: [u64; 13],
+    /// How often it was done at each point of `early`.
+    pub early: [u64; 4],
     pub differences: u64,
+    /// Families of the mesh requests that differ.
+    pub families: BTreeMap<&'static str, u64>,
     /// The smallest request that differed, in full.
     pub smallest: Option<(usize, String)>,
 }
@@ -16,7 +23,9 @@ impl Row {
             name,
             requests: 0,
             replies: [0; 13],
+            early: [0; 4],
             differences: 0,
+            families: BTreeMap::new(),
             smallest: None,
         }
     }
@@ -45,11 +54,22 @@ pub fn print(rows: &[Row]) -> bool {
             .for_each(|count| print!("{count:>8}"));
         println!("{:>13}", row.differences);
     }
+    if rows.iter().any(|row| row.early != [0; 4]) {
+        print!("\n{:<12}", "done early");
+        NAMES.iter().for_each(|name| print!("{name:>15}"));
+        println!();
+        for row in rows.iter().filter(|row| row.early != [0; 4]) {
+            print!("{:<12}", row.name);
+            row.early.iter().for_each(|count| print!("{count:>15}"));
+            println!();
+        }
+    }
     for (row, text) in rows
         .iter()
         .filter_map(|row| Some((row, &row.smallest.as_ref()?.1)))
     {
-        println!("\n{}: the smallest request that differs\n{text}", row.name);
+        println!("\n{}: families that differ {:?}", row.name, row.families);
+        println!("the smallest request that differs\n{text}");
     }
     rows.iter().all(|row| row.differences == 0)
 }

@@ -10,6 +10,8 @@
 /// Lattice steps along the longer side of the points' bounding box.
 const STEPS: f64 = (1u64 << 24) as f64;
 const NONE: usize = usize::MAX;
+/// The two axes of a face, by the axis that it bounds.
+pub const AXES: [[usize; 2]; 3] = [[1, 2], [0, 2], [0, 1]];
 
 type Point = [i64; 2];
 
@@ -48,7 +50,7 @@ pub fn sound_list(lists: &[Vec<u64>; 4]) -> Vec<[u64; 4]> {
     let [candidates, face_lists, constraints, _] = lists;
     let mut list = Vec::new();
     for (face, numbers) in by_face(face_lists).into_iter().enumerate() {
-        let axes = [[1, 2], [0, 2], [0, 1]][face / 2];
+        let axes = AXES[face / 2];
         let points: Vec<[f64; 2]> = numbers
             .iter()
             .map(|&id| axes.map(|axis| f64::from_bits(candidates[5 * id as usize + axis])))

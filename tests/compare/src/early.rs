@@ -1,0 +1,29 @@
+//! The points at which an operation is done before its end, so that a run can say how often
+//! it met each.
+
+use crate::caps;
+use crate::operation::{Answer, Operation};
+use crate::request::Request;
+
+/// "No facet left" is cleaning's: all welded vertices come back.
+pub const NAMES: [&str; 4] = ["no facet", "mode none", "no open edge", "no facet left"];
+const NO_FACET: usize = 0;
+const MODE_NONE: usize = 1;
+const NO_OPEN_EDGE: usize = 2;
+const NO_FACET_LEFT: usize = 3;
+
+/// Where this request was done early, if it was.
+pub fn point(operation: &Operation, request: &Request, answer: &Answer) -> Option<usize> {
+    let lengths = answer.reply.values;
+    if answer.reply.number != 0 {
+        return None;
+    }
+    match operation.name {
+        "caps" if request.mode == 0 => Some(MODE_NONE),
+        _ if request.facets.is_empty() => Some(NO_FACET),
+        "clean" if lengths[1] == 0 => Some(NO_FACET_LEFT),
+        "candidates" if lengths == [0; 4] => Some(NO_OPEN_EDGE),
+        "caps" if caps::comes_back(request, &lengths) => Some(NO_OPEN_EDGE),
+        _ => None,
+    }
+}
