@@ -12,7 +12,8 @@ use lib.Seq.{sets, drop-cons}
 use lib.Ieee.{Float}
 use Rattle.geometry.specs.declared.point.Point.{Point}
 use Rattle.lists.specs.Lists.{upFrom}
-use Rattle.lists.proofs.Stores.{length-upFrom, upFrom-cons}
+use Rattle.lists.proofs.Stores.{upFrom-cons}
+use Rattle.lists.proofs.Places.{length-up}
 use Rattle.geometry.specs.Triangles.{Triangle, tri, flat}
 use Rattle.geometry.specs.Meshes.{coordinates}
 use Rattle.geometry.proofs.Threes.{length-flat}
@@ -89,4 +90,4 @@ fan-end o i base j n e = ap (λ (x : ℕ). sets o i (fanFrom base j x)) e
 pub length-fan : (base n : ℕ) → length (flat (fan base n)) ≡ 3 * n
 unfolding fan
 length-fan base n =
-    length-flat (map (spoke base) (upFrom 0 n)) ∙ ap (λ (k : ℕ). 3 * k) (length-map (upFrom 0 n) (spoke base) ∙ length-upFrom 0 n)
+    length-flat (map (spoke base) (upFrom 0 n)) ∙ ap (λ (k : ℕ). 3 * k) (length-map (upFrom 0 n) (spoke base) ∙ length-up 0 n)

@@ -1,59 +1,33 @@
 -- The four results as lists that are written one after the other, word for word as they stand in the room. Assumes nothing.
---   flat-map, flat-flat                flatMap of a map, and of a flatMap
---   view-map                           a part of the room by its places
 --   listBlock, lists-are, lists-long, numbers-long, block-long, lists-stored   "six counts, then the numbers"
 --   keyBlock, keys-are, keys-long      constraints            faces-are, faces-long, face-taken, face-left   an open edge with its faces
---   edgeBlock, edges-are               open edges             mask-back              the word of the faces whose bits a word has
+--   edgeBlock, edges-are               open edges
 --   words-are                          candidates
-use Prim.Native.Nat.{ℕ, zero, suc, _+_, _*_, _/_, _%_, _≤_, _<_}
+use Prim.Native.Nat.{ℕ, zero, suc, _+_, _*_, _≤_, _<_}
 use native.Mathlib.Nat.{mul-le-mul-right}
 use native.Mathlib.Omega.{arith}
 use mathlib.Core.Bool.{Bool, true, false, cond}
 use mathlib.Core.Path.{_≡_, refl, sym, ap, _∙_}
 use mathlib.Core.List.{List, [], _∷_, _++_, map, flatMap}
-use lib.Dec.{eqb}
 use lib.ListN.{length, getD, take, drop, length-append, length-map}
-use lib.Seq.{sets, ext-getD, take-add, drop-drop}
+use lib.Seq.{sets, take-add, drop-drop}
 use lib.Ieee.{Float, binary64, toBits}
 use Rattle.lists.specs.Lists.{keep, upFrom, upTo}
 use Rattle.lists.specs.Regions.{view}
-use Rattle.lists.proofs.Regions.{view-length, view-at}
-use Rattle.lists.proofs.Places.{length-up, at-map-up}
+use Rattle.lists.proofs.Regions.{view-length, view-map}
 use Rattle.geometry.specs.Boxes.{faces}
 use Rattle.geometry.specs.Triangles.{tri, vertices, flat}
 use Rattle.lists.proofs.Bools.{cond-true, cond-false}
 use Rattle.lists.proofs.Stores.{sets-append}
-use Rattle.geometry.proofs.Threes.{flatMap-append, length-flat}
+use Rattle.lists.proofs.Sequences.{flat-map, flat-flat, flat-up, flat-below}
+use Rattle.geometry.proofs.Threes.{length-flat}
 use Rattle.box_faces.specs.Faces.{faceBits, hasBit}
-use Rattle.box_faces.proofs.Bits.{digit, word-is}
 use Rattle.candidate_pool.specs.Pool.{Candidate}
 use Rattle.candidate_pool.specs.Standing.{facesIn, countAt, candidateAt, poolAt, Stored, Holds, edgeAt, edgesAt}
+use Rattle.candidate_pool.proofs.Masking.{mask-back}
 use Rattle.candidate_constraints.specs.Steps.{unpacked}
 use Rattle.boundary_closure.specs.Candidates.{candidateWords, listWords}
 use Rattle.boundary_closure.specs.Steps.{faceWords}
-use Rattle.boundary_closure.proofs.Runs.{flat-snoc, flat-same}
-
--- ---- lists
-
-module _ {A B : Type 0} (f : A → List B) where
-  pub flat-map : {C : Type 0} (g : C → A) (l : List C) → flatMap f (map g l) ≡ flatMap (λ x. f (g x)) l
-  unfolding flatMap
-  flat-map g [] = refl
-  flat-map g (x ∷ l) = ap (λ (r : List B). f (g x) ++ r) (flat-map g l)
-
-  pub flat-flat : {C : Type 0} (g : C → List A) (l : List C) → flatMap f (flatMap g l) ≡ flatMap (λ x. flatMap f (g x)) l
-  unfolding flatMap
-  flat-flat g [] = refl
-  flat-flat g (x ∷ l) = flatMap-append f (g x) (flatMap g l) ∙ ap (λ (r : List B). flatMap f (g x) ++ r) (flat-flat g l)
-
-pub view-map : (w : List ℕ) (o n : ℕ) → o + n ≤ length w → view w o n ≡ map (λ i. getD w (o + i) 0) (upTo n)
-view-map w o n h =
-    let l = view-length w o n h in
-    ext-getD 0 (view w o n) (map (λ i. getD w (o + i) 0) (upTo n)) (l ∙ sym (length-map (upTo n) (λ i. getD w (o + i) 0) ∙ length-up 0 n))
-    (λ i k. let m : i < n = omega (arith, l) in view-at w o n i m ∙ sym (at-map-up (λ (j : ℕ). getD w (o + j) 0) 0 0 n i m ∙ first o i))
-  where
-    first : (o i : ℕ) → getD w (o + (0 + i)) 0 ≡ getD w (o + i) 0
-    first o i = let e : o + (0 + i) ≡ o + i = omega arith in ap (λ (x : ℕ). getD w x 0) e
 
 -- ---- "six counts, then the numbers"
 
@@ -169,31 +143,6 @@ edges-are w at k = sym (flat-flat vertices (λ i. edgeAt w (at + 3 * i)) (upTo k
 
 -- ---- candidates
 
-lower : (x : ℕ) → x < 2 → digit (eqb x 1) ≡ x
-lower zero h = refl
-lower (suc zero) h = refl
-lower (suc (suc x)) h = absurd (omega arith)
-
-halves : (m : ℕ) → m < 64
-    → (m ≡ m / 1 % 2 + 2 * (m / 2)) × (m / 2 ≡ m / 2 % 2 + 2 * (m / 4)) × (m / 4 ≡ m / 4 % 2 + 2 * (m / 8)) × (m / 8 ≡ m / 8 % 2 + 2 * (m / 16)) × (m / 16 ≡ m / 16 % 2 + 2 * (m / 32)) × (m / 32 ≡ m / 32 % 2)
-halves m h = (omega arith, omega arith, omega arith, omega arith, omega arith, omega arith)
-
-pub mask-back : (m : ℕ) → m < 64 → faceBits (facesIn m) ≡ m
-unfolding hasBit
-mask-back m h =
-    let d0 = lower (m / 1 % 2) (omega arith) in
-    let d1 = lower (m / 2 % 2) (omega arith) in
-    let d2 = lower (m / 4 % 2) (omega arith) in
-    let d3 = lower (m / 8 % 2) (omega arith) in
-    let d4 = lower (m / 16 % 2) (omega arith) in
-    let d5 = lower (m / 32 % 2) (omega arith) in
-    let q = halves m h in
-    sym (word-is (hasBit m)) ∙ (λ t. 1 * d0 t + (2 * d1 t + (4 * d2 t + (8 * d3 t + (16 * d4 t + 32 * d5 t))))) ∙ sums _ _ _ _ _ _ _ _ _ _ _ _ (q .0) (q .1) (q .2) (q .3) (q .4) (q .5)
-  where
-    sums : (m a b c d e f p q r s u : ℕ) → m ≡ a + 2 * p → p ≡ b + 2 * q → q ≡ c + 2 * r → r ≡ d + 2 * s → s ≡ e + 2 * u → u ≡ f
-        → 1 * a + (2 * b + (4 * c + (8 * d + (16 * e + 32 * f)))) ≡ m
-    sums m a b c d e f p q r s u ha hb hc hd he hf = omega arith
-
 abbrev five : List ℕ → ℕ → List ℕ
 five w c =
     getD w (8 + 5 * c) 0 ∷ getD w (8 + 5 * c + 1) 0 ∷ getD w (8 + 5 * c + 2) 0 ∷ getD w (8 + 5 * c + 3) 0 ∷ getD w (8 + 5 * c + 4) 0 ∷ []
@@ -216,7 +165,7 @@ fives w zero h = refl
 fives w (suc m) h =
     let q : suc m ≡ m + 1 = omega arith in
     let r : 5 * m + 5 ≡ 5 * suc m = omega arith in
-    ap (λ (x : ℕ). flatMap (five w) (upTo x)) q ∙ flat-snoc (five w) m
+    ap (λ (x : ℕ). flatMap (five w) (upTo x)) q ∙ flat-up (five w) m
     ∙ (λ t. fives w m (omega arith) t ++ sym (ap (take 5) (drop-drop (5 * m) 8 w) ∙ five-view w (8 + 5 * m) (omega arith)) t)
     ∙ sym (take-add (5 * m) 5 (drop 8 w)) ∙ ap (view w 8) r
 
@@ -224,5 +173,5 @@ pub words-are : (eps : Float) (n : ℕ) (w : List ℕ) → Holds eps n w → can
 unfolding candidateWords poolAt
 words-are eps n w h =
     flat-map wordsOf (candidateAt w) (upTo (countAt w))
-    ∙ flat-same (λ c. wordsOf (candidateAt w c)) (five w) (countAt w) (λ c l. five-is w c (h .stored c l) (h .masks c l))
+    ∙ flat-below (λ c. wordsOf (candidateAt w c)) (five w) (countAt w) (λ c l. five-is w c (h .stored c l) (h .masks c l))
     ∙ fives w (countAt w) (let a = h .size in let b = h .table .few in omega arith)

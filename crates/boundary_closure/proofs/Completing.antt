@@ -15,6 +15,7 @@ use Rattle.geometry.specs.declared.aabb.AABB.{AABB}
 use Rattle.geometry.specs.Meshes.{meshOf}
 use Rattle.candidate_pool.specs.Pool.{Pool, faceList, byKey, insert}
 use Rattle.candidate_pool.specs.Standing.{poolAt, Cleared, edgesAt, EdgesHeld}
+use Rattle.candidate_pool.proofs.Edges.{edges-same, held-kept}
 use Rattle.candidate_edges.specs.Surface.{edgeSurface, cornerVertices, meshPool}
 use Rattle.candidate_edges.specs.Steps.{TableAt, MeshFits, EdgesEntered, CornersEntered}
 use Rattle.candidate_grids.specs.Grid.{grid}
@@ -22,7 +23,7 @@ use Rattle.candidate_grids.specs.Steps.{GridReady, Gridded}
 use Rattle.boundary_closure.specs.Operation.{setting}
 use Rattle.boundary_closure.specs.Steps.{Sound, most, Tabled, Surfaced, Completed}
 use Rattle.boundary_closure.proofs.Fitting.{skips-within}
-use Rattle.boundary_closure.proofs.Frames.{table-kept, edges-same, held-kept, all-grown}
+use Rattle.boundary_closure.proofs.Frames.{table-kept, all-grown}
 
 pub fits-same : (vs : List Float) (fs : List ℕ) (n : ℕ) (w w' : List ℕ) → length w' ≡ length w → MeshFits vs fs n w → MeshFits vs fs n w'
 fits-same vs fs n w w' e M =

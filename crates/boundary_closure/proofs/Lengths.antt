@@ -11,6 +11,7 @@ use lib.ListN.{length, getD, length-append, length-map}
 use Rattle.lists.specs.Lists.{upFrom, upTo}
 use Rattle.lists.specs.Regions.{view}
 use Rattle.lists.proofs.Regions.{view-length}
+use Rattle.lists.proofs.Sequences.{flat-up}
 use Rattle.geometry.specs.Triangles.{flat}
 use Rattle.geometry.proofs.Threes.{length-flat}
 use Rattle.box_faces.specs.Faces.{hasBit}
@@ -18,7 +19,6 @@ use Rattle.candidate_pool.specs.Standing.{countAt, poolAt, edgesAt}
 use Rattle.candidate_constraints.specs.Steps.{unpacked}
 use Rattle.boundary_closure.specs.Candidates.{candidateWords, listWords}
 use Rattle.boundary_closure.specs.Steps.{faceWords, Readable}
-use Rattle.boundary_closure.proofs.Runs.{flat-snoc}
 use Rattle.boundary_closure.proofs.Blocks.{edgeBlock, faces-are, edges-are, lists-long, numbers-long}
 
 pub blocks-few : (block : ℕ → List ℕ) (m k : ℕ) → ((i : ℕ) → length (block i) ≤ m) → length (flatMap block (upTo k)) ≤ k * m
@@ -26,7 +26,7 @@ unfolding upFrom flatMap
 blocks-few block m zero h = omega arith
 blocks-few block m (suc k) h =
     let q : suc k ≡ k + 1 = omega arith in
-    let e = ap (λ (x : ℕ). length (flatMap block (upTo x))) q ∙ ap length (flat-snoc block k) ∙ length-append (flatMap block (upTo k)) (block k) in
+    let e = ap (λ (x : ℕ). length (flatMap block (upTo x))) q ∙ ap length (flat-up block k) ∙ length-append (flatMap block (upTo k)) (block k) in
     let a = blocks-few block m k h in
     let b = h k in
     let d : suc k * m ≡ k * m + m = simp suc-mul refl in

@@ -14,6 +14,8 @@ use Rattle.geometry.specs.Boxes.{faces}
 use Rattle.geometry.specs.Meshes.{meshOf}
 use Rattle.candidate_pool.specs.Pool.{byKey}
 use Rattle.candidate_pool.specs.Standing.{edgesAt}
+use Rattle.candidate_pool.proofs.Frames.{pool-same}
+use Rattle.candidate_pool.proofs.Edges.{edges-same}
 use Rattle.candidate_edges.specs.Surface.{edgeSurface}
 use Rattle.candidate_edges.specs.Steps.{MeshFits}
 use Rattle.candidate_constraints.specs.Constraints.{faceConstraints}
@@ -21,7 +23,7 @@ use Rattle.candidate_constraints.specs.Steps.{Constrained}
 use Rattle.boundary_closure.specs.Candidates.{candidates}
 use Rattle.boundary_closure.specs.Operation.{setting, noTwoEnds}
 use Rattle.boundary_closure.specs.Steps.{Completed, standing, Readable}
-use Rattle.boundary_closure.proofs.Frames.{edges-same, pool-same, words-same}
+use Rattle.boundary_closure.proofs.Frames.{words-same}
 
 module _ (vs : List Float) (fs : List ℕ) (box : AABB) (eps resolution : Float) (listed : ℕ) (el : listed ≡ length (edgeSurface box eps (byKey eps) (meshOf vs fs) .edges)) where
   pub no-ends-left : listed ≡ 0 → noTwoEnds vs fs box eps resolution ≡ true

@@ -1,11 +1,10 @@
 -- Laws of a loop that writes one list after the other, for 0, 1, .. m - 1, to a part of an output. Assumes nothing.
---   up-split, up-snoc        0, 1, .. in two parts           flat-snoc, flat-same, flat-longer   what the lists make up
 --   Run                      the lists before i are written; run-start, run-turn, run-room, run-long, run-end, run-place
 --   part-copied, three-set   a copied part, and three stores, as a run of stores
-use Prim.Native.Nat.{ℕ, zero, suc, _+_, _-_, _≤_, _<_}
+use Prim.Native.Nat.{ℕ, suc, _+_, _-_, _≤_, _<_}
 use native.Mathlib.Omega.{arith}
 use mathlib.Core.Path.{_≡_, refl, sym, ap, _∙_}
-use mathlib.Core.List.{List, [], _∷_, _++_, flatMap, append-nil, append-assoc}
+use mathlib.Core.List.{List, [], _∷_, _++_, flatMap, append-assoc}
 use borrow.Rule.Slice.PartMut.{putMid, post-is}
 use lib.ListN.{length, set, take, drop, length-append, length-take, length-drop}
 use lib.Seq.{sets, sets-eq, length-sets}
@@ -13,57 +12,11 @@ use Rattle.lists.specs.Lists.{upFrom, upTo}
 use Rattle.lists.specs.Regions.{view}
 use Rattle.lists.proofs.Regions.{view-length}
 use Rattle.lists.proofs.Stores.{sets-append}
+use Rattle.lists.proofs.Sequences.{flat-up, flat-longer}
 use Rattle.words.specs.Overlay.{overlay}
 use Rattle.words.proofs.Overlay.{overlay-whole}
-use Rattle.geometry.proofs.Threes.{flatMap-append}
-
-pub up-split : (k i j : ℕ) → upFrom k (i + j) ≡ upFrom k i ++ upFrom (k + i) j
-unfolding upFrom
-up-split k zero j = (λ t. upFrom (a t) (b t))
-  where
-    a : k ≡ k + zero
-    a = omega arith
-
-    b : zero + j ≡ j
-    b = omega arith
-up-split k (suc i) j =
-    let e : suc i + j ≡ suc (i + j) = omega arith in
-    let f : suc k + i ≡ k + suc i = omega arith in
-    ap (upFrom k) e ∙ ap (λ (l : List ℕ). k ∷ l) (up-split (suc k) i j ∙ ap (λ (x : ℕ). upFrom (suc k) i ++ upFrom x j) f)
-
-pub up-snoc : (i : ℕ) → upTo (i + 1) ≡ upTo i ++ (i ∷ [])
-unfolding upFrom
-up-snoc i = let e : 0 + i ≡ i = omega arith in up-split 0 i 1 ∙ ap (λ (x : ℕ). upTo i ++ (x ∷ [])) e
-
-module _ {B : Type 0} (block : ℕ → List B) where
-  pub flat-snoc : (i : ℕ) → flatMap block (upTo (i + 1)) ≡ flatMap block (upTo i) ++ block i
-  unfolding flatMap
-  flat-snoc i = ap (flatMap block) (up-snoc i) ∙ flatMap-append block (upTo i) (i ∷ []) ∙ ap (λ (l : List B). flatMap block (upTo i) ++ l) (append-nil (block i))
-
-  pub flat-same : (other : ℕ → List B) (m : ℕ) → ((i : ℕ) → i < m → block i ≡ other i) → flatMap block (upTo m) ≡ flatMap other (upTo m)
-  unfolding upFrom flatMap
-  flat-same other zero e = refl
-  flat-same other (suc m) e =
-      let q : suc m ≡ m + 1 = omega arith in
-      ap (λ (x : ℕ). flatMap block (upTo x)) q ∙ flat-snoc m ∙ (λ t. flat-same other m (λ i h. e i (omega arith)) t ++ e m (omega arith) t) ∙ sym (other-snoc other m)
-      ∙ ap (λ (x : ℕ). flatMap other (upTo x)) (sym q)
-    where
-      other-snoc : (other : ℕ → List B) (i : ℕ) → flatMap other (upTo (i + 1)) ≡ flatMap other (upTo i) ++ other i
-      other-snoc other i = ap (flatMap other) (up-snoc i) ∙ flatMap-append other (upTo i) (i ∷ []) ∙ ap (λ (l : List B). flatMap other (upTo i) ++ l) (append-nil (other i))
 
 module _ (block : ℕ → List ℕ) where
-  flat-more : (i j : ℕ) → length (flatMap block (upTo i)) ≤ length (flatMap block (upTo (i + j)))
-  flat-more i j =
-      let e = ap length (ap (flatMap block) (up-split 0 i j) ∙ flatMap-append block (upTo i) (upFrom (0 + i) j)) ∙ length-append (flatMap block (upTo i)) (flatMap block (upFrom (0 + i) j)) in
-      omega arith
-
-  pub flat-longer : (i m : ℕ) → i ≤ m → length (flatMap block (upTo i)) ≤ length (flatMap block (upTo m))
-  flat-longer i m h =
-      let e : i + (m - i) ≡ m = omega arith in
-      let a = flat-more i (m - i) in
-      let b = ap (λ (x : ℕ). length (flatMap block (upTo x))) e in
-      omega arith
-
   pub record Run (old out : List ℕ) (at i o : ℕ) : Type 0 where
     pub place : o ≡ at + length (flatMap block (upTo i))
     pub stored : out ≡ sets old at (flatMap block (upTo i))
@@ -78,21 +31,21 @@ module _ (block : ℕ → List ℕ) where
 
     pub run-room : (m : ℕ) → i < m → at + length (flatMap block (upTo m)) ≤ length old → o + length (block i) ≤ length out
     run-room m h r =
-        let a = flat-longer (i + 1) m (omega arith) in
-        let b = ap length (flat-snoc block i) ∙ length-append (flatMap block (upTo i)) (block i) in
+        let a = flat-longer block (i + 1) m (omega arith) in
+        let b = ap length (flat-up block i) ∙ length-append (flatMap block (upTo i)) (block i) in
         let c = run-long in
         let d = R .place in
         omega arith
 
     pub run-turn : (out' : List ℕ) (o' : ℕ) → out' ≡ sets out o (block i) → o' ≡ o + length (block i) → Run old out' at (i + 1) o'
     run-turn out' o' e f =
-        let b = ap length (flat-snoc block i) ∙ length-append (flatMap block (upTo i)) (block i) in
+        let b = ap length (flat-up block i) ∙ length-append (flatMap block (upTo i)) (block i) in
         let d = R .place in
         record {
           place = omega arith;
           stored =
               e ∙ (λ t. sets (R .stored t) (R .place t) (block i)) ∙ sym (sets-append old at (flatMap block (upTo i)) (block i))
-              ∙ ap (sets old at) (sym (flat-snoc block i));
+              ∙ ap (sets old at) (sym (flat-up block i));
         }
 
     pub run-end : (m : ℕ) → i ≤ m → m ≤ i → (new : List ℕ) → flatMap block (upTo m) ≡ new → out ≡ sets old at new

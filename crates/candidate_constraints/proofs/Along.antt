@@ -1,12 +1,12 @@
 -- The candidates along a side: their records, and the order of these. Assumes nothing.
 --   on-side-number, on-side-no-nan               a fraction along a side is a number
 --   fraction-one, fraction-none                  `note_fraction`
---   map-append, records-add                      lists and records in two parts
+--   records-add                                  records in two parts
 --   Collecting, collecting-start, -named, -end   `collect_side`; collected-stored   the point that it reads
 --   stable-is-sorted, sorted-places              by t, and of one t in the order of the list: by the key of t, and then by place
 use Prim.Native.Nat.{ℕ, zero, suc, _+_, _*_, _-_, _≤_, _<_}
 use mathlib.Core.Bool.{Bool, true, false, not, cond, _&&_, _||_}
-use mathlib.Core.List.{List, [], _∷_, _++_, map, flatMap}
+use mathlib.Core.List.{List, [], _∷_, _++_, map, flatMap, map-append}
 use mathlib.Core.Logic.{⊎-elim}
 use mathlib.Core.Path.{_≡_, refl, sym, ap, subst, _∙_}
 use native.Mathlib.Omega.{arith}
@@ -19,6 +19,7 @@ use Rattle.lists.specs.Lists.{sortBy, upFrom, upTo}
 use Rattle.lists.proofs.Bools.{and-left}
 use Rattle.lists.proofs.Mapped.{Each, Pairwise, Agree, map-sortBy}
 use Rattle.lists.proofs.Orders.{cases}
+use Rattle.lists.proofs.Sequences.{flat-up}
 use Rattle.root.specs.Doubles.{_⊕_, _⊖_, _⊘_, zeroF, oneF, magnitude, within, larger, clamped}
 use Rattle.root.proofs.Doubles.{clamped-low, clamped-high, clamped-same}
 use Rattle.rounding.specs.Ordering.{orderKey}
@@ -35,10 +36,11 @@ use Rattle.box_faces.specs.Faces.{project}
 use Rattle.box_faces.specs.Sides.{betweenEnds, alongSide, onSide}
 use Rattle.candidate_pool.specs.Pool.{Pool, pointOf, faceList}
 use Rattle.candidate_pool.specs.Standing.{countAt, pointAt, poolAt, Stored}
+use Rattle.candidate_pool.proofs.Reading.{pool-point, list-in, list-at, list-length}
 use Rattle.candidate_constraints.specs.Constraints.{standing}
 use Rattle.candidate_constraints.specs.Steps.{Kept, Shown, stands, onSideAll, byFraction, sidePlaces, keyed, NoNan, Fractioned, Collected}
 use Rattle.candidate_constraints.proofs.Frames.{kept-same, kept-put, kept-wider, kept-then, records-kept}
-use Rattle.candidate_constraints.proofs.Showing.{flat-up, list-length, list-at, list-low, list-room, point-at, shown-same}
+use Rattle.candidate_constraints.proofs.Showing.{list-low, shown-same}
 
 -- ---- a fraction is a number
 zero-number : Number zeroF
@@ -118,10 +120,6 @@ fraction-none at i t w e =
     record { few = omega arith; records = ap (λ (u : Fraction). map keyed (standing i u)) (sym e); kept = kept-same at (at + 2) w }
 
 -- ---- collect_side
-pub map-append : {A B : Type 0} (f : A → B) (l m : List A) → map f (l ++ m) ≡ map f l ++ map f m
-map-append f [] m = refl
-map-append {A} {B} f (x ∷ l) m = ap (λ (r : List B). f x ∷ r) (map-append f l m)
-
 pub records-add : (w : List ℕ) (at m r : ℕ) → recordsAt w at (m + r) ≡ recordsAt w at m ++ recordsAt w (at + 2 * m) r
 records-add w at m r =
     records-at-split w at (m + r) m (omega arith) ∙ ap (λ (k : ℕ). recordsAt w at m ++ recordsAt w (at + 2 * m) k) (back m r)
@@ -142,7 +140,7 @@ module _ (eps : Float) (n f : ℕ) (s : Side) (w₀ : List ℕ) where
 
   module _ (o : Shown n w₀) (hf : f < 6) (w : List ℕ) (m i : ℕ) (c : Collecting w m i) where
     pub collected-id : i < getD w₀ f 0 → getD w (8 + 11 * n + f * n + i) 0 ≡ getD w₀ (8 + 11 * n + f * n + i) 0
-    collected-id h = c .kept .low (8 + 11 * n + f * n + i) (omega (arith, o .lengths f hf, list-room n f hf))
+    collected-id h = c .kept .low (8 + 11 * n + f * n + i) (omega (arith, o .lengths f hf, list-in n f hf))
 
     pub collected-low : i < getD w₀ f 0 → getD w (8 + 11 * n + f * n + i) 0 < countAt w₀
     collected-low h = omega (arith, collected-id h, list-low n w₀ o f hf i h)
@@ -157,7 +155,7 @@ module _ (eps : Float) (n f : ℕ) (s : Side) (w₀ : List ℕ) where
         let e1 = c .kept .low (8 + 5 * d + 1) (omega arith) in
         let e2 = c .kept .low (8 + 5 * d + 2) (omega arith) in
         (λ t. record { x = ofBits binary64 (e0 t); y = ofBits binary64 (e1 t); z = ofBits binary64 (e2 t) })
-        ∙ sym (point-at n w₀ d l) ∙ ap (pointOf (poolAt n w₀)) (collected-id h ∙ sym (list-at n w₀ o f hf i h))
+        ∙ sym (pool-point n w₀ d l) ∙ ap (pointOf (poolAt n w₀)) (collected-id h ∙ sym (list-at n w₀ f i hf h))
 
     pub collecting-turn : (w' : List ℕ) (t : Fraction) (r : ℕ) → i < getD w₀ f 0
         → t ≡ onSide eps s (project f (pointOf (poolAt n w₀) (getD (faceList (poolAt n w₀) f) i 0)))
@@ -200,7 +198,7 @@ module _ (eps : Float) (n f : ℕ) (s : Side) (w₀ : List ℕ) where
     collecting-end h =
         record {
           few = omega (arith, c .few, c .within);
-          records = c .records ∙ ap (λ (k : ℕ). map keyed (flatMap (stands eps (poolAt n w₀) f s) (upTo k))) (last i (getD w₀ f 0) (c .within) h ∙ sym (list-length n w₀ o f hf));
+          records = c .records ∙ ap (λ (k : ℕ). map keyed (flatMap (stands eps (poolAt n w₀) f s) (upTo k))) (last i (getD w₀ f 0) (c .within) h ∙ sym (list-length n w₀ f (o .size) (o .lengths f hf) hf));
           kept = c .kept;
         }
       where

@@ -5,7 +5,7 @@
 --   Faced, faced-start, -turn, -end          `all_constraints`
 use Prim.Native.Nat.{ℕ, _+_, _*_, _≤_, _<_}
 use mathlib.Core.Bool.{Bool, cond}
-use mathlib.Core.List.{List, [], _∷_, _++_, map, flatMap, append-nil}
+use mathlib.Core.List.{List, [], _∷_, _++_, map, flatMap, append-nil, map-append}
 use mathlib.Core.Path.{_≡_, refl, sym, ap, _∙_}
 use native.Mathlib.Nat.{mul-le-mul-right}
 use native.Mathlib.Omega.{arith}
@@ -17,6 +17,7 @@ use Rattle.lists.specs.Lists.{keep, place, sortBy, distinct, upFrom, upTo}
 use Rattle.lists.specs.Regions.{view}
 use Rattle.lists.proofs.Mapped.{Each}
 use Rattle.lists.proofs.Members.{place-le}
+use Rattle.lists.proofs.Sequences.{flat-up, each-append, each-flat, each-any, each-mapped}
 use Rattle.sorting.specs.Buffer.{recordsAt}
 use Rattle.sorting.specs.Sorting.{sorted}
 use Rattle.sorting.proofs.Sorting.{SortedPart}
@@ -26,14 +27,14 @@ use Rattle.box_faces.specs.Sides.{faceSides}
 use Rattle.edges.specs.Edges.{sortedPair, samePair, pairBefore}
 use Rattle.candidate_pool.specs.Pool.{Pool, faceList}
 use Rattle.candidate_pool.specs.Standing.{poolAt, edgesAt, EdgesHeld}
+use Rattle.candidate_pool.proofs.Reading.{list-length}
 use Rattle.candidate_constraints.specs.Constraints.{neighbours, sideOrder, edgePlaces, faceConstraints}
 use Rattle.candidate_constraints.specs.Steps.{unpacked, Constrained, Kept, Shown, Roomy, Placed, sidePlaces, pairRecord, sidePairs, edgePairs, allPairs, Pushed, lasts, Distinct, FaceListed}
 use Rattle.candidate_constraints.proofs.Frames.{kept-same, kept-wider, kept-then, kept-sorted, view-above}
-use Rattle.candidate_constraints.proofs.Showing.{flat-up, list-length, pool-same, shown-same, edges-same, held-same}
+use Rattle.candidate_constraints.proofs.Showing.{pool-same, shown-same, edges-after, held-after}
 use Rattle.candidate_constraints.proofs.Noting.{placed-same}
-use Rattle.candidate_constraints.proofs.Along.{map-append}
 use Rattle.candidate_constraints.proofs.Pairing.{pushed-then, pushed-as}
-use Rattle.candidate_constraints.proofs.Siding.{each-mapped, places-low, sorted-records}
+use Rattle.candidate_constraints.proofs.Siding.{places-low, sorted-records}
 use Rattle.candidate_constraints.proofs.Once.{Low, listed-once}
 
 -- ---- list_pairs
@@ -65,7 +66,7 @@ module _ (box : AABB) (eps : Float) (n nf k f : ℕ) (w w1 : List ℕ) (o : Show
     high2 x h = p .kept .high x (omega (arith, p .few)) ∙ k1 .high x (omega arith)
 
     pub held2 : EdgesHeld (poolAt n w2) w2 (8 + 62 * n + 30 * nf) k
-    held2 = held-same w w2 (8 + 62 * n + 30 * nf) k high2 (poolAt n w) (poolAt n w2) (same2 ∙ same1) held
+    held2 = held-after w w2 (8 + 62 * n + 30 * nf) k high2 (poolAt n w) (poolAt n w2) (same2 ∙ same1) held
 
     pub few2 : c ≤ 4 * n
     few2 = omega (arith, p .few)
@@ -78,7 +79,7 @@ module _ (box : AABB) (eps : Float) (n nf k f : ℕ) (w w1 : List ℕ) (o : Show
         let l = sidePairs box eps (poolAt n w1) f ++ edgePairs (poolAt n w2) f (edgesAt w2 E k) in
         let t = pushed-then n f (8 + 18 * n) (8 + 22 * n + 2 * c) (4 * n) k (sidePairs box eps (poolAt n w1) f) (edgePairs (poolAt n w2) f (edgesAt w2 E k)) 0 c r w1 w2 w3 (omega arith) p q in
         pushed-as n f (8 + 17 * n) (4 * n + k) (4 * n + 3 * nf) l (allPairs box eps (poolAt n w) f (edgesAt w E k)) 0 r w w3 (omega arith)
-        (λ i. sidePairs box eps (same1 i) f ++ edgePairs ((same2 ∙ same1) i) f (edges-same w w2 E k high2 i))
+        (λ i. sidePairs box eps (same1 i) f ++ edgePairs ((same2 ∙ same1) i) f (edges-after w w2 E k high2 i))
         (record {
           few = t .few;
           records = t .records;
@@ -89,19 +90,6 @@ module _ (box : AABB) (eps : Float) (n nf k f : ℕ) (w w1 : List ℕ) (o : Show
         })
 
 -- ---- places of pairs
-each-append : {A : Type 0} (P : A → Type 0) (l m : List A) → Each P l → Each P m → Each P (l ++ m)
-each-append P [] m a b = b
-each-append P (x ∷ l) m a b = (a .0, each-append P l m (a .1) b)
-
-each-flat : {A B : Type 0} (P : B → Type 0) (f : A → List B) (l : List A) → ((x : A) → Each P (f x)) → Each P (flatMap f l)
-unfolding flatMap
-each-flat P f [] h = tt
-each-flat P f (x ∷ l) h = each-append P (f x) (flatMap f l) (h x) (each-flat P f l h)
-
-each-any : {A : Type 0} (P : A → Type 0) (l : List A) → ((x : A) → P x) → Each P l
-each-any P [] h = tt
-each-any P (x ∷ l) h = (h x, each-any P l h)
-
 neighbours-low : (b : ℕ) → b ≤ 2097152 → (l : List ℕ) → Each (λ x. x < b) l → Each Low (neighbours l)
 unfolding neighbours
 neighbours-low b h [] e = tt
@@ -130,7 +118,7 @@ module _ (box : AABB) (eps : Float) (n nf k f total : ℕ) (w : List ℕ) (o : S
             sym (ap (λ (b : Bool). map unpacked (view w (8 + 38 * n + 12 * nf) total)
             ++ cond b [] (map (λ q. tri f (sortedPair q .0) (sortedPair q .1)) (distinct samePair (sortBy pairBefore
             (flatMap (λ s. neighbours (sideOrder box eps E (poolAt n w) f s)) (faceSides box f) ++ edgePlaces box eps E (poolAt n w) f)))))
-            (lt-ltb (length (faceList (poolAt n w) f)) 3 (omega (arith, list-length n w o f hf))) ∙ append-nil (map unpacked (view w (8 + 38 * n + 12 * nf) total)));
+            (lt-ltb (length (faceList (poolAt n w) f)) 3 (omega (arith, list-length n w f (o .size) (o .lengths f hf) hf))) ∙ append-nil (map unpacked (view w (8 + 38 * n + 12 * nf) total)));
         kept = kept-same (8 + 17 * n) (8 + 62 * n + 30 * nf) w;
       }
 
@@ -138,7 +126,7 @@ module _ (box : AABB) (eps : Float) (n nf k f total : ℕ) (w : List ℕ) (o : S
   unfolding faceConstraints sideOrder sidePlaces edgePlaces
   as-defined h =
       ap (λ (b : Bool). cond b [] (map (λ q. tri f (sortedPair q .0) (sortedPair q .1)) (distinct samePair (sortBy pairBefore (allPairs box eps (poolAt n w) f E)))))
-      (sym (le-ltb (length (faceList (poolAt n w) f)) 3 (omega (arith, list-length n w o f hf))))
+      (sym (le-ltb (length (faceList (poolAt n w) f)) 3 (omega (arith, list-length n w f (o .size) (o .lengths f hf) hf))))
 
   module _ (w1 w2 w3 : List ℕ) (c r at : ℕ) (p : Pushed n f (8 + 17 * n) (4 * n + 3 * nf) (allPairs box eps (poolAt n w) f E) 0 c w w1) (ea : at ≡ 8 + 22 * n) (s : SortedPart w1 w2 at c) where
     pub sorted-roomy : Roomy n nf w2
@@ -163,7 +151,7 @@ module _ (box : AABB) (eps : Float) (n nf k f total : ℕ) (w : List ℕ) (o : S
               ap (map unpacked) (d .listed ∙ (λ t. view-above (8 + 17 * n) C C total w w2 kept1 (omega arith) (omega (arith, room .room)) t ++ lasts (map (λ (x : ℕ × ℕ). x .0) (in-order t))))
               ∙ map-append unpacked (view w C total) (lasts (map (λ (x : ℕ × ℕ). x .0) (sorted (map (pairRecord f) (allPairs box eps (poolAt n w) f E)))))
               ∙ ap (λ (l : List (Triangle ℕ)). map unpacked (view w C total) ++ l)
-              (listed-once f (allPairs box eps (poolAt n w) f E) (pairs-low box eps (poolAt n w) f E (omega (arith, list-length n w o f hf, o .lengths f hf, room .small))) ∙ as-defined h);
+              (listed-once f (allPairs box eps (poolAt n w) f E) (pairs-low box eps (poolAt n w) f E (omega (arith, list-length n w f (o .size) (o .lengths f hf) hf, o .lengths f hf, room .small))) ∙ as-defined h);
           kept =
               kept-then (8 + 17 * n) (8 + 62 * n + 30 * nf) w w2 w3
               (kept-wider (8 + 17 * n) C (8 + 17 * n) (8 + 62 * n + 30 * nf) w w2 kept1 (omega arith) (omega arith))
@@ -197,7 +185,7 @@ module _ (box : AABB) (eps : Float) (n nf k : ℕ) (w₀ : List ℕ) where
     faced-roomy = record { small = small; facets = facets; room = omega (arith, g .kept .long) }
 
     pub faced-held : EdgesHeld (poolAt n w) w (8 + 62 * n + 30 * nf) k
-    faced-held = held-same w₀ w (8 + 62 * n + 30 * nf) k (g .kept .high) (poolAt n w₀) (poolAt n w) same held
+    faced-held = held-after w₀ w (8 + 62 * n + 30 * nf) k (g .kept .high) (poolAt n w₀) (poolAt n w) same held
 
     pub faced-few : f < 6 → total + (4 * n + 3 * nf) ≤ 24 * n + 18 * nf
     faced-few h =
@@ -211,7 +199,7 @@ module _ (box : AABB) (eps : Float) (n nf k : ℕ) (w₀ : List ℕ) where
           few = omega (arith, g .few, a .few);
           kept = kept-then (8 + 17 * n) (8 + 62 * n + 30 * nf) w₀ w w' (g .kept) (a .kept);
           listed =
-              a .listed ∙ (λ t. g .listed t ++ faceConstraints box eps (edges-same w₀ w (8 + 62 * n + 30 * nf) k (g .kept .high) t) (same t) f) ∙ sym (flat-up ofFace f);
+              a .listed ∙ (λ t. g .listed t ++ faceConstraints box eps (edges-after w₀ w (8 + 62 * n + 30 * nf) k (g .kept .high) t) (same t) f) ∙ sym (flat-up ofFace f);
         }
 
     pub faced-end : 6 ≤ f → Constrained box eps n nf k total w₀ w

@@ -1,39 +1,23 @@
 -- `note_places`: what its loop keeps, as it starts, one turn, and its end; and that later stores leave the places. Assumes nothing.
---   some-place, has-place, place-is             the place of a member
 --   Noting, noting-start, noting-named, noting-end; noted-low
 --   member-low, place-low, placed-same          after it
-use Prim.Native.Nat.{ℕ, suc, _+_, _*_, _≤_, _<_}
-use mathlib.Core.Bool.{Bool, true, false, cond, _||_}
-use mathlib.Core.List.{List, [], _∷_}
+use Prim.Native.Nat.{ℕ, _+_, _*_, _≤_, _<_}
+use mathlib.Core.Bool.{true}
+use mathlib.Core.List.{List}
 use mathlib.Core.Path.{_≡_, sym, ap, subst, _∙_}
 use native.Mathlib.Decide.{ℕ-discrete}
 use native.Mathlib.Omega.{arith}
-use lib.Dec.{T, eqb, eqb→eq}
+use lib.Dec.{eqb}
 use lib.ListN.{length, getD, set}
 use lib.Seq.{getD-set-same, getD-set-other}
-use Rattle.lists.specs.Lists.{some, has, place}
-use Rattle.lists.proofs.Members.{place-at}
+use Rattle.lists.specs.Lists.{has, place}
+use Rattle.lists.proofs.Sequences.{has-place, place-has}
 use Rattle.candidate_pool.specs.Pool.{Pool, faceList}
 use Rattle.candidate_pool.specs.Standing.{poolAt}
+use Rattle.candidate_pool.proofs.Reading.{pool-count, list-in, list-at, list-length}
 use Rattle.candidate_constraints.specs.Steps.{Kept, Shown, Placed}
 use Rattle.candidate_constraints.proofs.Frames.{kept-same, kept-set, kept-then}
-use Rattle.candidate_constraints.proofs.Showing.{list-length, list-at, list-low, list-room, all-length, pool-same}
-
--- ---- the place of the first that passes
-pub some-place : {A : Type 0} (p : A → Bool) (l : List A) → T (some p l) → place p l < length l
-unfolding some place
-some-place p [] t = absurd t
-some-place p (x ∷ l) t = go (p x) t (some-place p l)
-  where
-    go : (b : Bool) → T (b || some p l) → (T (some p l) → place p l < length l) → cond b 0 (suc (place p l)) < suc (length l)
-    go true t f = omega arith
-    go false t f = let h = f t in omega arith
-
-pub has-place : (l : List ℕ) (c : ℕ) → has l c ≡ true → place (eqb c) l < length l
-has-place l c e = some-place (eqb c) l (subst T (sym e) tt)
-
-pub place-is : (l : List ℕ) (c : ℕ) → has l c ≡ true → getD l (place (eqb c) l) 0 ≡ c
-place-is l c e = sym (eqb→eq c (getD l (place (eqb c) l) 0) (place-at (eqb c) 0 l (has-place l c e)))
+use Rattle.candidate_constraints.proofs.Showing.{list-low, pool-same}
 
 module _ (n f : ℕ) (w₀ : List ℕ) where
   abbrev pub idAt : ℕ → ℕ
@@ -50,14 +34,14 @@ module _ (n f : ℕ) (w₀ : List ℕ) where
   module _ (s : Shown n w₀) (hf : f < 6) (room : 8 + 18 * n ≤ length w₀) (w : List ℕ) (i : ℕ) (o : Noting w i) where
     -- candidate i of the list, as the loop reads it
     pub noted-id : i < getD w₀ f 0 → getD w (8 + 11 * n + f * n + i) 0 ≡ idAt i
-    noted-id h = o .kept .low (8 + 11 * n + f * n + i) (omega (arith, s .lengths f hf, list-room n f hf))
+    noted-id h = o .kept .low (8 + 11 * n + f * n + i) (omega (arith, s .lengths f hf, list-in n f hf))
 
     pub noted-low : i < getD w₀ f 0 → getD w (8 + 11 * n + f * n + i) 0 < n
     noted-low h = omega (arith, noted-id h, list-low n w₀ s f hf i h, s .few)
 
     apart : (j k : ℕ) → j < k → k < getD w₀ f 0 → idAt j ≡ idAt k → ⊥
     apart j k h g e =
-        s .tidy .once f j k hf h (omega (arith, list-length n w₀ s f hf)) (list-at n w₀ s f hf j (omega arith) ∙ e ∙ sym (list-at n w₀ s f hf k g))
+        s .tidy .once f j k hf h (omega (arith, list-length n w₀ f (s .size) (s .lengths f hf) hf)) (list-at n w₀ f j hf (omega arith) ∙ e ∙ sym (list-at n w₀ f k hf g))
 
     pub noting-turn : i < getD w₀ f 0 → Noting (set w (8 + 17 * n + getD w (8 + 11 * n + f * n + i) 0) i) (i + 1)
     noting-turn h =
@@ -93,8 +77,8 @@ module _ (n f : ℕ) (w₀ : List ℕ) where
             let L = faceList (poolAt n w₀) f in
             let e' : has L c ≡ true = ap (λ (p : Pool). has (faceList p f) c) (sym same) ∙ e in
             let q = has-place L c e' in
-            let k : place (eqb c) L < getD w₀ f 0 = omega (arith, list-length n w₀ s f hf) in
-            ap (λ (x : ℕ). getD w (8 + 17 * n + x) 0) (sym (place-is L c e') ∙ list-at n w₀ s f hf (place (eqb c) L) k)
+            let k : place (eqb c) L < getD w₀ f 0 = omega (arith, list-length n w₀ f (s .size) (s .lengths f hf) hf) in
+            ap (λ (x : ℕ). getD w (8 + 17 * n + x) 0) (sym (place-has L c e') ∙ list-at n w₀ f (place (eqb c) L) hf k)
             ∙ o .at (place (eqb c) L) (omega arith) ∙ ap (λ (p : Pool). place (eqb c) (faceList p f)) (sym same)
 
 -- ---- later
@@ -103,10 +87,10 @@ module _ (n f : ℕ) (w : List ℕ) (s : Shown n w) (hf : f < 6) where
   pub member-low : (c : ℕ) → has (faceList (poolAt n w) f) c ≡ true → c < n
   member-low c e =
       let L = faceList (poolAt n w) f in
-      omega (arith, place-is L c e, s .tidy .low f (place (eqb c) L) hf (has-place L c e), all-length n w, s .few)
+      omega (arith, place-has L c e, s .tidy .low f (place (eqb c) L) hf (has-place L c e), pool-count n w, s .few)
 
   pub place-low : (c : ℕ) → has (faceList (poolAt n w) f) c ≡ true → place (eqb c) (faceList (poolAt n w) f) < n
-  place-low c e = omega (arith, has-place (faceList (poolAt n w) f) c e, list-length n w s f hf, s .lengths f hf)
+  place-low c e = omega (arith, has-place (faceList (poolAt n w) f) c e, list-length n w f (s .size) (s .lengths f hf) hf, s .lengths f hf)
 
   pub placed-same : (w' : List ℕ) → Placed n f w → length w' ≡ length w → ((x : ℕ) → x < 8 + 18 * n → getD w' x 0 ≡ getD w x 0) → Placed n f w'
   placed-same w' p long low c e =

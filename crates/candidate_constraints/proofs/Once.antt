@@ -1,5 +1,4 @@
 -- "listed ascending, once": one pass over sorted pairs, in which each is compared with the next only, finds what the definition asks. Assumes nothing.
---   view-more, view-stay                         a list after a store behind it
 --   last-same, last-other, last-end              `last_of_kind`
 --   Keeping, keeping-start, -named, -end         `keep_distinct`
 --   lasts-distinct                               of an ascending list the last of each run is the first of each kind
@@ -14,14 +13,14 @@ use mathlib.Core.Path.{_≡_, refl, sym, ap, subst, _∙_}
 use native.Mathlib.Omega.{arith}
 use borrow.Author.Tests.{lt-ltb, le-ltb, eqb-true, eqb-false, eq-eqb, ne-eqb, ltb-true}
 use lib.Dec.{eqb, ltb}
-use lib.ListN.{length, getD, set, take, drop, length-drop}
-use lib.Seq.{take-suc-set, take-set-le, drop-set-add}
+use lib.ListN.{length, getD, set}
 use Rattle.lists.specs.Lists.{some, sortBy, distinct, distinctFrom}
 use Rattle.lists.specs.Order.{Ascending}
 use Rattle.lists.specs.Regions.{view}
 use Rattle.lists.proofs.Mapped.{Each, Pairwise, Agree, each-sortBy, map-sortBy}
 use Rattle.lists.proofs.Orders.{cases, never}
 use Rattle.lists.proofs.SortBy.{ascending-sortBy}
+use Rattle.lists.proofs.Regions.{view-put, view-stay}
 use Rattle.words.specs.Packed.{triple}
 use Rattle.words.proofs.Packed.{triple-first, triple-second, triple-third, triple-injective, triple-lex, lex-triple}
 use Rattle.sorting.specs.Buffer.{recordsAt}
@@ -37,18 +36,6 @@ use Rattle.candidate_constraints.proofs.Frames.{kept-same, kept-set, ke
 
 abbrev keys : List ℕ → ℕ → ℕ → List ℕ
 keys w at m = map (λ x. x .0) (recordsAt w at m)
-
--- ---- a view after a store behind it
-pub view-more : (w : List ℕ) (o t v : ℕ) → o + t < length w → view (set w (o + t) v) o (t + 1) ≡ view w o t ++ (v ∷ [])
-view-more w o t v h =
-    ap (λ (l : List ℕ). take (t + 1) l) (drop-set-add o w t v) ∙ ap (λ (k : ℕ). take k (set (drop o w) t v)) (one t)
-    ∙ take-suc-set (drop o w) t v (omega (arith, length-drop o w))
-  where
-    one : (t : ℕ) → t + 1 ≡ suc t
-    one t = omega arith
-
-pub view-stay : (w : List ℕ) (o t v : ℕ) → view (set w (o + t) v) o t ≡ view w o t
-view-stay w o t v = ap (take t) (drop-set-add o w t v) ∙ take-set-le t (drop o w) t v (omega arith)
 
 -- ---- last_of_kind
 pub last-same : (w : List ℕ) (at c i : ℕ) → i + 1 < c → getD w (at + 2 * i) 0 ≡ getD w (at + 2 * i + 2) 0 → (0 ≤ 1) × (_≡_ {A = ℕ} 0 (cond (nextSame w at c i) 0 1))
@@ -128,7 +115,7 @@ module _ (n nf c total : ℕ) (w₀ : List ℕ) where
           where
             none : (t : ℕ) → t + 0 ≡ t
             none t = omega arith
-        turned false rest all q = ap (λ (l : List ℕ). l ++ rest) (view-more w listFrom t key inside) ∙ append-assoc (view w listFrom t) (key ∷ []) rest ∙ q
+        turned false rest all q = ap (λ (l : List ℕ). l ++ rest) (view-put w listFrom t key inside) ∙ append-assoc (view w listFrom t) (key ∷ []) rest ∙ q
 
         go : (left : ℕ) → i + left ≡ c → view w listFrom t ++ lasts (keys w₀ (pairsFrom + 2 * i) left) ≡ view w₀ listFrom total ++ lasts (keys w₀ pairsFrom c) → Keeping w' (t + more) (i + 1)
         go zero g q = absurd (omega arith)

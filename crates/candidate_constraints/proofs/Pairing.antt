@@ -5,7 +5,7 @@
 --   Edging, edging-start, -next, -end; edge-yes, edge-no   `push_open_edges`, `push_open_edge`
 use Prim.Native.Nat.{ℕ, zero, suc, _+_, _*_, _≤_, _<_}
 use mathlib.Core.Bool.{Bool, true, false, cond, _&&_}
-use mathlib.Core.List.{List, [], _∷_, _++_, map, flatMap, append-assoc, append-nil}
+use mathlib.Core.List.{List, [], _∷_, _++_, map, flatMap, append-assoc, append-nil, map-append}
 use mathlib.Core.Path.{_≡_, refl, sym, ap, subst, _∙_}
 use native.Mathlib.Omega.{arith}
 use lib.Dec.{eqb}
@@ -13,6 +13,7 @@ use lib.ListN.{length, getD, take, length-append, length-map, List·getD-map}
 use lib.Seq.{take-all}
 use Rattle.lists.specs.Lists.{keep, has, place, upTo, upFrom}
 use Rattle.lists.proofs.Counts.{keep-append}
+use Rattle.lists.proofs.Sequences.{flat-up}
 use Rattle.sorting.specs.Buffer.{putRecord, recordsAt}
 use Rattle.sorting.proofs.Records.{length-records-at, records-at-get, put-same}
 use Rattle.geometry.specs.Boxes.{faces}
@@ -20,12 +21,13 @@ use Rattle.geometry.specs.Triangles.{Triangle, tri}
 use Rattle.box_faces.specs.Faces.{hasBit}
 use Rattle.candidate_pool.specs.Pool.{Pool, faceList}
 use Rattle.candidate_pool.specs.Standing.{facesIn, poolAt, edgeAt, edgesAt, EdgesHeld}
+use Rattle.candidate_pool.proofs.Edges.{held-fewer}
 use Rattle.candidate_constraints.specs.Constraints.{neighbours}
 use Rattle.candidate_constraints.specs.Steps.{Shown, Roomy, Placed, LowPlaces, pairRecord, edgePairs, Pushed}
 use Rattle.candidate_constraints.proofs.Frames.{kept-same, kept-put, kept-wider, kept-then, records-kept}
-use Rattle.candidate_constraints.proofs.Showing.{flat-up, pool-same, shown-same, held-same, held-fewer}
+use Rattle.candidate_constraints.proofs.Showing.{pool-same, shown-same, held-after}
 use Rattle.candidate_constraints.proofs.Noting.{member-low, place-low, placed-same}
-use Rattle.candidate_constraints.proofs.Along.{map-append, records-add}
+use Rattle.candidate_constraints.proofs.Along.{records-add}
 
 -- ---- more pairs
 module _ (n f : ℕ) where
@@ -317,7 +319,7 @@ module _ (n f at count : ℕ) (w₀ : List ℕ) where
     edging-placed = placed-same n f w₀ o hf w noted (e .pushed .kept .long) (λ x h. low x (omega arith))
 
     pub edging-held : i < k → EdgesHeld (poolAt n w) w at (i + 1)
-    edging-held h = held-same w₀ w at (i + 1) high (poolAt n w₀) (poolAt n w) edging-same (held-fewer (poolAt n w₀) w₀ at k (i + 1) (omega arith) held)
+    edging-held h = held-after w₀ w at (i + 1) high (poolAt n w₀) (poolAt n w) edging-same (held-fewer (poolAt n w₀) w₀ at k (i + 1) (omega arith) held)
 
     pub edging-next : (w' : List ℕ) (r : ℕ) → i < k → Pushed n f (8 + 22 * n + 2 * c) 1 (edgePairs (poolAt n w) f (edgeAt w (at + 3 * i))) c r w w' → Edging k w' r (i + 1)
     edging-next w' r h p =

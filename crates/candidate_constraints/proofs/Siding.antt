@@ -1,6 +1,6 @@
 -- `push_side` and `push_sides`: the records of a side, their sort, their neighbours; and the four sides. Assumes nothing.
 --   all-low, side-low, places-low        places are below the number of candidates
---   each-mapped, sorted-records          of a list that a function was applied to; of records in a lent part that was sorted
+--   sorted-records                       records in a lent part that was sorted
 --   side-few, side-long, side-pushed     `push_side`
 --   Siding, siding-start, -turn, -end    `push_sides`
 use Prim.Native.Nat.{ℕ, zero, suc, _+_, _*_, _≤_, _<_}
@@ -13,6 +13,7 @@ use lib.Seq.{take-all, take-suc}
 use lib.Ieee.{Float}
 use Rattle.lists.specs.Lists.{sortBy, upFrom}
 use Rattle.lists.proofs.Mapped.{Each, each-at, each-sortBy}
+use Rattle.lists.proofs.Sequences.{each-mapped, flatMap-append}
 use Rattle.sorting.specs.Buffer.{recordsAt}
 use Rattle.sorting.specs.Sorting.{recordBefore, sorted}
 use Rattle.sorting.proofs.Records.{length-records-at, records-at-get, records-at-take}
@@ -20,24 +21,20 @@ use Rattle.sorting.proofs.Sorting.{SortedPart}
 use Rattle.geometry.specs.declared.aabb.AABB.{AABB}
 use Rattle.geometry.specs.declared.fraction.Fraction.{Fraction}
 use Rattle.geometry.specs.declared.fraction.Fraction.the-variants.{At, Nothing}
-use Rattle.geometry.proofs.Threes.{flatMap-append}
 use Rattle.box_faces.specs.declared.uv.Side.{Side}
 use Rattle.box_faces.specs.Faces.{project}
 use Rattle.box_faces.specs.Sides.{faceSides, onSide}
 use Rattle.candidate_pool.specs.Pool.{Pool, pointOf, faceList}
 use Rattle.candidate_pool.specs.Standing.{poolAt}
+use Rattle.candidate_pool.proofs.Reading.{list-length}
 use Rattle.candidate_constraints.specs.Constraints.{neighbours, standing}
 use Rattle.candidate_constraints.specs.Steps.{Kept, Shown, stands, onSideAll, byFraction, sidePlaces, keyed, LowPlaces, pairRecord, Collected, Pushed}
 use Rattle.candidate_constraints.proofs.Frames.{kept-wider, kept-then, kept-sorted, records-above}
-use Rattle.candidate_constraints.proofs.Showing.{list-length, pool-same, shown-same}
+use Rattle.candidate_constraints.proofs.Showing.{pool-same, shown-same}
 use Rattle.candidate_constraints.proofs.Along.{sorted-places}
 use Rattle.candidate_constraints.proofs.Pairing.{pushed-none, pushed-then, pushed-as}
 
 -- ---- places are low
-pub each-mapped : {A B : Type 0} (P : B → Type 0) (f : A → B) (l : List A) → Each (λ x. P (f x)) l → Each P (map f l)
-each-mapped P f [] h = tt
-each-mapped P f (x ∷ l) h = (h .0, each-mapped P f l (h .1))
-
 module _ (eps : Float) (p : Pool) (f : ℕ) (s : Side) where
   low-from : (k n b : ℕ) → k + n ≤ b → Each (λ (x : Float × ℕ). x .1 < b) (flatMap (stands eps p f s) (upFrom k n))
   unfolding flatMap upFrom
@@ -80,7 +77,7 @@ module _ (eps : Float) (n f : ℕ) (s : Side) (count m : ℕ) (w w1 w2 : List �
       (each-sortBy recordBefore (λ (r : ℕ × ℕ). r .1 < length (faceList (poolAt n w) f)) (map keyed (onSideAll eps (poolAt n w) f s))
       (each-mapped (λ (r : ℕ × ℕ). r .1 < length (faceList (poolAt n w) f)) keyed (onSideAll eps (poolAt n w) f s) (all-low eps (poolAt n w) f s))))
       (omega (arith, length-records-at w2 (8 + 18 * n) m)) in
-      omega (arith, e, l, list-length n w o f hf, o .lengths f hf)
+      omega (arith, e, l, list-length n w f (o .size) (o .lengths f hf) hf, o .lengths f hf)
 
   kept-side : Kept (8 + 18 * n) (8 + 22 * n) w w2
   kept-side =

@@ -20,9 +20,9 @@ use Rattle.edges.specs.Table.{nextSide}
 use Rattle.edges.proofs.Sides.{next-in, side-at}
 use Rattle.candidate_pool.specs.Pool.{byKey, numberFor}
 use Rattle.candidate_pool.specs.Standing.{facesIn, candidate, poolAt, PointIn, RoomFor, Inserted}
+use Rattle.candidate_pool.proofs.Reading.{pool-count}
 use Rattle.candidate_edges.specs.Steps.{TableAt, Sourced, Ready, VertexEntered}
 use Rattle.candidate_edges.proofs.Sources.{sourced-kept, sourced-room}
-use Rattle.candidate_edges.proofs.Frames.{count-is}
 
 module _ (fs : List ℕ) (many s : ℕ) (whole : length fs % 3 ≡ 0) (numbers : (i : ℕ) → i < length fs → getD fs i 0 < many) (h : s < length fs) where
   pub from-low : getD (sides (threes fs)) s (0, 0) .0 < many
@@ -51,7 +51,7 @@ module _ (vs : List Float) (eps : Float) (n : ℕ) (w : List ℕ) (v : ℕ) (p :
       (λ z.
       let r = sourced-room (pointsOf vs) eps (poolAt n w) (ready .sourced) v on low z in
       let k = ready .vertices in
-      omega (arith, count-is n w, length-pointsOf vs))
+      omega (arith, pool-count n w, length-pointsOf vs))
 
   pub vertex-entered : (mask r : ℕ) (w' : List ℕ) → Inserted eps n (candidate p (v + 1) (facesIn mask)) w w'
       → r ≡ numberFor (byKey eps) (poolAt n w) (candidate p (v + 1) (facesIn mask)) → VertexEntered vs eps n v mask r w w'

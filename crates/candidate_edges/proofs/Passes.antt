@@ -14,6 +14,7 @@ use lib.ListN.{length, getD, take}
 use lib.Ieee.{Float}
 use Rattle.lists.specs.Lists.{keep, upFrom, upTo}
 use Rattle.lists.proofs.Counts.{keep-append}
+use Rattle.lists.proofs.Sequences.{fold-more, fold-all, up-snoc}
 use Rattle.geometry.specs.declared.point.Point.{Point}
 use Rattle.geometry.specs.declared.aabb.AABB.{AABB}
 use Rattle.geometry.specs.Triangles.{Triangle, threes}
@@ -23,13 +24,12 @@ use Rattle.box_faces.specs.Faces.{faceBits, bitCount, facesOf}
 use Rattle.edges.specs.Edges.{openEdges}
 use Rattle.candidate_pool.specs.Pool.{Candidate, Pool, noPool, byKey, insert}
 use Rattle.candidate_pool.specs.Standing.{facesIn, poolAt, Holds, edgesAt, EdgesHeld}
+use Rattle.candidate_pool.proofs.Reading.{pool-count}
+use Rattle.candidate_pool.proofs.Edges.{edges-none, held-none}
 use Rattle.candidate_edges.specs.Surface.{Surface, edgeFaces, meshCandidate, enterEdge, edgeSurface, cornerVertices}
 use Rattle.candidate_edges.specs.Steps.{TableAt, MeshFits, VerticesIn, Sourced, Ready, VertexEntered, surfaceAt, Entering, EdgeEntered, EdgesEntered, CornerEntered, CornersEntered}
 use Rattle.candidate_edges.proofs.Faces.{stray-word, mask-faces, mask-count}
-use Rattle.candidate_edges.proofs.Sequences.{fold-more, fold-all, up-more}
 use Rattle.candidate_edges.proofs.Sources.{sourced-none, sourced-few}
-use Rattle.candidate_edges.proofs.Frames.{count-is}
-use Rattle.candidate_edges.proofs.Held.{edges-none, held-none}
 use Rattle.candidate_edges.proofs.Ends.{ready-next}
 
 -- ---- edges on no face
@@ -189,7 +189,7 @@ module _ (vs : List Float) (box : AABB) (eps : Float) (n : ℕ) where
     where
       more : keep (twice vs box eps) (map (corner vs box eps) (upTo (v + 1))) ≡ keep (twice vs box eps) (map (corner vs box eps) (upTo v)) ++ keep (twice vs box eps) (corner vs box eps v ∷ [])
       more =
-          ap (λ (l : List ℕ). keep (twice vs box eps) (map (corner vs box eps) l)) (up-more v)
+          ap (λ (l : List ℕ). keep (twice vs box eps) (map (corner vs box eps) l)) (up-snoc v)
           ∙ ap (keep (twice vs box eps)) (map-append (corner vs box eps) (upTo v) (v ∷ []))
           ∙ keep-append (twice vs box eps) (map (corner vs box eps) (upTo v)) (corner vs box eps v ∷ [])
 
@@ -200,7 +200,7 @@ module _ (vs : List Float) (box : AABB) (eps : Float) (n : ℕ) where
       record {
         pool = g .pool ∙ ap (λ (k : ℕ). foldl (insert (byKey eps)) (poolAt n w₀) (keep (twice vs box eps) (map (corner vs box eps) (upTo k)))) same;
         holds = g .ready .holds;
-        few = omega (arith, sourced-few (pointsOf vs) eps (poolAt n w) (g .ready .sourced), count-is n w, length-pointsOf vs);
+        few = omega (arith, sourced-few (pointsOf vs) eps (poolAt n w) (g .ready .sourced), pool-count n w, length-pointsOf vs);
         long = g .long;
         rest = g .rest;
       }

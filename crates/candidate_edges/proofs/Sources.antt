@@ -9,8 +9,7 @@ use mathlib.Core.Bool.{Bool, true, false, cond, _&&_, true≢false}
 use mathlib.Core.List.{List, [], _∷_, _++_, map}
 use native.Mathlib.Omega.{arith}
 use native.Mathlib.Decide.{ℕ-discrete}
-use borrow.Author.Tests.{eqb-true, eq-eqb, ne-eqb}
-use lib.IntN.{ℤ, pos, negsuc}
+use borrow.Author.Tests.{ne-eqb}
 use lib.ListN.{length, getD, set, length-map, length-append, length-set, List·getD-map, List·getD-append}
 use lib.Seq.{getD-at, getD-set-same, getD-set-other}
 use lib.Ieee.{Float}
@@ -19,22 +18,14 @@ use Rattle.geometry.specs.declared.point.Point.{Point}
 use Rattle.geometry.specs.Meshes.{vertex}
 use Rattle.mesh_weld.specs.Cells.{Key, keyOf, same, sameKey}
 use Rattle.candidate_pool.specs.Pool.{Candidate, Pool, noCandidate, noPool, pointOf, renewed, enteredAs, byKey, linkFor, insert}
-use Rattle.candidate_pool.proofs.Pigeonhole.{pigeonhole}
+use Rattle.lists.proofs.Pigeonhole.{pigeonhole}
+use Rattle.lists.proofs.Sequences.{at-map}
 use Rattle.candidate_pool.proofs.Rule.{key-symmetric, key-lawful}
 use Rattle.candidate_pool.proofs.Growing.{found-low}
+use Rattle.candidate_pool.proofs.KeyWords.{same-is, same-self}
 use Rattle.candidate_edges.specs.Steps.{Sourced}
 
 -- ---- keys
-
-same-is : (a b : ℤ) → same a b ≡ true → a ≡ b
-same-is (pos a) (pos b) e = ap pos (eqb-true a b e)
-same-is (pos a) (negsuc b) e = absurd (true≢false (sym e))
-same-is (negsuc a) (pos b) e = absurd (true≢false (sym e))
-same-is (negsuc a) (negsuc b) e = ap negsuc (eqb-true a b e)
-
-same-self : (a : ℤ) → same a a ≡ true
-same-self (pos a) = eq-eqb a a refl
-same-self (negsuc a) = eq-eqb a a refl
 
 key-is : (a b : Key) → sameKey a b ≡ true → a ≡ b
 unfolding sameKey
@@ -59,12 +50,7 @@ module _ (points : List Point) (eps : Float) (p : Pool) where
   meshOf c = getD (p .all) c noCandidate .mesh
 
   point-map : (q : Point) (c : ℕ) → c < count → getD (map (λ d. d .point) (p .all)) c q ≡ pointOf p c
-  point-map q c h = in-list (p .all) c h
-    where
-      in-list : (l : List Candidate) (c : ℕ) → c < length l → getD (map (λ d. d .point) l) c q ≡ getD l c noCandidate .point
-      in-list [] c h = absurd (omega arith)
-      in-list (x ∷ l) zero h = refl
-      in-list (x ∷ l) (suc c) h = in-list l c (omega arith)
+  point-map q c h = at-map (λ d. d .point) (p .all) c noCandidate q h
 
   module _ (e : Candidate) where
     link-new : linkFor (byKey eps) p e ≡ 0 → (c : ℕ) → c < count → sameKey (keyOf eps (pointOf p c)) (keyOf eps (e .point)) ≡ false

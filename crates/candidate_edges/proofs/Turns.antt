@@ -20,11 +20,12 @@ use Rattle.edges.specs.Edges.{sides, openEdges}
 use Rattle.candidate_pool.specs.Pool.{Pool, faceList, byKey, numberFor, insert}
 use Rattle.candidate_pool.specs.Standing.{facesIn, poolAt, edgeAt, edgesAt, EdgesHeld}
 use Rattle.candidate_pool.proofs.Growing.{grows, number-listed}
+use Rattle.candidate_pool.proofs.Masking.{no-faces, no-bit, has-faces, few-faces}
+use Rattle.candidate_pool.proofs.Frames.{pool-same, holds-same}
+use Rattle.candidate_pool.proofs.Edges.{edges-more, edges-same, held-kept, held-more}
 use Rattle.candidate_edges.specs.Surface.{edgeFaces, meshCandidate, enterEdge}
 use Rattle.candidate_edges.specs.Steps.{TableAt, MeshFits, Sourced, Ready, VertexEntered, surfaceAt, Entering, EdgeEntered}
-use Rattle.candidate_edges.proofs.Faces.{no-faces, no-bit, has-faces, few-faces, mask-faces, mask-small}
-use Rattle.candidate_edges.proofs.Frames.{pool-same, holds-same}
-use Rattle.candidate_edges.proofs.Held.{edges-more, edges-same, held-same, held-kept, held-more}
+use Rattle.candidate_edges.proofs.Faces.{mask-faces, mask-small}
 
 -- ---- three words stored one behind the other
 
@@ -225,10 +226,11 @@ module _ (vs : List Float) (fs : List ℕ) (box : AABB) (eps : Float) (n i mask 
 
   held-old : EdgesHeld (poolAt n w3) w3 at i
   held-old =
-      held-same w w3 at i same-edges (poolAt n w3)
-      (subst (λ (p : Pool). EdgesHeld p w at i) (sym pool-is)
-      (held-kept (byKey eps) (pool1 on) (meshCandidate (meshOf vs fs) (side .1) on) w at i
-      (held-kept (byKey eps) (poolAt n w) (meshCandidate (meshOf vs fs) (side .0) on) w at i (entering .held))))
+      held-kept w w3 at i same-edges (poolAt n w) (poolAt n w3)
+      (λ f c l e.
+      ap (λ (p : Pool). has (faceList p f) c) pool-is
+      ∙ grows (byKey eps) (pool1 on) (meshCandidate (meshOf vs fs) (side .1) on) f c l (grows (byKey eps) (poolAt n w) (meshCandidate (meshOf vs fs) (side .0) on) f c l e))
+      (entering .held)
 
   on-face : (f : ℕ) → f < 6 → hasBit (getD w3 (at + 3 * i + 2) 0) f ≡ true → has on f ≡ true
   on-face f l e =

@@ -3,18 +3,18 @@
 --   held-low         the ends of the edges of a face are candidates
 --   edges-ready      what gathering asks
 --   skipped-same     a pool in which the edges' ends have the same points says the same of a point
-use Prim.Native.Nat.{ℕ, zero, suc, _+_, _*_, _^_, _≤_, _<_}
+use Prim.Native.Nat.{ℕ, _+_, _*_, _^_, _≤_, _<_}
 use native.Mathlib.Omega.{arith}
 use native.Mathlib.Decide.{ℕ-discrete}
-use mathlib.Core.Path.{_≡_, refl, sym, ap, subst, _∙_}
+use mathlib.Core.Path.{_≡_, refl, sym, ap, _∙_}
 use mathlib.Core.Bool.{Bool, true, false, cond, _&&_, _||_}
 use mathlib.Core.List.{List, [], _∷_, map}
 use borrow.Author.Tests.{eq-eqb, ne-eqb}
-use lib.Dec.{T, eqb}
+use lib.Dec.{eqb}
 use lib.ListN.{length, getD}
 use lib.Ieee.{Float}
 use Rattle.lists.specs.Lists.{some, keep, has, upTo}
-use Rattle.lists.proofs.Members.{of-has, mem-getD}
+use Rattle.lists.proofs.Sequences.{some-flat, some-below}
 use Rattle.root.specs.Bounds.{Within}
 use Rattle.geometry.specs.declared.point.Point.{Point}
 use Rattle.geometry.specs.Boxes.{faces}
@@ -25,10 +25,11 @@ use Rattle.box_faces.specs.Segments.{onSegment}
 use Rattle.candidate_pool.specs.Pool.{Pool, pointOf, faceList}
 use Rattle.candidate_pool.specs.Setting.{Setting}
 use Rattle.candidate_pool.specs.Standing.{countAt, poolAt, Tidy, Holds, edgeAt, edgesAt, EdgesHeld}
+use Rattle.candidate_pool.proofs.Listing.{is-face}
+use Rattle.candidate_pool.proofs.Tidying.{has-low}
+use Rattle.candidate_pool.proofs.Reading.{pool-count}
 use Rattle.candidate_grids.specs.Grid.{skipped}
 use Rattle.candidate_grids.specs.Steps.{edgeHit, EdgesReady}
-use Rattle.candidate_grids.proofs.Counting.{some-flat, some-same}
-use Rattle.candidate_grids.proofs.Entries.{count-of-pool}
 
 -- ---- one edge, for each of its faces an entry
 
@@ -69,21 +70,11 @@ module _ (f x y : ℕ) (G : ℕ → ℕ → Bool) (h : ℕ → Bool) where
   one-face [] = refl
   one-face (k ∷ l) = step k l (one-face l) (ℕ-discrete k f) (h k) refl
 
-is-face : (f : ℕ) → f < 6 → has faces f ≡ true
-unfolding some
-is-face zero h = refl
-is-face (suc zero) h = refl
-is-face (suc (suc zero)) h = refl
-is-face (suc (suc (suc zero))) h = refl
-is-face (suc (suc (suc (suc zero)))) h = refl
-is-face (suc (suc (suc (suc (suc zero))))) h = refl
-is-face (suc (suc (suc (suc (suc (suc f)))))) h = absurd (omega arith)
-
 pub edges-some : (pool : Pool) (w : List ℕ) (at k f : ℕ) (tolerance : Float) (p : Uv) → f < 6
     → some (λ e. eqb (e .a) f && onSegment tolerance p (project f (pointOf pool (e .b))) (project f (pointOf pool (e .c)))) (edgesAt w at k) ≡ some (edgeHit pool w at f tolerance p) (upTo k)
 unfolding edgesAt edgeHit
 edges-some pool w at k f tolerance p h =
-    some-flat t (λ i. edgeAt w (at + 3 * i)) (upTo k) ∙ some-same (λ i. some t (edgeAt w (at + 3 * i))) (edgeHit pool w at f tolerance p) k (λ i l. one i)
+    some-flat t (λ i. edgeAt w (at + 3 * i)) (upTo k) ∙ some-below (λ i. some t (edgeAt w (at + 3 * i))) (edgeHit pool w at f tolerance p) k (λ i l. one i)
   where
     t : Triangle ℕ → Bool
     t e = eqb (e .a) f && onSegment tolerance p (project f (pointOf pool (e .b))) (project f (pointOf pool (e .c)))
@@ -98,10 +89,8 @@ edges-some pool w at k f tolerance p h =
 
 pub held-low : (n : ℕ) (w : List ℕ) (f c : ℕ) → f < 6 → Tidy (poolAt n w) → has (faceList (poolAt n w) f) c ≡ true → c < countAt w
 held-low n w f c h t e =
-    let m = mem-getD 0 (of-has (faceList (poolAt n w) f) c (subst T (sym e) tt)) in
-    let l = t .low f (m .0) h (m .1) in
-    let q = m .2 in
-    let k = count-of-pool n w in
+    let l = has-low (poolAt n w) t f c h e in
+    let k = pool-count n w in
     omega arith
 
 module _ (eps : Float) (n nf k f : ℕ) (w : List ℕ) (h : f < 6) (H : Holds eps n w) (D : EdgesHeld (poolAt n w) w (8 + 62 * n + 30 * nf) k) where
@@ -130,7 +119,7 @@ module _ (eps : Float) (n nf k f : ℕ) (w : List ℕ) (h : f < 6) (H : Holds ep
   skipped-same s v pool e same p =
       ap (λ (l : List (Triangle ℕ)). skipped s l pool f p) e
       ∙ edges-some pool w E k f (s .skip f) p h
-      ∙ some-same (edgeHit pool w E f (s .skip f) p) (edgeHit (poolAt n w) w E f (s .skip f) p) k
+      ∙ some-below (edgeHit pool w E f (s .skip f) p) (edgeHit (poolAt n w) w E f (s .skip f) p) k
       (λ i l. at i (hasBit (getD w (E + 3 * i + 2) 0) f) (λ b. held-low n w f (getD w (E + 3 * i) 0) h (H .tidy) (D .from i f l h b)) (λ b. held-low n w f (getD w (E + 3 * i + 1) 0) h (H .tidy) (D .to i f l h b)))
       ∙ sym (edges-some (poolAt n w) w E k f (s .skip f) p h)
     where

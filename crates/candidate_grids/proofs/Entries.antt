@@ -1,5 +1,4 @@
 -- What is entered into the pool: a point, and in a loop one list after another. Assumes nothing.
---   count-of-pool                how many candidates there are, in the pool and in the room
 --   grown-none, grown-more, grown-inserted   what stays as it was
 --   cell-left, cell-in           a point was left out; it was inserted
 --   entered-none, entered-more   of no list; of one list more
@@ -10,11 +9,11 @@ use native.Mathlib.Omega.{arith}
 use mathlib.Core.Path.{_≡_, refl, sym, ap, _∙_}
 use mathlib.Core.Bool.{Bool, true, false, cond, _&&_}
 use mathlib.Core.List.{List, [], _∷_, flatMap, foldl}
-use lib.ListN.{length, length-map}
+use lib.ListN.{length}
 use lib.Ieee.{Float}
 use Rattle.lists.specs.Lists.{has, upFrom, upTo}
 use Rattle.lists.proofs.Bools.{cond-true, cond-false}
-use Rattle.lists.proofs.Stores.{length-upFrom}
+use Rattle.lists.proofs.Sequences.{fold-flat}
 use Rattle.root.specs.Bounds.{Within}
 use Rattle.geometry.specs.declared.point.Point.{Point}
 use Rattle.geometry.specs.declared.aabb.AABB.{AABB}
@@ -23,18 +22,14 @@ use Rattle.box_faces.specs.declared.uv.Uv.{Uv}
 use Rattle.box_faces.specs.Faces.{vAxis, project}
 use Rattle.box_faces.specs.Lines.{lineAt, pointOnFace}
 use Rattle.candidate_pool.specs.Pool.{Candidate, Pool, pointOf, faceList, byKey, insert}
-use Rattle.candidate_pool.specs.Standing.{candidate, candidateAt, countAt, poolAt, PointIn, Holds, Inserted}
+use Rattle.candidate_pool.specs.Standing.{candidate, poolAt, PointIn, Holds, Inserted}
 use Rattle.candidate_pool.proofs.Growing.{count-grows, count-most, grows, points-kept}
+use Rattle.candidate_pool.proofs.Reading.{pool-count}
 use Rattle.candidate_grids.specs.declared.grids.Near.{Near}
 use Rattle.candidate_grids.specs.declared.grids.Row.{Row}
 use Rattle.candidate_grids.specs.Steps.{skipsNear, inside, gridCell, rowCell, PointReady, Grown, Entered, RowReady}
-use Rattle.candidate_grids.proofs.Counting.{fold-more}
 use Rattle.candidate_grids.proofs.Frames.{skips-same, near-same}
 use Rattle.candidate_grids.proofs.Bounded.{line-in}
-
-pub count-of-pool : (n : ℕ) (w : List ℕ) → length (poolAt n w .all) ≡ countAt w
-unfolding poolAt
-count-of-pool n w = length-map (upTo (countAt w)) (candidateAt w) ∙ length-upFrom 0 (countAt w)
 
 pub grown-none : (n : ℕ) (w : List ℕ) → Grown n w w
 grown-none n w = record { more = omega arith; points = λ c h. refl; lists = λ f c h e. e }
@@ -52,10 +47,10 @@ grown-inserted eps n e w v z I =
     record {
       more =
           let a = count-grows (byKey eps) (poolAt n w) e in
-          let b = count-of-pool n w in
-          let c = sym (count-of-pool n v) ∙ ap (λ (q : Pool). length (q .all)) (I .pool) in
+          let b = pool-count n w in
+          let c = sym (pool-count n v) ∙ ap (λ (q : Pool). length (q .all)) (I .pool) in
           omega arith;
-      points = λ c h. ap (λ (q : Pool). pointOf q c) (I .pool) ∙ points-kept (byKey eps) (poolAt n w) e z c (let k = count-of-pool n w in omega arith);
+      points = λ c h. ap (λ (q : Pool). pointOf q c) (I .pool) ∙ points-kept (byKey eps) (poolAt n w) e z c (let k = pool-count n w in omega arith);
       lists = λ f c h t. ap (λ (q : Pool). has (faceList q f) c) (I .pool) ∙ grows (byKey eps) (poolAt n w) e f c h t;
     }
 
@@ -80,8 +75,8 @@ module _ (eps : Float) (n : ℕ) (skips : Uv → Bool) (inner : Bool) (f : ℕ) 
         holds = I .holds;
         few =
             let a = count-most (byKey eps) (poolAt n w) (candidate p 0 (f ∷ [])) in
-            let b = count-of-pool n w in
-            let c = sym (count-of-pool n v) ∙ ap (λ (q : Pool). length (q .all)) (I .pool) in
+            let b = pool-count n w in
+            let c = sym (pool-count n v) ∙ ap (λ (q : Pool). length (q .all)) (I .pool) in
             omega arith;
         grown = grown-inserted eps n (candidate p 0 (f ∷ [])) w v refl I;
         long = I .long;
@@ -98,7 +93,7 @@ module _ (eps : Float) (n : ℕ) (g : ℕ → List Candidate) (w : List ℕ) whe
       → Entered eps n (flatMap g (upTo (i + 1))) total w u
   entered-more v u l i most more total a e b q =
       record {
-        pool = fold-more (insert (byKey eps)) (poolAt n w) (poolAt n v) (poolAt n u) g i (a .pool) (b .pool ∙ ap (foldl (insert (byKey eps)) (poolAt n v)) e);
+        pool = fold-flat (insert (byKey eps)) (poolAt n w) (poolAt n v) (poolAt n u) g i (a .pool) (b .pool ∙ ap (foldl (insert (byKey eps)) (poolAt n v)) e);
         holds = b .holds;
         few = let x = a .few in let y = b .few in omega arith;
         grown = grown-more n w v u (a .grown) (b .grown);

@@ -20,6 +20,7 @@ use mathlib.Core.List.{List, [], _∷_, flatMap, foldl}
 use lib.ListN.{length, getD}
 use lib.Ieee.{Float}
 use Rattle.lists.specs.Lists.{has, upTo}
+use Rattle.lists.proofs.Sequences.{flat-below}
 use Rattle.root.specs.Bounds.{Within}
 use Rattle.root.specs.Doubles.{larger, _⊖_}
 use Rattle.rounding.proofs.Segments.{segments-some}
@@ -35,12 +36,12 @@ use Rattle.box_faces.specs.Faces.{uAxis, vAxis, project}
 use Rattle.box_faces.specs.Lines.{lineAt, pointOnFace}
 use Rattle.candidate_pool.specs.Pool.{Pool, pointOf, faceList, byKey, insert}
 use Rattle.candidate_pool.specs.Standing.{candidate, countAt, poolAt, Holds, edgesAt}
+use Rattle.candidate_pool.proofs.Frames.{pool-same, holds-same}
 use Rattle.candidate_grids.specs.declared.grids.Near.{Near}
 use Rattle.candidate_grids.specs.declared.grids.Row.{Row}
 use Rattle.candidate_grids.specs.Grid.{gridPoint, skipped, gridAt, faceGrid}
 use Rattle.candidate_grids.specs.Steps.{byAxes, skipsAt, skipsNear, Gathered, NearReady, inside, gridCell, rowCell, faceLine, rowAt, Grown, Entered, RowReady, faceSize, FaceReady, FaceEntered}
-use Rattle.candidate_grids.proofs.Counting.{flat-same}
-use Rattle.candidate_grids.proofs.Frames.{pool-same, holds-same, skips-same, near-same}
+use Rattle.candidate_grids.proofs.Frames.{skips-same, near-same}
 use Rattle.candidate_grids.proofs.Entries.{grown-more}
 use Rattle.candidate_grids.proofs.Bounded.{line-in}
 use Rattle.candidate_grids.proofs.Edged.{edges-some}
@@ -130,9 +131,9 @@ module _ (box : AABB) (eps : Float) (resolution skip : List Float) where
         ∙ ap (λ (x : ℕ). flatMap (λ i. flatMap (rowCell skips box f (rowAt box f at (segs' (uAxis f)) i) x) (upTo (x + 1))) (upTo (segs' (uAxis f) + 1))) ev
         ∙ ap (λ (x : Float). flatMap (λ i. flatMap (rowCell skips box f (rowAt box f x (segs' (uAxis f)) i) (segs' (vAxis f))) (upTo (segs' (vAxis f) + 1))) (upTo (segs' (uAxis f) + 1)))
         (ea ∙ ap (faceLine box f) ep)
-        ∙ flat-same (λ i. flatMap (rowCell skips box f (rowAt box f (faceLine box f (segs' (axis f))) (segs' (uAxis f)) i) (segs' (vAxis f))) (upTo (segs' (vAxis f) + 1)))
+        ∙ flat-below (λ i. flatMap (rowCell skips box f (rowAt box f (faceLine box f (segs' (axis f))) (segs' (uAxis f)) i) (segs' (vAxis f))) (upTo (segs' (vAxis f) + 1)))
         (λ i. flatMap (λ j. gridAt (byAxes box eps resolution skip) edges pool f i j) (upTo (segs' (vAxis f) + 1))) (segs' (uAxis f) + 1)
-        (λ i l. flat-same (rowCell skips box f (rowAt box f (faceLine box f (segs' (axis f))) (segs' (uAxis f)) i) (segs' (vAxis f))) (λ j. gridAt (byAxes box eps resolution skip) edges pool f i j)
+        (λ i l. flat-below (rowCell skips box f (rowAt box f (faceLine box f (segs' (axis f))) (segs' (uAxis f)) i) (segs' (vAxis f))) (λ j. gridAt (byAxes box eps resolution skip) edges pool f i j)
         (segs' (vAxis f) + 1) (λ j m. cell-is i j))
 
 -- ---- rows
@@ -150,7 +151,7 @@ pub rows-same : (skips skips' : Uv → Bool) → ((p : Uv) → skips p ≡ skips
     → flatMap (rowCell skips box f row last) (upTo m) ≡ flatMap (rowCell skips' box f row last) (upTo m)
 unfolding rowCell gridCell
 rows-same skips skips' same box f row last m =
-    flat-same (rowCell skips box f row last) (rowCell skips' box f row last) m
+    flat-below (rowCell skips box f row last) (rowCell skips' box f row last) m
     (λ j h.
     let p = pointOnFace f (row .at) (row .u) (lineAt (low box (vAxis f)) (high box (vAxis f)) last j) in
     ap (λ (b : Bool). cond ((row .inner && inside j last) && b) [] (candidate p 0 (f ∷ []) ∷ [])) (same (project f p)))
@@ -202,10 +203,10 @@ module _ (eps : Float) (n nf k f : ℕ) (tolerance : Float) (w v : List ℕ) (H 
   below x h = G .rest x (omega arith)
 
   pub gathered-pool : poolAt n v ≡ poolAt n w
-  gathered-pool = pool-same eps n w v (G .long) below H
+  gathered-pool = pool-same eps n w v H (G .long) below
 
   pub gathered-holds : Holds eps n v
-  gathered-holds = holds-same eps n w v (G .long) below H
+  gathered-holds = holds-same eps n w v H (G .long) below
 
   pub gathered-count : countAt v ≡ countAt w
   gathered-count = below 6 (omega arith)

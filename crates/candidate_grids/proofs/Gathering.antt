@@ -1,5 +1,4 @@
 -- The loop that gathers the open edges of a face as segments. Assumes nothing.
---   point-of-pool               a candidate's point in the pool and in the room
 --   Gathering                   its invariant
 --   gather-start, gather-pass, gather-one, gather-end   its start, a turn at an edge of other faces, a turn at one of the face, its end
 --   edge-ready                  what storing an edge asks
@@ -14,19 +13,16 @@ use lib.Ieee.{Float}
 use Rattle.lists.specs.Lists.{some, upFrom, upTo}
 use Rattle.lists.specs.Regions.{Outside}
 use Rattle.lists.proofs.Bools.{and-next, and-stop, or-last}
-use Rattle.lists.proofs.Places.{at-map-up}
+use Rattle.lists.proofs.Sequences.{some-up}
 use Rattle.box_faces.specs.declared.uv.Uv.{Uv}
 use Rattle.box_faces.specs.Faces.{project, hasBit}
 use Rattle.box_faces.specs.Segments.{onSegment}
-use Rattle.candidate_pool.specs.Pool.{Candidate, noCandidate, pointOf}
-use Rattle.candidate_pool.specs.Standing.{candidateAt, countAt, pointAt, poolAt, Stored}
+use Rattle.candidate_pool.specs.Pool.{pointOf}
+use Rattle.candidate_pool.specs.Standing.{countAt, pointAt, poolAt, Stored}
+use Rattle.candidate_pool.proofs.Placing.{point-same, stored-same}
+use Rattle.candidate_pool.proofs.Reading.{pool-point}
 use Rattle.candidate_grids.specs.Steps.{SegmentAt, hitAt, skipsAt, EdgeReady, SegmentGathered, edgeHit, EdgesReady, Gathered}
-use Rattle.candidate_grids.proofs.Counting.{some-more}
-use Rattle.candidate_grids.proofs.Frames.{point-same, stored-same, segment-same, skips-same}
-
-pub point-of-pool : (n : ℕ) (w : List ℕ) (c : ℕ) → c < countAt w → pointOf (poolAt n w) c ≡ pointAt w (8 + 5 * c)
-unfolding poolAt
-point-of-pool n w c h = ap (λ (k : Candidate). k .point) (at-map-up (candidateAt w) noCandidate 0 (countAt w) c h ∙ ap (candidateAt w) (let e : 0 + c ≡ c = omega arith in e))
+use Rattle.candidate_grids.proofs.Frames.{segment-same, skips-same}
 
 pub record Gathering (n nf k face : ℕ) (tolerance : Float) (w v : List ℕ) (count i : ℕ) : Type 0 where
   pub few : count ≤ i
@@ -70,7 +66,7 @@ module _ (n nf k face : ℕ) (tolerance : Float) (w : List ℕ) where
           skips = λ p.
               G .skips p ∙ sym (or-last (some (edgeHit (poolAt n w) w E face tolerance p) (upTo i)))
               ∙ ap (λ (c : Bool). some (edgeHit (poolAt n w) w E face tolerance p) (upTo i) || c) (sym (and-stop (hasBit (getD w (E + 3 * i + 2) 0) face) _ (bit b e ∙ f)))
-              ∙ sym (some-more (edgeHit (poolAt n w) w E face tolerance p) i);
+              ∙ sym (some-up (edgeHit (poolAt n w) w E face tolerance p) i);
           long = G .long;
           rest = G .rest;
         }
@@ -85,12 +81,9 @@ module _ (n nf k face : ℕ) (tolerance : Float) (w : List ℕ) where
       same-at : (c : ℕ) → c < countAt w → (x : ℕ) → x < 5 → getD v (8 + 5 * c + x) 0 ≡ getD w (8 + 5 * c + x) 0
       same-at c h x l = G .rest (8 + 5 * c + x) (let f = R .few in omega arith)
 
-      same-first : (c : ℕ) → c < countAt w → getD v (8 + 5 * c) 0 ≡ getD w (8 + 5 * c) 0
-      same-first c h = G .rest (8 + 5 * c) (let f = R .few in omega arith)
-
       stored : (c d : ℕ) → d ≡ c → c < countAt w → Stored v (8 + 5 * d)
       stored c d q h =
-          subst (λ (x : ℕ). Stored v (8 + 5 * x)) (sym q) (stored-same w v (8 + 5 * c) (same-first c h) (same-at c h 1 (omega arith)) (same-at c h 2 (omega arith)) (R .stored c h))
+          subst (λ (x : ℕ). Stored v (8 + 5 * x)) (sym q) (stored-same w v (8 + 5 * c) (λ x l. same-at c h x (omega arith)) (R .stored c h))
 
       in-room : (c d : ℕ) → d ≡ c → c < countAt w → 8 + 5 * d + 2 < length v
       in-room c d q h = let f = R .few in let s = R .size in let l = G .long in omega arith
@@ -110,7 +103,7 @@ module _ (n nf k face : ℕ) (tolerance : Float) (w : List ℕ) where
       point : (c d : ℕ) → d ≡ c → c < countAt w → project face (pointAt v (8 + 5 * d)) ≡ project face (pointOf (poolAt n w) c)
       point c d q h =
           ap (project face)
-          (ap (λ (x : ℕ). pointAt v (8 + 5 * x)) q ∙ point-same w v (8 + 5 * c) (same-first c h) (same-at c h 1 (omega arith)) (same-at c h 2 (omega arith)) ∙ sym (point-of-pool n w c h))
+          (ap (λ (x : ℕ). pointAt v (8 + 5 * x)) q ∙ point-same w v (8 + 5 * c) (λ x l. same-at c h x (omega arith)) ∙ sym (pool-point n w c h))
 
       pub gather-one : (u : List ℕ) → SegmentGathered (S + 5 * count) (E + 3 * i) face tolerance v u → Gathering n nf k face tolerance w u (count + 1) (i + 1)
       unfolding edgeHit skipsAt
@@ -120,10 +113,10 @@ module _ (n nf k face : ℕ) (tolerance : Float) (w : List ℕ) where
             most = omega arith;
             segments = λ j h. at j (ℕ-discrete j count) h;
             skips = λ p.
-                some-more (λ j. hitAt u (S + 5 * j) tolerance p) count
+                some-up (λ j. hitAt u (S + 5 * j) tolerance p) count
                 ∙ ap (λ (c : Bool). c || hitAt u (S + 5 * count) tolerance p) (skips-same v u S count (λ x a l. kept x (λ y h q. omega arith)) tolerance p ∙ G .skips p)
                 ∙ ap (λ (c : Bool). some (edgeHit (poolAt n w) w E face tolerance p) (upTo i) || c) (hit p)
-                ∙ sym (some-more (edgeHit (poolAt n w) w E face tolerance p) i);
+                ∙ sym (some-up (edgeHit (poolAt n w) w E face tolerance p) i);
             long = g .long ∙ G .long;
             rest = λ x h. kept x (λ y l q. omega arith) ∙ G .rest x h;
           }

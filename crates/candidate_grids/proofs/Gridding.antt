@@ -1,31 +1,30 @@
 -- The loop over the six faces. Assumes nothing.
 --   sumTo, sizeTo, size-more, size-room      how many points the grids of the first faces have: with the next one's, no more than all six have
 --   grid-same              a face's grid by another room and pool that say the same of its points
---   held-grown             the edges' ends stay in their lists
 --   Gridding               the invariant
 --   gridding-start, gridding-ready, gridding-turn, gridding-end   its start, what a turn asks, a turn, the end
 use Prim.Native.Nat.{ℕ, zero, suc, _+_, _*_, _≤_, _<_}
 use native.Mathlib.Omega.{arith}
 use native.Mathlib.Numerals.{add-one}
-use mathlib.Core.Path.{_≡_, refl, sym, ap, _∙_}
+use mathlib.Core.Path.{_≡_, refl, ap, _∙_}
 use mathlib.Core.Bool.{Bool, cond, _&&_}
 use mathlib.Core.List.{List, [], _∷_, flatMap, foldl}
 use lib.ListN.{length, getD}
 use lib.Ieee.{Float}
 use Rattle.lists.specs.Lists.{upFrom, upTo}
+use Rattle.lists.proofs.Sequences.{flat-below, fold-flat}
 use Rattle.geometry.specs.declared.aabb.AABB.{AABB}
 use Rattle.geometry.specs.Triangles.{Triangle}
 use Rattle.geometry.specs.Axes.{segments, gridSize}
 use Rattle.refusals.specs.Front.{byAxis}
 use Rattle.box_faces.specs.declared.uv.Uv.{Uv}
-use Rattle.box_faces.specs.Faces.{uAxis, vAxis, project, hasBit}
+use Rattle.box_faces.specs.Faces.{uAxis, vAxis, project}
 use Rattle.candidate_pool.specs.Pool.{Pool, byKey, insert}
 use Rattle.candidate_pool.specs.Setting.{Setting}
 use Rattle.candidate_pool.specs.Standing.{candidate, countAt, poolAt, Holds, edgesAt, EdgesHeld}
+use Rattle.candidate_pool.proofs.Edges.{edges-same, held-kept}
 use Rattle.candidate_grids.specs.Grid.{interior, gridPoint, skipped, gridAt, faceGrid, grid}
 use Rattle.candidate_grids.specs.Steps.{byAxes, GridReady, Gridded, Grown, faceSize, FaceReady, FaceEntered}
-use Rattle.candidate_grids.proofs.Counting.{flat-same, fold-more}
-use Rattle.candidate_grids.proofs.Frames.{edges-same}
 use Rattle.candidate_grids.proofs.Edged.{skipped-same}
 use Rattle.candidate_grids.proofs.Entries.{grown-none, grown-more}
 
@@ -57,27 +56,11 @@ module _ (box : AABB) (eps : Float) (resolution : List Float) where
 pub grid-same : (s : Setting) (l m : List (Triangle ℕ)) (p q : Pool) (f : ℕ) → ((z : Uv) → skipped s l p f z ≡ skipped s m q f z) → faceGrid s l p f ≡ faceGrid s m q f
 unfolding faceGrid gridAt
 grid-same s l m p q f same =
-    flat-same (λ i. flatMap (λ j. gridAt s l p f i j) (upTo (segments (s .box) (s .eps) (s .resolution) (vAxis f) + 1)))
+    flat-below (λ i. flatMap (λ j. gridAt s l p f i j) (upTo (segments (s .box) (s .eps) (s .resolution) (vAxis f) + 1)))
     (λ i. flatMap (λ j. gridAt s m q f i j) (upTo (segments (s .box) (s .eps) (s .resolution) (vAxis f) + 1))) (segments (s .box) (s .eps) (s .resolution) (uAxis f) + 1)
-    (λ i h. flat-same (λ j. gridAt s l p f i j) (λ j. gridAt s m q f i j) (segments (s .box) (s .eps) (s .resolution) (vAxis f) + 1)
+    (λ i h. flat-below (λ j. gridAt s l p f i j) (λ j. gridAt s m q f i j) (segments (s .box) (s .eps) (s .resolution) (vAxis f) + 1)
     (λ j k.
     ap (λ (b : Bool). cond (interior s (uAxis f) i && (interior s (vAxis f) j && b)) [] (candidate (gridPoint s f i j) 0 (f ∷ []) ∷ [])) (same (project f (gridPoint s f i j)))))
-
-pub held-grown : (n : ℕ) (w v : List ℕ) (at k : ℕ) → Grown n w v → ((x : ℕ) → at ≤ x → x < at + 3 * k → getD v x 0 ≡ getD w x 0) → EdgesHeld (poolAt n w) w at k → EdgesHeld (poolAt n v) v at k
-held-grown n w v at k g same D =
-    record {
-      masks = λ i h. rw (word i 2 h (omega arith)) (D .masks i h);
-      from = λ i f h l b.
-          rw (first i h) (g .lists f (getD w (at + 3 * i) 0) l (D .from i f h l (sym (ap (λ (m : ℕ). hasBit m f) (word i 2 h (omega arith))) ∙ b)));
-      to = λ i f h l b.
-          rw (word i 1 h (omega arith)) (g .lists f (getD w (at + 3 * i + 1) 0) l (D .to i f h l (sym (ap (λ (m : ℕ). hasBit m f) (word i 2 h (omega arith))) ∙ b)));
-    }
-  where
-    word : (i j : ℕ) → i < k → j < 3 → getD v (at + 3 * i + j) 0 ≡ getD w (at + 3 * i + j) 0
-    word i j h l = same (at + 3 * i + j) (omega arith) (omega arith)
-
-    first : (i : ℕ) → i < k → getD v (at + 3 * i) 0 ≡ getD w (at + 3 * i) 0
-    first i h = same (at + 3 * i) (omega arith) (omega arith)
 
 pub record Gridding (box : AABB) (eps : Float) (resolution skip : List Float) (n nf k : ℕ) (w v : List ℕ) (face : ℕ) : Type 0 where
   pub most : face ≤ 6
@@ -104,7 +87,7 @@ module _ (box : AABB) (eps : Float) (resolution skip : List Float) (n nf k : ℕ
     edge-words x a b = G .rest x (omega arith) (let e = R .edges in omega arith)
 
     held-now : EdgesHeld (poolAt n v) v E k
-    held-now = held-grown n w v E k (G .grown) edge-words (R .held)
+    held-now = held-kept w v E k edge-words (poolAt n w) (poolAt n v) (G .grown .lists) (R .held)
 
     pub gridding-ready : face < 6 → FaceReady box eps resolution skip n nf k face v
     gridding-ready h =
@@ -126,7 +109,7 @@ module _ (box : AABB) (eps : Float) (resolution skip : List Float) (n nf k : ℕ
         record {
           most = omega arith;
           pool =
-              fold-more (insert (byKey eps)) (poolAt n w) (poolAt n v) (poolAt n u) (faceGrid s (edgesAt w E k) (poolAt n w)) face (G .pool)
+              fold-flat (insert (byKey eps)) (poolAt n w) (poolAt n v) (poolAt n u) (faceGrid s (edgesAt w E k) (poolAt n w)) face (G .pool)
               (F .pool ∙ ap (foldl (insert (byKey eps)) (poolAt n v))
               (grid-same s (edgesAt v E k) (edgesAt w E k) (poolAt n v) (poolAt n w) face
               (skipped-same eps n nf k face w h (R .holds) (R .held) s v (poolAt n v) (edges-same w v E k edge-words) (G .grown .points))));

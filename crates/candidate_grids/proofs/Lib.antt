@@ -1,5 +1,5 @@
--- Laws that the proofs cite.
-pub mod Counting
+-- Laws that the proofs cite. Frames: segments in rooms that agree. Segmenting, Gathering, Searched: segments made, gathered and gone through. Bounded: points in range.
+-- Entries, Edged, Facing, Gridding: a point, the open edges, a face and the six faces.
 pub mod Frames
 pub mod Segmenting
 pub mod Gathering

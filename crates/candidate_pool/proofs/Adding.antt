@@ -3,18 +3,17 @@
 --   adding-start, adding-low, adding-turn, adding-skip, adding-end   its laws
 --   same-number        the faces do not bear on the number;   number-in   the number that an insertion gives is that of a candidate
 --   inserted-faces, inserted-face   an insertion with no face, and faces added, is an insertion with them
-use Prim.Native.Nat.{ℕ, zero, suc, _+_, _*_, _≤_, _<_}
+use Prim.Native.Nat.{ℕ, _+_, _*_, _≤_, _<_}
 use native.Mathlib.Omega.{arith}
-use native.Mathlib.Numerals.{add-one}
 use mathlib.Core.Path.{_≡_, refl, sym, ap, _∙_}
 use mathlib.Core.Bool.{Bool, true, false, cond}
-use mathlib.Core.List.{List, [], _∷_, _++_, map}
+use mathlib.Core.List.{List, [], _∷_, _++_, map, append-nil}
 use lib.ListN.{getD, set, length, length-set}
 use lib.Seq.{set-getD}
 use lib.Ieee.{Float}
 use Rattle.lists.specs.Lists.{some, keep, has, upFrom, upTo}
 use Rattle.lists.specs.Regions.{view}
-use Rattle.lists.proofs.Counts.{keep-append}
+use Rattle.lists.proofs.Sequences.{keep-up}
 use Rattle.geometry.specs.declared.point.Point.{Point}
 use Rattle.geometry.specs.Points.{origin}
 use Rattle.geometry.specs.Boxes.{faces}
@@ -29,23 +28,6 @@ use Rattle.candidate_pool.proofs.Growing.{number-low}
 use Rattle.candidate_pool.proofs.Inserting.{faces-more, insert-faces, one-face}
 use Rattle.candidate_pool.proofs.Reading.{pool-count, pool-at, link-low}
 use Rattle.candidate_pool.proofs.Placing.{kept-none}
-
-up-snoc : (j n : ℕ) → upFrom j (suc n) ≡ upFrom j n ++ ((j + n) ∷ [])
-unfolding upFrom
-up-snoc j zero = ap (λ (x : ℕ). x ∷ []) (omega arith)
-up-snoc j (suc n) = ap (λ (l : List ℕ). j ∷ l) (up-snoc (suc j) n) ∙ ap (λ (x : ℕ). j ∷ (upFrom (suc j) n ++ (x ∷ []))) (omega arith)
-
-keep-up : (t : ℕ → Bool) (k : ℕ) → keep t (upTo (k + 1)) ≡ keep t (upTo k) ++ cond (t k) (k ∷ []) []
-unfolding keep
-keep-up t k =
-    ap (λ (x : ℕ). keep t (upTo x)) (add-one k)
-    ∙ ap (keep t) (up-snoc 0 k)
-    ∙ keep-append t (upTo k) ((0 + k) ∷ [])
-    ∙ ap (λ (x : ℕ). keep t (upTo k) ++ cond (t x) (x ∷ []) []) (omega arith)
-
-append-nil : (l : List ℕ) → l ++ [] ≡ l
-append-nil [] = refl
-append-nil (x ∷ l) = ap (λ (r : List ℕ). x ∷ r) (append-nil l)
 
 pub record Adding (eps : Float) (n id mask k : ℕ) (w v : List ℕ) : Type 0 where
   pub pool : poolAt n v ≡ withFaces (poolAt n w) id (keep (hasBit mask) (upTo k))

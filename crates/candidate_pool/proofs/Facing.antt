@@ -4,20 +4,20 @@
 --   count-marked, list-room, face-added   their indices, and what they make of the pool
 use Prim.Native.Nat.{ℕ, _+_, _*_, _≤_, _<_, _^_}
 use native.Mathlib.Omega.{arith}
-use native.Mathlib.Numerals.{add-one}
 use native.Mathlib.Decide.{ℕ-discrete, decLt}
 use mathlib.Core.Path.{_≡_, refl, sym, ap, subst, _∙_}
 use mathlib.Core.Bool.{Bool, true, false, cond, _||_}
 use mathlib.Core.List.{List, [], _∷_, _++_}
 use lib.Dec.{eqb}
-use lib.ListN.{getD, set, length, drop, length-append, length-set, length-drop}
-use lib.Seq.{getD-set-same, getD-set-other, take-suc, getD-drop}
+use lib.ListN.{getD, set, length, length-append, length-set}
+use lib.Seq.{getD-set-same, getD-set-other}
 use lib.Ieee.{Float}
 use borrow.Author.Tests.{eq-eqb, ne-eqb, eqb-true}
 use Rattle.lists.specs.Lists.{keep, has}
 use Rattle.lists.specs.Regions.{view}
-use Rattle.lists.proofs.Bools.{or-last}
-use Rattle.lists.proofs.Regions.{view-same}
+use Rattle.lists.proofs.Bools.{or-last, or-true}
+use Rattle.lists.proofs.Regions.{view-same, view-more}
+use Rattle.lists.proofs.Pigeonhole.{pigeonhole}
 use Rattle.geometry.specs.Points.{origin}
 use Rattle.geometry.specs.Boxes.{faces}
 use Rattle.geometry.specs.declared.point.Point.{Point}
@@ -26,7 +26,6 @@ use Rattle.mesh_weld.specs.Cells.{keyOf}
 use Rattle.candidate_pool.specs.Pool.{Candidate, Pool, noCandidate, faceList, renewed, added, listed}
 use Rattle.candidate_pool.specs.Room.{keyWords, keyAt}
 use Rattle.candidate_pool.specs.Standing.{facesIn, candidate, countAt, pointAt, candidateAt, poolAt, Stored, Tidy, Holds, withFace, FaceAdded}
-use Rattle.candidate_pool.proofs.Pigeonhole.{pigeonhole}
 use Rattle.candidate_pool.proofs.Listing.{keep-faces, has-kept, has-one, listed-at}
 use Rattle.candidate_pool.proofs.Tidying.{tidy-faces}
 use Rattle.candidate_pool.proofs.Reading.{pool-count, pool-at, pool-list, pool-is, candidate-same, list-in, list-apart, list-long}
@@ -34,22 +33,9 @@ use Rattle.candidate_pool.proofs.Putting.{key-same}
 use Rattle.candidate_pool.proofs.Placing.{table-kept, point-same, stored-same}
 use Rattle.candidate_pool.proofs.Masking.{mask-more, mask-low}
 
--- one more at the end of a part
-view-more : (u w : List ℕ) (o k v : ℕ) → o + k < length u → length w ≡ length u → ((i : ℕ) → i < k → getD w (o + i) 0 ≡ getD u (o + i) 0) → getD w (o + k) 0 ≡ v
-    → view w o (k + 1) ≡ view u o k ++ (v ∷ [])
-view-more u w o k v room long same last =
-    ap (λ (j : ℕ). view w o j) (add-one k)
-    ∙ take-suc (drop o w) k 0 (omega (arith, length-drop o w))
-    ∙ ap (λ (l : List ℕ). l ++ (getD (drop o w) k 0 ∷ [])) (view-same u w o k (omega arith) long same)
-    ∙ ap (λ (x : ℕ). view u o k ++ (x ∷ [])) (getD-drop o w k 0 ∙ last)
-
 -- a store to a candidate's word of faces leaves the lengths of the lists
 pub count-marked : (w : List ℕ) (id f : ℕ) → f < 6 → (x : ℕ) → getD (set w (8 + 5 * id + 4) x) f 0 ≡ getD w f 0
 count-marked w id f h x = getD-set-other w (8 + 5 * id + 4) f x 0 (λ e. omega arith)
-
-or-right : (b : Bool) → (b || true) ≡ true
-or-right true = refl
-or-right false = refl
 
 module _ (eps : Float) (n : ℕ) (w : List ℕ) (h : Holds eps n w) (id f : ℕ) (id-low : id < countAt w) (k : f < 6) where
   abbrev mask : ℕ
@@ -108,7 +94,7 @@ module _ (eps : Float) (n : ℕ) (w : List ℕ) (h : Holds eps n w) (id f : ℕ)
   face-there t = record { pool = pool-with w refl again (λ c r d. refl) (λ g r. lists g r (ℕ-discrete g f)); holds = h; long = refl; rest = λ x r. refl }
     where
       with-it : (g : ℕ) (b : Bool) → eqb g f ≡ b → hasBit mask g ≡ (hasBit mask g || b)
-      with-it g true e = let q = ap (hasBit mask) (eqb-true g f e) ∙ t in q ∙ sym (or-right (hasBit mask g))
+      with-it g true e = let q = ap (hasBit mask) (eqb-true g f e) ∙ t in q ∙ sym (or-true (hasBit mask g))
       with-it g false e = sym (or-last (hasBit mask g))
 
       again : candidateAt w id ≡ renewed (candidateAt w id) (candidate origin 0 (f ∷ []))

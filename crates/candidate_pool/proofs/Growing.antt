@@ -12,22 +12,18 @@ use Prim.Native.Nat.{ℕ, zero, suc, _≤_, _<_}
 use native.Mathlib.Omega.{arith}
 use native.Mathlib.Decide.{ℕ-discrete}
 use mathlib.Core.Path.{_≡_, refl, ap, subst, _∙_}
-use mathlib.Core.Bool.{Bool, true, false, cond, _&&_, _||_}
+use mathlib.Core.Bool.{Bool, true, cond, _&&_, _||_}
 use mathlib.Core.List.{List, [], _∷_, _++_, map}
 use lib.Dec.{eqb}
 use lib.ListN.{getD, set, length, length-append, length-set, length-map, List·getD-append}
 use lib.Seq.{getD-set-same, getD-set-other}
 use borrow.Author.Tests.{eq-eqb}
 use Rattle.lists.specs.Lists.{has}
-use Rattle.lists.proofs.Bools.{or-stop}
+use Rattle.lists.proofs.Bools.{or-stop, or-true}
 use Rattle.geometry.specs.declared.point.Point.{Point}
 use Rattle.mesh_weld.specs.Joining.{Joining, Lawful}
 use Rattle.candidate_pool.specs.Pool.{Candidate, Pool, noCandidate, pointOf, faceList, renewed, enteredAs, numberAs, linkFor, numberFor, insert}
 use Rattle.candidate_pool.proofs.Listing.{listed-has}
-
-or-right : (b : Bool) → (b || true) ≡ true
-or-right true = refl
-or-right false = refl
 
 module _ (J : Joining Point) (p : Pool) (e : Candidate) where
   pub number-new : linkFor J p e ≡ 0 → numberFor J p e ≡ length (p .all)
@@ -87,7 +83,7 @@ module _ (J : Joining Point) (p : Pool) (e : Candidate) where
   number-listed f h t =
       inserted-has f (numberFor J p e) h
       ∙ ap (λ (b : Bool). has (faceList p f) (numberFor J p e) || b) (ap (λ (b : Bool). b && eqb (numberFor J p e) (numberFor J p e)) t ∙ eq-eqb (numberFor J p e) (numberFor J p e) refl)
-      ∙ or-right (has (faceList p f) (numberFor J p e))
+      ∙ or-true (has (faceList p f) (numberFor J p e))
 
   pub points-kept : e .mesh ≡ 0 → (c : ℕ) → c < length (p .all) → pointOf (insert J p e) c ≡ pointOf p c
   unfolding renewed

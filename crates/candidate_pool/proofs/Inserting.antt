@@ -13,6 +13,8 @@ use lib.ListN.{getD, set, length}
 use lib.Seq.{getD-set-same, set-set, getD-append-seam, set-append-seam}
 use borrow.Author.Tests.{eq-eqb}
 use Rattle.lists.specs.Lists.{some, keep, has}
+use Rattle.lists.proofs.Bools.{or-true, or-assoc}
+use Rattle.lists.proofs.Sequences.{some-append}
 use Rattle.geometry.specs.declared.point.Point.{Point}
 use Rattle.geometry.specs.Points.{origin}
 use Rattle.geometry.specs.Boxes.{faces}
@@ -20,22 +22,14 @@ use Rattle.mesh_weld.specs.Joining.{Joining}
 use Rattle.candidate_pool.specs.Pool.{Candidate, Pool, noCandidate, renewed, enteredAs, numberAs, added, listed, linkFor, numberFor, insert}
 use Rattle.candidate_pool.specs.Standing.{candidate}
 use Rattle.candidate_pool.specs.Steps.{withFaces}
-use Rattle.candidate_pool.proofs.Listing.{faces-same, keep-faces, has-kept, has-append, has-added, listed-at}
-
-or-assoc : (a b c : Bool) → ((a || b) || c) ≡ (a || (b || c))
-or-assoc true b c = refl
-or-assoc false b c = refl
-
-or-right : (a : Bool) → (a || true) ≡ true
-or-right true = refl
-or-right false = refl
+use Rattle.candidate_pool.proofs.Listing.{faces-same, keep-faces, has-kept, has-added, listed-at}
 
 on-twice : (o a b : List ℕ) → keep (λ f. has (keep (λ g. has o g || has a g) faces) f || has b f) faces ≡ keep (λ f. has o f || has (a ++ b) f) faces
 on-twice o a b =
     keep-faces (λ f. has (keep (λ g. has o g || has a g) faces) f || has b f) (λ f. has o f || has (a ++ b) f)
     (λ f h. ap (λ (t : Bool). t || has b f) (has-kept (λ g. has o g || has a g) f h)
     ∙ or-assoc (has o f) (has a f) (has b f)
-    ∙ ap (λ (t : Bool). has o f || t) (sym (has-append a b f)))
+    ∙ ap (λ (t : Bool). has o f || t) (sym (some-append (eqb f) a b)))
 
 pub renewed-twice : (x : Candidate) (q : Point) (m : ℕ) (a b : List ℕ) → renewed (renewed x (candidate q m a)) (candidate origin 0 b) ≡ renewed x (candidate q m (a ++ b))
 unfolding renewed
@@ -45,7 +39,7 @@ renewed-twice x q m a b = λ i. record { point = cond (eqb m 0) (x .point) q; me
 added-twice : (l : List ℕ) (c : ℕ) → added (added l c) c ≡ added l c
 added-twice l c =
     ap (λ (t : Bool). cond t (added l c) (added l c ++ (c ∷ [])))
-    (has-added l c c ∙ ap (λ (t : Bool). has l c || t) (eq-eqb c c refl) ∙ or-right (has l c))
+    (has-added l c c ∙ ap (λ (t : Bool). has l c || t) (eq-eqb c c refl) ∙ or-true (has l c))
 
 pub listed-twice : (l : List (List ℕ)) (a b : List ℕ) (c : ℕ) → listed (listed l a c) b c ≡ listed l (a ++ b) c
 unfolding listed
@@ -54,7 +48,7 @@ listed-twice l a b c =
     (λ f. cond (has (a ++ b) f) (added (getD l f []) c) (getD l f []))
     (λ f h. ap (λ (r : List ℕ). cond (has b f) (added r c) r) (listed-at l a c f h)
     ∙ go (getD l f []) (has a f) (has b f)
-    ∙ ap (λ (t : Bool). cond t (added (getD l f []) c) (getD l f [])) (sym (has-append a b f)))
+    ∙ ap (λ (t : Bool). cond t (added (getD l f []) c) (getD l f [])) (sym (some-append (eqb f) a b)))
   where
     go : (r : List ℕ) (s t : Bool) → cond t (added (cond s (added r c) r) c) (cond s (added r c) r) ≡ cond (s || t) (added r c) r
     go r true true = added-twice r c

@@ -1,10 +1,11 @@
 -- The words of keys tell the keys apart, so the search by words is the definition's search by keys. Assumes nothing.
 --   rounded-fits   a key is a number of 64 bits, with sign, whatever the double
+--   same-is, same-self   two whole numbers are one exactly if the test says so
 --   words-keys     two keys of points have the same words exactly if they are the same
 --   found-is       what the search finds is what "One key, one candidate" finds among the points
 use Prim.Native.Nat.{ℕ, zero, suc, _+_, _*_, _-_, _^_, _≤_, _<_, min}
-use mathlib.Core.Path.{_≡_, refl, ap, subst, _∙_}
-use mathlib.Core.Bool.{Bool, true, false, not, _&&_}
+use mathlib.Core.Path.{_≡_, refl, ap, subst, _∙_, sym}
+use mathlib.Core.Bool.{Bool, true, false, not, _&&_, true≢false}
 use mathlib.Core.List.{List}
 use native.Mathlib.Omega.{arith}
 use borrow.Author.Tests.{eqb-true, eq-eqb, ne-eqb}
@@ -15,7 +16,7 @@ use lib.Ieee.{Float, nan, inf, fin, up, down}
 use mir.Syntax.{w64}
 use mir.Val.{SFits}
 use Rattle.lists.specs.Lists.{upTo}
-use Rattle.lists.proofs.Bools.{by-test}
+use Rattle.lists.proofs.Bools.{by-test, is-true}
 use Rattle.rounding.specs.Rounding.{halfUp, rounded, key, keyWord}
 use Rattle.rounding.proofs.Keys.{same-word}
 use Rattle.geometry.specs.declared.point.Point.{Point}
@@ -53,24 +54,20 @@ key-fits eps x = rounded-fits _
 
 -- ---- words and keys
 
-same-is : (j k : ℤ) → T (same j k) → j ≡ k
-same-is (pos m) (pos n) t = ap pos (eqb-true m n (holds (eqb m n) t))
-  where
-    holds : (b : Bool) → T b → b ≡ true
-    holds true t = refl
-same-is (negsuc m) (negsuc n) t = ap negsuc (eqb-true m n (holds (eqb m n) t))
-  where
-    holds : (b : Bool) → T b → b ≡ true
-    holds true t = refl
+pub same-is : (j k : ℤ) → same j k ≡ true → j ≡ k
+same-is (pos m) (pos n) e = ap pos (eqb-true m n e)
+same-is (pos m) (negsuc n) e = absurd (true≢false (sym e))
+same-is (negsuc m) (pos n) e = absurd (true≢false (sym e))
+same-is (negsuc m) (negsuc n) e = ap negsuc (eqb-true m n e)
 
-same-self : (k : ℤ) → same k k ≡ true
+pub same-self : (k : ℤ) → same k k ≡ true
 same-self (pos n) = eq-eqb n n refl
 same-self (negsuc n) = eq-eqb n n refl
 
 word-same : (j k : ℤ) → SFits w64 j → SFits w64 k → eqb (keyWord j) (keyWord k) ≡ same j k
 word-same j k f g =
     by-test (λ b. eqb (keyWord j) (keyWord k) ≡ b) (same j k)
-    (λ t. eq-eqb (keyWord j) (keyWord k) (ap keyWord (same-is j k t)))
+    (λ t. eq-eqb (keyWord j) (keyWord k) (ap keyWord (same-is j k (is-true (same j k) t))))
     (λ t. ne-eqb (keyWord j) (keyWord k)
     (λ e. subst (λ (b : Bool). T (not b)) (ap (λ i. same i k) (same-word j k f g e) ∙ same-self k) t))
 

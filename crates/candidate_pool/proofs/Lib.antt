@@ -1,9 +1,9 @@
--- Laws that the proofs cite. Searching, KeyWords: the search by key. Rule: the key's joining rule is lawful. Pigeonhole: numbers without repeats. Listing: lists over the faces.
+-- Laws that the proofs cite. Searching, KeyWords: the search by key. Rule: the key's joining rule is lawful. Listing: lists over the faces.
 -- Growing, Inserting, Tidying: insertions, as operations on a pool. Numbers, Masking: bits. Reading, Putting, Clearing, Placing, Facing, Adding: the same in the work room.
+-- Frames, Edges: what rooms that agree have in common, the pool and the open edges.
 pub mod Searching
 pub mod KeyWords
 pub mod Rule
-pub mod Pigeonhole
 pub mod Listing
 pub mod Growing
 pub mod Inserting
@@ -16,3 +16,5 @@ pub mod Clearing
 pub mod Placing
 pub mod Facing
 pub mod Adding
+pub mod Frames
+pub mod Edges

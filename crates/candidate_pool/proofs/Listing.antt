@@ -1,8 +1,9 @@
 -- Laws of lists over the six faces, and of the numbers that stand in them. Assumes nothing.
 --   at-faces, faces-same    a list over the faces, face by face
+--   is-face                 the faces are 0 to 5
 --   keep-faces, has-kept    the faces that pass a test
 --   kept-again              keeping again changes nothing
---   has-append, has-one, has-added   what stands in a list that others were added to
+--   has-one, has-added   what stands in a list that others were added to
 --   listed-at, listed-has   the face lists after a candidate was added to some
 use Prim.Native.Nat.{ℕ, zero, suc, _<_}
 use native.Mathlib.Omega.{arith}
@@ -13,9 +14,10 @@ use lib.Dec.{eqb}
 use lib.ListN.{getD}
 use borrow.Author.Tests.{eqb-true}
 use Rattle.lists.specs.Lists.{some, keep, has, upFrom}
-use Rattle.lists.proofs.Bools.{or-last}
+use Rattle.lists.proofs.Bools.{or-last, and-last}
 use Rattle.lists.proofs.Counts.{keep-same}
 use Rattle.lists.proofs.Places.{of-up}
+use Rattle.lists.proofs.Sequences.{some-append}
 use Rattle.geometry.specs.Boxes.{faces}
 use Rattle.candidate_pool.specs.Pool.{added, listed}
 
@@ -38,15 +40,6 @@ keep-faces p q e = keep-same p q faces (λ f m. e f (of-up 0 6 m .1))
 
 -- ---- what stands in a list
 
-or-assoc : (a b c : Bool) → (a || (b || c)) ≡ ((a || b) || c)
-or-assoc true b c = refl
-or-assoc false b c = refl
-
-pub has-append : (l r : List ℕ) (k : ℕ) → has (l ++ r) k ≡ (has l k || has r k)
-unfolding some
-has-append [] r k = refl
-has-append (x ∷ l) r k = ap (λ (b : Bool). eqb k x || b) (has-append l r k) ∙ or-assoc (eqb k x) (has l k) (has r k)
-
 pub has-one : (c k : ℕ) → has (c ∷ []) k ≡ eqb k c
 unfolding some
 has-one c k = or-last (eqb k c)
@@ -63,7 +56,7 @@ has-added l c k = go (has l c) refl
 
     go : (b : Bool) → has l c ≡ b → has (cond (has l c) l (l ++ (c ∷ []))) k ≡ (has l k || eqb k c)
     go true e = ap (λ (b : Bool). has (cond b l (l ++ (c ∷ []))) k) e ∙ there (eqb k c) refl e
-    go false e = ap (λ (b : Bool). has (cond b l (l ++ (c ∷ []))) k) e ∙ has-append l (c ∷ []) k ∙ ap (λ (b : Bool). has l k || b) (has-one c k)
+    go false e = ap (λ (b : Bool). has (cond b l (l ++ (c ∷ []))) k) e ∙ some-append (eqb k) l (c ∷ []) ∙ ap (λ (b : Bool). has l k || b) (has-one c k)
 
 has-keep : (t : ℕ → Bool) (l : List ℕ) (k : ℕ) → has (keep t l) k ≡ (t k && has l k)
 unfolding some keep
@@ -80,22 +73,18 @@ has-keep t (x ∷ l) k = go (t x) refl (eqb k x) refl (has-keep t l k)
     go false b true e r = rw (b, e) (r ∙ ap (λ (a : Bool). a && has l k) (ap t (eqb-true k x e) ∙ b) ∙ sym (ap (λ (a : Bool). a && true) (ap t (eqb-true k x e) ∙ b)))
     go false b false e r = rw (b, e) r
 
-and-true : (b : Bool) → (b && true) ≡ b
-and-true true = refl
-and-true false = refl
+pub is-face : (f : ℕ) → f < 6 → has faces f ≡ true
+unfolding some
+is-face zero h = refl
+is-face (suc zero) h = refl
+is-face (suc (suc zero)) h = refl
+is-face (suc (suc (suc zero))) h = refl
+is-face (suc (suc (suc (suc zero)))) h = refl
+is-face (suc (suc (suc (suc (suc zero))))) h = refl
+is-face (suc (suc (suc (suc (suc (suc f)))))) h = absurd (omega arith)
 
 pub has-kept : (t : ℕ → Bool) (f : ℕ) → f < 6 → has (keep t faces) f ≡ t f
-unfolding some
-has-kept t f h = has-keep t faces f ∙ ap (λ (b : Bool). t f && b) (is-face f h) ∙ and-true (t f)
-  where
-    is-face : (f : ℕ) → f < 6 → has faces f ≡ true
-    is-face zero h = refl
-    is-face (suc zero) h = refl
-    is-face (suc (suc zero)) h = refl
-    is-face (suc (suc (suc zero))) h = refl
-    is-face (suc (suc (suc (suc zero)))) h = refl
-    is-face (suc (suc (suc (suc (suc zero))))) h = refl
-    is-face (suc (suc (suc (suc (suc (suc f)))))) h = absurd (omega arith)
+has-kept t f h = has-keep t faces f ∙ ap (λ (b : Bool). t f && b) (is-face f h) ∙ and-last (t f)
 
 pub kept-again : (t : ℕ → Bool) → keep (λ f. has (keep t faces) f) faces ≡ keep t faces
 kept-again t = keep-faces (λ f. has (keep t faces) f) t (has-kept t)

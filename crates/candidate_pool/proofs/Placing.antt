@@ -39,6 +39,7 @@ use Rattle.candidate_pool.proofs.Growing.{number-new, number-found}
 use Rattle.candidate_pool.proofs.Tidying.{tidy-insert}
 use Rattle.candidate_pool.proofs.Reading.{pool-count, pool-at, pool-is, candidate-same, lists-same, link-is, link-low, link-key}
 use Rattle.candidate_pool.proofs.Putting.{key-same, four-long, four-rest, four-at0, four-at1, four-at2, four-at3, Pushed, pushed, pushed-linked, tail-room}
+use Rattle.candidate_pool.proofs.Masking.{no-faces}
 
 -- ---- what stays
 
@@ -90,11 +91,6 @@ stored-same u w at same s =
   where
     first : getD w at 0 ≡ getD u at 0
     first = ap (λ (x : ℕ). getD w x 0) (omega arith) ∙ same 0 (omega arith) ∙ ap (λ (x : ℕ). getD u x 0) (omega arith)
-
--- a new candidate has the faces of the word 0, none
-no-faces : facesIn 0 ≡ []
-unfolding keep hasBit
-no-faces = refl
 
 -- ---- a new one
 

@@ -1,9 +1,11 @@
 -- What the work room says of its pool. Assumes nothing.
---   pool-count, pool-at, pool-list   the pool's candidates and lists, by the room's words
+--   pool-count, pool-at, pool-point, pool-list   the pool's candidates, their points and the lists, by the room's words
 --   all-is, pool-is        a pool is the room's if it has the room's candidates and lists
 --   candidate-same         a candidate whose five words are the same
 --   list-in, list-apart    the places of the face lists
---   list-long              a list has the length that stands in the room
+--   list-at                what stands in a list
+--   list-length, list-long a list has the length that stands in the room
+--   list-few               it has at most n candidates
 --   lists-same             stores elsewhere leave the lists
 --   link-is                what the search by words finds is what the definition finds
 --   link-low, link-key     what is found is a candidate, and has the key
@@ -12,25 +14,25 @@ use Prim.Native.Nat.{ℕ, zero, suc, _+_, _*_, _≤_, _<_}
 use native.Mathlib.Omega.{arith}
 use native.Mathlib.Nat.{mul-le-mul-right}
 use mathlib.Core.Path.{_≡_, refl, sym, ap, _∙_}
-use mathlib.Core.Bool.{Bool, true}
 use mathlib.Core.List.{List, [], map}
-use lib.Dec.{T}
 use lib.ListN.{getD, length, length-map, List·getD-map}
 use lib.Seq.{ext-getD}
 use lib.Ieee.{Float, binary64, ofBits}
 use Rattle.lists.specs.Lists.{upTo}
 use Rattle.lists.specs.Regions.{view}
 use Rattle.lists.proofs.Places.{length-up, at-map-up}
-use Rattle.lists.proofs.Regions.{view-length, view-same}
+use Rattle.lists.proofs.Regions.{view-length, view-same, view-at}
+use Rattle.lists.proofs.Bools.{is-true}
+use Rattle.lists.proofs.Pigeonhole.{pigeonhole}
 use Rattle.geometry.specs.declared.point.Point.{Point}
 use Rattle.geometry.specs.Points.{pt, origin}
 use Rattle.geometry.specs.Boxes.{faces}
 use Rattle.chains.specs.Links.{linkTo}
 use Rattle.chains.proofs.Firsts.{linkTo-first}
 use Rattle.mesh_weld.specs.Cells.{keyOf, sameKey}
-use Rattle.candidate_pool.specs.Pool.{Candidate, noCandidate, faceList, byKey, linkFor}
+use Rattle.candidate_pool.specs.Pool.{Candidate, noCandidate, faceList, byKey, linkFor, pointOf}
 use Rattle.candidate_pool.specs.Room.{keyWords, keyAt}
-use Rattle.candidate_pool.specs.Standing.{facesIn, countAt, pointAt, candidateAt, poolAt, Holds, RoomFor}
+use Rattle.candidate_pool.specs.Standing.{facesIn, countAt, pointAt, candidateAt, poolAt, Holds, RoomFor, Tidy}
 use Rattle.candidate_pool.proofs.Listing.{at-faces, faces-same}
 use Rattle.candidate_pool.proofs.Searching.{keyIs, words-same}
 use Rattle.candidate_pool.proofs.KeyWords.{words-keys, found-is}
@@ -44,6 +46,9 @@ pool-count n w = length-map (upTo (countAt w)) (candidateAt w) ∙ length-up 0 (
 pub pool-at : (n : ℕ) (w : List ℕ) (c : ℕ) → c < countAt w → getD (poolAt n w .all) c noCandidate ≡ candidateAt w c
 unfolding poolAt
 pool-at n w c h = at-map-up (candidateAt w) noCandidate 0 (countAt w) c h ∙ ap (candidateAt w) (omega arith)
+
+pub pool-point : (n : ℕ) (w : List ℕ) (c : ℕ) → c < countAt w → pointOf (poolAt n w) c ≡ pointAt w (8 + 5 * c)
+pool-point n w c h = ap (λ (x : Candidate). x .point) (pool-at n w c h)
 
 pub pool-list : (n : ℕ) (w : List ℕ) (f : ℕ) → f < 6 → faceList (poolAt n w) f ≡ view w (8 + 11 * n + f * n) (getD w f 0)
 unfolding poolAt
@@ -83,10 +88,20 @@ list-in n f h = let a : f * n ≤ 5 * n = mul-le-mul-right n (omega arith) in om
 pub list-apart : (n f g : ℕ) → f < g → f * n + n ≤ g * n
 list-apart n f g h = let a : suc f * n ≤ g * n = mul-le-mul-right n h in omega arith
 
+pub list-at : (n : ℕ) (w : List ℕ) (f i : ℕ) → f < 6 → i < getD w f 0 → getD (faceList (poolAt n w) f) i 0 ≡ getD w (8 + 11 * n + f * n + i) 0
+list-at n w f i k h = ap (λ (l : List ℕ). getD l i 0) (pool-list n w f k) ∙ view-at w (8 + 11 * n + f * n) (getD w f 0) i h
+
+pub list-length : (n : ℕ) (w : List ℕ) (f : ℕ) → 8 + 17 * n ≤ length w → getD w f 0 ≤ n → f < 6 → length (faceList (poolAt n w) f) ≡ getD w f 0
+list-length n w f size few k =
+    ap (length {A = ℕ}) (pool-list n w f k) ∙ view-length w (8 + 11 * n + f * n) (getD w f 0) (omega (arith, list-in n f k))
+
 pub list-long : (eps : Float) (n : ℕ) (w : List ℕ) (f : ℕ) → Holds eps n w → f < 6 → length (faceList (poolAt n w) f) ≡ getD w f 0
-list-long eps n w f h k =
-    ap (length {A = ℕ}) (pool-list n w f k)
-    ∙ view-length w (8 + 11 * n + f * n) (getD w f 0) (omega (arith, list-in n f k, h .size, h .lengths f k))
+list-long eps n w f h k = list-length n w f (h .size) (h .lengths f k) k
+
+-- the candidates in it are below their number and have no repeats
+pub list-few : (n : ℕ) (w : List ℕ) → countAt w ≤ n → Tidy (poolAt n w) → (f : ℕ) → f < 6 → length (faceList (poolAt n w) f) ≤ n
+list-few n w few tidy f k =
+    pigeonhole n (faceList (poolAt n w) f) (λ i j. tidy .once f i j k) (λ i h. omega (arith, pool-count n w, tidy .low f i k h))
 
 pub lists-same : (eps : Float) (n : ℕ) (u w : List ℕ) → Holds eps n u → length w ≡ length u → ((f : ℕ) → f < 6 → getD w f 0 ≡ getD u f 0)
     → ((x : ℕ) → 8 + 11 * n ≤ x → x < 8 + 17 * n → getD w x 0 ≡ getD u x 0) → (f : ℕ) → f < 6
@@ -126,10 +141,7 @@ module _ (eps : Float) (n : ℕ) (w : List ℕ) (h : Holds eps n w) where
       ∙ words-same (keyWords (keyOf eps (pointAt w (8 + 5 * i)))) (keyWords (keyOf eps (e .point)))
       (words-keys eps (pointAt w (8 + 5 * i)) (e .point)
       ∙ ap (λ (p : Point). sameKey (keyOf eps p) (keyOf eps (e .point))) (sym (point-is i (link-low e i q)))
-      ∙ holds (sameKey (keyOf eps (getD points i origin)) (keyOf eps (e .point))) (f .has))
-    where
-      holds : (b : Bool) → T b → b ≡ true
-      holds true t = refl
+      ∙ is-true (sameKey (keyOf eps (getD points i origin)) (keyOf eps (e .point))) (f .has))
 
   pub some-room : (e : Candidate) → RoomFor eps n w e → 0 < n
   some-room e room = go (linkFor (byKey eps) (poolAt n w) e) refl

@@ -3,13 +3,13 @@
 --   key-lawful      the rule's laws
 use Prim.Native.Nat.{ℕ, zero-le}
 use mathlib.Core.Path.{_≡_, refl, sym, subst, _∙_}
-use mathlib.Core.Bool.{Bool, true, false, _&&_}
+use mathlib.Core.Bool.{_&&_}
 use lib.Dec.{T, T-not, eqb, eqb→eq, eqb-refl}
 use lib.IntN.{ℤ, pos, negsuc}
 use lib.ListN.{getD}
 use lib.Ieee.{Float}
 use borrow.Author.Tests.{eq-eqb, ne-eqb}
-use Rattle.lists.proofs.Bools.{by-test}
+use Rattle.lists.proofs.Bools.{by-test, is-true, is-false}
 use Rattle.geometry.specs.declared.point.Point.{Point}
 use Rattle.chains.proofs.Firsts.{linkTo-first}
 use Rattle.mesh_weld.specs.Joining.{Lawful}
@@ -31,14 +31,6 @@ pub key-symmetric : (a b : Key) → sameKey a b ≡ sameKey b a
 unfolding sameKey
 key-symmetric a b = λ i. same-symmetric (a .x) (b .x) i && (same-symmetric (a .y) (b .y) i && same-symmetric (a .z) (b .z) i)
 
--- a test that holds, and one that does not
-holds : (b : Bool) → T b → b ≡ true
-holds true t = refl
-
-fails : (b : Bool) → (T b → ⊥) → b ≡ false
-fails true f = absurd (f tt)
-fails false f = refl
-
 pub key-lawful : (eps : Float) → Lawful Point (byKey eps)
 unfolding byKey
 key-lawful eps =
@@ -46,8 +38,8 @@ key-lawful eps =
       symmetric = λ p q. key-symmetric (keyOf eps p) (keyOf eps q);
       found = λ p l k e.
           let f = linkTo-first (λ q. sameKey (keyOf eps q) (keyOf eps p)) p l .some k e in
-          (f .within, key-symmetric (keyOf eps p) (keyOf eps (getD l k p)) ∙ holds (sameKey (keyOf eps (getD l k p)) (keyOf eps p)) (f .has));
+          (f .within, key-symmetric (keyOf eps p) (keyOf eps (getD l k p)) ∙ is-true (sameKey (keyOf eps (getD l k p)) (keyOf eps p)) (f .has));
       none = λ p l e k h.
           key-symmetric (keyOf eps p) (keyOf eps (getD l k p))
-          ∙ fails (sameKey (keyOf eps (getD l k p)) (keyOf eps p)) (λ t. linkTo-first (λ q. sameKey (keyOf eps q) (keyOf eps p)) p l .none e k zero-le h t);
+          ∙ is-false (sameKey (keyOf eps (getD l k p)) (keyOf eps p)) (λ t. linkTo-first (λ q. sameKey (keyOf eps q) (keyOf eps p)) p l .none e k zero-le h t);
     }

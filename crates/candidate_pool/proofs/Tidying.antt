@@ -13,7 +13,7 @@ use lib.ListN.{getD, set, length, length-append, length-set, List·getD-append}
 use lib.Seq.{getD-set-same, getD-set-other, getD-append-seam}
 use borrow.Author.Tests.{eq-eqb, ne-eqb, eqb-false}
 use Rattle.lists.specs.Lists.{has}
-use Rattle.lists.proofs.Bools.{by-test, or-last}
+use Rattle.lists.proofs.Bools.{by-test, or-last, and-last}
 use Rattle.lists.proofs.Every.{none-at}
 use Rattle.lists.proofs.Members.{of-has, mem-getD}
 use Rattle.geometry.specs.declared.point.Point.{Point}
@@ -68,11 +68,15 @@ low-absent n l low = by-test (λ b. b ≡ false) (has l n) (λ t. absurd (there 
     there : T (has l n) → ⊥
     there t = let m = mem-getD 0 (of-has l n t) in omega (arith, low (m .0) (m .1), m .2)
 
--- ---- one step
+-- who is in a face's list is a candidate
+pub has-low : (p : Pool) → Tidy p → (f c : ℕ) → f < 6 → has (faceList p f) c ≡ true → c < length (p .all)
+has-low p tidy f c h e =
+    let r = mem-getD 0 (of-has (faceList p f) c (subst T (sym e) tt)) in
+    let b = tidy .low f (r .0) h (r .1) in
+    let q = r .2 in
+    omega arith
 
-and-true : (b : Bool) → (b && true) ≡ b
-and-true true = refl
-and-true false = refl
+-- ---- one step
 
 and-false : (b : Bool) → (b && false) ≡ false
 and-false true = refl
@@ -106,7 +110,7 @@ tidy-step p p' c on s t =
     is-on f d hf hd (yes e) =
         listed-is f d hf
         ∙ ap (λ (b : Bool). has (faceList p f) d || (has on f && b)) (eq-eqb d c e)
-        ∙ ap (λ (b : Bool). has (faceList p f) d || b) (and-true (has on f))
+        ∙ ap (λ (b : Bool). has (faceList p f) d || b) (and-last (has on f))
         ∙ ap (λ (x : ℕ). has (faceList p f) x || has on f) e
         ∙ sym (s .own f hf)
         ∙ ap (λ (x : ℕ). has (getD (p' .all) x noCandidate .on) f) (sym e)

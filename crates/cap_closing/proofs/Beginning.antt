@@ -5,20 +5,21 @@
 --   point-of-is             the point of a candidate
 use Prim.Native.Nat.{ℕ, _+_, _*_, _-_, _≤_, _<_}
 use mathlib.Core.Path.{_≡_, sym, ap, _∙_, subst}
-use mathlib.Core.List.{List, _++_, map, append-nil}
+use mathlib.Core.List.{List, _++_, map, append-nil, map-map}
 use native.Mathlib.Omega.{arith}
 use lib.ListN.{length, getD, set, length-set}
 use lib.Seq.{getD-set-same, getD-set-other}
 use Rattle.lists.specs.Lists.{upTo}
 use Rattle.lists.specs.Regions.{view}
-use Rattle.lists.proofs.Regions.{Filled, filled-none, filled-more}
+use Rattle.lists.proofs.Regions.{Filled, filled-none, filled-more, view-map}
+use Rattle.lists.proofs.Sequences.{map-below}
 use Rattle.geometry.specs.declared.point.Point.{Point}
 use Rattle.candidate_pool.specs.Pool.{Candidate, noCandidate, pointOf}
 use Rattle.candidate_pool.specs.Standing.{countAt, candidateAt, poolAt}
 use Rattle.cap_closing.specs.Entering.{MeshWords}
 use Rattle.cap_closing.specs.Steps.{pointIn, namedAt, Entering, Started}
 use Rattle.cap_closing.proofs.Growth.{named-of}
-use Rattle.cap_closing.proofs.Upwards.{map-up, map-compose, view-up, at-place}
+use Rattle.cap_closing.proofs.Upwards.{at-place}
 
 -- ---- the copy
 
@@ -57,7 +58,7 @@ point-of-is n w c h = ap (λ (x : Candidate). x .point) (at-place (candidateAt w
 
 mesh-is : (n : ℕ) (w : List ℕ) → map (λ c. c .mesh) (poolAt n w .all) ≡ map (λ c. getD w (8 + 5 * c + 3) 0) (upTo (countAt w))
 unfolding poolAt
-mesh-is n w = map-compose (λ (c : Candidate). c .mesh) (candidateAt w) (upTo (countAt w))
+mesh-is n w = map-map (λ (c : Candidate). c .mesh) (candidateAt w) (upTo (countAt w))
 
 module _ (b n nc nv : ℕ) (w w' : List ℕ) (pool : 8 + 5 * n ≤ b) (count : countAt w ≤ n) (size : b + 2 * n + 8 * nc < length w)
     (small : n < 1048576) (caps : nc ≤ 1048576) (few : nv < 1048576) (words : MeshWords nv w) (S : Started b n nc nv w w') where
@@ -87,6 +88,6 @@ module _ (b n nc nv : ℕ) (w w' : List ℕ) (pool : 8 + 5 * n ≤ b) (count : c
       let l = S .above .long in
       let z : getD w' (b + 2 * n + 8 * nc) 0 - nv ≡ 0 = (let o = S .own in omega arith) in
       named-of
-      (ap (view w' b) count-same ∙ view-up w' b (countAt w) (omega arith)
-      ∙ map-up (λ i. getD w' (b + i) 0) (λ c. getD w (8 + 5 * c + 3) 0) (countAt w) (S .given) ∙ sym (mesh-is n w))
+      (ap (view w' b) count-same ∙ view-map w' b (countAt w) (omega arith)
+      ∙ map-below (λ i. getD w' (b + i) 0) (λ c. getD w (8 + 5 * c + 3) 0) (countAt w) (S .given) ∙ sym (mesh-is n w))
       (ap (λ (k : ℕ). points ++ map (pointIn w') (view w' (b + n) k)) z ∙ append-nil points)

@@ -7,7 +7,7 @@
 use Prim.Native.Nat.{ℕ, suc, _+_, _*_, _-_, _≤_, _<_}
 use mathlib.Core.Path.{_≡_, refl, sym, ap, subst, _∙_}
 use mathlib.Core.Bool.{Bool, cond}
-use mathlib.Core.List.{List, [], _∷_, _++_, map, append-assoc}
+use mathlib.Core.List.{List, [], _∷_, _++_, map, append-assoc, map-map}
 use native.Mathlib.Decide.{ℕ-discrete}
 use native.Mathlib.Omega.{arith}
 use borrow.Author.Tests.{eq-eqb, ne-eqb}
@@ -18,7 +18,8 @@ use lib.Seq.{getD-set-same, getD-set-other, ext-getD}
 use Rattle.lists.specs.Lists.{upTo}
 use Rattle.lists.specs.Regions.{view}
 use Rattle.lists.proofs.Places.{length-up}
-use Rattle.lists.proofs.Regions.{view-length, view-at}
+use Rattle.lists.proofs.Regions.{view-length, view-at, view-map}
+use Rattle.lists.proofs.Sequences.{map-below}
 use Rattle.geometry.specs.declared.point.Point.{Point}
 use Rattle.geometry.specs.Points.{pt}
 use Rattle.geometry.specs.Meshes.{Named, enter}
@@ -26,7 +27,7 @@ use Rattle.geometry.proofs.Meshes.{enter-new, enter-old}
 use Rattle.candidate_pool.specs.Standing.{countAt}
 use Rattle.cap_closing.specs.Steps.{pointIn, namedAt, Entering, Entered}
 use Rattle.cap_closing.proofs.Growth.{named-of, Sound}
-use Rattle.cap_closing.proofs.Upwards.{map-up, map-more, map-compose, view-up, few-places}
+use Rattle.cap_closing.proofs.Upwards.{map-more, few-places}
 
 module _ (b n nc nv : ℕ) (w : List ℕ) (E : Entering b n nc nv w) where
   abbrev top : ℕ
@@ -83,7 +84,7 @@ module _ (b n nc nv : ℕ) (w : List ℕ) (E : Entering b n nc nv w) where
       let m = most-vertices in
       let s = E .size in
       let c = E .count in
-      ap (map (pointIn w)) (view-up w (b + n) (top - nv) (omega arith)) ∙ map-compose (pointIn w) freshOf (upTo (top - nv))
+      ap (map (pointIn w)) (view-map w (b + n) (top - nv) (omega arith)) ∙ map-map (pointIn w) freshOf (upTo (top - nv))
 
   module _ (points : List Point) (own : length points ≡ nv) where
     abbrev named : Named
@@ -268,7 +269,7 @@ module _ (b n nc nv : ℕ) (w : List ℕ) (E : Entering b n nc nv w) (id : ℕ) 
       where
         old : map (λ i. pointIn w₃ (getD w₃ (b + n + i) 0)) (upTo (v - nv)) ≡ map (λ i. pointIn w (getD w (b + n + i) 0)) (upTo (v - nv))
         old =
-            map-up (λ i. pointIn w₃ (getD w₃ (b + n + i) 0)) (λ i. pointIn w (getD w (b + n + i) 0)) (v - nv)
+            map-below (λ i. pointIn w₃ (getD w₃ (b + n + i) 0)) (λ i. pointIn w (getD w (b + n + i) 0)) (v - nv)
             (λ i h. let o = E .own in ap (pointIn w₃) (fresh-same i (omega arith)) ∙ point-same (getD w (b + n + i) 0) (E .fresh i (omega arith)))
 
         new : pointIn w₃ (getD w₃ (b + n + (v - nv)) 0) ≡ pointIn w id

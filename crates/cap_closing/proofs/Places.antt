@@ -11,17 +11,15 @@ use lib.Dec.{T, eqb, eqb→eq}
 use Rattle.lists.specs.Lists.{keep, some, distinctFrom, distinct, upFrom, upTo}
 use Rattle.lists.proofs.Members.{some-of, of-some}
 use Rattle.lists.proofs.Places.{of-up, up-of}
+use Rattle.lists.proofs.Bools.{is-true}
+use Rattle.lists.proofs.Sequences.{up-snoc}
 use Rattle.cap_closing.specs.Steps.{isFirst}
-use Rattle.cap_closing.proofs.Upwards.{up-more}
 
 -- ---- the first of a key
 
 is-false : (b : Bool) → (T b → ⊥) → b ≡ false
 is-false true f = absurd (f tt)
 is-false false f = refl
-
-is-true : (b : Bool) → T b → b ≡ true
-is-true true t = refl
 
 module _ (key : ℕ → ℕ) (i : ℕ) where
   pub first-none : ((p : ℕ) → p < i → key p ≡ key i → ⊥) → isFirst key i ≡ true
@@ -55,7 +53,7 @@ module _ {A : Type 0} (same : A → A → Bool) (f : ℕ → A) (key : ℕ → �
   seen-by k i = some (λ j. eqb (key j) (key i)) (upTo k)
 
   seen-more : (k i : ℕ) → seen-by (suc k) i ≡ (eqb (key k) (key i) || seen-by k i)
-  seen-more k i = ap (λ (l : List ℕ). some (λ j. eqb (key j) (key i)) l) (ap upTo (omega arith) ∙ up-more k) ∙ some-snoc (λ j. eqb (key j) (key i)) (upTo k) k
+  seen-more k i = ap (λ (l : List ℕ). some (λ j. eqb (key j) (key i)) l) (ap upTo (omega arith) ∙ up-snoc k) ∙ some-snoc (λ j. eqb (key j) (key i)) (upTo k) k
 
   from : (k n : ℕ) (seen : List A) → k + n ≤ m → ((i : ℕ) → k ≤ i → i < m → some (same (f i)) seen ≡ seen-by k i)
       → distinctFrom same seen (map f (upFrom k n)) ≡ map f (keep (isFirst key) (upFrom k n))

@@ -17,6 +17,7 @@ use Rattle.lists.specs.Lists.{keep, upTo}
 use Rattle.lists.specs.Regions.{view}
 use Rattle.lists.proofs.Multiplicity.{keep-yes, keep-no}
 use Rattle.lists.proofs.Regions.{view-same}
+use Rattle.lists.proofs.Sequences.{map-below}
 use Rattle.geometry.specs.declared.point.Point.{Point}
 use Rattle.geometry.specs.Triangles.{Triangle, tri, mapped, vertices}
 use Rattle.geometry.specs.Meshes.{pointsOf, Named, newNumber}
@@ -26,7 +27,7 @@ use Rattle.candidate_pool.specs.Standing.{countAt}
 use Rattle.cap_closing.specs.Closing.{isLarge}
 use Rattle.cap_closing.specs.Steps.{pointIn, namedAt, Entering, Entered, Numbers, facetAt, LeftAre, putLeft, Appended}
 use Rattle.cap_closing.proofs.Growth.{named-of}
-use Rattle.cap_closing.proofs.Upwards.{keep-nil, map-up, map-more}
+use Rattle.cap_closing.proofs.Upwards.{keep-nil, map-more}
 use Rattle.cap_closing.proofs.Numbering.{most-vertices, points-at}
 use Rattle.cap_closing.proofs.Corners.{point-below, entered-count, numbers-below, numbers-are}
 
@@ -74,7 +75,7 @@ module _ (b n nc nv : ℕ) (w w' : List ℕ) (E : Entering b n nc nv w) (long : 
       (ap (λ (l : List Point). points ++ l)
       (points-at b n nc nv w' entering-kept
       ∙ ap (λ (k : ℕ). map (λ i. pointIn w' (getD w' (b + n + i) 0)) (upTo (k - nv))) top
-      ∙ map-up (λ i. pointIn w' (getD w' (b + n + i) 0)) (λ i. pointIn w (getD w (b + n + i) 0)) (getD w (b + 2 * n + 8 * nc) 0 - nv)
+      ∙ map-below (λ i. pointIn w' (getD w' (b + n + i) 0)) (λ i. pointIn w (getD w (b + n + i) 0)) (getD w (b + 2 * n + 8 * nc) 0 - nv)
       (λ i h.
       let i<v : nv + i < getD w (b + 2 * n + 8 * nc) 0 = (let o = E .own in omega arith) in
       ap (pointIn w') (fresh-same i i<v) ∙ point-below b n w w' (E .pool) (λ x l. same x (omega arith)) (getD w (b + n + i) 0) (let f = E .fresh i i<v in omega arith))
@@ -102,7 +103,7 @@ module _ (b n nc left : ℕ) (w w' : List ℕ) (list : List (Triangle ℕ)) (few
   pub left-frame : LeftAre b n nc left w' list
   left-frame =
       record {
-        facets = map-up (facetAt b n w') (facetAt b n w) left facet-same ∙ L .facets;
+        facets = map-below (facetAt b n w') (facetAt b n w) left facet-same ∙ L .facets;
         keys = λ j h. records (2 * j) (omega arith) ∙ L .keys j h ∙ ap cornersKey (sym (facet-same j h));
         places = λ j h. let q : b + 2 * n + 3 * nc + 2 * j + 1 ≡ b + 2 * n + 3 * nc + (2 * j + 1) = omega arith in
             ap (λ (x : ℕ). getD w' x 0) q ∙ records (2 * j + 1) (omega arith) ∙ sym (ap (λ (x : ℕ). getD w x 0) q) ∙ L .places j h;

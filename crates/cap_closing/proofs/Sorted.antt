@@ -25,7 +25,7 @@ use Rattle.sorting.specs.Sorting.{records, recordBefore}
 use Rattle.sorting.proofs.Comparing.{record-order}
 use Rattle.sorting.proofs.Records.{length-records, records-get}
 use Rattle.sorting.proofs.Sorting.{SortedPart, at-most-key, at-most-payload}
-use Rattle.candidate_pool.proofs.Pigeonhole.{pairwise-places}
+use Rattle.lists.proofs.Pigeonhole.{pairwise-places}
 use Rattle.cap_closing.specs.Steps.{keyIn, placeIn, isStart, isFirst, bit, Marked, Found}
 use Rattle.cap_closing.proofs.Places.{first-none, first-some}
 

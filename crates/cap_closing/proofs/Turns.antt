@@ -16,10 +16,10 @@ use Rattle.lists.specs.Lists.{keep, upFrom, upTo}
 use Rattle.lists.proofs.Counts.{keep-append}
 use Rattle.lists.proofs.Mapped.{Each, each-keep}
 use Rattle.lists.proofs.Multiplicity.{keep-yes, keep-no}
+use Rattle.lists.proofs.Sequences.{flatMap-append, each-mapped}
 use Rattle.geometry.specs.Triangles.{Triangle, tri, mapped, vertices, flat}
 use Rattle.geometry.specs.Meshes.{pointsOf, Named, newNumber, enter}
 use Rattle.geometry.proofs.Meshes.{length-pointsOf}
-use Rattle.geometry.proofs.Threes.{flatMap-append}
 use Rattle.mesh_filter.specs.Room.{Below}
 use Rattle.candidate_pool.specs.Standing.{countAt, PointIn, Stored}
 use Rattle.cap_triangles.specs.Room.{turnedAt, componentsAt, seededAt, closingAt, Above}
@@ -92,10 +92,6 @@ module _ (n nf nc : ℕ) (positive : Bool) (w : List ℕ) where
       (keep-more (isTaken n nf nc positive w) i
       ∙ ap (λ (l : List ℕ). keep (isTaken n nf nc positive w) (upTo i) ++ l) (keep-yes (isTaken n nf nc positive w) i [] h ∙ ap (λ (l : List ℕ). i ∷ l) (keep-nil (isTaken n nf nc positive w))))
       ∙ map-append (capAtRoom n nf nc w) (keep (isTaken n nf nc positive w) (upTo i)) (i ∷ [])
-
-  each-mapped : {A B : Type 0} (P : B → Type 0) (f : A → B) (l : List A) → Each (λ x. P (f x)) l → Each P (map f l)
-  each-mapped P f [] h = tt
-  each-mapped P f (x ∷ l) h = (h .0, each-mapped P f l (h .1))
 
   pub taken-low : Taking n nf nc w → (i : ℕ) → i ≤ nc → Each (λ v. v < countAt w) (flat (takenAt n nf nc positive w i))
   taken-low K i h =

@@ -1,59 +1,35 @@
 -- Laws of lists made place by place, in general. Assumes nothing.
---   up-more, map-more, keep-more, count-more   one place more
+--   map-more, keep-more, count-more   one place more
 --   keep-nil         of nothing nothing passes
---   map-up           two functions that agree below k
 --   each-up          what holds of each place                  map-each     functions that agree on each
 --   keep-up, map-keep-up   tests that agree below k, and functions too
 --   at-place         the element at a place
---   view-up          a part of a buffer as such a list         map-compose   one function after another
 --   few-places       k different numbers below c are at most c
-use Prim.Native.Nat.{ℕ, zero, suc, _+_, _≤_, _<_}
+use Prim.Native.Nat.{ℕ, _+_, _≤_, _<_}
 use mathlib.Core.Path.{_≡_, refl, sym, ap, _∙_}
 use mathlib.Core.Bool.{Bool, cond}
 use mathlib.Core.List.{List, [], _∷_, _++_, map, map-append}
 use native.Mathlib.Omega.{arith}
-use native.Mathlib.Numerals.{add-one}
 use lib.ListN.{length, getD, length-map}
-use lib.Seq.{ext-getD}
-use Rattle.lists.specs.Lists.{keep, count, upFrom, upTo}
-use Rattle.lists.specs.Regions.{view}
+use Rattle.lists.specs.Lists.{keep, count, upTo}
 use Rattle.lists.proofs.Counts.{keep-append, keep-same, count-append, count-one}
 use Rattle.lists.proofs.Mapped.{Each, each-of, each-keep}
 use Rattle.lists.proofs.Places.{of-up, length-up, at-map-up}
-use Rattle.lists.proofs.Regions.{view-length, view-at}
-use Rattle.candidate_pool.proofs.Pigeonhole.{pigeonhole}
+use Rattle.lists.proofs.Pigeonhole.{pigeonhole}
+use Rattle.lists.proofs.Sequences.{up-snoc}
 
 pub keep-nil : {A : Type 0} (p : A → Bool) → keep p [] ≡ []
 unfolding keep
 keep-nil p = refl
 
-up-snoc : (j k : ℕ) → upFrom j (suc k) ≡ upFrom j k ++ ((j + k) ∷ [])
-unfolding upFrom
-up-snoc j zero = ap (λ (x : ℕ). x ∷ []) (omega arith)
-up-snoc j (suc k) = ap (λ (r : List ℕ). j ∷ r) (up-snoc (suc j) k ∙ ap (λ (x : ℕ). upFrom (suc j) k ++ (x ∷ [])) (omega arith))
-
-pub up-more : (k : ℕ) → upTo (k + 1) ≡ upTo k ++ (k ∷ [])
-up-more k = ap upTo (add-one k) ∙ up-snoc 0 k ∙ ap (λ (x : ℕ). upTo k ++ (x ∷ [])) (omega arith)
-
 pub map-more : {A : Type 0} (f : ℕ → A) (k : ℕ) → map f (upTo (k + 1)) ≡ map f (upTo k) ++ (f k ∷ [])
-map-more f k = ap (map f) (up-more k) ∙ map-append f (upTo k) (k ∷ [])
+map-more f k = ap (map f) (up-snoc k) ∙ map-append f (upTo k) (k ∷ [])
 
 pub keep-more : (p : ℕ → Bool) (k : ℕ) → keep p (upTo (k + 1)) ≡ keep p (upTo k) ++ keep p (k ∷ [])
-keep-more p k = ap (keep p) (up-more k) ∙ keep-append p (upTo k) (k ∷ [])
+keep-more p k = ap (keep p) (up-snoc k) ∙ keep-append p (upTo k) (k ∷ [])
 
 pub count-more : (p : ℕ → Bool) (k : ℕ) → count p (upTo (k + 1)) ≡ count p (upTo k) + cond (p k) 1 0
-count-more p k = ap (count p) (up-more k) ∙ count-append p (upTo k) (k ∷ []) ∙ ap (λ (x : ℕ). count p (upTo k) + x) (count-one p k (p k) refl)
-
-map-from : {A : Type 0} (f g : ℕ → A) (j k : ℕ) → ((i : ℕ) → j ≤ i → i < j + k → f i ≡ g i) → map f (upFrom j k) ≡ map g (upFrom j k)
-unfolding upFrom
-map-from f g j zero h = refl
-map-from f g j (suc k) h =
-    let e = h j (omega arith) (omega arith) in
-    let r = map-from f g (suc j) k (λ i a b. h i (omega arith) (omega arith)) in
-    λ t. e t ∷ r t
-
-pub map-up : {A : Type 0} (f g : ℕ → A) (k : ℕ) → ((i : ℕ) → i < k → f i ≡ g i) → map f (upTo k) ≡ map g (upTo k)
-map-up f g k h = map-from f g 0 k (λ i a b. h i (omega arith))
+count-more p k = ap (count p) (up-snoc k) ∙ count-append p (upTo k) (k ∷ []) ∙ ap (λ (x : ℕ). count p (upTo k) + x) (count-one p k (p k) refl)
 
 pub each-up : (P : ℕ → Type 0) (k : ℕ) → ((i : ℕ) → i < k → P i) → Each P (upTo k)
 each-up P k f = each-of P (upTo k) (λ i m. f i (let h = of-up 0 k m in omega (arith, h .1)))
@@ -70,19 +46,8 @@ pub map-keep-up : {A : Type 0} (f g : ℕ → A) (p q : ℕ → Bool) (k : ℕ) 
     → map f (keep p (upTo k)) ≡ map g (keep q (upTo k))
 map-keep-up f g p q k e h = ap (map f) (keep-up p q k h) ∙ map-each f g (keep q (upTo k)) (each-keep q (λ i. f i ≡ g i) (upTo k) (each-up (λ i. f i ≡ g i) k e))
 
-pub map-compose : {A B C : Type 0} (f : B → C) (g : A → B) (l : List A) → map f (map g l) ≡ map (λ x. f (g x)) l
-map-compose f g [] = refl
-map-compose {A} {B} {C} f g (x ∷ l) = ap (λ (r : List C). f (g x) ∷ r) (map-compose f g l)
-
 pub at-place : {A : Type 0} (f : ℕ → A) (d : A) (k i : ℕ) → i < k → getD (map f (upTo k)) i d ≡ f i
 at-place f d k i h = at-map-up f d 0 k i h ∙ ap f (omega arith)
-
-pub view-up : (w : List ℕ) (o k : ℕ) → o + k ≤ length w → view w o k ≡ map (λ i. getD w (o + i) 0) (upTo k)
-view-up w o k h =
-    let long : length (view w o k) ≡ k = view-length w o k h in
-    ext-getD 0 (view w o k) (map (λ i. getD w (o + i) 0) (upTo k))
-    (long ∙ sym (length-map (upTo k) (λ i. getD w (o + i) 0) ∙ length-up 0 k))
-    (λ i l. let i<k : i < k = omega arith in view-at w o k i i<k ∙ sym (at-place (λ i. getD w (o + i) 0) 0 k i i<k))
 
 pub few-places : (c k : ℕ) (f : ℕ → ℕ) → ((i : ℕ) → i < k → f i < c) → ((i j : ℕ) → i < j → j < k → f i ≡ f j → ⊥) → k ≤ c
 few-places c k f low once =

@@ -5,7 +5,7 @@
 --   own-positive, own-negative, own-long   the mesh's own facets, as the mode writes them
 --   cap-taken, cap-left           a facet left, by its word
 --   capBlock, caps-are            those that are the first of their three corners
-use Prim.Native.Nat.{ℕ, zero, suc, _+_, _*_, _/_, _%_, _≤_, _<_}
+use Prim.Native.Nat.{ℕ, _+_, _*_, _/_, _%_, _≤_, _<_}
 use native.Mathlib.Omega.{arith}
 use mathlib.Core.Bool.{Bool, true, false, cond}
 use mathlib.Core.Path.{_≡_, refl, sym, ap, _∙_}
@@ -15,18 +15,18 @@ use lib.Dec.{eqb}
 use lib.ListN.{length, getD, length-map}
 use lib.Seq.{ext-getD}
 use lib.Ieee.{Float}
-use Rattle.lists.specs.Lists.{keep, upFrom, upTo}
+use Rattle.lists.specs.Lists.{keep, upTo}
 use Rattle.lists.specs.Regions.{view}
 use Rattle.lists.proofs.Bools.{cond-true, cond-false}
 use Rattle.lists.proofs.Places.{length-up, at-map-up}
-use Rattle.lists.proofs.Regions.{view-length}
+use Rattle.lists.proofs.Regions.{view-length, view-map}
+use Rattle.lists.proofs.Sequences.{flat-map}
 use Rattle.geometry.specs.declared.point.Point.{Point}
 use Rattle.geometry.specs.Triangles.{Triangle, tri, vertices, reversed, threes, flat}
 use Rattle.geometry.specs.Meshes.{coordinates}
 use Rattle.geometry.proofs.Threes.{length-threes, threes-at, length-flat, flat-threes}
 use Rattle.geometry.proofs.Meshes.{length-coordinates}
 use Rattle.candidate_pool.specs.Standing.{pointAt}
-use Rattle.boundary_closure.proofs.Blocks.{flat-map, view-map}
 use Rattle.cap_closing.specs.Closing.{ownFacets}
 use Rattle.cap_outputs.specs.Written.{pointsIn, capWords, allCapWords}
 

@@ -1,5 +1,4 @@
 -- Laws of a loop that writes one list after the other, for 0, 1, .. m - 1, to a part of an output, whatever the output holds. Assumes nothing.
---   flat-longer   what more of the lists make up is no shorter
 --   Run           the lists before i are written; run-start, run-turn, run-room, run-long, run-end
 --   three-set     three stores, as a run of stores
 use Prim.Native.Nat.{ℕ, suc, _+_, _-_, _≤_, _<_}
@@ -10,22 +9,9 @@ use lib.ListN.{length, set, length-append}
 use lib.Seq.{sets, length-sets}
 use Rattle.lists.specs.Lists.{upFrom, upTo}
 use Rattle.lists.proofs.Stores.{sets-append}
-use Rattle.geometry.proofs.Threes.{flatMap-append}
-use Rattle.boundary_closure.proofs.Runs.{up-split, flat-snoc}
+use Rattle.lists.proofs.Sequences.{flat-up, flat-longer}
 
 module _ {B : Type 0} (block : ℕ → List B) where
-  flat-more : (i j : ℕ) → length (flatMap block (upTo i)) ≤ length (flatMap block (upTo (i + j)))
-  flat-more i j =
-      let e = ap length (ap (flatMap block) (up-split 0 i j) ∙ flatMap-append block (upTo i) (upFrom (0 + i) j)) ∙ length-append (flatMap block (upTo i)) (flatMap block (upFrom (0 + i) j)) in
-      omega arith
-
-  pub flat-longer : (i m : ℕ) → i ≤ m → length (flatMap block (upTo i)) ≤ length (flatMap block (upTo m))
-  flat-longer i m h =
-      let e : i + (m - i) ≡ m = omega arith in
-      let a = flat-more i (m - i) in
-      let b = ap (λ (x : ℕ). length (flatMap block (upTo x))) e in
-      omega arith
-
   pub record Run (old out : List B) (at i o : ℕ) : Type 0 where
     pub place : o ≡ at + length (flatMap block (upTo i))
     pub stored : out ≡ sets old at (flatMap block (upTo i))
@@ -40,21 +26,21 @@ module _ {B : Type 0} (block : ℕ → List B) where
 
     pub run-room : (m : ℕ) → i < m → at + length (flatMap block (upTo m)) ≤ length old → o + length (block i) ≤ length out
     run-room m h r =
-        let a = flat-longer (i + 1) m (omega arith) in
-        let b = ap length (flat-snoc block i) ∙ length-append (flatMap block (upTo i)) (block i) in
+        let a = flat-longer block (i + 1) m (omega arith) in
+        let b = ap length (flat-up block i) ∙ length-append (flatMap block (upTo i)) (block i) in
         let c = run-long in
         let d = R .place in
         omega arith
 
     pub run-turn : (out' : List B) (o' : ℕ) → out' ≡ sets out o (block i) → o' ≡ o + length (block i) → Run old out' at (i + 1) o'
     run-turn out' o' e f =
-        let b = ap length (flat-snoc block i) ∙ length-append (flatMap block (upTo i)) (block i) in
+        let b = ap length (flat-up block i) ∙ length-append (flatMap block (upTo i)) (block i) in
         let d = R .place in
         record {
           place = omega arith;
           stored =
               e ∙ (λ t. sets (R .stored t) (R .place t) (block i)) ∙ sym (sets-append old at (flatMap block (upTo i)) (block i))
-              ∙ ap (sets old at) (sym (flat-snoc block i));
+              ∙ ap (sets old at) (sym (flat-up block i));
         }
 
     pub run-end : (m : ℕ) → i ≤ m → m ≤ i → (new : List B) → flatMap block (upTo m) ≡ new → out ≡ sets old at new

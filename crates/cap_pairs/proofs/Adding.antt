@@ -1,11 +1,10 @@
 -- Words of faces to which faces are added: one face, those of a word, and one word after another. Assumes nothing.
---   no-bit                          the word 0 has no face
 --   added-there, added-new          add_face: the face was there, or its bit is added
 --   adding-start, adding-skip, adding-turn, adding-end     add_faces: those below `face` are added
 --   noted-start, noted-turn         note_edges, note_sides: the first i are noted
 use Prim.Native.Nat.{ℕ, _+_, _*_, _^_, _%_, _≤_, _<_}
 use mathlib.Core.Bool.{Bool, true, false, _&&_, _||_}
-use mathlib.Core.List.{List, [], _∷_}
+use mathlib.Core.List.{List}
 use mathlib.Core.Logic.{⊎-elim}
 use mathlib.Core.Path.{_≡_, refl, sym, ap, subst, _∙_}
 use native.Mathlib.Decide.{ℕ-discrete}
@@ -14,24 +13,14 @@ use borrow.Author.Tests.{eqb-true, eqb-false, ltb-true, ltb-false, eq-eqb, ne-eq
 use lib.Dec.{eqb, ltb}
 use lib.ListN.{length, getD, set, length-set}
 use lib.Seq.{getD-set-same, getD-set-other}
-use Rattle.lists.specs.Lists.{some, keep, upTo}
-use Rattle.lists.proofs.Bools.{or-last}
+use Rattle.lists.specs.Lists.{some, upTo}
+use Rattle.lists.proofs.Bools.{or-last, or-assoc}
 use Rattle.lists.proofs.Orders.{cases}
-use Rattle.geometry.specs.Boxes.{faces}
-use Rattle.box_faces.specs.Faces.{faceBits, hasBit}
-use Rattle.box_faces.proofs.Bits.{bit-passes}
-use Rattle.candidate_pool.proofs.Masking.{mask-more, mask-low, shifted}
+use Rattle.lists.proofs.Sequences.{some-up}
+use Rattle.box_faces.specs.Faces.{hasBit}
+use Rattle.candidate_pool.proofs.Masking.{mask-more, mask-low, shifted, no-bit}
 use Rattle.cap_pairs.specs.Steps.{Added, Noted}
-use Rattle.cap_pairs.proofs.Sums.{or-assoc, eqb-sym, some-none, some-more}
-
-none-kept : (l : List ℕ) → keep (λ f. false) l ≡ []
-unfolding keep
-none-kept [] = refl
-none-kept (f ∷ l) = none-kept l
-
-pub no-bit : (f : ℕ) → f < 6 → hasBit 0 f ≡ false
-unfolding faceBits
-no-bit f h = ap (λ l. hasBit (faceBits l) f) (sym (none-kept faces)) ∙ bit-passes (λ f. false) f h
+use Rattle.cap_pairs.proofs.Sums.{eqb-sym, some-none}
 
 -- ---- add_face
 module _ (w : List ℕ) (at face : ℕ) (room : at < length w) (low : getD w at 0 < 64) (k : face < 6) where
@@ -114,7 +103,7 @@ module _ (w₀ : List ℕ) (at mask : ℕ) where
         record {
           long = s .long ∙ a .long;
           bits = λ f h.
-              s .bits f h ∙ ap (λ (b : Bool). b || eqb face f) (a .bits f h) ∙ sym (or-assoc (hasBit (getD w₀ at 0) f) (Below mask face f) (eqb face f))
+              s .bits f h ∙ ap (λ (b : Bool). b || eqb face f) (a .bits f h) ∙ or-assoc (hasBit (getD w₀ at 0) f) (Below mask face f) (eqb face f)
               ∙ ap (λ (b : Bool). hasBit (getD w₀ at 0) f || b) (ap (λ (b : Bool). Below mask face f || b) (sym (whole (eqb face f))) ∙ beyond f true m);
           small = s .small;
           rest = λ x h. s .rest x h ∙ a .rest x h;
@@ -149,7 +138,7 @@ module _ (target : ℕ → ℕ) (bits : ℕ → ℕ → Bool) (w₀ : List ℕ) 
     noted-turn v z s =
         record {
           long = s .long ∙ a .long;
-          at = λ x f h q. each x f h q (ℕ-discrete x (target i)) ∙ sym (some-more (λ j. eqb (target j) x && bits j f) i);
+          at = λ x f h q. each x f h q (ℕ-discrete x (target i)) ∙ sym (some-up (λ j. eqb (target j) x && bits j f) i);
           small = λ x q. low x q (ℕ-discrete x (target i));
           rest = λ x h. s .rest x (λ q. h i (omega arith) (sym q)) ∙ a .rest x (λ j l. h j (omega arith));
         }

@@ -7,31 +7,31 @@
 --   tables-for                 there is room for the tables
 use Prim.Native.Nat.{ℕ, zero, suc, _+_, _*_, _-_, _/_, _%_, _≤_, _<_}
 use mathlib.Core.Bool.{Bool, true, false, cond}
-use mathlib.Core.List.{List, [], List·Memᴰ}
+use mathlib.Core.List.{List, List·Memᴰ}
 use mathlib.Core.Logic.{⊎-elim}
 use mathlib.Core.Path.{_≡_, refl, sym, ap, subst, _∙_}
 use native.Mathlib.Omega.{arith}
 use borrow.Author.Tests.{lt-ltb, le-ltb, eqb-false, ltb-true, ltb-false, ne-eqb}
-use lib.Dec.{T, eqb, ltb}
+use lib.Dec.{eqb, ltb}
 use lib.ListN.{length, getD}
-use Rattle.lists.specs.Lists.{some, keep, upFrom}
+use Rattle.lists.specs.Lists.{upFrom}
 use Rattle.lists.specs.Regions.{view}
-use Rattle.lists.proofs.Mapped.{keep-none, each-of}
-use Rattle.lists.proofs.Members.{of-some, some-of}
 use Rattle.lists.proofs.Orders.{cases}
 use Rattle.lists.proofs.Places.{of-up}
 use Rattle.lists.proofs.Regions.{view-at, view-length}
 use Rattle.geometry.specs.Boxes.{faces}
 use Rattle.geometry.specs.Triangles.{Triangle, threes}
-use Rattle.box_faces.specs.Faces.{faceBits, hasBit}
+use Rattle.box_faces.specs.Faces.{hasBit}
 use Rattle.edges.specs.Edges.{sides}
 use Rattle.edges.specs.Table.{nextSide}
 use Rattle.edges.proofs.Sides.{Small, next-in, side-at}
 use Rattle.candidate_pool.specs.Standing.{countAt, poolAt}
-use Rattle.candidate_pool.proofs.Masking.{mask-back}
+use Rattle.candidate_pool.proofs.Masking.{word-bit}
+use Rattle.candidate_pool.proofs.Reading.{pool-count}
+use Rattle.candidate_pool.proofs.Tidying.{has-low}
 use Rattle.cap_triangles.specs.Room.{turnedAt, recordsAt, Above, turnedIn, CapReady}
-use Rattle.cap_triangles.proofs.Kept.{count-is, turnedIn-kept}
-use Rattle.cap_triangles.proofs.Good.{has-low, turned-low}
+use Rattle.cap_triangles.proofs.Kept.{turnedIn-kept}
+use Rattle.cap_triangles.proofs.Good.{turned-low}
 use Rattle.cap_pairs.specs.Pairs.{edgePair, pairCount, pairAt}
 use Rattle.cap_pairs.specs.Steps.{SmallEdge, sideWords, TablesFor}
 
@@ -98,37 +98,12 @@ pub record SomeFace (mask : ℕ) : Type 0 where
   pub is : face < 6
   pub on : hasBit mask face ≡ true
 
-pub of-T : (b : Bool) → T b → b ≡ true
-of-T true t = refl
-of-T false t = absurd t
-
-pub to-T : (b : Bool) → b ≡ true → T b
-to-T b e = subst T (sym e) tt
-
 pub face-low : {f : ℕ} → List·Memᴰ f faces → f < 6
 unfolding upFrom
 face-low m = let u = of-up 0 6 m .1 in omega arith
 
-empty : (l : List ℕ) → l ≡ [] → faceBits l ≡ 0
-unfolding faceBits
-empty l e = ap faceBits e
-
 pub some-face : (mask : ℕ) → mask < 64 → (mask ≡ 0 → ⊥) → SomeFace mask
-some-face mask h n =
-    ⊎-elim
-    (λ (e : some (hasBit mask) faces ≡ true).
-    let r = of-some (hasBit mask) faces (to-T (some (hasBit mask) faces) e) in
-    record { face = r .0; is = face-low (r .1); on = of-T (hasBit mask (r .0)) (r .2) })
-    (λ (e : some (hasBit mask) faces ≡ false).
-    absurd (n (sym (mask-back mask h) ∙ empty (keep (hasBit mask) faces) (keep-none (hasBit mask) faces (each-of (λ x. hasBit mask x ≡ false) faces (λ x m. off x m e))))))
-    (cases (some (hasBit mask) faces))
-  where
-    off : (x : ℕ) → List·Memᴰ x faces → some (hasBit mask) faces ≡ false → hasBit mask x ≡ false
-    off x m e =
-        ⊎-elim (λ (t : hasBit mask x ≡ true).
-        let s = of-T (some (hasBit mask) faces) (some-of (hasBit mask) m (to-T (hasBit mask x) t)) in
-        t ∙ sym s ∙ e)
-        (λ (t : hasBit mask x ≡ false). t) (cases (hasBit mask x))
+some-face mask h n = let r = word-bit mask h n in record { face = r .0; is = r .1; on = r .2 }
 
 -- ---- sizes
 module _ (n nf k : ℕ) (capList w : List ℕ) (r : CapReady n nf k capList w) where
@@ -163,7 +138,7 @@ module _ (n nf k : ℕ) (capList w : List ℕ) (r : CapReady n nf k capList w) w
       let t = r .ready .supplied .pooled .tidy in
       let a = has-low (poolAt n w) t (f .face) (getD w (8 + 62 * n + 30 * nf + 3 * i) 0) (f .is) (r .held .from i (f .face) h (f .is) (f .on)) in
       let b = has-low (poolAt n w) t (f .face) (getD w (8 + 62 * n + 30 * nf + 3 * i + 1) 0) (f .is) (r .held .to i (f .face) h (f .is) (f .on)) in
-      let c = count-is n w in
+      let c = pool-count n w in
       (low-end (getD w (8 + 62 * n + 30 * nf + 3 * i) 0) (omega (arith, a, c)), low-end (getD w (8 + 62 * n + 30 * nf + 3 * i + 1) 0) (omega (arith, b, c)))
 
   edge-pair-small : (i : ℕ) → i < k → Small (edgePair w (8 + 62 * n + 30 * nf + 3 * i))

@@ -17,6 +17,7 @@ use lib.Ieee.{lt}
 use lib.ListN.{length, getD, length-map}
 use Rattle.lists.specs.Lists.{some, has, upTo}
 use Rattle.lists.proofs.Orders.{never}
+use Rattle.lists.proofs.Sequences.{some-flat, some-below}
 use Rattle.words.proofs.Packed.{less-equal-more}
 use Rattle.root.specs.Doubles.{zeroF}
 use Rattle.geometry.specs.Triangles.{Triangle, tri, edges, reversed}
@@ -29,14 +30,14 @@ use Rattle.edges.proofs.Sides.{next-wrap, next-on}
 use Rattle.candidate_pool.specs.Pool.{Pool}
 use Rattle.candidate_pool.specs.Standing.{facesIn, poolAt, edgeAt, edgesAt}
 use Rattle.candidate_pool.proofs.Listing.{has-kept}
+use Rattle.candidate_pool.proofs.Masking.{no-bit}
 use Rattle.cap_triangles.specs.Selection.{Cap, cap, capsOf, capAt, signedArea, outward, outwardCaps}
 use Rattle.cap_triangles.specs.Room.{turnedAt, numbersAt, upAt, downAt, heldAt, Above, CapReady}
 use Rattle.cap_triangles.proofs.Fours.{caps-length, cap-at, outward-at}
 use Rattle.cap_triangles.proofs.Good.{turned-corners}
 use Rattle.cap_pairs.specs.Pairs.{pairCount, pairAt, numberIn, PairNumbers}
 use Rattle.cap_pairs.specs.Steps.{sideWords, edgeMask, edgeTarget, sideTarget, sideFace}
-use Rattle.cap_pairs.proofs.Sums.{eqb-sym, some-map, some-flat, some-up, some-threes, some-places}
-use Rattle.cap_pairs.proofs.Adding.{no-bit}
+use Rattle.cap_pairs.proofs.Sums.{eqb-sym, some-map, some-threes, some-places}
 use Rattle.cap_pairs.proofs.Ends.{pair-listed, pair-side, pair-kept}
 
 -- ---- the numbers
@@ -196,7 +197,7 @@ module _ (n nf k : ℕ) (capList w : List ℕ) (ready : CapReady n nf k capList 
   unfolding edgesAt
   edges-some W =
       sym (some-flat (λ e. eqb (e .a) f && (samePair Q (e .b, e .c) && W (e .b) (e .c))) (λ i. edgeAt w (row i)) (upTo k)
-      ∙ some-up (λ j. some (λ e. eqb (e .a) f && (samePair Q (e .b, e .c) && W (e .b) (e .c))) (edgeAt w (row j))) (λ j. (W (from j) (to j) && eqb (num j) (num q)) && hasBit (mask j) f) k (λ j h.
+      ∙ some-below (λ j. some (λ e. eqb (e .a) f && (samePair Q (e .b, e .c) && W (e .b) (e .c))) (edgeAt w (row j))) (λ j. (W (from j) (to j) && eqb (num j) (num q)) && hasBit (mask j) f) k (λ j h.
       some-map (λ e. eqb (e .a) f && (samePair Q (e .b, e .c) && W (e .b) (e .c))) (λ g. tri g (from j) (to j)) (facesIn (mask j))
       ∙ some-faces (mask j) f (samePair Q (from j, to j) && W (from j) (to j)) hf
       ∙ with-way (hasBit (mask j) f) (samePair Q (from j, to j)) (W (from j) (to j)) (eqb (num j) (num q)) (same-number j h)))
@@ -207,14 +208,14 @@ module _ (n nf k : ℕ) (capList w : List ℕ) (ready : CapReady n nf k capList 
   pub up-some : some (λ j. eqb (edgeTarget n nf nc w j) (upAt n nf nc + num q) && hasBit (edgeMask n nf nc w j) f) (upTo k)
       ≡ some (λ e. eqb (e .a) f && (samePair Q (e .b, e .c) && ltb (e .b) (e .c))) (edgesAt w (8 + 62 * n + 30 * nf) k)
   up-some =
-      some-up (λ j. eqb (edgeTarget n nf nc w j) (upAt n nf nc + num q) && hasBit (edgeMask n nf nc w j) f) (λ j. (ltb (from j) (to j) && eqb (num j) (num q)) && hasBit (mask j) f) k
+      some-below (λ j. eqb (edgeTarget n nf nc w j) (upAt n nf nc + num q) && hasBit (edgeMask n nf nc w j) f) (λ j. (ltb (from j) (to j) && eqb (num j) (num q)) && hasBit (mask j) f) k
       (λ j h. way-up (from j) (to j) (mask j) (upAt n nf nc) (downAt n nf nc) (num j) (num q) f (no-bit f hf) (λ e. let a = N .low q hq in omega (arith, ready .edges)))
       ∙ edges-some ltb
 
   pub down-some : some (λ j. eqb (edgeTarget n nf nc w j) (downAt n nf nc + num q) && hasBit (edgeMask n nf nc w j) f) (upTo k)
       ≡ some (λ e. eqb (e .a) f && (samePair Q (e .b, e .c) && ltb (e .c) (e .b))) (edgesAt w (8 + 62 * n + 30 * nf) k)
   down-some =
-      some-up (λ j. eqb (edgeTarget n nf nc w j) (downAt n nf nc + num q) && hasBit (edgeMask n nf nc w j) f) (λ j. (ltb (to j) (from j) && eqb (num j) (num q)) && hasBit (mask j) f) k
+      some-below (λ j. eqb (edgeTarget n nf nc w j) (downAt n nf nc + num q) && hasBit (edgeMask n nf nc w j) f) (λ j. (ltb (to j) (from j) && eqb (num j) (num q)) && hasBit (mask j) f) k
       (λ j h. way-down (from j) (to j) (mask j) (upAt n nf nc) (downAt n nf nc) (num j) (num q) f (no-bit f hf) (λ e. let a = number-low j h in omega (arith, ready .edges)))
       ∙ edges-some (λ a b. ltb b a)
 
@@ -293,7 +294,7 @@ module _ (n nf k : ℕ) (capList w : List ℕ) (ready : CapReady n nf k capList 
   pub sides-some : some held-test (upTo (3 * nc)) ≡ some (λ t. eqb (t .face) f && some (samePair Q) (edges (t .corners))) (outwardCaps (poolAt n w) (capsOf capList))
   sides-some =
       some-threes held-test nc
-      ∙ some-up (λ i. held-test (3 * i) || (held-test (3 * i + 1) || held-test (3 * i + 2))) (λ i. holds (capAt (outwardCaps (poolAt n w) (capsOf capList)) i)) nc (λ i h.
+      ∙ some-below (λ i. held-test (3 * i) || (held-test (3 * i + 1) || held-test (3 * i + 2))) (λ i. holds (capAt (outwardCaps (poolAt n w) (capsOf capList)) i)) nc (λ i h.
       triangle-test i h ∙ ap holds (sym (outward-at (poolAt n w) (capsOf capList) i (there i h))))
       ∙ ap (λ (m : ℕ). some (λ i. holds (capAt (outwardCaps (poolAt n w) (capsOf capList)) i)) (upTo m)) (sym (length-map (capsOf capList) (outward (poolAt n w)) ∙ caps-length capList))
       ∙ sym (some-places holds (cap 0 (tri 0 0 0)) (outwardCaps (poolAt n w) (capsOf capList)))

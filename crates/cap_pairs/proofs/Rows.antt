@@ -3,7 +3,7 @@
 --   row-place       of one open edge, the place of the first face that is missing
 --   RowWalk         none of the edges before i is missing, and `place` is how many entries they have
 --   row-start, row-stop, row-more, row-end
-use Prim.Native.Nat.{ℕ, zero, suc, _+_, _*_, _-_, _/_, _≤_, _<_, min}
+use Prim.Native.Nat.{ℕ, suc, _+_, _*_, _-_, _/_, _≤_, _<_, min}
 use mathlib.Core.Bool.{Bool, true, not, _&&_}
 use mathlib.Core.List.{List, _++_, flatMap}
 use mathlib.Core.Path.{_≡_, refl, sym, ap, _∙_}
@@ -14,37 +14,30 @@ use Rattle.lists.specs.Lists.{some, place, upFrom}
 use Rattle.lists.proofs.Counts.{count-le}
 use Rattle.lists.proofs.Members.{of-keep, place-le}
 use Rattle.lists.proofs.Stores.{upFrom-cons}
+use Rattle.lists.proofs.Sequences.{some-same}
+use Rattle.lists.proofs.Bools.{is-true}
 use Rattle.geometry.specs.Boxes.{faces}
 use Rattle.geometry.specs.Triangles.{Triangle, tri, edges}
 use Rattle.box_faces.specs.Faces.{hasBit, bitCount}
 use Rattle.edges.specs.Edges.{samePair}
 use Rattle.candidate_pool.specs.Pool.{Pool, faceList}
 use Rattle.candidate_pool.specs.Standing.{facesIn, poolAt, edgeAt, edgesAt}
+use Rattle.candidate_pool.proofs.Reading.{pool-list, list-in, list-few}
 use Rattle.cap_triangles.specs.Selection.{Cap, capsOf, outward}
 use Rattle.cap_triangles.specs.Listed.{missingEdge, missingPlace}
 use Rattle.cap_triangles.specs.Room.{numbersAt, heldAt, Pooled, CapReady}
-use Rattle.cap_triangles.proofs.Kept.{list-is, list-few}
 use Rattle.cap_pairs.specs.Pairs.{pairAt, numberIn, PairsKnown}
 use Rattle.cap_pairs.specs.Steps.{missingFace}
-use Rattle.cap_pairs.proofs.Sums.{some-map, some-same, place-stops, place-goes, place-map, place-same}
-use Rattle.cap_pairs.proofs.Ends.{of-T, face-low}
+use Rattle.cap_pairs.proofs.Sums.{some-map, place-stops, place-goes, place-map, place-same}
+use Rattle.cap_pairs.proofs.Ends.{face-low}
 use Rattle.cap_pairs.proofs.Known.{listed, turned-edges}
-
-list-end : (f n : ℕ) → f < 6 → f * n ≤ 5 * n
-list-end zero n h = omega arith
-list-end (suc zero) n h = omega arith
-list-end (suc (suc zero)) n h = omega arith
-list-end (suc (suc (suc zero))) n h = omega arith
-list-end (suc (suc (suc (suc zero)))) n h = omega arith
-list-end (suc (suc (suc (suc (suc zero))))) n h = omega arith
-list-end (suc (suc (suc (suc (suc (suc f)))))) n h = absurd (omega arith)
 
 pub list-long : (n : ℕ) (w : List ℕ) → Pooled n w → 9 + 64 * n ≤ length w → (f : ℕ) → f < 6 → length (faceList (poolAt n w) f) ≡ getD w f 0
 list-long n w p size f h =
-    let a = list-few n w p f h in
+    let a = list-few n w (p .few) (p .tidy) f h in
     let b : length (faceList (poolAt n w) f) ≡ min (getD w f 0) (length w - (8 + 11 * n + f * n)) =
-    ap length (list-is n w f h) ∙ length-take (getD w f 0) (drop (8 + 11 * n + f * n) w) ∙ ap (min (getD w f 0)) (length-drop (8 + 11 * n + f * n) w) in
-    let c = list-end f n h in
+    ap length (pool-list n w f h) ∙ length-take (getD w f 0) (drop (8 + 11 * n + f * n) w) ∙ ap (min (getD w f 0)) (length-drop (8 + 11 * n + f * n) w) in
+    let c : f * n ≤ 5 * n = omega (arith, list-in n f h) in
     whole (length (faceList (poolAt n w) f)) (getD w f 0) (length w) n (f * n) a b c size
   where
     whole : (l v s n m : ℕ) → l ≤ n → l ≡ min v (s - (8 + 11 * n + m)) → m ≤ 5 * n → 9 + 64 * n ≤ s → l ≡ v
@@ -113,7 +106,7 @@ module _ (n nf k : ℕ) (capList w : List ℕ) (ready : CapReady n nf k capList 
         place-map Q (λ f. tri f A B) (facesIn (mask i))
         ∙ place-same (λ f. Q (tri f A B)) (missingFace w (held i)) (facesIn (mask i)) (λ f m.
         let r = of-keep (hasBit (mask i)) faces m in
-        test-is f (face-low (r .0)) (of-T (hasBit (mask i) f) (r .1)))
+        test-is f (face-low (r .0)) (is-true (hasBit (mask i) f) (r .1)))
 
     row-long : length (part i) ≡ length (facesIn (mask i))
     row-long = length-map (facesIn (mask i)) (λ f. tri f A B)

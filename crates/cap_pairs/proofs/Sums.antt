@@ -1,11 +1,11 @@
 -- Laws of lists in general: `some` and `place` over lists that are made of parts. Assumes nothing.
---   or-assoc, eqb-sym                truth values
---   some-append, some-map, some-flat, some-same, up-more, some-more      `some`
+--   eqb-sym                          a test either way
+--   some-one, some-map, some-none    `some`
 --   some-threes, some-places         three at a time; by places
---   place-append, place-map, place-same      `place`
+--   place-stops, place-goes, place-map, place-same      `place`
 use Prim.Native.Nat.{ℕ, zero, suc, _+_, _*_, _≤_, _<_}
 use mathlib.Core.Bool.{Bool, true, false, cond, _||_}
-use mathlib.Core.List.{List, [], _∷_, _++_, map, flatMap, List·Memᴰ, List·Memᴰ·head, List·Memᴰ·tail}
+use mathlib.Core.List.{List, [], _∷_, _++_, map, List·Memᴰ, List·Memᴰ·head, List·Memᴰ·tail}
 use mathlib.Core.Path.{_≡_, refl, sym, ap, _∙_}
 use native.Mathlib.Omega.{arith}
 use native.Mathlib.Numerals.{add-one}
@@ -14,23 +14,14 @@ use lib.Dec.{eqb}
 use lib.ListN.{length, getD}
 use Rattle.lists.specs.Lists.{some, place, upFrom, upTo}
 use Rattle.lists.proofs.Bools.{or-last}
-use Rattle.lists.proofs.Places.{of-up}
+use Rattle.lists.proofs.Sequences.{some-up}
 use Rattle.edges.proofs.Keys.{both-ways}
-
-pub or-assoc : (a b c : Bool) → (a || (b || c)) ≡ ((a || b) || c)
-or-assoc true b c = refl
-or-assoc false b c = refl
 
 pub eqb-sym : (a b : ℕ) → eqb a b ≡ eqb b a
 eqb-sym a b = both-ways (eqb a b) (eqb b a) (λ e. eq-eqb b a (sym (eqb-true a b e))) (λ e. eq-eqb a b (sym (eqb-true b a e)))
 
 -- ---- some
 module _ {A : Type 0} (p : A → Bool) where
-  pub some-append : (l r : List A) → some p (l ++ r) ≡ (some p l || some p r)
-  unfolding some
-  some-append [] r = refl
-  some-append (x ∷ l) r = ap (λ (b : Bool). p x || b) (some-append l r) ∙ or-assoc (p x) (some p l) (some p r)
-
   pub some-one : (x : A) → some p (x ∷ []) ≡ p x
   unfolding some
   some-one x = or-last (p x)
@@ -39,33 +30,6 @@ module _ {A : Type 0} (p : A → Bool) where
   unfolding some
   some-map g [] = refl
   some-map g (x ∷ l) = ap (λ (b : Bool). p (g x) || b) (some-map g l)
-
-  pub some-flat : {B : Type 0} (g : B → List A) (l : List B) → some p (flatMap g l) ≡ some (λ x. some p (g x)) l
-  unfolding some flatMap
-  some-flat g [] = refl
-  some-flat g (x ∷ l) = some-append (g x) (flatMap g l) ∙ ap (λ (b : Bool). some p (g x) || b) (some-flat g l)
-
-pub some-same : {A : Type 0} (p q : A → Bool) (l : List A) → ((x : A) → List·Memᴰ x l → p x ≡ q x) → some p l ≡ some q l
-unfolding some
-some-same p q [] h = refl
-some-same p q (x ∷ l) h =
-    let a = h x (List·Memᴰ·head refl) in
-    let b = some-same p q l (λ y m. h y (List·Memᴰ·tail m)) in
-    λ t. a t || b t
-
-pub some-up : (p q : ℕ → Bool) (m : ℕ) → ((i : ℕ) → i < m → p i ≡ q i) → some p (upTo m) ≡ some q (upTo m)
-some-up p q m h = some-same p q (upTo m) (λ i l. h i (let u = of-up 0 m l .1 in omega arith))
-
-up-snoc : (j k : ℕ) → upFrom j (suc k) ≡ upFrom j k ++ ((j + k) ∷ [])
-unfolding upFrom
-up-snoc j zero = ap (λ (x : ℕ). x ∷ []) (omega arith)
-up-snoc j (suc k) = ap (λ (r : List ℕ). j ∷ r) (up-snoc (suc j) k ∙ ap (λ (x : ℕ). upFrom (suc j) k ++ (x ∷ [])) (omega arith))
-
-pub up-more : (k : ℕ) → upTo (k + 1) ≡ upTo k ++ (k ∷ [])
-up-more k = ap upTo (add-one k) ∙ up-snoc 0 k ∙ ap (λ (x : ℕ). upTo k ++ (x ∷ [])) (omega arith)
-
-pub some-more : (p : ℕ → Bool) (k : ℕ) → some p (upTo (k + 1)) ≡ (some p (upTo k) || p k)
-some-more p k = ap (some p) (up-more k) ∙ some-append p (upTo k) (k ∷ []) ∙ ap (λ (b : Bool). some p (upTo k) || b) (some-one p k)
 
 pub some-none : (p : ℕ → Bool) → some p (upTo 0) ≡ false
 unfolding some upFrom
@@ -79,10 +43,10 @@ pub some-threes : (p : ℕ → Bool) (m : ℕ) → some p (upTo (3 * m)) ≡ som
 some-threes p zero = some-none p ∙ sym (some-none (λ i. p (3 * i) || (p (3 * i + 1) || p (3 * i + 2))))
 some-threes p (suc m) =
     ap (λ (k : ℕ). some p (upTo k)) (three m)
-    ∙ some-more p (3 * m + 1 + 1) ∙ ap (λ (b : Bool). b || p (3 * m + 1 + 1)) (some-more p (3 * m + 1) ∙ ap (λ (b : Bool). b || p (3 * m + 1)) (some-more p (3 * m) ∙ ap (λ (b : Bool). b || p (3 * m)) (some-threes p m)))
+    ∙ some-up p (3 * m + 1 + 1) ∙ ap (λ (b : Bool). b || p (3 * m + 1 + 1)) (some-up p (3 * m + 1) ∙ ap (λ (b : Bool). b || p (3 * m + 1)) (some-up p (3 * m) ∙ ap (λ (b : Bool). b || p (3 * m)) (some-threes p m)))
     ∙ ap (λ (k : ℕ). ((some (anyOfThree p) (upTo m) || p (3 * m)) || p (3 * m + 1)) || p k) (two m)
     ∙ group (some (anyOfThree p) (upTo m)) (p (3 * m)) (p (3 * m + 1)) (p (3 * m + 2))
-    ∙ sym (some-more (anyOfThree p) m) ∙ ap (λ (k : ℕ). some (anyOfThree p) (upTo k)) (add-one m)
+    ∙ sym (some-up (anyOfThree p) m) ∙ ap (λ (k : ℕ). some (anyOfThree p) (upTo k)) (add-one m)
   where
     three : (m : ℕ) → 3 * suc m ≡ 3 * m + 1 + 1 + 1
     three m = omega arith

@@ -12,6 +12,7 @@ use lib.Dec.{eqb, ltb}
 use lib.ListN.{length, getD}
 use Rattle.lists.specs.Lists.{some, upTo}
 use Rattle.lists.specs.Regions.{Zeroed}
+use Rattle.lists.proofs.Sequences.{some-below}
 use Rattle.box_faces.specs.Faces.{hasBit}
 use Rattle.cap_triangles.specs.Selection.{Cap, capsOf}
 use Rattle.cap_triangles.specs.Room.{numbersAt, upAt, downAt, heldAt, Above, CapReady}
@@ -20,7 +21,6 @@ use Rattle.cap_triangles.proofs.Fours.{caps-length, cap-at}
 use Rattle.cap_triangles.proofs.Good.{good-cap}
 use Rattle.cap_pairs.specs.Pairs.{pairCount, numberIn, PairNumbers, PairsKnown}
 use Rattle.cap_pairs.specs.Steps.{Noted, edgeMask, edgeTarget, sideTarget, sideFace, TablesFor}
-use Rattle.cap_pairs.proofs.Sums.{some-up}
 use Rattle.cap_pairs.proofs.Targets.{target-low, edges-below, sides-below}
 use Rattle.cap_pairs.proofs.Known.{numbers-kept, up-some, down-some, sides-some}
 
@@ -157,7 +157,7 @@ module _ (n nf k : ℕ) (capList w : List ℕ) (ready : CapReady n nf k capList 
       edges-at : (x f : ℕ) → f < 6 → x < heldAt n nf nc → getD z x 0 ≡ 0 → hasBit (getD u x 0) f ≡ some (λ j. eqb (edgeTarget n nf nc u j) x && hasBit (edgeMask n nf nc u j) f) (upTo k)
       edges-at x f h l e =
           ap (λ (m : ℕ). hasBit m f) (below-held x l) ∙ E .at x f h e
-          ∙ some-up (λ j. eqb (edgeTarget n nf nc z j) x && hasBit (edgeMask n nf nc z j) f) (λ j. eqb (edgeTarget n nf nc u j) x && hasBit (edgeMask n nf nc u j) f) k (λ j i.
+          ∙ some-below (λ j. eqb (edgeTarget n nf nc z j) x && hasBit (edgeMask n nf nc z j) f) (λ j. eqb (edgeTarget n nf nc u j) x && hasBit (edgeMask n nf nc u j) f) k (λ j i.
           let a = target-same n nf nc k z u above-z-u few j i in
           let b = mask-same n nf nc k z u above-z-u few j i in
           λ t. eqb (sym a t) x && hasBit (sym b t) f)
@@ -180,7 +180,7 @@ module _ (n nf k : ℕ) (capList w : List ℕ) (ready : CapReady n nf k capList 
             ≡ some (λ s. eqb (sideTarget n nf nc u k s) (heldAt n nf nc + numberIn n nf k capList u q) && eqb (sideFace capList s) f) (upTo (3 * nc))
         sides-at f h =
             S .at (heldAt n nf nc + numberIn n nf k capList u q) f h (zeros-noted (numberIn n nf k capList u q) low)
-            ∙ some-up (λ s. eqb (sideTarget n nf nc v k s) (heldAt n nf nc + numberIn n nf k capList u q) && eqb (sideFace capList s) f)
+            ∙ some-below (λ s. eqb (sideTarget n nf nc v k s) (heldAt n nf nc + numberIn n nf k capList u q) && eqb (sideFace capList s) f)
             (λ s. eqb (sideTarget n nf nc u k s) (heldAt n nf nc + numberIn n nf k capList u q) && eqb (sideFace capList s) f) (3 * nc) (λ s i.
             let a = above-sides .below (numbersAt n nf nc + k + s) (let f = few in omega arith) in
             λ t. eqb (heldAt n nf nc + sym a t) (heldAt n nf nc + numberIn n nf k capList u q) && eqb (sideFace capList s) f)

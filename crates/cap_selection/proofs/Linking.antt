@@ -10,7 +10,7 @@ use borrow.Author.Tests.{eqb-true, eq-eqb, not-true}
 use lib.Dec.{T, eqb}
 use lib.ListN.{length, getD}
 use Rattle.lists.specs.Lists.{some, upTo}
-use Rattle.lists.proofs.Bools.{cond-false}
+use Rattle.lists.proofs.Bools.{cond-false, is-true}
 use Rattle.lists.proofs.Members.{some-of, of-some, and-parts, and-of, getD-mem, mem-getD}
 use Rattle.lists.proofs.Places.{length-up, at-up, at-map-up}
 use Rattle.geometry.specs.Triangles.{Triangle, edges}
@@ -18,7 +18,7 @@ use Rattle.edges.specs.Edges.{samePair}
 use Rattle.components.specs.Joined.{one}
 use Rattle.components.proofs.Numbers.{LabelsLink}
 use Rattle.cap_triangles.specs.Selection.{Cap, capAt, isOpenPair, shareEdge}
-use Rattle.cap_selection.proofs.Ways.{truth, test, sideOf, sides-at}
+use Rattle.cap_selection.proofs.Ways.{test, sideOf, sides-at}
 
 pub record Labelling (boundary : List (Triangle ℕ)) (caps : List Cap) (nc p : ℕ) (number label : ℕ → ℕ) (opens : ℕ → Bool) : Type 0 where
   pub count : length caps ≡ nc
@@ -93,8 +93,8 @@ module _ (boundary : List (Triangle ℕ)) (caps : List Cap) (nc p : ℕ) (number
         b = y .0;
         a-in = x .1;
         b-in = y .1;
-        closed = ap (λ (s : ℕ × ℕ). isOpenPair boundary s) ex ∙ not-true (isOpenPair boundary (r .0)) (truth (h .0));
-        pair = (λ t. samePair (ex t) (ey t)) ∙ truth (q .2);
+        closed = ap (λ (s : ℕ × ℕ). isOpenPair boundary s) ex ∙ not-true (isOpenPair boundary (r .0)) (is-true _ (h .0));
+        pair = (λ t. samePair (ex t) (ey t)) ∙ is-true _ (q .2);
       }
 
   place-is : (i : ℕ) → i < nc → getD (upTo nc) i 0 ≡ i

@@ -1,8 +1,7 @@
 -- The loop that marks the components of seeds. Assumes nothing.
---   some-more      one more place
 --   Marking        of the first i triangles the seeds' components are marked
 --   mark-start, mark-turn, mark-end   no triangle, one more, all of them
-use Prim.Native.Nat.{ℕ, zero, suc, _+_, _*_, _≤_, _<_}
+use Prim.Native.Nat.{ℕ, _+_, _*_, _≤_, _<_}
 use native.Mathlib.Omega.{arith}
 use mathlib.Core.Path.{_≡_, refl, sym, ap, _∙_, subst}
 use mathlib.Core.Bool.{Bool, true, false, cond, _&&_, _||_}
@@ -12,30 +11,13 @@ use borrow.Author.Tests.{eq-eqb, ne-eqb}
 use lib.Dec.{eqb}
 use lib.ListN.{length, getD, set, length-set}
 use lib.Seq.{getD-set-other}
-use Rattle.lists.specs.Lists.{some, upFrom, upTo}
-use Rattle.lists.proofs.Bools.{and-next, and-stop, or-last}
+use Rattle.lists.specs.Lists.{some, upFrom}
+use Rattle.lists.proofs.Bools.{and-next, and-stop, or-last, or-true}
 use Rattle.lists.proofs.Regions.{at-set}
+use Rattle.lists.proofs.Sequences.{some-up}
 use Rattle.cap_triangles.specs.Room.{labelsAt, componentsAt, seededAt, Above}
 use Rattle.cap_selection.specs.Steps.{seedIn, seededBy, markedSeed, SidesNumbered, Markable, Marked}
 use Rattle.cap_selection.proofs.Same.{seed-same, numbered-same}
-
-some-from : (p : ℕ → Bool) (j i : ℕ) → some p (upFrom j (suc i)) ≡ (some p (upFrom j i) || p (j + i))
-unfolding some upFrom
-some-from p j zero = or-last (p j) ∙ ap p (omega arith)
-some-from p j (suc i) =
-    let e : suc j + i ≡ j + suc i = omega arith in
-    ap (λ (b : Bool). p j || b) (some-from p (suc j) i ∙ ap (λ (x : ℕ). some p (upFrom (suc j) i) || p x) e)
-    ∙ or-assoc (p j) (some p (upFrom (suc j) i)) (p (j + suc i))
-  where
-    or-assoc : (a b c : Bool) → (a || (b || c)) ≡ ((a || b) || c)
-    or-assoc true b c = refl
-    or-assoc false b c = refl
-
-pub some-more : (p : ℕ → Bool) (i : ℕ) → some p (upTo (i + 1)) ≡ (some p (upTo i) || p i)
-some-more p i =
-    let e : i + 1 ≡ suc i = omega arith in
-    let z : 0 + i ≡ i = omega arith in
-    ap (λ (x : ℕ). some p (upTo x)) e ∙ some-from p 0 i ∙ ap (λ (x : ℕ). some p (upTo i) || p x) z
 
 module _ (n nf nc k : ℕ) (capList w : List ℕ) where
   pub record Marking (v : List ℕ) (i : ℕ) : Type 0 where
@@ -48,7 +30,7 @@ module _ (n nf nc k : ℕ) (capList w : List ℕ) where
 
   more : (i r : ℕ) → seededBy n nf nc k capList w (i + 1) r ≡ (seededBy n nf nc k capList w i r || marks r i)
   unfolding seededBy
-  more i r = some-more (marks r) i
+  more i r = some-up (marks r) i
 
   none : (r : ℕ) → seededBy n nf nc k capList w 0 r ≡ false
   unfolding seededBy some upFrom
@@ -61,10 +43,6 @@ module _ (n nf nc k : ℕ) (capList w : List ℕ) where
         above = record { long = refl; below = λ x h. refl };
         seeded = λ c h. r .unmarked c h ∙ ap (λ (b : Bool). cond b 1 0) (sym (none c));
       }
-
-  or-true : (b : Bool) → (b || true) ≡ true
-  or-true true = refl
-  or-true false = refl
 
   module _ (room : Markable n nf nc k capList w) (v : List ℕ) (i : ℕ) (l : i < nc) (m : Marking v i) where
     -- the tables that are read stand before the marks

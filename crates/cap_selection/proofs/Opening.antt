@@ -1,6 +1,6 @@
 -- What is known of pairs says which sides are on open edges, and which triangles are seeds. Assumes nothing.
 --   sides-numbered   there is room, and the numbers are those of pairs
---   side, number-same   the sides of the turned triangles; two have one number exactly if they have the same two candidates
+--   side, numbers-same  the sides of the turned triangles; two have one number exactly if they have the same two candidates
 --   open-known       a side is on an open edge exactly if something is known of its pair
 --   against-known    an open edge of the face runs against it
 --   seed-known       a triangle is a seed
@@ -11,14 +11,15 @@ use mathlib.Core.Bool.{Bool, true, false, not, _&&_, _||_}
 use mathlib.Core.List.{List, List·Memᴰ, Memᴰ·of-map}
 use mathlib.Core.Logic.{_⊎_, inl, inr, ⊎-elim}
 use borrow.Author.Tests.{ltb-true, ltb-false, lt-ltb, le-ltb, eqb-false, ne-eqb}
-use lib.Dec.{T, eqb, ltb, eqb-refl}
+use lib.Dec.{eqb, ltb, eqb-refl}
 use lib.ListN.{length, getD, length-map}
 use Rattle.lists.specs.Lists.{some, upTo}
 use Rattle.lists.specs.Regions.{view}
-use Rattle.lists.proofs.Bools.{or-stop, or-next, cond-true, cond-false}
-use Rattle.lists.proofs.Members.{some-of, of-some, of-flatMap, of-keep, mem-getD, and-parts, and-of}
+use Rattle.lists.proofs.Bools.{or-stop, or-next, cond-true, cond-false, is-true}
+use Rattle.lists.proofs.Members.{some-of, of-some, of-flatMap, of-keep, and-parts, and-of}
 use Rattle.lists.proofs.Orders.{cases, never}
 use Rattle.lists.proofs.Regions.{view-length, view-at}
+use Rattle.lists.proofs.Sequences.{some-same}
 use Rattle.geometry.specs.Boxes.{faces}
 use Rattle.geometry.specs.Triangles.{Triangle, tri, edges}
 use Rattle.box_faces.specs.Faces.{hasBit}
@@ -27,25 +28,15 @@ use Rattle.edges.specs.Table.{nextSide}
 use Rattle.edges.proofs.Keys.{same-pair, both-ways}
 use Rattle.edges.proofs.Sides.{side-at, next-in}
 use Rattle.candidate_pool.specs.Standing.{countAt, poolAt, facesIn, edgeAt, edgesAt}
+use Rattle.candidate_pool.proofs.Masking.{no-bit, word-bit}
 use Rattle.cap_triangles.specs.Selection.{Cap, capsOf, capAt, outward, outwardCaps, isOpenPair, isSeed}
 use Rattle.cap_triangles.specs.Room.{turnedAt, numbersAt, upAt, downAt, turnedIn, CapReady}
 use Rattle.cap_triangles.proofs.Fours.{caps-length, cap-at, outward-at}
 use Rattle.cap_triangles.proofs.Good.{GoodCap, good-turned}
 use Rattle.cap_pairs.specs.Pairs.{pairAt, numberIn, PairsKnown}
+use Rattle.cap_pairs.proofs.Ends.{face-low}
 use Rattle.cap_selection.specs.Steps.{openIn, sideNumber, againstIn, seedIn, SidesNumbered}
-use Rattle.cap_selection.proofs.Ways.{truth, test, word-bit, no-bit, some-same, down-against, up-against, sideOf, sides-at, against, seed-parts}
-
-face-low : {f : ℕ} → List·Memᴰ f faces → f < 6
-face-low {f} m = let r = mem-getD 0 m in go (r .0) (r .1) (r .2)
-  where
-    go : (i : ℕ) → i < 6 → getD faces i 0 ≡ f → f < 6
-    go zero h e = omega arith
-    go (suc zero) h e = omega arith
-    go (suc (suc zero)) h e = omega arith
-    go (suc (suc (suc zero))) h e = omega arith
-    go (suc (suc (suc (suc zero)))) h e = omega arith
-    go (suc (suc (suc (suc (suc zero))))) h e = omega arith
-    go (suc (suc (suc (suc (suc (suc i)))))) h e = absurd (omega arith)
+use Rattle.cap_selection.proofs.Ways.{test, down-against, up-against, sideOf, sides-at, against, seed-parts}
 
 -- the face of an open edge is one
 pub entry-face : (w : List ℕ) (at k : ℕ) {e : Triangle ℕ} → List·Memᴰ e (edgesAt w at k) → e .a < 6
@@ -192,13 +183,13 @@ module _ (n nf k : ℕ) (capList w : List ℕ) (ready : CapReady n nf k capList 
     of-entry f way e =
         let r = of-some (λ e. eqb (e .a) f && (samePair (side s) (e .b, e .c) && way e)) boundary (test e) in
         let q = and-parts (eqb (r .0 .a) f) (samePair (side s) (r .0 .b, r .0 .c) && way (r .0)) (r .2) .1 in
-        truth (some-of (λ e. samePair (side s) (e .b, e .c)) (r .1) (and-parts (samePair (side s) (r .0 .b, r .0 .c)) (way (r .0)) q .0))
+        is-true _ (some-of (λ e. samePair (side s) (e .b, e .c)) (r .1) (and-parts (samePair (side s) (r .0 .b, r .0 .c)) (way (r .0)) q .0))
 
     -- an open edge with the pair has its face in one of the words
     to-entry : (e : Triangle ℕ) (way : Triangle ℕ → Bool) → List·Memᴰ e boundary → samePair (side s) (e .b, e .c) ≡ true → way e ≡ true
         → some (λ d. eqb (d .a) (e .a) && (samePair (side s) (d .b, d .c) && way d)) boundary ≡ true
     to-entry e way m p q =
-        truth (some-of (λ d. eqb (d .a) (e .a) && (samePair (side s) (d .b, d .c) && way d)) m
+        is-true _ (some-of (λ d. eqb (d .a) (e .a) && (samePair (side s) (d .b, d .c) && way d)) m
         (and-of (eqb (e .a) (e .a)) (samePair (side s) (e .b, e .c) && way e) (eqb-refl (e .a)) (and-of (samePair (side s) (e .b, e .c)) (way e) (test p) (test q))))
 
     not-zero : (m f : ℕ) → f < 6 → hasBit m f ≡ true → m ≡ 0 → ⊥
@@ -237,7 +228,7 @@ module _ (n nf k : ℕ) (capList w : List ℕ) (ready : CapReady n nf k capList 
     some-opens o =
         let r = of-some (λ e. samePair (side s) (e .b, e .c)) boundary (test o) in
         let e = r .0 in
-        let p = truth (r .2) in
+        let p = is-true _ (r .2) in
         let l = entry-face w (8 + 62 * n + 30 * nf) k (r .1) in
         ⊎-elim
         (λ (q : ltb (e .b) (e .c) ≡ true). up-opens (not-zero up (e .a) l (up-known (e .a) l ∙ to-entry e (λ e. ltb (e .b) (e .c)) (r .1) p q)))
@@ -262,12 +253,12 @@ module _ (n nf k : ℕ) (capList w : List ℕ) (ready : CapReady n nf k capList 
         cond-true (ltb x y) (hasBit down f) (hasBit up f) (hasBit down f) q refl
         ∙ down-known f l
         ∙ some-same (runsDown (side s) f) (against f (side s)) boundary
-        (λ e. ap (λ (b : Bool). eqb (e .a) f && b) (down-against (side s .0) (side s .1) (e .b) (e .c) (let u = first in let v = second in let t = ltb-true x y q in omega arith))))
+        (λ e m. ap (λ (b : Bool). eqb (e .a) f && b) (down-against (side s .0) (side s .1) (e .b) (e .c) (let u = first in let v = second in let t = ltb-true x y q in omega arith))))
         (λ (q : ltb x y ≡ false).
         cond-false (ltb x y) (hasBit down f) (hasBit up f) (hasBit up f) q refl
         ∙ up-known f l
         ∙ some-same (runsUp (side s) f) (against f (side s)) boundary
-        (λ e. ap (λ (b : Bool). eqb (e .a) f && b) (up-against (side s .0) (side s .1) (e .b) (e .c) (let u = first in let v = second in let t = ltb-false x y q in let d = differs s h in omega arith))))
+        (λ e m. ap (λ (b : Bool). eqb (e .a) f && b) (up-against (side s .0) (side s .1) (e .b) (e .c) (let u = first in let v = second in let t = ltb-false x y q in let d = differs s h in omega arith))))
         (cases (ltb x y))
       where
         first : side s .0 ≡ x

@@ -1,105 +1,34 @@
 -- Laws of pairs and of the ways they run, whatever room they stand in. Assumes nothing.
---   truth, test            a test as a fact, and back
---   word-bit, no-bit       a word of faces that is not 0 has a face; 0 has none
---   some-same, some-or     one of the tests passes
+--   test                   a fact as a test
+--   some-or                one of two tests passes
 --   down-against, up-against   an open edge of a side's pair that runs the other way, by which way the side runs
 --   sideOf, sides-at       side s of the triangles; and the sides of triangle i
 --   seed-parts             an open edge is held backwards by one of three sides
-use Prim.Native.Nat.{ℕ, zero, suc, _+_, _*_, _/_, _%_, _^_, _<_}
+use Prim.Native.Nat.{ℕ, zero, suc, _+_, _*_, _<_}
 use native.Mathlib.Omega.{arith}
-use mathlib.Core.Path.{_≡_, refl, sym, ap, ap₂, _∙_, subst}
+use mathlib.Core.Path.{_≡_, refl, sym, ap, _∙_, subst}
 use mathlib.Core.Bool.{Bool, true, false, _&&_, _||_}
 use mathlib.Core.List.{List, [], _∷_, map, flatMap}
 use mathlib.Core.Logic.{_⊎_, inr, ⊎-elim}
-use borrow.Author.Tests.{ltb-true, lt-ltb, eqb-true, eqb-false, eq-eqb}
+use borrow.Author.Tests.{ltb-true, lt-ltb, eqb-true, eq-eqb}
 use lib.Dec.{T, eqb, ltb}
 use lib.ListN.{length, getD}
 use Rattle.lists.specs.Lists.{some}
 use Rattle.lists.proofs.Bools.{and-left, and-right, and-next}
-use Rattle.lists.proofs.Orders.{cases}
+use Rattle.lists.proofs.Sequences.{some-same}
 use Rattle.geometry.specs.Triangles.{Triangle, edges, containsOrientedEdge}
-use Rattle.box_faces.specs.Faces.{hasBit}
 use Rattle.edges.specs.Edges.{sides, samePair}
 use Rattle.edges.proofs.Keys.{same-pair, pair-same, both-ways}
 use Rattle.cap_triangles.specs.Selection.{Cap, capAt}
 
--- ---- a test as a fact, and back
-
-pub truth : {b : Bool} → T b → b ≡ true
-truth {b} t = go b t
-  where
-    go : (b : Bool) → T b → b ≡ true
-    go true t = refl
-    go false t = absurd t
+-- ---- a fact as a test
 
 pub test : {b : Bool} → b ≡ true → T b
 test e = subst T (sym e) tt
 
--- ---- words of faces
-
-abbrev Bit : ℕ → Type 0
-Bit m = (f : ℕ) × (f < 6) × (hasBit m f ≡ true)
-
-even : (x : ℕ) → eqb (x % 2) 1 ≡ false → x % 2 ≡ 0
-even x e = let n = eqb-false (x % 2) 1 e in omega arith
-
-unset : (m : ℕ) → m < 64 → (m ≡ 0 → ⊥) → hasBit m 0 ≡ false → hasBit m 1 ≡ false → hasBit m 2 ≡ false → hasBit m 3 ≡ false → hasBit m 4 ≡ false → hasBit m 5 ≡ false → ⊥
-unfolding hasBit
-unset m h n a b c d e f =
-    n (zero-word m h (even (m / 2 ^ 0) a) (even (m / 2 ^ 1) b) (even (m / 2 ^ 2) c) (even (m / 2 ^ 3) d) (even (m / 2 ^ 4) e) (even (m / 2 ^ 5) f))
-  where
-    zero-word : (m : ℕ) → m < 64 → m / 2 ^ 0 % 2 ≡ 0 → m / 2 ^ 1 % 2 ≡ 0 → m / 2 ^ 2 % 2 ≡ 0 → m / 2 ^ 3 % 2 ≡ 0 → m / 2 ^ 4 % 2 ≡ 0 → m / 2 ^ 5 % 2 ≡ 0 → m ≡ 0
-    zero-word m h a b c d e f =
-        let l5 : m < 32 = half5 m h f in
-        let l4 : m < 16 = half4 m l5 e in
-        let l3 : m < 8 = half3 m l4 d in
-        let l2 : m < 4 = half2 m l3 c in
-        let l1 : m < 2 = half1 m l2 b in
-        half0 m l1 a
-      where
-        half5 : (m : ℕ) → m < 64 → m / 2 ^ 5 % 2 ≡ 0 → m < 32
-        half5 m h e = omega arith
-
-        half4 : (m : ℕ) → m < 32 → m / 2 ^ 4 % 2 ≡ 0 → m < 16
-        half4 m h e = omega arith
-
-        half3 : (m : ℕ) → m < 16 → m / 2 ^ 3 % 2 ≡ 0 → m < 8
-        half3 m h e = omega arith
-
-        half2 : (m : ℕ) → m < 8 → m / 2 ^ 2 % 2 ≡ 0 → m < 4
-        half2 m h e = omega arith
-
-        half1 : (m : ℕ) → m < 4 → m / 2 ^ 1 % 2 ≡ 0 → m < 2
-        half1 m h e = omega arith
-
-        half0 : (m : ℕ) → m < 2 → m / 2 ^ 0 % 2 ≡ 0 → m ≡ 0
-        half0 m h e = omega arith
-
-pub word-bit : (m : ℕ) → m < 64 → (m ≡ 0 → ⊥) → Bit m
-word-bit m h n =
-    or 0 (omega arith) (λ a. or 1 (omega arith) (λ b. or 2 (omega arith) (λ c. or 3 (omega arith) (λ d. or 4 (omega arith) (λ e. or 5 (omega arith) (λ f. absurd (unset m h n a b c d e f)))))))
-  where
-    or : (f : ℕ) → f < 6 → (hasBit m f ≡ false → Bit m) → Bit m
-    or f l else = ⊎-elim (λ (e : hasBit m f ≡ true). (f, l, e)) else (cases (hasBit m f))
-
-pub no-bit : (f : ℕ) → f < 6 → hasBit 0 f ≡ false
-unfolding hasBit
-no-bit zero h = refl
-no-bit (suc zero) h = refl
-no-bit (suc (suc zero)) h = refl
-no-bit (suc (suc (suc zero))) h = refl
-no-bit (suc (suc (suc (suc zero)))) h = refl
-no-bit (suc (suc (suc (suc (suc zero))))) h = refl
-no-bit (suc (suc (suc (suc (suc (suc f)))))) h = absurd (omega arith)
-
 -- ---- tests of a list
 
 module _ {A : Type 0} (p q : A → Bool) where
-  pub some-same : (l : List A) → ((x : A) → p x ≡ q x) → some p l ≡ some q l
-  unfolding some
-  some-same [] h = refl
-  some-same (x ∷ l) h = ap₂ _||_ (h x) (some-same l h)
-
   swap : (a b c d : Bool) → ((a || b) || (c || d)) ≡ ((a || c) || (b || d))
   swap true b c d = refl
   swap false true true d = refl
@@ -176,7 +105,7 @@ pub seed-parts : (boundary : List (Triangle ℕ)) (f : ℕ) (t : Triangle ℕ)
 unfolding containsOrientedEdge
 seed-parts boundary f t =
     some-same (λ e. eqb (e .a) f && containsOrientedEdge t (e .c) (e .b)) (λ e. against f (t .a, t .b) e || (against f (t .b, t .c) e || against f (t .c, t .a) e)) boundary
-    (λ e. spread (eqb (e .a) f) (eqb (t .a) (e .c) && eqb (t .b) (e .b)) (eqb (t .b) (e .c) && eqb (t .c) (e .b)) (eqb (t .c) (e .c) && eqb (t .a) (e .b)))
+    (λ e m. spread (eqb (e .a) f) (eqb (t .a) (e .c) && eqb (t .b) (e .b)) (eqb (t .b) (e .c) && eqb (t .c) (e .b)) (eqb (t .c) (e .c) && eqb (t .a) (e .b)))
     ∙ some-or (against f (t .a, t .b)) (λ e. against f (t .b, t .c) e || against f (t .c, t .a) e) boundary
     ∙ ap (λ (b : Bool). some (against f (t .a, t .b)) boundary || b) (some-or (against f (t .b, t .c)) (against f (t .c, t .a)) boundary)
   where

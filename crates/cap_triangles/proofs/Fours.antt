@@ -1,13 +1,13 @@
 -- Laws of a flat list taken as cap triangles, four words each. Assumes nothing.
 --   caps-length    how many they are
 --   cap-at         the i-th, by its four words
---   at-map         an element of a mapped list
 --   outward-at     the i-th, turned outward
 use Prim.Native.Nat.{ℕ, zero, suc, _+_, _*_, _/_, _<_}
 use mathlib.Core.Path.{_≡_, refl, _∙_}
-use mathlib.Core.List.{List, [], _∷_, map}
+use mathlib.Core.List.{List, [], _∷_}
 use native.Mathlib.Omega.{arith}
 use lib.ListN.{length, getD}
+use Rattle.lists.proofs.Sequences.{at-map}
 use Rattle.geometry.specs.Triangles.{tri}
 use Rattle.candidate_pool.specs.Pool.{Pool}
 use Rattle.cap_triangles.specs.Selection.{Cap, cap, capsOf, capAt, outward, outwardCaps}
@@ -41,11 +41,6 @@ four-at (f ∷ a ∷ b ∷ c ∷ l) (suc i) h =
 pub cap-at : (l : List ℕ) (i : ℕ) → i < length l / 4
     → capAt (capsOf l) i ≡ cap (getD l (4 * i) 0) (tri (getD l (4 * i + 1) 0) (getD l (4 * i + 2) 0) (getD l (4 * i + 3) 0))
 cap-at l i h = four-at l i (omega arith)
-
-pub at-map : {A B : Type 0} (f : A → B) (l : List A) (i : ℕ) (d : A) (e : B) → i < length l → getD (map f l) i e ≡ f (getD l i d)
-at-map f [] i d e h = absurd (omega arith)
-at-map f (x ∷ l) zero d e h = refl
-at-map f (x ∷ l) (suc i) d e h = at-map f l i d e (omega arith)
 
 pub outward-at : (pool : Pool) (caps : List Cap) (i : ℕ) → i < length caps → capAt (outwardCaps pool caps) i ≡ outward pool (capAt caps i)
 outward-at pool caps i h = at-map (outward pool) caps i (cap 0 (tri 0 0 0)) (cap 0 (tri 0 0 0)) h

@@ -1,5 +1,4 @@
 -- What a list of triangles that passed 10 is known to be. Assumes nothing.
---   has-low        who is in a face's list is a candidate
 --   GoodCap        a face of the box; three different candidates, each in the face's list
 --   not-bad        no triangle of such a list is one that 10 names
 --   good-cap       each is a GoodCap
@@ -7,7 +6,7 @@
 --   good-outward   and so is one turned outward
 --   turned-corners, good-turned, turned-low   the same of the triangles that stand turned in the room
 use Prim.Native.Nat.{ℕ, _+_, _-_, _*_, _/_, _≤_, _<_}
-use mathlib.Core.Path.{_≡_, refl, sym, ap, _∙_, subst}
+use mathlib.Core.Path.{_≡_, sym, ap, _∙_, subst}
 use mathlib.Core.Bool.{Bool, true, false, cond, not, _||_, Bool·beq}
 use mathlib.Core.List.{List}
 use native.Mathlib.Omega.{arith}
@@ -17,28 +16,23 @@ use lib.Ieee.{lt}
 use lib.ListN.{length, getD, length-map}
 use Rattle.lists.specs.Lists.{some, has, upTo}
 use Rattle.lists.specs.Regions.{view}
-use Rattle.lists.proofs.Bools.{or-none-left, or-none-right}
-use Rattle.lists.proofs.Members.{of-has, mem-getD, place-before}
+use Rattle.lists.proofs.Bools.{or-none-left, or-none-right, is-false}
+use Rattle.lists.proofs.Members.{place-before}
 use Rattle.lists.proofs.Places.{at-up}
 use Rattle.lists.proofs.Regions.{view-length, view-at}
+use Rattle.lists.proofs.Sequences.{at-map}
 use Rattle.root.specs.Doubles.{zeroF}
 use Rattle.geometry.specs.Triangles.{Triangle, tri, vertices, edges, reversed}
 use Rattle.geometry.proofs.Threes.{threes-at}
 use Rattle.box_faces.specs.Faces.{ccwIsOutward}
 use Rattle.candidate_pool.specs.Pool.{Pool, faceList}
 use Rattle.candidate_pool.specs.Standing.{countAt, poolAt, Tidy}
+use Rattle.candidate_pool.proofs.Tidying.{has-low}
+use Rattle.candidate_pool.proofs.Reading.{pool-count}
 use Rattle.cap_triangles.specs.Selection.{Cap, cap, capAt, capsOf, signedArea, outward, outwardCaps}
 use Rattle.cap_triangles.specs.Listed.{badCap, badCapPlace}
 use Rattle.cap_triangles.specs.Room.{turnedAt, Pooled, TurnedReady}
-use Rattle.cap_triangles.proofs.Kept.{count-is}
-use Rattle.cap_triangles.proofs.Fours.{caps-length, at-map, outward-at}
-
-pub has-low : (p : Pool) → Tidy p → (f c : ℕ) → f < 6 → has (faceList p f) c ≡ true → c < length (p .all)
-has-low p tidy f c h e =
-    let r = mem-getD 0 (of-has (faceList p f) c (subst T (sym e) tt)) in
-    let b = tidy .low f (r .0) h (r .1) in
-    let q = r .2 in
-    omega arith
+use Rattle.cap_triangles.proofs.Fours.{caps-length, outward-at}
 
 pub record GoodCap (count : ℕ) (pool : Pool) (t : Cap) : Type 0 where
   pub face : t .face < 6
@@ -51,10 +45,6 @@ pub record GoodCap (count : ℕ) (pool : Pool) (t : Cap) : Type 0 where
   pub on-a : has (faceList pool (t .face)) (t .corners .a) ≡ true
   pub on-b : has (faceList pool (t .face)) (t .corners .b) ≡ true
   pub on-c : has (faceList pool (t .face)) (t .corners .c) ≡ true
-
-fails : (b : Bool) → (T b → ⊥) → b ≡ false
-fails true f = absurd (f tt)
-fails false f = refl
 
 module _ (pool : Pool) (caps : List Cap) where
   abbrev descends : ℕ → Bool
@@ -71,7 +61,7 @@ module _ (pool : Pool) (caps : List Cap) where
     unfolding badCapPlace
     not-bad =
         let e : getD (upTo (length caps)) i 0 ≡ i = at-up 0 (length caps) i h ∙ omega arith in
-        fails (badCap pool caps i)
+        is-false (badCap pool caps i)
         (λ t. place-before (badCap pool caps) 0 (upTo (length caps)) i (let g = good in omega arith) (subst (λ (k : ℕ). T (badCap pool caps k)) (sym e) t))
 
     pub good-face : capAt caps i .face < 6
@@ -136,7 +126,7 @@ module _ (pool : Pool) (caps : List Cap) where
 
 pub good-cap : (n : ℕ) (w : List ℕ) → Pooled n w → (caps : List Cap) → badCapPlace (poolAt n w) caps ≡ length caps
     → (i : ℕ) → i < length caps → GoodCap (countAt w) (poolAt n w) (capAt caps i)
-good-cap n w pooled caps good i h = subst (λ (k : ℕ). GoodCap k (poolAt n w) (capAt caps i)) (count-is n w) (good-tidy (poolAt n w) caps good i h (pooled .tidy))
+good-cap n w pooled caps good i h = subst (λ (k : ℕ). GoodCap k (poolAt n w) (capAt caps i)) (pool-count n w) (good-tidy (poolAt n w) caps good i h (pooled .tidy))
 
 pub good-outward : (count : ℕ) (pool : Pool) (t : Cap) → GoodCap count pool t → GoodCap count pool (outward pool t)
 unfolding outward

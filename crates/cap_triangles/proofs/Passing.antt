@@ -1,66 +1,50 @@
 -- Test 10 as the loop over the supplied triangles has it. Assumes nothing.
---   place-is, place-all   the place of the first that passes; none passes
 --   has-word       a candidate is in a face's list exactly if its word has the face's bit
 --   Passed         the first i triangles are not bad, and `last` is the face of the one before i
 --   bad-is         the test by words is that of the definition
 --   passed-start, passed-stop, passed-more, passed-end   the loop
-use Prim.Native.Nat.{ℕ, zero, suc, _+_, _-_, _*_, _/_, _≤_, _<_}
+use Prim.Native.Nat.{ℕ, _+_, _-_, _*_, _/_, _≤_, _<_}
 use mathlib.Core.Path.{_≡_, refl, sym, ap, _∙_}
 use mathlib.Core.Bool.{Bool, true, false, not, _&&_, _||_}
-use mathlib.Core.List.{List, [], _∷_}
+use mathlib.Core.List.{List}
 use native.Mathlib.Omega.{arith}
 use native.Mathlib.Decide.{ℕ-discrete}
 use borrow.Author.Tests.{le-ltb, ltb-true, ltb-false}
 use lib.Dec.{ltb, eqb, nltb→le}
 use lib.ListN.{length, getD}
-use Rattle.lists.specs.Lists.{some, place, has, upTo}
+use Rattle.lists.specs.Lists.{some, has, upTo}
 use Rattle.lists.proofs.Bools.{by-test}
-use Rattle.lists.proofs.Places.{length-up, at-up, at-map-up}
+use Rattle.lists.proofs.Places.{length-up, at-up}
+use Rattle.lists.proofs.Sequences.{place-is, place-all}
 use Rattle.geometry.specs.Triangles.{tri, vertices, edges}
 use Rattle.box_faces.specs.Faces.{hasBit}
-use Rattle.candidate_pool.specs.Pool.{Pool, Candidate, noCandidate, faceList}
-use Rattle.candidate_pool.specs.Standing.{countAt, candidateAt, poolAt}
+use Rattle.candidate_pool.specs.Pool.{Pool, Candidate, faceList}
+use Rattle.candidate_pool.specs.Standing.{countAt, poolAt}
 use Rattle.candidate_pool.proofs.Listing.{has-kept}
+use Rattle.candidate_pool.proofs.Reading.{pool-count, pool-at}
+use Rattle.candidate_pool.proofs.Tidying.{has-low}
 use Rattle.cap_triangles.specs.Selection.{Cap, cap, capAt, capsOf}
 use Rattle.cap_triangles.specs.Listed.{badCap, badCapPlace}
 use Rattle.cap_triangles.specs.Room.{Pooled}
 use Rattle.cap_triangles.specs.Steps.{listedIn, badWords}
-use Rattle.cap_triangles.proofs.Kept.{count-is}
 use Rattle.cap_triangles.proofs.Fours.{caps-length, cap-at}
-use Rattle.cap_triangles.proofs.Good.{has-low}
-
-module _ {A : Type 0} (p : A → Bool) (d : A) where
-  pub place-is : (l : List A) (i : ℕ) → i < length l → ((j : ℕ) → j < i → p (getD l j d) ≡ false) → p (getD l i d) ≡ true → place p l ≡ i
-  unfolding place
-  place-is [] i h f e = absurd (omega arith)
-  place-is (x ∷ l) zero h f e = rw e refl
-  place-is (x ∷ l) (suc i) h f e = rw (f 0 (omega arith)) (ap suc (place-is l i (omega arith) (λ j k. f (suc j) (omega arith)) e))
-
-  pub place-all : (l : List A) → ((j : ℕ) → j < length l → p (getD l j d) ≡ false) → place p l ≡ length l
-  unfolding place
-  place-all [] f = refl
-  place-all (x ∷ l) f = rw (f 0 (omega arith)) (ap suc (place-all l (λ j k. f (suc j) (omega arith))))
 
 -- ---- one candidate and one face
 
 module _ (n : ℕ) (w : List ℕ) (pooled : Pooled n w) (f : ℕ) (h : f < 6) (c : ℕ) where
-  candidate-is : c < countAt w → getD (poolAt n w .all) c noCandidate ≡ candidateAt w c
-  unfolding poolAt
-  candidate-is l = at-map-up (candidateAt w) noCandidate 0 (countAt w) c l ∙ ap (candidateAt w) (omega arith)
-
   pub has-word : has (faceList (poolAt n w) f) c ≡ listedIn w f c
   unfolding listedIn
   has-word = go (ltb c (countAt w)) refl
     where
       away : (b : Bool) → has (faceList (poolAt n w) f) c ≡ b → countAt w ≤ c → b ≡ false
-      away true e l = absurd (let k = has-low (poolAt n w) (pooled .tidy) f c h e in let s = count-is n w in omega arith)
+      away true e l = absurd (let k = has-low (poolAt n w) (pooled .tidy) f c h e in let s = pool-count n w in omega arith)
       away false e l = refl
 
       go : (b : Bool) → ltb c (countAt w) ≡ b → has (faceList (poolAt n w) f) c ≡ (b && hasBit (getD w (8 + 5 * c + 4) 0) f)
       go true e =
           let l = ltb-true c (countAt w) e in
-          pooled .tidy .on f c h (let s = count-is n w in omega arith)
-          ∙ ap (λ (k : Candidate). has (k .on) f) (candidate-is l)
+          pooled .tidy .on f c h (let s = pool-count n w in omega arith)
+          ∙ ap (λ (k : Candidate). has (k .on) f) (pool-at n w c l)
           ∙ has-kept (hasBit (getD w (8 + 5 * c + 4) 0)) f h
       go false e = away (has (faceList (poolAt n w) f) c) refl (ltb-false c (countAt w) e)
 

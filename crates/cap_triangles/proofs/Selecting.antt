@@ -2,17 +2,18 @@
 --   share-turn        sharing an edge goes both ways
 --   selected-selects  the computed selection is one that the relation allows
 --   selects-unique    the relation allows only one
-use Prim.Native.Nat.{ℕ, zero, suc, _+_, _<_}
+use Prim.Native.Nat.{ℕ, _<_}
 use native.Mathlib.Omega.{arith}
 use mathlib.Core.Path.{_≡_, refl, sym, ap, ap₂, _∙_, subst}
-use mathlib.Core.Bool.{Bool, true, false, not, _&&_, _||_}
-use mathlib.Core.List.{List, [], _∷_, map}
+use mathlib.Core.Bool.{Bool, false, not, _&&_, _||_}
+use mathlib.Core.List.{List, [], _∷_}
 use lib.Dec.{T}
 use lib.ListN.{length, getD, length-map}
 use lib.Seq.{ext-getD}
 use Rattle.lists.specs.Lists.{some, upTo}
 use Rattle.lists.proofs.Members.{some-of, of-some, and-parts, and-of}
 use Rattle.lists.proofs.Places.{of-up, up-of, length-up, at-map-up}
+use Rattle.lists.proofs.Bools.{is-true}
 use Rattle.geometry.specs.Triangles.{Triangle, edges}
 use Rattle.edges.specs.Edges.{samePair}
 use Rattle.edges.proofs.Edges.{same-pair-sym, same-pair-as}
@@ -22,15 +23,11 @@ use Rattle.components.proofs.Once.{once-up, decides-as, decides-same}
 use Rattle.components.proofs.Computed.{component-some}
 use Rattle.cap_triangles.specs.Selection.{Cap, capAt, isSeed, isOpenPair, shareEdge, places, selected, ToSeed, Selects}
 
-of-T : (b : Bool) → T b → b ≡ true
-of-T true t = refl
-of-T false t = absurd t
-
 -- a pair the other way round is the same open edge
 open-as : (boundary : List (Triangle ℕ)) (s u : ℕ × ℕ) → T (samePair s u) → isOpenPair boundary s ≡ isOpenPair boundary u
 unfolding isOpenPair some
 open-as [] s u h = refl
-open-as (e ∷ l) s u h = ap₂ _||_ (same-pair-as s u (of-T (samePair s u) h) (e .b, e .c)) (open-as l s u h)
+open-as (e ∷ l) s u h = ap₂ _||_ (same-pair-as s u (is-true (samePair s u) h) (e .b, e .c)) (open-as l s u h)
 
 module _ (boundary : List (Triangle ℕ)) (caps : List Cap) where
   pub share-turn : (i j : ℕ) → T (shareEdge boundary caps i j) → T (shareEdge boundary caps j i)

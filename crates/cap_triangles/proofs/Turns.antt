@@ -13,22 +13,22 @@ use lib.Ieee.{Float, lt}
 use lib.ListN.{length, getD, set, length-set, length-map}
 use lib.Seq.{ext-getD, getD-set-same, getD-set-other}
 use Rattle.lists.specs.Regions.{view}
-use Rattle.lists.proofs.Places.{at-map-up}
 use Rattle.lists.proofs.Regions.{view-length, view-at}
+use Rattle.lists.proofs.Sequences.{at-map}
 use Rattle.root.specs.Doubles.{zeroF}
 use Rattle.geometry.specs.declared.point.Point.{Point}
 use Rattle.geometry.specs.Triangles.{Triangle, tri, reversed}
 use Rattle.geometry.proofs.Threes.{length-threes, threes-at}
 use Rattle.box_faces.specs.declared.uv.Uv.{Uv}
 use Rattle.box_faces.specs.Faces.{project, ccwIsOutward}
-use Rattle.candidate_pool.specs.Pool.{Candidate, noCandidate, pointOf}
-use Rattle.candidate_pool.specs.Standing.{countAt, pointAt, candidateAt, poolAt}
+use Rattle.candidate_pool.specs.Standing.{countAt, pointAt, poolAt}
+use Rattle.candidate_pool.proofs.Reading.{pool-point}
 use Rattle.cap_triangles.specs.Selection.{Cap, cap, capAt, capsOf, signedArea, outward, outwardCaps}
 use Rattle.cap_triangles.specs.Listed.{badCapPlace}
 use Rattle.cap_triangles.specs.Room.{turnedAt, Above, Supplied, turnedIn, TurnedReady}
 use Rattle.cap_triangles.specs.Steps.{Standing, areaOf, cornersIn, turnedBy}
 use Rattle.cap_triangles.proofs.Kept.{above-none, pool-kept, supplied-kept}
-use Rattle.cap_triangles.proofs.Fours.{caps-length, cap-at, at-map, outward-at}
+use Rattle.cap_triangles.proofs.Fours.{caps-length, cap-at, outward-at}
 use Rattle.cap_triangles.proofs.Good.{GoodCap, good-cap}
 
 -- ---- one triangle, by what the calls gave
@@ -61,16 +61,12 @@ turned-words w at n nf i e = ap (λ (o : ℕ). tri (getD w (o + 3 * i) 0) (getD 
 -- ---- by the words in the room, or by the pool
 
 module _ (n : ℕ) (w : List ℕ) where
-  point-is : (c : ℕ) → c < countAt w → pointOf (poolAt n w) c ≡ pointAt w (8 + 5 * c)
-  unfolding poolAt
-  point-is c l = ap (λ (k : Candidate). k .point) (at-map-up (candidateAt w) noCandidate 0 (countAt w) c l ∙ ap (candidateAt w) (omega arith))
-
   pub outward-words : (t : Cap) → t .corners .a < countAt w → t .corners .b < countAt w → t .corners .c < countAt w → outward (poolAt n w) t .corners ≡ turnedBy w (t .face) (t .corners)
   unfolding outward turnedBy signedArea areaOf
   outward-words t a b c =
-      let x = point-is (t .corners .a) a in
-      let y = point-is (t .corners .b) b in
-      let z = point-is (t .corners .c) c in
+      let x = pool-point n w (t .corners .a) a in
+      let y = pool-point n w (t .corners .b) b in
+      let z = pool-point n w (t .corners .c) c in
       λ i. cond (Bool·beq (lt zeroF (areaOf (tri (project (t .face) (x i)) (project (t .face) (y i)) (project (t .face) (z i))))) (ccwIsOutward (t .face))) (t .corners) (reversed (t .corners))
 
 -- ---- three stores

@@ -5,14 +5,15 @@
 use Prim.Native.Nat.{ℕ, zero, suc, _+_, _*_, _/_, _≤_, _<_}
 use native.Mathlib.Omega.{arith}
 use mathlib.Core.Bool.{Bool, true, false, cond, _&&_}
-use mathlib.Core.Path.{_≡_, refl, sym, ap, _∙_, subst}
+use mathlib.Core.Path.{_≡_, ap, _∙_}
 use mathlib.Core.List.{List, [], _∷_, _++_, map, flatMap, foldl}
 use lib.Dec.{eqb, leb}
 use lib.ListN.{length, getD, set, length-map}
 use lib.Ieee.{Float}
-use Rattle.lists.specs.Lists.{keep, upTo}
+use Rattle.lists.specs.Lists.{upTo}
 use Rattle.lists.proofs.Mapped.{Each, each-places, each-keep}
 use Rattle.lists.proofs.Places.{length-up, at-map-up}
+use Rattle.lists.proofs.Sequences.{each-flat}
 use Rattle.geometry.specs.declared.point.Point.{Point}
 use Rattle.geometry.specs.declared.aabb.AABB.{AABB}
 use Rattle.geometry.specs.Triangles.{Triangle}
@@ -82,15 +83,6 @@ module _ (J : Joining Point) (m : ℕ) where
   low-fold p (e ∷ l) h k = low-fold (insert J p e) l (low-insert p e h (k .0)) (k .1)
 
 -- ---- what is inserted
-
-each-append : (P : Candidate → Type 0) (l r : List Candidate) → Each P l → Each P r → Each P (l ++ r)
-each-append P [] r h k = k
-each-append P (x ∷ l) r h k = (h .0, each-append P l r (h .1) k)
-
-each-flat : {A : Type 0} (P : Candidate → Type 0) (f : A → List Candidate) (l : List A) → ((x : A) → Each P (f x)) → Each P (flatMap f l)
-unfolding flatMap
-each-flat P f [] h = tt
-each-flat P f (x ∷ l) h = each-append P (f x) (flatMap f l) (h x) (each-flat P f l h)
 
 corners-low : (box : AABB) (eps : Float) (mesh : Mesh) → Each (Names (length (mesh .points))) (cornerVertices box eps mesh)
 unfolding cornerVertices

@@ -11,11 +11,12 @@ use borrow.Author.Tests.{eq-eqb, ne-eqb}
 use lib.ListN.{getD, set, length, length-map, length-set, List·getD-map}
 use lib.Seq.{getD-set-same, getD-set-other}
 use lib.Ieee.{Float}
+use Rattle.lists.proofs.Sequences.{flatMap-append}
 use Rattle.geometry.specs.declared.point.Point.{Point}
 use Rattle.geometry.specs.Points.{pt, origin}
 use Rattle.geometry.specs.Triangles.{Triangle, tri, threes}
 use Rattle.geometry.specs.Meshes.{pointsOf, coordinates, vertex, Named, enter}
-use Rattle.geometry.proofs.Threes.{flatMap-append, length-threes, threes-at}
+use Rattle.geometry.proofs.Threes.{length-threes, threes-at}
 
 abbrev three : Triangle Float → Point
 three t = pt (t .a) (t .b) (t .c)

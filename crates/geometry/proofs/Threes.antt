@@ -2,16 +2,12 @@
 --   length-threes, threes-at     how many triangles, and the corners of the i-th
 --   length-flat, flat-append     flat lists; flat-threes   taken three at a time and back, a list is itself
 use Prim.Native.Nat.{ℕ, zero, suc, _+_, _*_, _/_, _%_, _<_}
-use mathlib.Core.Path.{_≡_, refl, sym, ap, _∙_}
-use mathlib.Core.List.{List, [], _∷_, _++_, flatMap, append-assoc}
+use mathlib.Core.Path.{_≡_, refl, ap, _∙_}
+use mathlib.Core.List.{List, [], _∷_, _++_, flatMap}
 use native.Mathlib.Omega.{arith}
 use lib.ListN.{getD, length}
+use Rattle.lists.proofs.Sequences.{flatMap-append}
 use Rattle.geometry.specs.Triangles.{Triangle, tri, vertices, threes, flat}
-
-pub flatMap-append : {A B : Type 0} (f : A → List B) (l m : List A) → flatMap f (l ++ m) ≡ flatMap f l ++ flatMap f m
-unfolding flatMap
-flatMap-append f [] m = refl
-flatMap-append {A} {B} f (x ∷ l) m = ap (λ (r : List B). f x ++ r) (flatMap-append f l m) ∙ sym (append-assoc (f x) (flatMap f l) (flatMap f m))
 
 module _ {A : Type 0} where
   pub length-threes : (l : List A) → length (threes l) ≡ length l / 3

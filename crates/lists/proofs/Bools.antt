@@ -1,4 +1,4 @@
--- Laws of truth values: a chain of tests, and a choice, by the value of the first test.
+-- Laws of truth values: a chain of tests, and a choice, by the value of the first test; and a test as a fact. Assumes nothing.
 use Prim.Native.Nat.{ℕ}
 use mathlib.Core.Path.{_≡_, refl, sym, ap, _∙_}
 use mathlib.Core.Bool.{Bool, true, false, cond, not, _&&_, _||_}
@@ -51,3 +51,19 @@ and-last false = refl
 pub or-last : (a : Bool) → (a || false) ≡ a
 or-last true = refl
 or-last false = refl
+
+pub or-true : (a : Bool) → (a || true) ≡ true
+or-true true = refl
+or-true false = refl
+
+pub or-assoc : (a b c : Bool) → ((a || b) || c) ≡ (a || (b || c))
+or-assoc true b c = refl
+or-assoc false b c = refl
+
+pub is-true : (b : Bool) → T b → b ≡ true
+is-true true t = refl
+is-true false t = absurd t
+
+pub is-false : (b : Bool) → (T b → ⊥) → b ≡ false
+is-false true f = absurd (f tt)
+is-false false f = refl

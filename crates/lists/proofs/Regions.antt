@@ -1,13 +1,21 @@
--- Laws of parts of a buffer (specs/Regions.antt), and of a store into one.
+-- Laws of parts of a buffer (specs/Regions.antt), and of a store into one. Assumes nothing.
+--   view-length, view-at, view-map   a part: how long, at a place, as a list made place by place
+--   view-same                 two buffers that agree at its places
+--   view-more, view-put, view-stay   one more at its end; the same of a store there; a store behind it
+--   at-set                    what stands at a place after a store
+--   Filled, filled-none, filled-more   a part that is written place by place
 use Prim.Native.Nat.{ℕ, _+_, _≤_, _<_}
 use native.Mathlib.Omega.{arith}
+use native.Mathlib.Numerals.{add-one}
 use native.Mathlib.Decide.{ℕ-discrete}
 use mathlib.Core.Path.{_≡_, refl, sym, ap, _∙_}
-use mathlib.Core.List.{List}
+use mathlib.Core.List.{List, [], _∷_, _++_, map}
 use mathlib.Core.Logic.{_⊎_, inl, inr}
-use lib.ListN.{getD, set, length, take, drop, length-take, length-drop, length-set}
-use lib.Seq.{getD-take, getD-drop, getD-set-same, getD-set-other, ext-getD}
+use lib.ListN.{getD, set, length, take, drop, length-take, length-drop, length-set, length-map}
+use lib.Seq.{getD-take, getD-drop, getD-set-same, getD-set-other, ext-getD, take-suc, take-suc-set, take-set-le, drop-set-add}
+use Rattle.lists.specs.Lists.{upTo}
 use Rattle.lists.specs.Regions.{view, Outside, Apart}
+use Rattle.lists.proofs.Places.{length-up, at-map-up}
 
 pub view-length : (w : List ℕ) (o n : ℕ) → o + n ≤ length w → length (view w o n) ≡ n
 view-length w o n h = simp (length-take, length-drop) (omega arith)
@@ -23,6 +31,32 @@ view-same u w o n fits long same =
     let lw = view-length w o n (omega arith) in
     ext-getD 0 (view w o n) (view u o n) (lw ∙ sym lu)
     (λ i h. view-at w o n i (omega arith) ∙ same i (omega arith) ∙ sym (view-at u o n i (omega arith)))
+
+pub view-map : (w : List ℕ) (o n : ℕ) → o + n ≤ length w → view w o n ≡ map (λ i. getD w (o + i) 0) (upTo n)
+view-map w o n h =
+    let l = view-length w o n h in
+    ext-getD 0 (view w o n) (map (λ i. getD w (o + i) 0) (upTo n)) (l ∙ sym (length-map (upTo n) (λ i. getD w (o + i) 0) ∙ length-up 0 n))
+    (λ i k. let m : i < n = omega (arith, l) in view-at w o n i m ∙ sym (at-map-up (λ (j : ℕ). getD w (o + j) 0) 0 0 n i m ∙ first o i))
+  where
+    first : (o i : ℕ) → getD w (o + (0 + i)) 0 ≡ getD w (o + i) 0
+    first o i = let e : o + (0 + i) ≡ o + i = omega arith in ap (λ (x : ℕ). getD w x 0) e
+
+-- one word more, with the others as they were
+pub view-more : (u w : List ℕ) (o n x : ℕ) → o + n < length u → length w ≡ length u → ((i : ℕ) → i < n → getD w (o + i) 0 ≡ getD u (o + i) 0) → getD w (o + n) 0 ≡ x
+    → view w o (n + 1) ≡ view u o n ++ (x ∷ [])
+view-more u w o n x room long same last =
+    ap (λ (j : ℕ). view w o j) (add-one n)
+    ∙ take-suc (drop o w) n 0 (omega (arith, length-drop o w))
+    ∙ ap (λ (l : List ℕ). l ++ (getD (drop o w) n 0 ∷ [])) (view-same u w o n (omega arith) long same)
+    ∙ ap (λ (y : ℕ). view u o n ++ (y ∷ [])) (getD-drop o w n 0 ∙ last)
+
+pub view-put : (w : List ℕ) (o n x : ℕ) → o + n < length w → view (set w (o + n) x) o (n + 1) ≡ view w o n ++ (x ∷ [])
+view-put w o n x h =
+    ap (λ (l : List ℕ). take (n + 1) l) (drop-set-add o w n x) ∙ ap (λ (k : ℕ). take k (set (drop o w) n x)) (add-one n)
+    ∙ take-suc-set (drop o w) n x (omega (arith, length-drop o w))
+
+pub view-stay : (w : List ℕ) (o n x : ℕ) → view (set w (o + n) x) o n ≡ view w o n
+view-stay w o n x = ap (take n) (drop-set-add o w n x) ∙ take-set-le n (drop o w) n x (omega arith)
 
 -- what stands at o + i after a store at o + r
 pub at-set : (w : List ℕ) (o r q i : ℕ) → o + r < length w

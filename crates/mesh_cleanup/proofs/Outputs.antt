@@ -7,6 +7,7 @@ use lib.ListN.{length, getD, set, length-map}
 use lib.Ieee.{Float, nan}
 use Rattle.lists.specs.Regions.{view}
 use Rattle.lists.proofs.Regions.{view-length, view-at}
+use Rattle.lists.proofs.Sequences.{at-map}
 use Rattle.words.specs.Overlay.{overlay}
 use Rattle.words.proofs.Overlay.{Writing, writing-start, writing-turn, writing-end}
 use Rattle.geometry.specs.declared.point.Point.{Point}
@@ -14,7 +15,6 @@ use Rattle.geometry.specs.Points.{origin}
 use Rattle.geometry.specs.Meshes.{coordinates}
 use Rattle.geometry.proofs.Meshes.{length-coordinates}
 use Rattle.mesh_weld.specs.Room.{vertexOf}
-use Rattle.mesh_filter.proofs.Facets.{at-map}
 
 -- the coordinates of point k
 coordinates-at : (l : List Point) (k : ℕ) (z : Float) → k < length l

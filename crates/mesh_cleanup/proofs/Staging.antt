@@ -11,6 +11,7 @@ use borrow.Author.Tests.{ltb-true, not-false}
 use Rattle.lists.specs.Regions.{view}
 use Rattle.lists.proofs.Regions.{view-length, view-at}
 use Rattle.lists.proofs.Every.{none-at}
+use Rattle.lists.proofs.Sequences.{at-map}
 use Rattle.geometry.specs.declared.point.Point.{Point}
 use Rattle.geometry.specs.Points.{origin}
 use Rattle.geometry.specs.Triangles.{Triangle, mapped, vertices, threes, flat}
@@ -26,7 +27,7 @@ use Rattle.mesh_weld.proofs.Numbers.{Numbers, weld-numbers}
 use Rattle.mesh_filter.specs.declared.corners.WeldedAt.{WeldedAt}
 use Rattle.mesh_filter.specs.Filters.{facetAt, passed}
 use Rattle.mesh_filter.specs.Room.{pointsIn, facetsIn, Numbered, Filtered, Below}
-use Rattle.mesh_filter.proofs.Facets.{at-map, facets-long, facet-below}
+use Rattle.mesh_filter.proofs.Facets.{facets-long, facet-below}
 use Rattle.mesh_compact.specs.declared.compact.Staged.{Staged}
 use Rattle.mesh_compact.specs.Compact.{compacted}
 use Rattle.mesh_compact.specs.Room.{Delivered, Source, Lent, Compacted}

@@ -12,6 +12,7 @@ use borrow.Author.Tests.{eq-eqb, ne-eqb, le-leb, lt-leb}
 use Rattle.lists.specs.Lists.{keep, upTo, count, has}
 use Rattle.lists.specs.Regions.{view, Apart}
 use Rattle.lists.proofs.Regions.{view-length, view-at}
+use Rattle.lists.proofs.Sequences.{at-map}
 use Rattle.geometry.specs.declared.point.Point.{Point}
 use Rattle.geometry.specs.Points.{origin}
 use Rattle.geometry.specs.Triangles.{Triangle, tri, vertices, flat}
@@ -19,7 +20,6 @@ use Rattle.geometry.specs.Meshes.{Mesh, newNumber}
 use Rattle.components.specs.Components.{Below, ComponentNumbers, ComponentTable, size, components, componentOf}
 use Rattle.components.proofs.Numbers.{number-in, size-component}
 use Rattle.mesh_filter.specs.Filters.{facetAt}
-use Rattle.mesh_filter.proofs.Facets.{at-map}
 use Rattle.mesh_compact.specs.declared.renumber.Numbered.{Numbered}
 use Rattle.mesh_compact.specs.declared.compact.Staged.{Staged}
 use Rattle.mesh_compact.specs.Status.{shareVertex, allPassed, isAlone, keptFacets}

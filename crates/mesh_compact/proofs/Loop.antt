@@ -12,6 +12,7 @@ use Rattle.lists.specs.Lists.{keep, upFrom, upTo}
 use Rattle.lists.specs.Regions.{view, Zeroed}
 use Rattle.lists.proofs.Regions.{view-length, view-at}
 use Rattle.lists.proofs.Counts.{keep-append}
+use Rattle.lists.proofs.Sequences.{up-snoc}
 use Rattle.geometry.specs.declared.point.Point.{Point}
 use Rattle.geometry.specs.Triangles.{tri, vertices, flat}
 use Rattle.geometry.proofs.Threes.{flat-append}
@@ -74,14 +75,6 @@ module _ (kept facets parts k at n least i : ℕ) (w : Numbered) (m : List ℕ) 
 
 -- ---- the corners kept, one facet more
 
-pub up-snoc : (j n : ℕ) → upFrom j (n + 1) ≡ upFrom j n ++ ((j + n) ∷ [])
-unfolding upFrom
-up-snoc j zero = let e : j ≡ j + 0 = omega arith in ap (λ (x : ℕ). x ∷ []) e
-up-snoc j (suc n) =
-    let e : suc n + 1 ≡ suc (n + 1) = omega arith in
-    let d : suc j + n ≡ j + suc n = omega arith in
-    ap (upFrom j) e ∙ ap (λ (l : List ℕ). j ∷ l) (up-snoc (suc j) n ∙ ap (λ (x : ℕ). upFrom (suc j) n ++ (x ∷ [])) d)
-
 module _ (facets parts k least : ℕ) (m : List ℕ) where
   one-more : (b : Bool) (i : ℕ) → isLarge m parts k least i ≡ b → flat (map (λ j. cornersAt m (facets + 3 * j)) (keep (isLarge m parts k least) (i ∷ []))) ≡ cond b (vertices (cornersAt m (facets + 3 * i))) []
   unfolding keep flatMap
@@ -90,7 +83,7 @@ module _ (facets parts k least : ℕ) (m : List ℕ) where
 
   pub corners-more : (i : ℕ) → keptCorners m facets parts k least (i + 1) ≡ keptCorners m facets parts k least i ++ cond (isLarge m parts k least i) (vertices (cornersAt m (facets + 3 * i))) []
   corners-more i =
-      ap (λ (l : List ℕ). flat (map (λ j. cornersAt m (facets + 3 * j)) (keep (isLarge m parts k least) l))) (let e : 0 + i ≡ i = omega arith in up-snoc 0 i ∙ ap (λ (x : ℕ). upTo i ++ (x ∷ [])) e)
+      ap (λ (l : List ℕ). flat (map (λ j. cornersAt m (facets + 3 * j)) (keep (isLarge m parts k least) l))) (up-snoc i)
       ∙ ap (λ (l : List ℕ). flat (map (λ j. cornersAt m (facets + 3 * j)) l)) (keep-append (isLarge m parts k least) (upTo i) (i ∷ []))
       ∙ ap flat (map-append (λ j. cornersAt m (facets + 3 * j)) (keep (isLarge m parts k least) (upTo i)) (keep (isLarge m parts k least) (i ∷ [])))
       ∙ flat-append (map (λ j. cornersAt m (facets + 3 * j)) (keep (isLarge m parts k least) (upTo i))) (map (λ j. cornersAt m (facets + 3 * j)) (keep (isLarge m parts k least) (i ∷ [])))

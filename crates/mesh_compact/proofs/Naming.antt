@@ -4,17 +4,17 @@ use native.Mathlib.Decide.{ℕ-discrete}
 use native.Mathlib.Omega.{arith}
 use mathlib.Core.Path.{_≡_, refl, sym, ap, subst, _∙_}
 use mathlib.Core.Bool.{Bool, cond}
-use mathlib.Core.List.{List, [], _∷_, _++_, map, map-append, foldl-append, List·Memᴰ, List·Memᴰ·head, List·Memᴰ·tail, List·Memᴰ·append-cases, List·Memᴰ·eq-of-singleton}
+use mathlib.Core.List.{List, [], _∷_, _++_, map, map-append, foldl-append, List·Memᴰ, List·Memᴰ·append-cases, List·Memᴰ·eq-of-singleton}
 use mathlib.Core.Logic.{_⊎_, ⊎-elim}
 use lib.ListN.{length, getD, set, length-set, length-map}
 use lib.Seq.{getD-set-same, getD-set-other, ext-getD}
 use borrow.Author.Tests.{eq-eqb, ne-eqb}
 use Rattle.lists.specs.Regions.{view}
-use Rattle.lists.proofs.Regions.{view-length, view-at, view-same}
+use Rattle.lists.proofs.Regions.{view-length, view-at, view-same, view-more}
+use Rattle.lists.proofs.Sequences.{map-same}
 use Rattle.geometry.specs.declared.point.Point.{Point}
 use Rattle.geometry.specs.Meshes.{vertex, Named, newNumber, enter}
 use Rattle.geometry.proofs.Meshes.{enter-new, enter-old, enter-stays, entered}
-use Rattle.mesh_weld.proofs.Steps.{view-more}
 use Rattle.mesh_compact.specs.declared.renumber.Numbered.{Numbered}
 use Rattle.mesh_compact.specs.Compact.{numbering}
 use Rattle.mesh_compact.specs.Room.{afterVertex, countAfter, Vertexed, Pointed, Naming, Cornered}
@@ -38,10 +38,6 @@ view-set m o n v x h lt =
         (view-at (set m (o + v) x) o n v lt ∙ getD-set-same m (o + v) x 0 (omega arith) ∙ sym (getD-set-same (view m o n) v x 0 (let l = view-length m o n h in omega arith)))
     go i li (no e) =
         view-at (set m (o + v) x) o n i li ∙ getD-set-other m (o + v) (o + i) x 0 (λ q. e (omega arith)) ∙ sym (view-at m o n i li) ∙ sym (getD-set-other (view m o n) v i x 0 e)
-
-map-same : {A B : Type 0} (f g : A → B) (l : List A) → ((x : A) → List·Memᴰ x l → f x ≡ g x) → map f l ≡ map g l
-map-same f g [] h = refl
-map-same {A} {B} f g (x ∷ l) h = rw (h x (List·Memᴰ·head refl), map-same f g l (λ y m. h y (List·Memᴰ·tail m)))
 
 -- ---- the vertex v
 

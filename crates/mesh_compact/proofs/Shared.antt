@@ -5,9 +5,10 @@ use native.Mathlib.Omega.{arith}
 use mathlib.Core.Path.{_≡_, refl, sym, ap, subst, _∙_}
 use mathlib.Core.Bool.{Bool, true, false, cond}
 use mathlib.Core.List.{List, [], _∷_, map, flatMap, List·Memᴰ}
-use lib.ListN.{length, getD}
+use lib.ListN.{length, getD, length-map}
 use Rattle.lists.specs.Lists.{has, keep, upFrom}
 use Rattle.lists.proofs.Members.{some-of, of-some, has-of, of-has, getD-mem, mem-getD}
+use Rattle.lists.proofs.Sequences.{at-map}
 use Rattle.geometry.specs.Triangles.{Triangle, tri, vertices, mapped, flat}
 use Rattle.components.specs.Joined.{one}
 use Rattle.components.proofs.Numbers.{LabelsLink}
@@ -55,23 +56,14 @@ keep-places {A} p q f g (x ∷ l) o h =
     go true false e s r = absurd (let z : _≡_ {A = ℕ} 0 1 = cc in omega arith)
     go false true e s r = absurd (let z : _≡_ {A = ℕ} 0 1 = cc in omega arith)
 
-at-map : {A : Type 0} (f : ℕ → A) (l : List ℕ) (i : ℕ) (d : A) → i < length l → getD (map f l) i d ≡ f (getD l i 0)
-at-map f [] i d h = absurd (omega arith)
-at-map f (x ∷ l) zero d h = refl
-at-map f (x ∷ l) (suc i) d h = at-map f l i d (omega arith)
-
-length-same : {A : Type 0} (f : ℕ → A) (l : List ℕ) → length (map f l) ≡ length l
-length-same f [] = refl
-length-same f (x ∷ l) = ap suc (length-same f l)
-
 -- ---- the labels
 
 module _ (facets : List (Triangle ℕ)) (l labels : List ℕ) (e : labels ≡ flat (map (facetAt facets) l)) where
   pub label-at : (a x : ℕ) → a < length l → x < 3 → getD labels (a * 3 + x) 0 ≡ getD (vertices (facetAt facets (getD l a 0))) x 0
   label-at a x h g =
       ap (λ (r : List ℕ). getD r (a * 3 + x) 0) e
-      ∙ flat-at (map (facetAt facets) l) a x (tri 0 0 0) (omega (arith, length-same (facetAt facets) l)) g
-      ∙ ap (λ (t : Triangle ℕ). getD (vertices t) x 0) (at-map (facetAt facets) l a (tri 0 0 0) h)
+      ∙ flat-at (map (facetAt facets) l) a x (tri 0 0 0) (omega (arith, length-map l (facetAt facets))) g
+      ∙ ap (λ (t : Triangle ℕ). getD (vertices t) x 0) (at-map (facetAt facets) l a 0 (tri 0 0 0) h)
 
   corner-in : (a x : ℕ) → x < 3 → List·Memᴰ (getD (vertices (facetAt facets (getD l a 0))) x 0) (vertices (facetAt facets (getD l a 0)))
   corner-in a x g = getD-mem (vertices (facetAt facets (getD l a 0))) x 0 g

@@ -12,6 +12,7 @@ use Rattle.lists.specs.Lists.{has, keep, count, upFrom, upTo}
 use Rattle.lists.proofs.Counts.{keep-append, keep-same}
 use Rattle.lists.proofs.Members.{some-of, of-some, has-of, of-has, keep-of, of-keep, getD-mem}
 use Rattle.lists.proofs.Places.{of-up, up-of}
+use Rattle.lists.proofs.Sequences.{up-more}
 use Rattle.geometry.specs.declared.point.Point.{Point}
 use Rattle.geometry.specs.Triangles.{Triangle, vertices}
 use Rattle.components.specs.Joined.{Among, ManyJoined, Once, Decides}
@@ -20,7 +21,6 @@ use Rattle.components.proofs.Once.{once-keep, once-up}
 use Rattle.components.proofs.Many.{component-many}
 use Rattle.mesh_filter.specs.Filters.{facetAt, hasRepeatedCorner, isFlat, isDuplicate, passes, passedNext, passed}
 use Rattle.mesh_compact.specs.Status.{kept, repeatedCorner, flat, duplicate, alone, isKept, shareVertex, allPassed, isAlone, status, keptFacets, Rule}
-use Rattle.mesh_compact.proofs.Loop.{up-snoc}
 
 -- ---- sharing a vertex goes both ways
 
@@ -91,7 +91,7 @@ module _ (eps : Float) (points : List Point) (facets : List (Triangle ℕ)) wher
       one-more (goes n) (passed eps points facets n) n
       ∙ ap (λ (l : List ℕ). l ++ cond (goes n) (n ∷ []) []) (passed-keeps n)
       ∙ sym (keep-append goes (upTo n) (n ∷ []))
-      ∙ ap (keep goes) (ap (λ (x : ℕ). upTo n ++ (x ∷ [])) (sym e) ∙ sym (up-snoc 0 n) ∙ ap upTo s)
+      ∙ ap (keep goes) (ap (λ (x : ℕ). upTo n ++ (x ∷ [])) (sym e) ∙ sym (up-more 0 n) ∙ ap upTo s)
 
   pub once-passed : Once (allPassed eps points facets)
   once-passed = subst Once (sym (passed-keeps (length facets))) (once-keep goes (upTo (length facets)) (once-up 0 (length facets)))

@@ -11,6 +11,7 @@ use lib.Ieee.{Float, le}
 use Rattle.lists.specs.Lists.{some}
 use Rattle.lists.proofs.Regions.{view-length, view-at}
 use Rattle.lists.proofs.Members.{of-some, some-of, mem-getD, getD-mem}
+use Rattle.lists.proofs.Sequences.{at-map}
 use Rattle.root.specs.Doubles.{_⊗_}
 use Rattle.geometry.specs.Points.{origin, norm2, normal}
 use Rattle.geometry.specs.Triangles.{Triangle, tri, mapped, threes}
@@ -23,12 +24,6 @@ use Rattle.mesh_filter.specs.declared.corners.WeldedAt.{WeldedAt}
 use Rattle.mesh_filter.specs.Filters.{facetAt, isFlat, sameCorners, isDuplicate}
 use Rattle.mesh_filter.specs.Room.{keptIn, numbersIn, pointsIn, facetsIn, rawFacet, cornersKey, Below, Numbered}
 use Rattle.mesh_filter.proofs.Keys.{same-key}
-
--- a default for the list mapped, whatever it is
-pub at-map : {A B : Type 0} (f : A → B) (l : List A) (i : ℕ) (d : A) (e : B) → i < length l → getD (map f l) i e ≡ f (getD l i d)
-at-map f [] i d e h = absurd (omega arith)
-at-map f (x ∷ l) zero d e h = refl
-at-map f (x ∷ l) (suc i) d e h = at-map f l i d e (omega arith)
 
 module _ (w : WeldedAt) (vs : List Float) (fs : List ℕ) (at n : ℕ) (m : List ℕ) (N : Numbered w vs fs at n m) where
   abbrev F : List (Triangle ℕ)

@@ -8,7 +8,7 @@ use lib.ListN.{length, getD, set, length-set}
 use lib.Seq.{getD-set-same, getD-set-other}
 use lib.Ieee.{Float}
 use Rattle.lists.specs.Regions.{view, Outside, Zeroed}
-use Rattle.lists.proofs.Regions.{view-at, view-same}
+use Rattle.lists.proofs.Regions.{view-at, view-same, view-more}
 use Rattle.geometry.specs.declared.point.Point.{Point}
 use Rattle.geometry.specs.Triangles.{Triangle, vertices, mapped, threes, flat}
 use Rattle.geometry.proofs.Threes.{flat-append}
@@ -17,7 +17,6 @@ use Rattle.chains.specs.Hash.{mixed, InBucket, bucketOf}
 use Rattle.chains.specs.ByWord.{wordBucket}
 use Rattle.chains.proofs.Entering.{linked-none, linked-cong, linked-same, linked-more, tail-le, entered-length, entered-rest}
 use Rattle.mesh_weld.specs.Room.{vertexOf}
-use Rattle.mesh_weld.proofs.Steps.{view-more}
 use Rattle.mesh_filter.specs.declared.corners.WeldedAt.{WeldedAt}
 use Rattle.mesh_filter.specs.Filters.{facetAt, passes, passed}
 use Rattle.mesh_filter.specs.Room.{cornersKey, pointsIn, facetsIn, keptIn, numbersIn, Numbered, Going, Turned, Filtered}

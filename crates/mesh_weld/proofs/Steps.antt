@@ -5,11 +5,11 @@ use native.Mathlib.Numerals.{add-one}
 use native.Mathlib.Omega.{arith}
 use mathlib.Core.Path.{_≡_, refl, sym, ap, subst, _∙_}
 use mathlib.Core.List.{List, [], _∷_, _++_, map}
-use lib.ListN.{length, getD, set, length-set, take, drop, length-drop}
-use lib.Seq.{getD-set-same, getD-set-other, take-suc, getD-drop}
+use lib.ListN.{length, getD, set, length-set}
+use lib.Seq.{getD-set-same, getD-set-other}
 use lib.Ieee.{Float}
 use Rattle.lists.specs.Regions.{view, Zeroed}
-use Rattle.lists.proofs.Regions.{view-same}
+use Rattle.lists.proofs.Regions.{view-same, view-more}
 use Rattle.chains.specs.Chains.{Linked, entered}
 use Rattle.chains.specs.Hash.{mixed, InBucket}
 use Rattle.chains.proofs.Entering.{linked-none, linked-cong, linked-same, linked-more, tail-le, entered-length, entered-rest}
@@ -18,18 +18,6 @@ use Rattle.mesh_weld.specs.Weld.{Welded, welding, weldNext, weld}
 use Rattle.mesh_weld.specs.Cells.{keyOf, cells}
 use Rattle.mesh_weld.specs.Room.{vertexOf, wordsOf, cellAt, cellBucket, Index, CellOf, Going, Welds}
 use Rattle.mesh_weld.proofs.Searching.{kept-long}
-
--- one word more, with the others as they were
-pub view-more : (m v : List ℕ) (o n x : ℕ) → o + n < length m → length v ≡ length m → ((k : ℕ) → k < n → getD v (o + k) 0 ≡ getD m (o + k) 0) → getD v (o + n) 0 ≡ x
-    → view v o (n + 1) ≡ view m o n ++ (x ∷ [])
-view-more m v o n x h e same new =
-    ap (λ (k : ℕ). take k (drop o v)) (add-one n)
-    ∙ take-suc (drop o v) n 0 long
-    ∙ ap (λ (l : List ℕ). l ++ (getD (drop o v) n 0 ∷ [])) (view-same m v o n (omega arith) e same)
-    ∙ ap (λ (y : ℕ). view m o n ++ (y ∷ [])) (getD-drop o v n 0 ∙ new)
-  where
-    long : n < length (drop o v)
-    long = simp length-drop (omega arith)
 
 pub cell-same : (m v : List ℕ) (o : ℕ) → getD v o 0 ≡ getD m o 0 → getD v (o + 1) 0 ≡ getD m (o + 1) 0 → getD v (o + 2) 0 ≡ getD m (o + 2) 0 → cellAt v o ≡ cellAt m o
 cell-same m v o a b c = λ i. record { x = a i; y = b i; z = c i }

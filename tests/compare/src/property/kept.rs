@@ -3,6 +3,7 @@
 use super::{
     has_a_small_cap, has_an_unused_vertex, is_full, open_edges, shares_a_key, End, Library, Pairs,
 };
+use crate::clean;
 use crate::request::Request;
 
 /// Shares a key, has an unused vertex, has a small cap.
@@ -12,6 +13,8 @@ struct Kept {
     name: &'static str,
     request: Request,
     broken: Broken,
+    /// Whether cleaning gives the mesh back as it is.
+    cleaned: bool,
     /// Open edges of the closed mesh, positive and negative.
     open: [Pairs; 2],
 }
@@ -89,30 +92,35 @@ fn kept() -> Vec<Kept> {
             name: "the customer's slit: two vertices share a key",
             request: held_apart(),
             broken: [true, false, false],
+            cleaned: true,
             open: both(&[(0, 3), (0, 5), (1, 2), (1, 4), (2, 4), (3, 5)]),
         },
         Kept {
             name: "two vertices share a key, a pair open both ways",
             request: open_both_ways(),
             broken: [true, false, false],
+            cleaned: false,
             open: [vec![(0, 1), (0, 2)], vec![(0, 1), (0, 2), (1, 2)]],
         },
         Kept {
             name: "an unused vertex takes over an end, whose key it shares",
             request: unused,
             broken: [true, true, false],
+            cleaned: false,
             open: both(&[(0, 1), (0, 3), (1, 4), (3, 4)]),
         },
         Kept {
             name: "an unused vertex with a key of its own, on two planes but off the box",
             request: above,
             broken: [false, true, false],
+            cleaned: false,
             open: [vec![], vec![(4, 5), (4, 8)]],
         },
         Kept {
             name: "every cap is dropped for its area",
             request: square(1.0 / 1_048_576.0),
             broken: [false, false, true],
+            cleaned: true,
             open: both(&[(0, 1), (0, 3), (1, 2), (2, 3)]),
         },
     ]
@@ -131,6 +139,13 @@ impl Kept {
         ];
         if broken != self.broken || !is_full(&lists, &list) {
             return Err(End::Fails(format!("conditions {broken:?}")));
+        }
+        let mut again = request.clone();
+        if self.cleaned {
+            library.mesh(&clean::OPERATION, &mut again)?;
+        }
+        if again.vertices != request.vertices || again.facets != request.facets {
+            return Err(End::Fails("cleaning changes it".into()));
         }
         request.caps = list.concat();
         let open = library

@@ -1,6 +1,6 @@
 -- `note_places` meets its contract: after i turns the first i candidates of the list have their places noted. Assumes nothing.
 use Rattle.candidate_constraints.proofs.Noting.{Noting, noted-low, noting-start, noting-named, noting-end}
-use Rattle.candidate_constraints.proofs.Showing.{list-room}
+use Rattle.candidate_pool.proofs.Reading.{list-in}
 use lib.ListN.{getD}
 use native.Mathlib.Omega.{arith}
 use mathlib.Core.Path.{_≡_, refl, ap}
@@ -27,7 +27,7 @@ slice-read-count : tie.Need-slice-read-count Inv-loop μ-loop
 slice-read-count c =
     let s = c .before .before .before .before in
     let a = s .args in
-    omega (arith, s .pre .1 .1, s .pre .0 .size, s .pre .1 .0, s .pre .1 .2, s .pre .0 .lengths (a .face) (s .pre .1 .1), list-room (a .n) (a .face) (s .pre .1 .1))
+    omega (arith, s .pre .1 .1, s .pre .0 .size, s .pre .1 .0, s .pre .1 .2, s .pre .0 .lengths (a .face) (s .pre .1 .1), list-in (a .n) (a .face) (s .pre .1 .1))
 
 loop-holds : tie.Need-loop-holds Inv-loop μ-loop
 loop-holds c = (noting-start (c .before .before .before .before .args .n) (c .before .before .before .before .args .face) (c .before .before .before .before .args .w .now), c .before .before .list-at .ensures, c .before .places-at .ensures, refl)
@@ -36,48 +36,48 @@ add-id : tie.Need-add-id Inv-loop μ-loop
 add-id c =
     let s = c .before .before .before .before .before .before in
     let a = s .args in
-    omega (arith, s .pre .0 .size, s .pre .1 .0, s .pre .1 .2, s .pre .0 .lengths (a .face) (s .pre .1 .1), list-room (a .n) (a .face) (s .pre .1 .1), c .before .loop .inv .0 .within, c .before .loop .inv .0 .kept .long, c .before .loop .inv .1, c .before .loop .inv .2, c .before .loop .inv .3, c .loop-test .taken)
+    omega (arith, s .pre .0 .size, s .pre .1 .0, s .pre .1 .2, s .pre .0 .lengths (a .face) (s .pre .1 .1), list-in (a .n) (a .face) (s .pre .1 .1), c .before .loop .inv .0 .within, c .before .loop .inv .0 .kept .long, c .before .loop .inv .1, c .before .loop .inv .2, c .before .loop .inv .3, c .loop-test .taken)
 
 mul-id : tie.Need-mul-id Inv-loop μ-loop
 mul-id c =
     let s = c .before .before .before .before .before .before in
     let a = s .args in
-    omega (arith, s .pre .0 .size, s .pre .1 .0, s .pre .1 .2, s .pre .0 .lengths (a .face) (s .pre .1 .1), list-room (a .n) (a .face) (s .pre .1 .1), c .before .loop .inv .0 .within, c .before .loop .inv .0 .kept .long, c .before .loop .inv .1, c .before .loop .inv .2, c .before .loop .inv .3, c .loop-test .taken)
+    omega (arith, s .pre .0 .size, s .pre .1 .0, s .pre .1 .2, s .pre .0 .lengths (a .face) (s .pre .1 .1), list-in (a .n) (a .face) (s .pre .1 .1), c .before .loop .inv .0 .within, c .before .loop .inv .0 .kept .long, c .before .loop .inv .1, c .before .loop .inv .2, c .before .loop .inv .3, c .loop-test .taken)
 
 slice-read-id : tie.Need-slice-read-id Inv-loop μ-loop
 slice-read-id c =
     let s = c .before .before .before .before .before .before .before in
     let a = s .args in
     let l = c .before .before .loop in
-    omega (arith, s .pre .0 .size, s .pre .1 .0, s .pre .1 .2, s .pre .0 .lengths (a .face) (s .pre .1 .1), list-room (a .n) (a .face) (s .pre .1 .1), l .inv .0 .within, l .inv .0 .kept .long, l .inv .1, l .inv .2, l .inv .3, c .before .loop-test .taken)
+    omega (arith, s .pre .0 .size, s .pre .1 .0, s .pre .1 .2, s .pre .0 .lengths (a .face) (s .pre .1 .1), list-in (a .n) (a .face) (s .pre .1 .1), l .inv .0 .within, l .inv .0 .kept .long, l .inv .1, l .inv .2, l .inv .3, c .before .loop-test .taken)
 
 add-w : tie.Need-add-w Inv-loop μ-loop
 add-w c =
     let s = c .before .before .before .before .before .before .before in
     let a = s .args in
     let l = c .before .before .loop in
-    omega (arith, noted-low (a .n) (a .face) (a .w .now) (s .pre .0) (s .pre .1 .1) (s .pre .1 .2) (l .w) (l .i) (l .inv .0) (omega (arith, l .inv .3, c .before .loop-test .taken)), ap (λ (x : ℕ). getD (l .w) (x + l .i) 0) (l .inv .1), s .pre .0 .size, s .pre .1 .0, s .pre .1 .2, s .pre .0 .lengths (a .face) (s .pre .1 .1), list-room (a .n) (a .face) (s .pre .1 .1), l .inv .0 .within, l .inv .0 .kept .long, l .inv .1, l .inv .2, l .inv .3, c .before .loop-test .taken)
+    omega (arith, noted-low (a .n) (a .face) (a .w .now) (s .pre .0) (s .pre .1 .1) (s .pre .1 .2) (l .w) (l .i) (l .inv .0) (omega (arith, l .inv .3, c .before .loop-test .taken)), ap (λ (x : ℕ). getD (l .w) (x + l .i) 0) (l .inv .1), s .pre .0 .size, s .pre .1 .0, s .pre .1 .2, s .pre .0 .lengths (a .face) (s .pre .1 .1), list-in (a .n) (a .face) (s .pre .1 .1), l .inv .0 .within, l .inv .0 .kept .long, l .inv .1, l .inv .2, l .inv .3, c .before .loop-test .taken)
 
 mul-w : tie.Need-mul-w Inv-loop μ-loop
 mul-w c =
     let s = c .before .before .before .before .before .before .before in
     let a = s .args in
     let l = c .before .before .loop in
-    omega (arith, noted-low (a .n) (a .face) (a .w .now) (s .pre .0) (s .pre .1 .1) (s .pre .1 .2) (l .w) (l .i) (l .inv .0) (omega (arith, l .inv .3, c .before .loop-test .taken)), ap (λ (x : ℕ). getD (l .w) (x + l .i) 0) (l .inv .1), s .pre .0 .size, s .pre .1 .0, s .pre .1 .2, s .pre .0 .lengths (a .face) (s .pre .1 .1), list-room (a .n) (a .face) (s .pre .1 .1), l .inv .0 .within, l .inv .0 .kept .long, l .inv .1, l .inv .2, l .inv .3, c .before .loop-test .taken)
+    omega (arith, noted-low (a .n) (a .face) (a .w .now) (s .pre .0) (s .pre .1 .1) (s .pre .1 .2) (l .w) (l .i) (l .inv .0) (omega (arith, l .inv .3, c .before .loop-test .taken)), ap (λ (x : ℕ). getD (l .w) (x + l .i) 0) (l .inv .1), s .pre .0 .size, s .pre .1 .0, s .pre .1 .2, s .pre .0 .lengths (a .face) (s .pre .1 .1), list-in (a .n) (a .face) (s .pre .1 .1), l .inv .0 .within, l .inv .0 .kept .long, l .inv .1, l .inv .2, l .inv .3, c .before .loop-test .taken)
 
 slice-write-w : tie.Need-slice-write-w Inv-loop μ-loop
 slice-write-w c =
     let s = c .before .before .before .before .before .before .before in
     let a = s .args in
     let l = c .before .before .loop in
-    omega (arith, noted-low (a .n) (a .face) (a .w .now) (s .pre .0) (s .pre .1 .1) (s .pre .1 .2) (l .w) (l .i) (l .inv .0) (omega (arith, l .inv .3, c .before .loop-test .taken)), ap (λ (x : ℕ). getD (l .w) (x + l .i) 0) (l .inv .1), s .pre .0 .size, s .pre .1 .0, s .pre .1 .2, s .pre .0 .lengths (a .face) (s .pre .1 .1), list-room (a .n) (a .face) (s .pre .1 .1), l .inv .0 .within, l .inv .0 .kept .long, l .inv .1, l .inv .2, l .inv .3, c .before .loop-test .taken)
+    omega (arith, noted-low (a .n) (a .face) (a .w .now) (s .pre .0) (s .pre .1 .1) (s .pre .1 .2) (l .w) (l .i) (l .inv .0) (omega (arith, l .inv .3, c .before .loop-test .taken)), ap (λ (x : ℕ). getD (l .w) (x + l .i) 0) (l .inv .1), s .pre .0 .size, s .pre .1 .0, s .pre .1 .2, s .pre .0 .lengths (a .face) (s .pre .1 .1), list-in (a .n) (a .face) (s .pre .1 .1), l .inv .0 .within, l .inv .0 .kept .long, l .inv .1, l .inv .2, l .inv .3, c .before .loop-test .taken)
 
 add-i : tie.Need-add-i Inv-loop μ-loop
 add-i c =
     let s = c .before .before .before .before .before .before .before in
     let a = s .args in
     let l = c .before .before .loop in
-    omega (arith, s .pre .0 .size, s .pre .1 .0, s .pre .1 .2, s .pre .0 .lengths (a .face) (s .pre .1 .1), list-room (a .n) (a .face) (s .pre .1 .1), l .inv .0 .within, l .inv .0 .kept .long, l .inv .1, l .inv .2, l .inv .3, c .before .loop-test .taken)
+    omega (arith, s .pre .0 .size, s .pre .1 .0, s .pre .1 .2, s .pre .0 .lengths (a .face) (s .pre .1 .1), list-in (a .n) (a .face) (s .pre .1 .1), l .inv .0 .within, l .inv .0 .kept .long, l .inv .1, l .inv .2, l .inv .3, c .before .loop-test .taken)
 
 loop-less : tie.Need-loop-less Inv-loop μ-loop
 loop-less c = omega (arith, c .before .loop-test .taken)

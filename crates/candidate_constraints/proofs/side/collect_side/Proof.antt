@@ -1,6 +1,6 @@
 -- `collect_side` meets its contract: after i turns the records are those of the first i candidates of the list. Assumes nothing.
 use Rattle.candidate_constraints.proofs.Along.{Collecting, collecting-start, collected-stored, on-side-no-nan, collecting-named, collecting-end}
-use Rattle.candidate_constraints.proofs.Showing.{list-room}
+use Rattle.candidate_pool.proofs.Reading.{list-in}
 use lib.ListN.{getD}
 use native.Mathlib.Omega.{arith}
 use mathlib.Core.Path.{_≡_, refl}
@@ -27,7 +27,7 @@ slice-read-count : tie.Need-slice-read-count Inv-loop μ-loop
 slice-read-count c =
     let s = c .before .before .before .before in
     let a = s .args in
-    omega (arith, s .pre .1 .1, s .pre .0 .size, s .pre .1 .0, s .pre .1 .2, s .pre .0 .lengths (a .face) (s .pre .1 .1), list-room (a .n) (a .face) (s .pre .1 .1))
+    omega (arith, s .pre .1 .1, s .pre .0 .size, s .pre .1 .0, s .pre .1 .2, s .pre .0 .lengths (a .face) (s .pre .1 .1), list-in (a .n) (a .face) (s .pre .1 .1))
 
 loop-holds : tie.Need-loop-holds Inv-loop μ-loop
 loop-holds c =
@@ -40,21 +40,21 @@ add-note-fraction c =
     let s = c .before .before .before .before .before .before .before in
     let a = s .args in
     let l = c .before .before .loop in
-    omega (arith, s .pre .0 .size, s .pre .1 .0, s .pre .1 .2, s .pre .0 .lengths (a .face) (s .pre .1 .1), list-room (a .n) (a .face) (s .pre .1 .1), l .inv .0 .within, l .inv .0 .few, l .inv .0 .kept .long, l .inv .1, l .inv .2, l .inv .3, c .before .loop-test .taken)
+    omega (arith, s .pre .0 .size, s .pre .1 .0, s .pre .1 .2, s .pre .0 .lengths (a .face) (s .pre .1 .1), list-in (a .n) (a .face) (s .pre .1 .1), l .inv .0 .within, l .inv .0 .few, l .inv .0 .kept .long, l .inv .1, l .inv .2, l .inv .3, c .before .loop-test .taken)
 
 mul-note-fraction : tie.Need-mul-note-fraction Inv-loop μ-loop
 mul-note-fraction c =
     let s = c .before .before .before .before .before .before .before in
     let a = s .args in
     let l = c .before .before .loop in
-    omega (arith, s .pre .0 .size, s .pre .1 .0, s .pre .1 .2, s .pre .0 .lengths (a .face) (s .pre .1 .1), list-room (a .n) (a .face) (s .pre .1 .1), l .inv .0 .within, l .inv .0 .few, l .inv .0 .kept .long, l .inv .1, l .inv .2, l .inv .3, c .before .loop-test .taken)
+    omega (arith, s .pre .0 .size, s .pre .1 .0, s .pre .1 .2, s .pre .0 .lengths (a .face) (s .pre .1 .1), list-in (a .n) (a .face) (s .pre .1 .1), l .inv .0 .within, l .inv .0 .few, l .inv .0 .kept .long, l .inv .1, l .inv .2, l .inv .3, c .before .loop-test .taken)
 
 slice-reshared-read-note-fraction : tie.Need-slice-reshared-read-note-fraction Inv-loop μ-loop
 slice-reshared-read-note-fraction c =
     let s = c .before .before .before .before .before .before .before in
     let a = s .args in
     let l = c .before .before .loop in
-    omega (arith, s .pre .0 .size, s .pre .1 .0, s .pre .1 .2, s .pre .0 .lengths (a .face) (s .pre .1 .1), list-room (a .n) (a .face) (s .pre .1 .1), l .inv .0 .within, l .inv .0 .few, l .inv .0 .kept .long, l .inv .1, l .inv .2, l .inv .3, c .before .loop-test .taken)
+    omega (arith, s .pre .0 .size, s .pre .1 .0, s .pre .1 .2, s .pre .0 .lengths (a .face) (s .pre .1 .1), list-in (a .n) (a .face) (s .pre .1 .1), l .inv .0 .within, l .inv .0 .few, l .inv .0 .kept .long, l .inv .1, l .inv .2, l .inv .3, c .before .loop-test .taken)
 
 point-of-requires : tie.Need-point-of-requires Inv-loop μ-loop
 point-of-requires c κs =
@@ -74,35 +74,35 @@ mul-note-fraction-2 c =
     let s = c .before .before .before .before .before .before .before .before .before .before .before in
     let a = s .args in
     let l = c .before .before .before .before .before .before .loop in
-    omega (arith, s .pre .0 .size, s .pre .1 .0, s .pre .1 .2, s .pre .0 .lengths (a .face) (s .pre .1 .1), list-room (a .n) (a .face) (s .pre .1 .1), l .inv .0 .within, l .inv .0 .few, l .inv .0 .kept .long, l .inv .1, l .inv .2, l .inv .3, c .before .before .before .before .before .loop-test .taken)
+    omega (arith, s .pre .0 .size, s .pre .1 .0, s .pre .1 .2, s .pre .0 .lengths (a .face) (s .pre .1 .1), list-in (a .n) (a .face) (s .pre .1 .1), l .inv .0 .within, l .inv .0 .few, l .inv .0 .kept .long, l .inv .1, l .inv .2, l .inv .3, c .before .before .before .before .before .loop-test .taken)
 
 add-note-fraction-2 : tie.Need-add-note-fraction-2 Inv-loop μ-loop
 add-note-fraction-2 c =
     let s = c .before .before .before .before .before .before .before .before .before .before .before in
     let a = s .args in
     let l = c .before .before .before .before .before .before .loop in
-    omega (arith, s .pre .0 .size, s .pre .1 .0, s .pre .1 .2, s .pre .0 .lengths (a .face) (s .pre .1 .1), list-room (a .n) (a .face) (s .pre .1 .1), l .inv .0 .within, l .inv .0 .few, l .inv .0 .kept .long, l .inv .1, l .inv .2, l .inv .3, c .before .before .before .before .before .loop-test .taken)
+    omega (arith, s .pre .0 .size, s .pre .1 .0, s .pre .1 .2, s .pre .0 .lengths (a .face) (s .pre .1 .1), list-in (a .n) (a .face) (s .pre .1 .1), l .inv .0 .within, l .inv .0 .few, l .inv .0 .kept .long, l .inv .1, l .inv .2, l .inv .3, c .before .before .before .before .before .loop-test .taken)
 
 note-fraction-requires : tie.Need-note-fraction-requires Inv-loop μ-loop
 note-fraction-requires c κs =
     let s = c .before .before .before .before .before .before .before .before .before .before .before in
     let a = s .args in
     let l = c .before .before .before .before .before .before .loop in
-    (omega (arith, s .pre .0 .size, s .pre .1 .0, s .pre .1 .2, s .pre .0 .lengths (a .face) (s .pre .1 .1), list-room (a .n) (a .face) (s .pre .1 .1), l .inv .0 .within, l .inv .0 .few, l .inv .0 .kept .long, l .inv .1, l .inv .2, l .inv .3, c .before .before .before .before .before .loop-test .taken), on-side-no-nan (a .eps) (a .side) (c .before .before .project .result) (c .before .candidate-on-face-side .result) (c .before .candidate-on-face-side .ensures))
+    (omega (arith, s .pre .0 .size, s .pre .1 .0, s .pre .1 .2, s .pre .0 .lengths (a .face) (s .pre .1 .1), list-in (a .n) (a .face) (s .pre .1 .1), l .inv .0 .within, l .inv .0 .few, l .inv .0 .kept .long, l .inv .1, l .inv .2, l .inv .3, c .before .before .before .before .before .loop-test .taken), on-side-no-nan (a .eps) (a .side) (c .before .before .project .result) (c .before .candidate-on-face-side .result) (c .before .candidate-on-face-side .ensures))
 
 add-m : tie.Need-add-m Inv-loop μ-loop
 add-m c =
     let s = c .before .before .before .before .before .before .before .before .before .before .before .before .before .before in
     let a = s .args in
     let l = c .before .before .before .before .before .before .before .before .before .loop in
-    omega (arith, c .before .before .note-fraction .ensures .few, s .pre .0 .size, s .pre .1 .0, s .pre .1 .2, s .pre .0 .lengths (a .face) (s .pre .1 .1), list-room (a .n) (a .face) (s .pre .1 .1), l .inv .0 .within, l .inv .0 .few, l .inv .0 .kept .long, l .inv .1, l .inv .2, l .inv .3, c .before .before .before .before .before .before .before .before .loop-test .taken)
+    omega (arith, c .before .before .note-fraction .ensures .few, s .pre .0 .size, s .pre .1 .0, s .pre .1 .2, s .pre .0 .lengths (a .face) (s .pre .1 .1), list-in (a .n) (a .face) (s .pre .1 .1), l .inv .0 .within, l .inv .0 .few, l .inv .0 .kept .long, l .inv .1, l .inv .2, l .inv .3, c .before .before .before .before .before .before .before .before .loop-test .taken)
 
 add-i : tie.Need-add-i Inv-loop μ-loop
 add-i c =
     let s = c .before .before .before .before .before .before .before .before .before .before .before .before .before .before in
     let a = s .args in
     let l = c .before .before .before .before .before .before .before .before .before .loop in
-    omega (arith, s .pre .0 .size, s .pre .1 .0, s .pre .1 .2, s .pre .0 .lengths (a .face) (s .pre .1 .1), list-room (a .n) (a .face) (s .pre .1 .1), l .inv .0 .within, l .inv .0 .few, l .inv .0 .kept .long, l .inv .1, l .inv .2, l .inv .3, c .before .before .before .before .before .before .before .before .loop-test .taken)
+    omega (arith, s .pre .0 .size, s .pre .1 .0, s .pre .1 .2, s .pre .0 .lengths (a .face) (s .pre .1 .1), list-in (a .n) (a .face) (s .pre .1 .1), l .inv .0 .within, l .inv .0 .few, l .inv .0 .kept .long, l .inv .1, l .inv .2, l .inv .3, c .before .before .before .before .before .before .before .before .loop-test .taken)
 
 loop-less : tie.Need-loop-less Inv-loop μ-loop
 loop-less c = omega (arith, c .before .before .before .before .before .before .before .before .loop-test .taken)

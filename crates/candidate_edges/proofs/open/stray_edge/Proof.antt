@@ -7,7 +7,7 @@ use lib.ListN.{length, getD, drop}
 use Rattle.lists.specs.Lists.{place}
 use Rattle.geometry.specs.Triangles.{threes}
 use Rattle.edges.specs.Edges.{sides, openEdges}
-use Rattle.candidate_edges.proofs.Sequences.{place-stop, place-more, place-end}
+use Rattle.lists.proofs.Sequences.{place-stop, place-more, place-end}
 use Rattle.candidate_edges.proofs.Ends.{side-is, side-low}
 use Rattle.candidate_edges.proofs.Passes.{stray, stray-test}
 use Rattle.candidate_edges.proofs.open.stray_edge.Statement.{statement}

@@ -1,23 +1,22 @@
 -- The open edges as they stand in the room. Assumes nothing.
---   edges-none, edges-more, edges-same   no open edge, one more, and a room that agrees at their words
---   held-none, held-same, held-kept, held-more   their ends are in the lists of their faces: no edge, such a room, an insertion, one more
+--   edges-none, edges-more   no open edge, one more
+--   edges-same               in a room that agrees at their words
+--   held-none, held-more, held-fewer   their ends are in the lists of their faces: of no edge, of one more, of fewer
+--   held-kept                the same in such a room, and of a pool whose lists have what the first one's had
+--   held-same                the same of one pool
 use Prim.Native.Nat.{ℕ, _+_, _*_, _≤_, _<_}
 use mathlib.Core.Path.{_≡_, refl, sym, ap, _∙_, subst}
 use mathlib.Core.Bool.{true}
-use mathlib.Core.List.{List, [], _∷_, _++_, map, flatMap, append-nil}
+use mathlib.Core.List.{List, [], _++_, map, flatMap}
 use native.Mathlib.Omega.{arith}
 use native.Mathlib.Decide.{ℕ-discrete}
 use lib.ListN.{getD}
-use Rattle.lists.specs.Lists.{has, upFrom, upTo}
-use Rattle.geometry.specs.declared.point.Point.{Point}
-use Rattle.geometry.specs.Triangles.{Triangle, tri}
-use Rattle.geometry.proofs.Threes.{flatMap-append}
-use Rattle.mesh_weld.specs.Joining.{Joining}
+use Rattle.lists.specs.Lists.{has, upFrom}
+use Rattle.lists.proofs.Sequences.{flat-up, flat-below}
+use Rattle.geometry.specs.Triangles.{tri}
 use Rattle.box_faces.specs.Faces.{hasBit}
-use Rattle.candidate_pool.specs.Pool.{Candidate, Pool, faceList, insert}
+use Rattle.candidate_pool.specs.Pool.{Pool, faceList}
 use Rattle.candidate_pool.specs.Standing.{facesIn, edgeAt, edgesAt, EdgesHeld}
-use Rattle.candidate_pool.proofs.Growing.{grows}
-use Rattle.candidate_edges.proofs.Sequences.{up-more, flat-same}
 
 -- ---- the list of open edges
 
@@ -25,16 +24,11 @@ pub edges-none : (w : List ℕ) (at : ℕ) → edgesAt w at 0 ≡ []
 unfolding edgesAt flatMap upFrom
 edges-none w at = refl
 
-one-part : {A B : Type 0} (f : A → List B) (x : A) → flatMap f (x ∷ []) ≡ f x
-unfolding flatMap
-one-part f x = append-nil (f x)
-
 pub edges-more : (w : List ℕ) (at k : ℕ) → edgesAt w at (k + 1) ≡ edgesAt w at k ++ edgeAt w (at + 3 * k)
 unfolding edgesAt
-edges-more w at k =
-    ap (flatMap (λ i. edgeAt w (at + 3 * i))) (up-more k)
-    ∙ flatMap-append (λ i. edgeAt w (at + 3 * i)) (upTo k) (k ∷ [])
-    ∙ ap (λ (l : List (Triangle ℕ)). flatMap (λ i. edgeAt w (at + 3 * i)) (upTo k) ++ l) (one-part (λ i. edgeAt w (at + 3 * i)) k)
+edges-more w at k = flat-up (λ i. edgeAt w (at + 3 * i)) k
+
+-- ---- in another room
 
 module _ (w w' : List ℕ) (at k : ℕ) (same : (x : ℕ) → at ≤ x → x < at + 3 * k → getD w' x 0 ≡ getD w x 0) where
   from-same : (i : ℕ) → i < k → getD w' (at + 3 * i) 0 ≡ getD w (at + 3 * i) 0
@@ -43,28 +37,29 @@ module _ (w w' : List ℕ) (at k : ℕ) (same : (x : ℕ) → at ≤ x → x < a
   to-same : (i : ℕ) → i < k → getD w' (at + 3 * i + 1) 0 ≡ getD w (at + 3 * i + 1) 0
   to-same i h = same (at + 3 * i + 1) (omega arith) (omega arith)
 
-  faces-same : (i : ℕ) → i < k → getD w' (at + 3 * i + 2) 0 ≡ getD w (at + 3 * i + 2) 0
-  faces-same i h = same (at + 3 * i + 2) (omega arith) (omega arith)
+  mask-same : (i : ℕ) → i < k → getD w' (at + 3 * i + 2) 0 ≡ getD w (at + 3 * i + 2) 0
+  mask-same i h = same (at + 3 * i + 2) (omega arith) (omega arith)
 
   pub edges-same : edgesAt w' at k ≡ edgesAt w at k
   unfolding edgesAt
   edges-same =
-      flat-same (λ i. edgeAt w' (at + 3 * i)) (λ i. edgeAt w (at + 3 * i)) k
-      (λ i h.
-      let a = from-same i h in
-      let b = to-same i h in
-      let m = faces-same i h in
-      λ t. map (λ f. tri f (a t) (b t)) (facesIn (m t)))
+      flat-below (λ i. edgeAt w' (at + 3 * i)) (λ i. edgeAt w (at + 3 * i)) k
+      (λ i h t. map (λ f. tri f (from-same i h t) (to-same i h t)) (facesIn (mask-same i h t)))
 
-  pub held-same : (p : Pool) → EdgesHeld p w at k → EdgesHeld p w' at k
-  held-same p held =
+  pub held-kept : (p q : Pool) → ((f c : ℕ) → f < 6 → has (faceList p f) c ≡ true → has (faceList q f) c ≡ true) → EdgesHeld p w at k → EdgesHeld q w' at k
+  held-kept p q grow held =
       record {
-        masks = λ i h. let e = faces-same i h in let m = held .masks i h in omega arith;
-        from = λ i f h l b. ap (has (faceList p f)) (from-same i h) ∙ held .from i f h l (ap (λ (m : ℕ). hasBit m f) (sym (faces-same i h)) ∙ b);
-        to = λ i f h l b. ap (has (faceList p f)) (to-same i h) ∙ held .to i f h l (ap (λ (m : ℕ). hasBit m f) (sym (faces-same i h)) ∙ b);
+        masks = λ i h. subst (λ (x : ℕ). x < 64) (sym (mask-same i h)) (held .masks i h);
+        from = λ i f h l b.
+            ap (has (faceList q f)) (from-same i h) ∙ grow f (getD w (at + 3 * i) 0) l (held .from i f h l (ap (λ (x : ℕ). hasBit x f) (sym (mask-same i h)) ∙ b));
+        to = λ i f h l b.
+            ap (has (faceList q f)) (to-same i h) ∙ grow f (getD w (at + 3 * i + 1) 0) l (held .to i f h l (ap (λ (x : ℕ). hasBit x f) (sym (mask-same i h)) ∙ b));
       }
 
--- ---- their ends in the face lists
+  pub held-same : (p : Pool) → EdgesHeld p w at k → EdgesHeld p w' at k
+  held-same p = held-kept p p (λ f c l e. e)
+
+-- ---- fewer and more
 
 pub held-none : (p : Pool) (w : List ℕ) (at : ℕ) → EdgesHeld p w at 0
 held-none p w at =
@@ -74,12 +69,12 @@ held-none p w at =
       to = λ i f h. absurd (omega arith);
     }
 
-pub held-kept : (J : Joining Point) (p : Pool) (e : Candidate) (w : List ℕ) (at k : ℕ) → EdgesHeld p w at k → EdgesHeld (insert J p e) w at k
-held-kept J p e w at k held =
+pub held-fewer : (p : Pool) (w : List ℕ) (at k m : ℕ) → m ≤ k → EdgesHeld p w at k → EdgesHeld p w at m
+held-fewer p w at k m h e =
     record {
-      masks = held .masks;
-      from = λ i f h l b. grows J p e f (getD w (at + 3 * i) 0) l (held .from i f h l b);
-      to = λ i f h l b. grows J p e f (getD w (at + 3 * i + 1) 0) l (held .to i f h l b);
+      masks = λ i g. e .masks i (omega arith);
+      from = λ i f g. e .from i f (omega arith);
+      to = λ i f g. e .to i f (omega arith);
     }
 
 module _ (p : Pool) (w : List ℕ) (at k : ℕ) (held : EdgesHeld p w at k) (small : getD w (at + 3 * k + 2) 0 < 64)

@@ -1,0 +1,20 @@
+use lib.Dec.{eqb}
+use Prim.Native.Nat.{ℕ}
+use mathlib.Core.Path.{_≡_, refl, sym, ap, ap₂, _∙_}
+use borrow.Author.Needs.{needs}
+use Rattle.cases.proofs.cleaning.is_key_range.Statement.{statement}
+use Rattle.cases.proofs.cleaning.is_key_range.Tie as tie
+use Rattle.cases.proofs.cleaning.is_key_range.Reads as reads
+use Rattle.cases.proofs.cleaning.is_key_range.Lts as lts
+use Rattle.refusals.proofs.report.report_mesh.Reads as report-mesh-reads
+
+-- src/cleaning.rt:48:5
+report-mesh-requires : tie.Need-report-mesh-requires
+report-mesh-requires c κs = search needs
+
+-- src/cleaning.rt:44:1
+returns : tie.Need-returns
+returns c = ap (λ (n : ℕ). eqb n 8) (c .report-mesh .ensures .number)
+
+pub is-key-range-spec : {M : Type 1} → statement M
+is-key-range-spec = tie.close (tie.spec report-mesh-requires returns)

@@ -1,0 +1,76 @@
+use Prim.Native.Nat.{ℕ, _-_, _≤_}
+use native.Mathlib.Omega.{arith}
+use borrow.Author.Needs.{needs}
+use Rattle.cases.proofs.halves.has_facets.Statement.{statement}
+use Rattle.cases.proofs.halves.has_facets.Tie as tie
+use Rattle.cases.proofs.halves.has_facets.Reads as reads
+use Rattle.cases.proofs.halves.has_facets.Lts as lts
+use Rattle.cases.proofs.halves.is_point.Reads as is-point-reads
+
+abbrev Inv-loop : tie.InvT-loop
+Inv-loop vertices facets stated i₀ i = i ≤ 36
+
+abbrev μ-loop : tie.MeasureT-loop
+μ-loop vertices facets stated i₀ i = 36 - i
+
+-- src/halves.rt:107:5
+loop-holds : tie.Need-loop-holds Inv-loop μ-loop
+loop-holds c = search needs
+
+-- src/halves.rt:108:32
+mul-is-point : tie.Need-mul-is-point Inv-loop μ-loop
+mul-is-point c = search needs
+
+-- src/halves.rt:108:32
+element-copy-out-is-point : tie.Need-element-copy-out-is-point Inv-loop μ-loop
+element-copy-out-is-point c = search needs
+
+-- src/halves.rt:108:43
+mul-is-point-2 : tie.Need-mul-is-point-2 Inv-loop μ-loop
+mul-is-point-2 c = search needs
+
+-- src/halves.rt:108:43
+element-copy-out-is-point-2 : tie.Need-element-copy-out-is-point-2 Inv-loop μ-loop
+element-copy-out-is-point-2 c = search needs
+
+-- src/halves.rt:108:13
+is-point-requires : tie.Need-is-point-requires Inv-loop μ-loop
+is-point-requires c κs = search needs
+
+-- src/halves.rt:109:13
+returns : tie.Need-returns Inv-loop μ-loop
+returns c = search needs
+
+-- src/halves.rt:111:9
+add-i : tie.Need-add-i Inv-loop μ-loop
+add-i c = search needs
+
+-- src/halves.rt:107:5
+loop-less : tie.Need-loop-less Inv-loop μ-loop
+loop-less c = search needs
+
+-- src/halves.rt:107:5
+loop-again : tie.Need-loop-again Inv-loop μ-loop
+loop-again c = search needs
+
+-- src/halves.rt:104:1
+returns-2 : tie.Need-returns-2 Inv-loop μ-loop
+returns-2 c = search needs
+
+pub has-facets-spec : {M : Type 1} → statement M
+has-facets-spec =
+    tie.close
+    (tie.spec
+    Inv-loop
+    μ-loop
+    loop-holds
+    mul-is-point
+    element-copy-out-is-point
+    mul-is-point-2
+    element-copy-out-is-point-2
+    is-point-requires
+    returns
+    add-i
+    loop-less
+    loop-again
+    returns-2)

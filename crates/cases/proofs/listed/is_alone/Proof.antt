@@ -1,0 +1,82 @@
+use borrow.Author.Tests.{not-true, not-false}
+use Prim.Native.Nat.{ℕ, _-_, _≤_}
+use lib.ListN.{length, getD, drop}
+use Rattle.cases.specs.Comparing.{free}
+use Rattle.lists.specs.Lists.{every, upTo}
+use Rattle.cases.proofs.Rows.{row-stop, row-more, row-end}
+use mathlib.Core.Path.{_≡_, refl, sym, ap, ap₂, _∙_}
+use native.Mathlib.Omega.{arith}
+use borrow.Author.Needs.{needs}
+use Rattle.cases.proofs.listed.is_alone.Statement.{statement}
+use Rattle.cases.proofs.listed.is_alone.Tie as tie
+use Rattle.cases.proofs.listed.is_alone.Reads as reads
+use Rattle.cases.proofs.listed.is_alone.Lts as lts
+use Rattle.cases.proofs.listed.is_free.Reads as is-free-reads
+
+abbrev Inv-loop : tie.InvT-loop
+Inv-loop candidates at n i₀ i = (i ≤ n) × (every (free candidates at) (upTo n) ≡ every (free candidates at) (drop i (upTo n)))
+
+abbrev μ-loop : tie.MeasureT-loop
+μ-loop candidates at n i₀ i = n - i
+
+-- src/listed.rt:29:5
+loop-holds : tie.Need-loop-holds Inv-loop μ-loop
+loop-holds c = (search needs, refl)
+
+-- src/listed.rt:30:32
+mul-is-free : tie.Need-mul-is-free Inv-loop μ-loop
+mul-is-free c = search needs
+
+-- src/listed.rt:30:32
+add-is-free : tie.Need-add-is-free Inv-loop μ-loop
+add-is-free c = search needs
+
+-- src/listed.rt:30:21
+mul-is-free-2 : tie.Need-mul-is-free-2 Inv-loop μ-loop
+mul-is-free-2 c = search needs
+
+-- src/listed.rt:30:21
+shared-slice-read-is-free : tie.Need-shared-slice-read-is-free Inv-loop μ-loop
+shared-slice-read-is-free c = search needs
+
+-- src/listed.rt:30:13
+is-free-requires : tie.Need-is-free-requires Inv-loop μ-loop
+is-free-requires c κs = search needs
+
+-- src/listed.rt:31:13
+returns : tie.Need-returns Inv-loop μ-loop
+returns c = sym (row-stop _ _ _ (c .before .before .before .before .loop .inv .1) (c .before .before .before .loop-test .taken) (sym (c .before .is-free .ensures) ∙ not-true _ (c .if1 .taken)))
+
+-- src/listed.rt:33:9
+add-i : tie.Need-add-i Inv-loop μ-loop
+add-i c = search needs
+
+-- src/listed.rt:29:5
+loop-less : tie.Need-loop-less Inv-loop μ-loop
+loop-less c = search needs
+
+-- src/listed.rt:29:5
+loop-again : tie.Need-loop-again Inv-loop μ-loop
+loop-again c = (search needs, row-more _ _ _ (c .before .before .before .before .loop .inv .1) (c .before .before .before .loop-test .taken) (sym (c .before .is-free .ensures) ∙ not-false _ (c .if1 .left)))
+
+-- src/listed.rt:24:1
+returns-2 : tie.Need-returns-2 Inv-loop μ-loop
+returns-2 c = sym (row-end _ _ _ (c .before .loop .inv .1) (c .loop-test .left))
+
+pub is-alone-spec : {M : Type 1} → statement M
+is-alone-spec =
+    tie.close
+    (tie.spec
+    Inv-loop
+    μ-loop
+    loop-holds
+    mul-is-free
+    add-is-free
+    mul-is-free-2
+    shared-slice-read-is-free
+    is-free-requires
+    returns
+    add-i
+    loop-less
+    loop-again
+    returns-2)

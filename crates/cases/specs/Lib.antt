@@ -1,0 +1,3 @@
+pub mod Comparing
+pub mod Cleaning
+pub mod Closing

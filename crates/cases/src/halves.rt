@@ -1,0 +1,308 @@
+// C15: the unit cube cut by a square at height 0.5, closed below and above it.
+use crate::bits::begins_with;
+use crate::bits::bits;
+use crate::closing::list_candidates;
+use crate::listed::place_of;
+use caps::cap_mesh_to_aabb;
+use caps::mode::BoundaryClosure;
+use geometry::aabb::AABB;
+use refusals::reply::MeshReply;
+
+const EPS: f64 = 0.0000000001;
+
+// The triangles: a face and three points each, turned outward. Side faces have two below and two above, bottom and top two each.
+const TRIANGLES: [usize; 80] = [
+    0,
+    0,
+    4,
+    7,
+    0,
+    0,
+    7,
+    3,
+    0,
+    4,
+    8,
+    11,
+    0,
+    4,
+    11,
+    7,
+    1,
+    1,
+    2,
+    6,
+    1,
+    1,
+    6,
+    5,
+    1,
+    5,
+    6,
+    10,
+    1,
+    5,
+    10,
+    9,
+    2,
+    0,
+    1,
+    5,
+    2,
+    0,
+    5,
+    4,
+    2,
+    4,
+    5,
+    9,
+    2,
+    4,
+    9,
+    8,
+    3,
+    3,
+    7,
+    6,
+    3,
+    3,
+    6,
+    2,
+    3,
+    7,
+    11,
+    10,
+    3,
+    7,
+    10,
+    6,
+    4,
+    0,
+    3,
+    2,
+    4,
+    0,
+    2,
+    1,
+    5,
+    8,
+    9,
+    10,
+    5,
+    8,
+    10,
+    11,
+];
+
+// The square, then the ten caps of the lower half.
+const LOWER: [usize; 36] = [
+    4,
+    5,
+    6,
+    4,
+    6,
+    7,
+    0,
+    4,
+    7,
+    0,
+    7,
+    3,
+    1,
+    2,
+    6,
+    1,
+    6,
+    5,
+    0,
+    1,
+    5,
+    0,
+    5,
+    4,
+    3,
+    7,
+    6,
+    3,
+    6,
+    2,
+    0,
+    3,
+    2,
+    0,
+    2,
+    1,
+];
+
+// The square, turned, then the ten caps of the upper half.
+const UPPER: [usize; 36] = [
+    4,
+    6,
+    5,
+    4,
+    7,
+    6,
+    4,
+    8,
+    11,
+    4,
+    11,
+    7,
+    5,
+    6,
+    10,
+    5,
+    10,
+    9,
+    4,
+    5,
+    9,
+    4,
+    9,
+    8,
+    7,
+    11,
+    10,
+    7,
+    10,
+    6,
+    8,
+    9,
+    10,
+    8,
+    10,
+    11,
+];
+
+fn cube() -> AABB {
+    AABB {
+        min_corner: [0.0, 0.0, 0.0],
+        max_corner: [1.0, 1.0, 1.0],
+    }
+}
+
+// The twelve points: (0,0), (1,0), (1,1) and (0,1) at heights 0, 0.5 and 1, numbered here from 0 to 11.
+fn point(p: usize) -> [f64; 3] {
+    match p {
+        0 => [0.0, 0.0, 0.0],
+        1 => [1.0, 0.0, 0.0],
+        2 => [1.0, 1.0, 0.0],
+        3 => [0.0, 1.0, 0.0],
+        4 => [0.0, 0.0, 0.5],
+        5 => [1.0, 0.0, 0.5],
+        6 => [1.0, 1.0, 0.5],
+        7 => [0.0, 1.0, 0.5],
+        8 => [0.0, 0.0, 1.0],
+        9 => [1.0, 0.0, 1.0],
+        10 => [1.0, 1.0, 1.0],
+        _ => [0.0, 1.0, 1.0],
+    }
+}
+
+// The number of the candidate at point p.
+fn candidate_at(candidates: &[u64], p: usize) -> u64 {
+    let q = point(p);
+    place_of(candidates, bits(q[0]), bits(q[1]), bits(q[2])) as u64
+}
+
+// The triangles as a cap list.
+fn list_triangles(candidates: &[u64], list: &mut [u64; 80]) {
+    let mut i = 0;
+    while i < 80 {
+        if i % 4 == 0 {
+            list[i] = TRIANGLES[i] as u64;
+        } else {
+            list[i] = candidate_at(candidates, TRIANGLES[i]);
+        }
+        i += 1;
+    }
+}
+
+// Vertex v is there, and stands at point p.
+fn is_point(vertices: &[f64], v: u32, p: usize) -> bool {
+    let n = v as usize;
+    if vertices.len() / 3 <= n {
+        return false;
+    }
+    let q = point(p);
+    begins_with(&vertices[3 * n..], &q)
+}
+
+// Each corner of each facet is the stated point.
+fn has_facets(vertices: &[f64], facets: &[u32; 36], stated: &[usize; 36]) -> bool {
+    let mut i = 0;
+    while i < 36 {
+        if !is_point(vertices, facets[i], stated[i]) {
+            return false;
+        }
+        i += 1;
+    }
+    true
+}
+
+// Eight vertices and twelve facets, the stated ones.
+fn closes_to(mode: BoundaryClosure, list: &[u64; 80], stated: &[usize; 36]) -> bool {
+    let square = [0.0, 0.0, 0.5, 1.0, 0.0, 0.5, 1.0, 1.0, 0.5, 0.0, 1.0, 0.5];
+    let facets = [0, 1, 2, 0, 2, 3];
+    let mut work = [0u64; 8192];
+    let mut out_vertices = [0.0; 24];
+    let mut out_facets = [0u32; 36];
+    let reply = cap_mesh_to_aabb(
+        &square,
+        &facets,
+        list,
+        cube(),
+        EPS,
+        1.0,
+        mode,
+        &mut work,
+        &mut out_vertices,
+        &mut out_facets,
+    );
+    match reply {
+        MeshReply::Done(v, f) => {
+            if v != 24 {
+                return false;
+            }
+            if f != 36 {
+                return false;
+            }
+            has_facets(&out_vertices, &out_facets, stated)
+        }
+        MeshReply::Refused(_) => false,
+    }
+}
+
+fn closes_both(candidates: &[u64]) -> bool {
+    let mut list = [0u64; 80];
+    list_triangles(candidates, &mut list);
+    if !closes_to(BoundaryClosure::ClosePositive, &list, &LOWER) {
+        return false;
+    }
+    closes_to(BoundaryClosure::CloseNegative, &list, &UPPER)
+}
+
+pub fn c15() -> bool {
+    let square = [0.0, 0.0, 0.5, 1.0, 0.0, 0.5, 1.0, 1.0, 0.5, 0.0, 1.0, 0.5];
+    let facets = [0, 1, 2, 0, 2, 3];
+    let mut work = [0u64; 8192];
+    let mut candidates = [0u64; 60];
+    let mut values = [0u64; 4];
+    let number = list_candidates(
+        &square,
+        &facets,
+        cube(),
+        EPS,
+        1.0,
+        &mut work,
+        &mut candidates,
+        &mut values,
+    );
+    if number != 0 {
+        return false;
+    }
+    if values[0] != 60 {
+        return false;
+    }
+    closes_both(&candidates)
+}

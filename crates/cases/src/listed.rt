@@ -1,0 +1,64 @@
+// Candidates as words: five a candidate, the point's bits, mesh vertex + 1 or 0, and faces.
+ghost use mathlib.Core.Path.{_≡_};
+ghost use mathlib.Core.Bool.{not, _&&_, _||_};
+ghost use Prim.Native.Nat.{_+_, _*_, _/_, _<_};
+ghost use lib.Dec.{eqb};
+ghost use lib.ListN.{length};
+ghost use Rattle.lists.specs.Lists.{every, upTo};
+ghost use Rattle.cases.specs.Comparing.{standsAt, free, First};
+
+// Candidate i, of this number, is the one at `at` or comes neither from mesh vertex 0 nor from 1.
+fn is_free(number: u64, i: usize, at: usize) -> bool
+    ensures { λ r. ⌜ r ≡ (eqb i at || (not (eqb number 1) && not (eqb number 2))) ⌝ }
+{
+    if i == at {
+        return true;
+    }
+    if number == 1 {
+        return false;
+    }
+    number != 2
+}
+
+// No other candidate than this one comes from mesh vertex 0 or 1.
+pub fn is_alone(candidates: &[u64], at: usize) -> bool
+    ensures { λ r. ⌜ r ≡ every (free (now (candidates .entry)) at) (upTo (length (now (candidates .entry)) / 5)) ⌝ }
+{
+    let n = candidates.len() / 5;
+    let mut i = 0;
+    while i < n {
+        if !is_free(candidates[5 * i + 3], i, at) {
+            return false;
+        }
+        i += 1;
+    }
+    true
+}
+
+fn is_at(candidates: &[u64], i: usize, x: u64, y: u64, z: u64) -> bool
+    requires { ⌜ 5 * i + 2 < length (now candidates) ⌝ }
+    ensures { λ r. ⌜ r ≡ standsAt (now (candidates .entry)) x y z i ⌝ }
+{
+    if candidates[5 * i] != x {
+        return false;
+    }
+    if candidates[5 * i + 1] != y {
+        return false;
+    }
+    candidates[5 * i + 2] == z
+}
+
+// The number of the first candidate at this point, and how many candidates there are where none is there.
+pub fn place_of(candidates: &[u64], x: u64, y: u64, z: u64) -> usize
+    ensures { λ r. ⌜ First (standsAt (now (candidates .entry)) x y z) (length (now (candidates .entry)) / 5) r ⌝ }
+{
+    let n = candidates.len() / 5;
+    let mut i = 0;
+    while i < n {
+        if is_at(candidates, i, x, y, z) {
+            return i;
+        }
+        i += 1;
+    }
+    n
+}
