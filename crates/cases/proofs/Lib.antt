@@ -1,3 +1,5 @@
 pub mod Rows
 pub mod Meshes
 pub mod Lists
+pub mod Later
+pub mod Turned

@@ -5,14 +5,15 @@
 --   standsAt    candidate i, of five words, has these bits as its point
 --   free        candidate i is the one at `at`, or comes neither from mesh vertex 0 nor from 1
 --   First       the first number below n that passes a test, and n where none does
-use Prim.Native.Nat.{ℕ, _+_, _*_, _≤_, _<_}
+--   placeOf     the first candidate at a point, and how many candidates there are where none is there
+use Prim.Native.Nat.{ℕ, _+_, _*_, _/_, _≤_, _<_}
 use mathlib.Core.Path.{_≡_}
 use mathlib.Core.Bool.{Bool, true, false, cond, not, _&&_, _||_}
 use mathlib.Core.List.{List}
 use lib.Dec.{eqb, leb}
 use lib.ListN.{length, getD}
 use lib.Ieee.{Float, nan, eq, binary64, toBits}
-use Rattle.lists.specs.Lists.{every, upTo}
+use Rattle.lists.specs.Lists.{every, place, upTo}
 
 abbrev pub bitsOf : Float → ℕ
 bitsOf x = cond (eq x x) (toBits binary64 x) 9221120237041090560
@@ -33,3 +34,6 @@ pub record First (p : ℕ → Bool) (n r : ℕ) : Type 0 where
   pub within : r ≤ n
   pub before : (k : ℕ) → k < r → p k ≡ false
   pub there : r < n → p r ≡ true
+
+abbrev pub placeOf : List ℕ → ℕ → ℕ → ℕ → ℕ
+placeOf words x y z = place (standsAt words x y z) (upTo (length words / 5))

@@ -1,3 +1,4 @@
 pub mod Comparing
 pub mod Cleaning
 pub mod Closing
+pub mod Halves

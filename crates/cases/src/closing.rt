@@ -3,7 +3,7 @@ ghost use mathlib.Core.Path.{_≡_};
 ghost use lib.ListN.{length};
 ghost use Rattle.refusals.specs.Reports.{Reported};
 ghost use Rattle.boundary_closure.specs.Operation.{documentedCandidates};
-ghost use Rattle.cases.specs.Closing.{boxTo, Listing, facetReply, c10Holds, c13Holds};
+ghost use Rattle.cases.specs.Closing.{boxTo, Listing, facetReply, isLater, c3bHolds, c10Holds, c13Holds};
 use crate::listed::is_alone;
 use crate::listed::place_of;
 use boundary_closure::cap_candidates;
@@ -80,7 +80,9 @@ fn box_to(x: f64, y: f64, z: f64) -> AABB
 }
 
 // "one candidate, the later point": none lies at the earlier one, and no other comes from either vertex. Zeros behind the list say neither.
-fn is_later_point(candidates: &[u64]) -> bool {
+fn is_later_point(candidates: &[u64]) -> bool
+    ensures { λ r. ⌜ r ≡ isLater (now (candidates .entry)) ⌝ }
+{
     let n = candidates.len() / 5;
     if place_of(candidates, EARLIER, EARLIER, EARLIER) < n {
         return false;
@@ -94,7 +96,9 @@ fn is_later_point(candidates: &[u64]) -> bool {
     false
 }
 
-pub fn c3b() -> bool {
+pub fn c3b() -> bool
+    ensures { λ r. ⌜ r ≡ c3bHolds ⌝ }
+{
     let points = [
         -0.0003662109375,
         -0.0003662109375,

@@ -1,4 +1,10 @@
 // C15: the unit cube cut by a square at height 0.5, closed below and above it.
+ghost use mathlib.Core.Path.{_≡_};
+ghost use Prim.Native.Nat.{_<_};
+ghost use Rattle.root.specs.Doubles.{oneF};
+ghost use Rattle.refusals.specs.Refusals.{documentedMesh};
+ghost use Rattle.cases.specs.Closing.{boxTo};
+ghost use Rattle.cases.specs.Halves.{pointAt, candidateAt, capWord, capWords, isPoint, hasFacets, isHalf, closesTo, closesBoth, c15Holds};
 use crate::bits::begins_with;
 use crate::bits::bits;
 use crate::closing::list_candidates;
@@ -7,6 +13,7 @@ use caps::cap_mesh_to_aabb;
 use caps::mode::BoundaryClosure;
 use geometry::aabb::AABB;
 use refusals::reply::MeshReply;
+use refusals::report::report_mesh;
 
 const EPS: f64 = 0.0000000001;
 
@@ -174,7 +181,9 @@ const UPPER: [usize; 36] = [
     11,
 ];
 
-fn cube() -> AABB {
+fn cube() -> AABB
+    ensures { λ r. ⌜ r ≡ boxTo oneF oneF oneF ⌝ }
+{
     AABB {
         min_corner: [0.0, 0.0, 0.0],
         max_corner: [1.0, 1.0, 1.0],
@@ -182,7 +191,9 @@ fn cube() -> AABB {
 }
 
 // The twelve points: (0,0), (1,0), (1,1) and (0,1) at heights 0, 0.5 and 1, numbered here from 0 to 11.
-fn point(p: usize) -> [f64; 3] {
+fn point(p: usize) -> [f64; 3]
+    ensures { λ r. ⌜ r ≡ pointAt p ⌝ }
+{
     match p {
         0 => [0.0, 0.0, 0.0],
         1 => [1.0, 0.0, 0.0],
@@ -200,26 +211,41 @@ fn point(p: usize) -> [f64; 3] {
 }
 
 // The number of the candidate at point p.
-fn candidate_at(candidates: &[u64], p: usize) -> u64 {
+fn candidate_at(candidates: &[u64], p: usize) -> u64
+    ensures { λ r. ⌜ r ≡ candidateAt (now (candidates .entry)) p ⌝ }
+{
     let q = point(p);
     place_of(candidates, bits(q[0]), bits(q[1]), bits(q[2])) as u64
 }
 
+// Word i of the cap list: a face, or a point's candidate.
+fn cap_word(candidates: &[u64], i: usize) -> u64
+    requires { ⌜ i < 80 ⌝ }
+    ensures { λ r. ⌜ r ≡ capWord (now (candidates .entry)) i ⌝ }
+{
+    if i % 4 == 0 {
+        return TRIANGLES[i] as u64;
+    }
+    candidate_at(candidates, TRIANGLES[i])
+}
+
 // The triangles as a cap list.
-fn list_triangles(candidates: &[u64], list: &mut [u64; 80]) {
+fn list_triangles(candidates: &[u64]) -> [u64; 80]
+    ensures { λ r. ⌜ r ≡ capWords (now (candidates .entry)) ⌝ }
+{
+    let mut list = [0u64; 80];
     let mut i = 0;
     while i < 80 {
-        if i % 4 == 0 {
-            list[i] = TRIANGLES[i] as u64;
-        } else {
-            list[i] = candidate_at(candidates, TRIANGLES[i]);
-        }
+        list[i] = cap_word(candidates, i);
         i += 1;
     }
+    list
 }
 
 // Vertex v is there, and stands at point p.
-fn is_point(vertices: &[f64], v: u32, p: usize) -> bool {
+fn is_point(vertices: &[f64], v: u32, p: usize) -> bool
+    ensures { λ r. ⌜ r ≡ isPoint (now (vertices .entry)) v p ⌝ }
+{
     let n = v as usize;
     if vertices.len() / 3 <= n {
         return false;
@@ -229,7 +255,9 @@ fn is_point(vertices: &[f64], v: u32, p: usize) -> bool {
 }
 
 // Each corner of each facet is the stated point.
-fn has_facets(vertices: &[f64], facets: &[u32; 36], stated: &[usize; 36]) -> bool {
+fn has_facets(vertices: &[f64], facets: &[u32; 36], stated: &[usize; 36]) -> bool
+    ensures { λ r. ⌜ r ≡ hasFacets (now (vertices .entry)) (now (facets .entry)) (now (stated .entry)) ⌝ }
+{
     let mut i = 0;
     while i < 36 {
         if !is_point(vertices, facets[i], stated[i]) {
@@ -240,8 +268,26 @@ fn has_facets(vertices: &[f64], facets: &[u32; 36], stated: &[usize; 36]) -> boo
     true
 }
 
-// Eight vertices and twelve facets, the stated ones.
-fn closes_to(mode: BoundaryClosure, list: &[u64; 80], stated: &[usize; 36]) -> bool {
+// The reply is eight vertices and twelve facets, the stated ones.
+fn is_half(reply: MeshReply, vertices: &[f64], facets: &[u32; 36], stated: &[usize; 36]) -> bool
+    ensures { λ r. ⌜ r ≡ isHalf (documentedMesh reply) (now (vertices .entry)) (now (facets .entry)) (now (stated .entry)) ⌝ }
+{
+    let mut values = [0u64; 4];
+    if report_mesh(&mut values, reply) != 0 {
+        return false;
+    }
+    if values[0] != 24 {
+        return false;
+    }
+    if values[1] != 36 {
+        return false;
+    }
+    has_facets(vertices, facets, stated)
+}
+
+fn closes_to(mode: BoundaryClosure, list: &[u64; 80], stated: &[usize; 36]) -> bool
+    ensures { λ r. ⌜ r ≡ closesTo mode (now (list .entry)) (now (stated .entry)) ⌝ }
+{
     let square = [0.0, 0.0, 0.5, 1.0, 0.0, 0.5, 1.0, 1.0, 0.5, 0.0, 1.0, 0.5];
     let facets = [0, 1, 2, 0, 2, 3];
     let mut work = [0u64; 8192];
@@ -259,30 +305,22 @@ fn closes_to(mode: BoundaryClosure, list: &[u64; 80], stated: &[usize; 36]) -> b
         &mut out_vertices,
         &mut out_facets,
     );
-    match reply {
-        MeshReply::Done(v, f) => {
-            if v != 24 {
-                return false;
-            }
-            if f != 36 {
-                return false;
-            }
-            has_facets(&out_vertices, &out_facets, stated)
-        }
-        MeshReply::Refused(_) => false,
-    }
+    is_half(reply, &out_vertices, &out_facets, stated)
 }
 
-fn closes_both(candidates: &[u64]) -> bool {
-    let mut list = [0u64; 80];
-    list_triangles(candidates, &mut list);
+fn closes_both(candidates: &[u64]) -> bool
+    ensures { λ r. ⌜ r ≡ closesBoth (now (candidates .entry)) ⌝ }
+{
+    let list = list_triangles(candidates);
     if !closes_to(BoundaryClosure::ClosePositive, &list, &LOWER) {
         return false;
     }
     closes_to(BoundaryClosure::CloseNegative, &list, &UPPER)
 }
 
-pub fn c15() -> bool {
+pub fn c15() -> bool
+    ensures { λ r. ⌜ r ≡ c15Holds ⌝ }
+{
     let square = [0.0, 0.0, 0.5, 1.0, 0.0, 0.5, 1.0, 1.0, 0.5, 0.0, 1.0, 0.5];
     let facets = [0, 1, 2, 0, 2, 3];
     let mut work = [0u64; 8192];
