@@ -17,62 +17,48 @@ use Rattle.refusals.proofs.front.check_lists.Reads as check-lists-reads
 use Rattle.refusals.proofs.front.eps_in_range.Reads as eps-in-range-reads
 use Rattle.refusals.proofs.front.work_need.Reads as work-need-reads
 
--- src/lib.rt:27:9
 check-lists-requires : tie.Need-check-lists-requires
 check-lists-requires c κs = search needs
 
--- src/lib.rt:29:9
 enum-told : tie.Need-enum-told
 enum-told c = search needs
 
--- src/lib.rt:29:9
 returns : tie.Need-returns
 returns c = let s = c .before .before .before .before .before in lists-refused (s .args .vertices .now) (s .args .facets .now) (s .args .extents) (s .args .eps) (s .args .lent) _ _ (c .before .before .check-lists .ensures) (c .enum-told .given .1)
 
 enum-told-2 : tie.Need-enum-told-2
 enum-told-2 c = search needs
 
--- src/lib.rt:31:9
 all-in-range-requires : tie.Need-all-in-range-requires
 all-in-range-requires c κs = search needs
 
--- src/lib.rt:32:9
 returns-2 : tie.Need-returns-2
 returns-2 c = let s = c .before .before .before .before .before .before .before in number-refused (s .args .vertices .now) (s .args .facets .now) (s .args .extents) (s .args .eps) (s .args .lent) (sym (c .before .before .before .before .check-lists .ensures) ∙ c .before .before .enum-told2 .given .1) (ap not (and-stop _ _ (sym (c .before .all-in-range .ensures) ∙ not-true _ (c .if1 .taken))))
 
--- src/lib.rt:34:9
 box-in-range-requires : tie.Need-box-in-range-requires
 box-in-range-requires c κs = search needs
 
--- src/lib.rt:35:9
 returns-3 : tie.Need-returns-3
 returns-3 c = let s = c .before .before .before .before .before .before .before .before .before in number-refused (s .args .vertices .now) (s .args .facets .now) (s .args .extents) (s .args .eps) (s .args .lent) (sym (c .before .before .before .before .before .before .check-lists .ensures) ∙ c .before .before .before .before .enum-told2 .given .1) (ap not (and-next _ _ _ (sym (c .before .before .before .all-in-range .ensures) ∙ not-false _ (c .before .before .if1 .left)) (and-stop _ _ (sym (c .before .box-in-range .ensures) ∙ not-true _ (c .if2 .taken)))))
 
--- src/lib.rt:37:9
 eps-in-range-requires : tie.Need-eps-in-range-requires
 eps-in-range-requires c κs = search needs
 
--- src/lib.rt:38:9
 returns-4 : tie.Need-returns-4
 returns-4 c = let s = c .before .before .before .before .before .before .before .before .before .before .before in number-refused (s .args .vertices .now) (s .args .facets .now) (s .args .extents) (s .args .eps) (s .args .lent) (sym (c .before .before .before .before .before .before .before .before .check-lists .ensures) ∙ c .before .before .before .before .before .before .enum-told2 .given .1) (ap not (and-next _ _ _ (sym (c .before .before .before .before .before .all-in-range .ensures) ∙ not-false _ (c .before .before .before .before .if1 .left)) (and-next _ _ _ (sym (c .before .before .before .box-in-range .ensures) ∙ not-false _ (c .before .before .if2 .left)) (sym (c .before .eps-in-range .ensures) ∙ not-true _ (c .if3 .taken)))))
 
--- src/lib.rt:40:8
 is-bad-box-requires : tie.Need-is-bad-box-requires
 is-bad-box-requires c κs = search needs
 
--- src/lib.rt:41:9
 returns-5 : tie.Need-returns-5
 returns-5 c = let s = c .before .before .before .before .before .before .before .before .before .before .before .before .before in box-refused (s .args .vertices .now) (s .args .facets .now) (s .args .extents) (s .args .eps) (s .args .lent) (sym (c .before .before .before .before .before .before .before .before .before .before .check-lists .ensures) ∙ c .before .before .before .before .before .before .before .before .enum-told2 .given .1) (ap not (and-next _ _ _ (sym (c .before .before .before .before .before .before .before .all-in-range .ensures) ∙ not-false _ (c .before .before .before .before .before .before .if1 .left)) (and-next _ _ _ (sym (c .before .before .before .before .before .box-in-range .ensures) ∙ not-false _ (c .before .before .before .before .if2 .left)) (sym (c .before .before .before .eps-in-range .ensures) ∙ not-false _ (c .before .before .if3 .left))))) (sym (c .before .is-bad-box .ensures) ∙ c .if4 .taken)
 
--- src/lib.rt:43:9
 work-need-requires : tie.Need-work-need-requires
 work-need-requires c κs = let s = c .before .before .before .before .before .before .before .before .before .before .before .before .before in let l = listed _ (s .args .vertices .now) (s .args .facets .now) _ (sym (c .before .before .before .before .before .before .before .before .before .before .check-lists .ensures) ∙ c .before .before .before .before .before .before .before .before .enum-told2 .given .1) in omega (arith, l .few-vertices, l .few-facets)
 
--- src/lib.rt:45:9
 returns-6 : tie.Need-returns-6
 returns-6 c = let s = c .before .before .before .before .before .before .before .before .before .before .before .before .before .before .before in room-refused (s .args .vertices .now) (s .args .facets .now) (s .args .extents) (s .args .eps) (s .args .lent) (sym (c .before .before .before .before .before .before .before .before .before .before .before .before .check-lists .ensures) ∙ c .before .before .before .before .before .before .before .before .before .before .enum-told2 .given .1) (ap not (and-next _ _ _ (sym (c .before .before .before .before .before .before .before .before .before .all-in-range .ensures) ∙ not-false _ (c .before .before .before .before .before .before .before .before .if1 .left)) (and-next _ _ _ (sym (c .before .before .before .before .before .before .before .box-in-range .ensures) ∙ not-false _ (c .before .before .before .before .before .before .if2 .left)) (sym (c .before .before .before .before .before .eps-in-range .ensures) ∙ not-false _ (c .before .before .before .before .if3 .left))))) (sym (c .before .before .before .is-bad-box .ensures) ∙ c .before .before .if4 .left) _ (c .before .work-need .ensures) (c .if5 .taken)
 
--- src/lib.rt:24:1
 returns-7 : tie.Need-returns-7
 returns-7 c = let s = c .before .before .before .before .before .before .before .before .before .before .before .before .before .before .before in all-passed (s .args .vertices .now) (s .args .facets .now) (s .args .extents) (s .args .eps) (s .args .lent) (sym (c .before .before .before .before .before .before .before .before .before .before .before .before .check-lists .ensures) ∙ c .before .before .before .before .before .before .before .before .before .before .enum-told2 .given .1) (ap not (and-next _ _ _ (sym (c .before .before .before .before .before .before .before .before .before .all-in-range .ensures) ∙ not-false _ (c .before .before .before .before .before .before .before .before .if1 .left)) (and-next _ _ _ (sym (c .before .before .before .before .before .before .before .box-in-range .ensures) ∙ not-false _ (c .before .before .before .before .before .before .if2 .left)) (sym (c .before .before .before .before .before .eps-in-range .ensures) ∙ not-false _ (c .before .before .before .before .if3 .left))))) (sym (c .before .before .before .is-bad-box .ensures) ∙ c .before .before .if4 .left) _ (c .before .work-need .ensures) (c .if5 .left)
 

@@ -20,35 +20,27 @@ use Rattle.refusals.proofs.boxes.is_bad_box.Reads as is-bad-box-reads
 use Rattle.rounding.proofs.max.Reads as max-reads
 use Rattle.tolerance.proofs.sides.Reads as sides-reads
 
--- src/lib.rt:38:9
 box-in-range-requires : tie.Need-box-in-range-requires
 box-in-range-requires c κs = search needs
 
--- src/lib.rt:39:9
 returns : tie.Need-returns
 returns c = refused _ _ (reply-bad-number _ (sym (c .before .box-in-range .ensures) ∙ not-true _ (c .if1 .taken)))
 
--- src/lib.rt:41:8
 is-bad-box-requires : tie.Need-is-bad-box-requires
 is-bad-box-requires c κs = search needs
 
--- src/lib.rt:42:9
 returns-2 : tie.Need-returns-2
 returns-2 c = refused _ _ (reply-bad-box _ (sym (c .before .before .before .box-in-range .ensures) ∙ not-false _ (c .before .before .if1 .left)) (sym (c .before .is-bad-box .ensures) ∙ c .if2 .taken))
 
--- src/lib.rt:44:16
 sides-requires : tie.Need-sides-requires
 sides-requires c κs = search needs
 
--- src/lib.rt:44:9
 norm-requires : tie.Need-norm-requires
 norm-requires c κs = subst⁻¹ (λ (q : Point). T (rootable (norm2 q))) (c .sides .ensures) (sides-rootable _ (sym (c .before .before .before .before .box-in-range .ensures) ∙ not-false _ (c .before .before .before .if1 .left)))
 
--- src/lib.rt:45:29
 max-requires : tie.Need-max-requires
 max-requires c κs = search needs
 
--- src/lib.rt:35:1
 returns-3 : tie.Need-returns-3
 unfolding tolerance
 returns-3 c = tolerated _ _ (ap (λ (d : Float). 1e-10 ⊗ d) (c .max .ensures ∙ ap (λ (d : Float). larger d oneF) (c .before .norm .ensures ∙ ap norm (c .before .before .sides .ensures)))) (sym (c .before .before .before .before .before .before .box-in-range .ensures) ∙ not-false _ (c .before .before .before .before .before .if1 .left)) (sym (c .before .before .before .before .is-bad-box .ensures) ∙ c .before .before .before .if2 .left)

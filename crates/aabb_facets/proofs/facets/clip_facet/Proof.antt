@@ -12,111 +12,84 @@ use Rattle.aabb_facets.proofs.facets.cut_facet.Reads as cut-facet-reads
 use Rattle.aabb_facets.proofs.facets.share_facet.Reads as share-facet-reads
 use Rattle.aabb_facets.proofs.marks.all_marked.Reads as all-marked-reads
 
--- src/facets.rt:174:20
 mul-a : tie.Need-mul-a
 mul-a c = search needs
 
--- src/facets.rt:174:13
 mul-a-2 : tie.Need-mul-a-2
 mul-a-2 c = search needs
 
--- src/facets.rt:174:13
 shared-slice-read-a : tie.Need-shared-slice-read-a
 shared-slice-read-a c = search needs
 
--- src/facets.rt:174:13
 cast-a : tie.Need-cast-a
 cast-a c = let s = c .before .before .before .before .before .before .before .before in omega (arith, c .shared-slice-known3 .given (3 * s .args .i))
 
--- src/facets.rt:175:20
 mul-b : tie.Need-mul-b
 mul-b c = search needs
 
--- src/facets.rt:175:20
 add-b : tie.Need-add-b
 add-b c = search needs
 
--- src/facets.rt:175:13
 mul-b-2 : tie.Need-mul-b-2
 mul-b-2 c = search needs
 
--- src/facets.rt:175:13
 shared-slice-read-b : tie.Need-shared-slice-read-b
 shared-slice-read-b c = search needs
 
--- src/facets.rt:175:13
 cast-b : tie.Need-cast-b
 cast-b c = let s = c .before .before .before .before .before .before .before .before .before in omega (arith, c .shared-slice-known4 .given (3 * s .args .i + 1))
 
--- src/facets.rt:176:20
 mul-c : tie.Need-mul-c
 mul-c c = search needs
 
--- src/facets.rt:176:20
 add-c : tie.Need-add-c
 add-c c = search needs
 
--- src/facets.rt:176:13
 mul-c-2 : tie.Need-mul-c-2
 mul-c-2 c = search needs
 
--- src/facets.rt:176:13
 shared-slice-read-c : tie.Need-shared-slice-read-c
 shared-slice-read-c c = search needs
 
--- src/facets.rt:176:13
 cast-c : tie.Need-cast-c
 cast-c c = let s = c .before .before .before .before .before .before .before .before .before .before in omega (arith, c .shared-slice-known5 .given (3 * s .args .i + 2))
 
--- src/facets.rt:177:8
 all-marked-requires : tie.Need-all-marked-requires
 all-marked-requires c κs = let s = c .before .before .before .before .before .before .before .before .before .before .before in ((s .pre .1 .1 .0 (3 * s .args .i) (omega (arith, s .pre .1 .0))) .0, ((s .pre .1 .1 .0 (3 * s .args .i + 1) (omega (arith, s .pre .1 .0))) .0, (s .pre .1 .1 .0 (3 * s .args .i + 2) (omega (arith, s .pre .1 .0))) .0))
 
--- src/facets.rt:178:9
 share-facet-requires : tie.Need-share-facet-requires
 share-facet-requires c κs = search needs
 
--- src/facets.rt:178:9
 same-length : tie.Need-same-length
 same-length c = search needs
 
--- src/facets.rt:178:9
 same-length-2 : tie.Need-same-length-2
 same-length-2 c = search needs
 
--- src/facets.rt:178:9
 same-length-3 : tie.Need-same-length-3
 same-length-3 c = search needs
 
--- src/facets.rt:178:9
 returns : tie.Need-returns
 returns c = let s = c .before .before .before .before .before .before .before .before .before .before .before .before .before .before .before .before .before .before .before .before .before .before .before in (facet-shared (s .args .vertices .now) (s .args .facets .now) (s .args .extents) (s .args .eps) (room (s .args .at) (s .args .ids .now) (s .args .out-vertices .now) (s .args .out-facets .now)) (s .args .i) _ (c .before .before .before .before .before .before .before .before .before .before .before .all-marked .result) (c .before .before .before .before .before .before .before .before .before .before .before .all-marked .ensures) (c .before .before .before .before .before .before .before .before .before .before .if1 .taken) (c .before .before .before .before .before .before .share-facet .ensures .0), (omega (arith, c .before .before .before .before .before .before .share-facet .ensures .1), omega (arith, c .before .before .before .before .before .before .share-facet .ensures .1)))
 
--- src/facets.rt:190:5
 cut-facet-requires : tie.Need-cut-facet-requires
 cut-facet-requires c κs = let s = c .before .before .before .before .before .before .before .before .before .before .before .before .before .before .before .before .before in (s .pre .0, (((s .pre .1 .1 .0 (3 * s .args .i) (omega (arith, s .pre .1 .0))) .1, ((s .pre .1 .1 .0 (3 * s .args .i + 1) (omega (arith, s .pre .1 .0))) .1, (s .pre .1 .1 .0 (3 * s .args .i + 2) (omega (arith, s .pre .1 .0))) .1)), s .pre .1 .1 .1 .1))
 
--- src/facets.rt:153:1
 same-length-4 : tie.Need-same-length-4
 same-length-4 c = search needs
 
--- src/facets.rt:153:1
 same-length-5 : tie.Need-same-length-5
 same-length-5 c = search needs
 
--- src/facets.rt:153:1
 same-length-6 : tie.Need-same-length-6
 same-length-6 c = search needs
 
--- src/facets.rt:153:1
 same-length-7 : tie.Need-same-length-7
 same-length-7 c = search needs
 
--- src/facets.rt:153:1
 same-length-8 : tie.Need-same-length-8
 same-length-8 c = search needs
 
--- src/facets.rt:153:1
 returns-2 : tie.Need-returns-2
 returns-2 c = let s = c .before .before .before .before .before .before .before .before .before .before .before .before .before .before .before .before .before .before .before .before .before .before .before .before .before .before in (facet-fanned (s .args .vertices .now) (s .args .facets .now) (s .args .extents) (s .args .eps) (room (s .args .at) (s .args .ids .now) (s .args .out-vertices .now) (s .args .out-facets .now)) (s .args .i) _ (c .before .before .before .before .before .before .before .before .before .before .before .before .before .before .all-marked .result) (c .before .before .before .before .before .before .before .before .before .before .before .before .before .before .all-marked .ensures) (c .before .before .before .before .before .before .before .before .before .before .before .before .before .if1 .left) (c .before .before .before .before .before .before .before .before .cut-facet .ensures .0 (s .args .ids .now)), c .before .before .before .before .before .before .before .before .cut-facet .ensures .1)
 

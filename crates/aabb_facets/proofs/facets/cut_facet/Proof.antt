@@ -16,43 +16,33 @@ use Rattle.aabb_facets.proofs.facets.put_fanned.Reads as put-fanned-rea
 use Rattle.aabb_polygons.proofs.corners.vertex_at.Reads as vertex-at-reads
 use Rattle.aabb_polygons.proofs.polygon.clip_polygon.Reads as clip-polygon-reads
 
--- src/facets.rt:145:9
 vertex-at-requires : tie.Need-vertex-at-requires
 vertex-at-requires c κs = search needs
 
--- src/facets.rt:146:9
 vertex-at-requires-2 : tie.Need-vertex-at-requires-2
 vertex-at-requires-2 c κs = search needs
 
--- src/facets.rt:147:9
 vertex-at-requires-3 : tie.Need-vertex-at-requires-3
 vertex-at-requires-3 c κs = search needs
 
--- src/facets.rt:148:9
 clip-polygon-requires : tie.Need-clip-polygon-requires
 clip-polygon-requires c κs = search needs
 
--- src/facets.rt:149:5
 put-fanned-requires : tie.Need-put-fanned-requires
 put-fanned-requires c κs = let s = c .before .before .before .before .before .before .before .before .before .before .before .before .before .before .before .before .before .before in (omega (arith, s .pre .0, c .before .before .before .before .before .before .before .clip-polygon .kept), (c .before .before .before .before .before .before .before .clip-polygon .ensures .1, (omega (arith, s .pre .1 .1), omega (arith, s .pre .1 .1))))
 
--- src/facets.rt:126:1
 same-length : tie.Need-same-length
 same-length c = search needs
 
--- src/facets.rt:126:1
 same-length-2 : tie.Need-same-length-2
 same-length-2 c = search needs
 
--- src/facets.rt:126:1
 same-length-3 : tie.Need-same-length-3
 same-length-3 c = search needs
 
--- src/facets.rt:126:1
 same-length-4 : tie.Need-same-length-4
 same-length-4 c = search needs
 
--- src/facets.rt:126:1
 returns : tie.Need-returns
 returns c = let s = c .before .before .before .before .before .before .before .before .before .before .before .before .before .before .before .before .before .before .before .before .before .before .before in let g = fan-grows (room (s .args .at) [] (s .args .out-vertices .now) (s .args .out-facets .now)) (corners (c .before .before .before .before .before .before .before .before .before .before .before .before .clip-polygon .last .0) (c .before .before .before .before .before .before .before .before .before .before .before .before .clip-polygon .result)) (omega (arith, c .before .before .before .before .before .before .before .before .before .before .before .before .clip-polygon .ensures .1, points-length (c .before .before .before .before .before .before .before .before .before .before .before .before .clip-polygon .last .0) 0 (c .before .before .before .before .before .before .before .before .before .before .before .before .clip-polygon .result))) in let e = c .before .before .before .before .put-fanned .ensures [] in ((λ i. c .before .before .before .before .put-fanned .ensures i ∙ ap (fanRoom (room (s .args .at) i (s .args .out-vertices .now) (s .args .out-facets .now))) (c .before .before .before .before .before .before .before .before .before .before .before .before .clip-polygon .ensures .0 ∙ (λ t. clipPolygon (s .args .extents) (s .args .eps) faces (c .before .before .before .before .before .before .before .before .before .before .before .before .before .before .before .before .before .vertex-at .ensures t ∷ c .before .before .before .before .before .before .before .before .before .before .before .before .before .before .before .before .vertex-at2 .ensures t ∷ c .before .before .before .before .before .before .before .before .before .before .before .before .before .before .before .vertex-at3 .ensures t ∷ [])))), (omega (arith, g, ap (λ (x : Room). x .nv) e), omega (arith, g, ap (λ (x : Room). x .nf) e)))
 

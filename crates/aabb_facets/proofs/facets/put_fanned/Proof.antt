@@ -11,47 +11,36 @@ use Rattle.aabb_facets.proofs.facets.put_fanned.Lts as lts
 use Rattle.aabb_facets.proofs.outputs.put_corners.Reads as put-corners-reads
 use Rattle.aabb_facets.proofs.outputs.put_fan.Reads as put-fan-reads
 
--- src/facets.rt:115:9
 returns : tie.Need-returns
 returns c = let s = c .before .before .before .before in λ i. fan-few (s .args .at) i (s .args .out-vertices .now) (s .args .out-facets .now) (corners (s .args .polygon .now) (s .args .n)) (omega (arith, c .if1 .taken, points-length (s .args .polygon .now) 0 (s .args .n)))
 
--- src/facets.rt:117:5
 put-corners-requires : tie.Need-put-corners-requires
 put-corners-requires c κs = search needs
 
--- src/facets.rt:118:33
 sub-put-fan : tie.Need-sub-put-fan
 sub-put-fan c = search needs
 
--- src/facets.rt:118:5
 put-fan-requires : tie.Need-put-fan-requires
 put-fan-requires c κs = search needs
 
--- src/facets.rt:120:19
 add-t14 : tie.Need-add-t14
 add-t14 c = search needs
 
--- src/facets.rt:121:28
 sub-t15 : tie.Need-sub-t15
 sub-t15 c = search needs
 
--- src/facets.rt:121:23
 mul-t16 : tie.Need-mul-t16
 mul-t16 c = search needs
 
--- src/facets.rt:121:18
 add-t17 : tie.Need-add-t17
 add-t17 c = search needs
 
--- src/facets.rt:101:1
 same-length : tie.Need-same-length
 same-length c = search needs
 
--- src/facets.rt:101:1
 same-length-2 : tie.Need-same-length-2
 same-length-2 c = search needs
 
--- src/facets.rt:101:1
 returns-2 : tie.Need-returns-2
 returns-2 c = let s = c .before .before .before .before .before .before .before .before .before .before .before .before in λ i. fan-put (s .args .at) i (s .args .out-vertices .now) (s .args .out-facets .now) (corners (s .args .polygon .now) (s .args .n)) (s .args .n) _ _ (sym (points-length (s .args .polygon .now) 0 (s .args .n))) (c .before .before .before .before .before .before .before .before .if1 .left) (c .before .before .before .before .before .before .put-corners .ensures) (c .before .before .put-fan .ensures)
 

@@ -18,91 +18,69 @@ use Rattle.aabb_polygons.proofs.corners.vertex_at.Reads as vertex-at-reads
 use Rattle.aabb_polygons.proofs.snapping.snap_near_bbox.Reads as snap-near-bbox-reads
 use Rattle.words.proofs.put_number.Reads as put-number-reads
 
--- src/facets.rt:42:13
 mul-k : tie.Need-mul-k
 mul-k c = search needs
 
--- src/facets.rt:42:13
 slice-read-k : tie.Need-slice-read-k
 slice-read-k c = search needs
 
--- src/facets.rt:47:28
 vertex-at-requires : tie.Need-vertex-at-requires
 vertex-at-requires c κs = search needs
 
--- src/facets.rt:47:13
 snap-near-bbox-requires : tie.Need-snap-near-bbox-requires
 snap-near-bbox-requires c κs = search needs
 
--- src/facets.rt:44:9
 push-vertex-requires : tie.Need-push-vertex-requires
 push-vertex-requires c κs = search needs
 
--- src/facets.rt:49:36
 cast-put-number : tie.Need-cast-put-number
 cast-put-number c = search needs
 
--- src/facets.rt:49:9
 put-number-requires : tie.Need-put-number-requires
 put-number-requires c κs = search needs
 
--- src/facets.rt:50:19
 add-ids : tie.Need-add-ids
 add-ids c = search needs
 
--- src/facets.rt:50:9
 mul-ids : tie.Need-mul-ids
 mul-ids c = search needs
 
--- src/facets.rt:50:9
 slice-write-ids : tie.Need-slice-write-ids
 slice-write-ids c = search needs
 
--- src/facets.rt:52:23
 add-t24 : tie.Need-add-t24
 add-t24 c = search needs
 
--- src/facets.rt:53:22
 add-t26 : tie.Need-add-t26
 add-t26 c = search needs
 
--- src/facets.rt:51:9
 same-length : tie.Need-same-length
 same-length c = search needs
 
--- src/facets.rt:51:9
 same-length-2 : tie.Need-same-length-2
 same-length-2 c = search needs
 
--- src/facets.rt:51:9
 same-length-3 : tie.Need-same-length-3
 same-length-3 c = search needs
 
--- src/facets.rt:51:9
 returns : tie.Need-returns
 returns c = let s = c .before .before .before .before .before .before .before .before .before .before .before .before .before .before .before .before in share-new (s .args .at) (s .args .ids .now) (s .args .out-vertices .now) (s .args .out-facets .now) (s .args .v) (snapped (s .args .extents) (s .args .eps) (cornerAt (s .args .vertices .now) (s .args .v))) _ (c .before .before .before .before .before .before .push-vertex .last .0) (c .before .before .put-number .last .0) (c .before .before .before .before .before .before .before .before .before .before .if1 .taken) refl (c .before .before .before .before .before .before .push-vertex .ensures ∙ ap (λ (q : Point). sets (s .args .out-vertices .now) (3 * s .args .at .vertices) (coordinates (q ∷ []))) (c .before .before .before .before .before .before .before .snap-near-bbox .ensures ∙ ap (λ (x : Point). snapped (s .args .extents) (s .args .eps) x) (c .before .before .before .before .before .before .before .before .vertex-at .ensures))) (c .before .before .put-number .ensures)
 
--- src/facets.rt:56:33
 sub-put-number : tie.Need-sub-put-number
 sub-put-number c = search needs
 
--- src/facets.rt:56:32
 cast-put-number-2 : tie.Need-cast-put-number-2
 cast-put-number-2 c = search needs
 
--- src/facets.rt:56:5
 put-number-requires-2 : tie.Need-put-number-requires-2
 put-number-requires-2 c κs = search needs
 
--- src/facets.rt:59:18
 add-t12 : tie.Need-add-t12
 add-t12 c = search needs
 
--- src/facets.rt:27:1
 same-length-4 : tie.Need-same-length-4
 same-length-4 c = search needs
 
--- src/facets.rt:27:1
 returns-2 : tie.Need-returns-2
 returns-2 c = let s = c .before .before .before .before .before .before .before .before .before .before in share-old (s .args .at) (s .args .ids .now) (s .args .out-vertices .now) (s .args .out-facets .now) (s .args .v) (snapped (s .args .extents) (s .args .eps) (cornerAt (s .args .vertices .now) (s .args .v))) (c .before .before .put-number2 .last .0) (c .before .before .before .before .if1 .left) (c .before .before .put-number2 .ensures)
 

@@ -5,39 +5,30 @@ use Rattle.aabb_facets.proofs.marks.all_marked.Tie as tie
 use Rattle.aabb_facets.proofs.marks.all_marked.Reads as reads
 use Rattle.aabb_facets.proofs.marks.all_marked.Lts as lts
 
--- src/marks.rt:38:8
 mul-if1 : tie.Need-mul-if1
 mul-if1 c = search needs
 
--- src/marks.rt:38:8
 shared-slice-read-if1 : tie.Need-shared-slice-read-if1
 shared-slice-read-if1 c = search needs
 
--- src/marks.rt:39:9
 returns : tie.Need-returns
 returns c = let s = c .before .before in mark-a (s .args .ids .now) (s .args .a) (s .args .b) (s .args .c) (c .if1 .taken)
 
--- src/marks.rt:41:8
 mul-if2 : tie.Need-mul-if2
 mul-if2 c = search needs
 
--- src/marks.rt:41:8
 shared-slice-read-if2 : tie.Need-shared-slice-read-if2
 shared-slice-read-if2 c = search needs
 
--- src/marks.rt:42:9
 returns-2 : tie.Need-returns-2
 returns-2 c = let s = c .before .before .before .before in mark-b (s .args .ids .now) (s .args .a) (s .args .b) (s .args .c) (c .before .before .if1 .left) (c .if2 .taken)
 
--- src/marks.rt:44:5
 mul-result : tie.Need-mul-result
 mul-result c = search needs
 
--- src/marks.rt:44:5
 shared-slice-read-result : tie.Need-shared-slice-read-result
 shared-slice-read-result c = search needs
 
--- src/marks.rt:34:1
 returns-3 : tie.Need-returns-3
 returns-3 c = let s = c .before .before .before .before .before in mark-c (s .args .ids .now) (s .args .a) (s .args .b) (s .args .c) (c .before .before .before .if1 .left) (c .before .if2 .left)
 

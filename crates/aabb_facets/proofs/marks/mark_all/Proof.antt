@@ -20,43 +20,33 @@ Inv-loop vertices extents eps ids₀ v₀ ids v = (v ≤ length ids₀) × Marke
 abbrev μ-loop : tie.MeasureT-loop
 μ-loop vertices extents eps ids₀ v₀ ids v = length ids₀ - v
 
--- src/marks.rt:28:5
 loop-holds : tie.Need-loop-holds Inv-loop μ-loop
 loop-holds c = let s = c .before .before in (search needs, marking-none (s .args .vertices .now) (s .args .extents) (s .args .eps) (s .args .ids .now))
 
--- src/marks.rt:29:26
 vertex-at-requires : tie.Need-vertex-at-requires Inv-loop μ-loop
 vertex-at-requires c κs = let s = c .before .before .before .before in omega (arith, s .pre, c .loop-test .taken, marking-same (s .args .vertices .now) (s .args .extents) (s .args .eps) (s .args .ids .now) (c .before .loop .ids) (c .before .loop .v) (c .before .loop .inv .1) (c .before .loop .inv .0))
 
--- src/marks.rt:29:18
 mark-of-requires : tie.Need-mark-of-requires Inv-loop μ-loop
 mark-of-requires c κs = search needs
 
--- src/marks.rt:29:9
 mul-ids : tie.Need-mul-ids Inv-loop μ-loop
 mul-ids c = search needs
 
--- src/marks.rt:29:9
 slice-write-ids : tie.Need-slice-write-ids Inv-loop μ-loop
 slice-write-ids c = c .before .before .loop-test .taken
 
--- src/marks.rt:30:9
 add-v : tie.Need-add-v Inv-loop μ-loop
 add-v c = search needs
 
--- src/marks.rt:28:5
 loop-less : tie.Need-loop-less Inv-loop μ-loop
 loop-less c = let s = c .before .before .before .before .before .before in omega (arith, c .before .before .loop-test .taken, marking-same (s .args .vertices .now) (s .args .extents) (s .args .eps) (s .args .ids .now) (c .before .before .before .loop .ids) (c .before .before .before .loop .v) (c .before .before .before .loop .inv .1) (c .before .before .before .loop .inv .0))
 
--- src/marks.rt:28:5
 loop-again : tie.Need-loop-again Inv-loop μ-loop
 loop-again c = let s = c .before .before .before .before .before .before in marking-more (s .args .vertices .now) (s .args .extents) (s .args .eps) (s .args .ids .now) (c .before .before .before .loop .ids) (c .before .before .before .loop .v) (c .mark-of .result) (c .before .before .before .loop .inv .1) (c .before .before .before .loop .inv .0) (c .before .before .loop-test .taken) (c .mark-of .ensures ∙ ap (λ (p : Point). mark (insideBox (s .args .extents) (s .args .eps) p) 0) (c .before .vertex-at .ensures))
 
--- src/marks.rt:23:1
 same-length : tie.Need-same-length Inv-loop μ-loop
 same-length c = let s = c .before .before .before .before in marking-same (s .args .vertices .now) (s .args .extents) (s .args .eps) (s .args .ids .now) (c .before .loop .ids) (c .before .loop .v) (c .before .loop .inv .1) (c .before .loop .inv .0)
 
--- src/marks.rt:23:1
 returns : tie.Need-returns Inv-loop μ-loop
 returns c = let s = c .before .before .before .before in marking-end (s .args .vertices .now) (s .args .extents) (s .args .eps) (s .args .ids .now) (c .before .loop .ids) (c .before .loop .v) (c .before .loop .inv .1) (c .before .loop .inv .0) (c .loop-test .left)
 

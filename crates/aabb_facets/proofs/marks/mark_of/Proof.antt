@@ -9,16 +9,13 @@ use Rattle.aabb_facets.proofs.marks.mark_of.Reads as reads
 use Rattle.aabb_facets.proofs.marks.mark_of.Lts as lts
 use Rattle.aabb_polygons.proofs.plane.point_inside_aabb.Reads as point-inside-aabb-reads
 
--- src/marks.rt:16:8
 point-inside-aabb-requires : tie.Need-point-inside-aabb-requires
 point-inside-aabb-requires c κs = search needs
 
--- src/marks.rt:13:1
 returns : tie.Need-returns
 unfolding insideBox
 returns c = sym (ap (λ (b : Bool). mark b 0) (sym (c .before .point-inside-aabb .ensures) ∙ c .if1 .taken))
 
--- src/marks.rt:13:1
 returns-2 : tie.Need-returns-2
 unfolding insideBox
 returns-2 c = sym (ap (λ (b : Bool). mark b 0) (sym (c .before .point-inside-aabb .ensures) ∙ c .if1 .left))

@@ -6,43 +6,33 @@ use Rattle.aabb_facets.proofs.outputs.push_vertex.Reads as reads
 use Rattle.aabb_facets.proofs.outputs.push_vertex.Lts as lts
 use Rattle.words.proofs.put_double.Reads as put-double-reads
 
--- src/outputs.rt:21:21
 mul-put-double : tie.Need-mul-put-double
 mul-put-double c = search needs
 
--- src/outputs.rt:21:5
 put-double-requires : tie.Need-put-double-requires
 put-double-requires c κs = search needs
 
--- src/outputs.rt:22:21
 mul-put-double-2 : tie.Need-mul-put-double-2
 mul-put-double-2 c = search needs
 
--- src/outputs.rt:22:21
 add-put-double : tie.Need-add-put-double
 add-put-double c = search needs
 
--- src/outputs.rt:22:5
 put-double-requires-2 : tie.Need-put-double-requires-2
 put-double-requires-2 c κs = search needs
 
--- src/outputs.rt:23:21
 mul-put-double-3 : tie.Need-mul-put-double-3
 mul-put-double-3 c = search needs
 
--- src/outputs.rt:23:21
 add-put-double-2 : tie.Need-add-put-double-2
 add-put-double-2 c = search needs
 
--- src/outputs.rt:23:5
 put-double-requires-3 : tie.Need-put-double-requires-3
 put-double-requires-3 c κs = search needs
 
--- src/outputs.rt:17:1
 same-length : tie.Need-same-length
 same-length c = search needs
 
--- src/outputs.rt:17:1
 returns : tie.Need-returns
 returns c = let s = c .before .before .before .before .before .before .before .before .before .before .before .before .before in point-put _ _ _ _ _ (s .args .p) (c .before .before .before .before .before .before .before .before .before .before .put-double .ensures) (c .before .before .before .before .before .before .put-double2 .ensures) (c .before .before .put-double3 .ensures)
 

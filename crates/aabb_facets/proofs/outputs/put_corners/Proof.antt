@@ -21,39 +21,30 @@ Inv-loop out₀ k polygon n j₀ out j = (j ≤ n) × ((length out ≡ length ou
 abbrev μ-loop : tie.MeasureT-loop
 μ-loop out₀ k polygon n j₀ out j = n - j
 
--- src/outputs.rt:33:5
 loop-holds : tie.Need-loop-holds Inv-loop μ-loop
 loop-holds c = let s = c .before .before in (search needs, (refl, corners-start _ (corners (s .args .polygon .now) (s .args .n)) _))
 
--- src/outputs.rt:34:26
 add-push-vertex : tie.Need-add-push-vertex Inv-loop μ-loop
 add-push-vertex c = omega (arith, c .before .before .before .before .before .pre, c .before .loop-test .taken)
 
--- src/outputs.rt:34:33
 vertex-at-requires : tie.Need-vertex-at-requires Inv-loop μ-loop
 vertex-at-requires c κs = omega (arith, c .before .before .before .before .before .pre, c .before .loop-test .taken)
 
--- src/outputs.rt:34:9
 push-vertex-requires : tie.Need-push-vertex-requires Inv-loop μ-loop
 push-vertex-requires c κs = let s = c .before .before .before .before .before .before in omega (arith, s .pre, c .before .before .loop-test .taken)
 
--- src/outputs.rt:35:9
 add-j : tie.Need-add-j Inv-loop μ-loop
 add-j c = search needs
 
--- src/outputs.rt:33:5
 loop-less : tie.Need-loop-less Inv-loop μ-loop
 loop-less c = search needs
 
--- src/outputs.rt:33:5
 loop-again : tie.Need-loop-again Inv-loop μ-loop
 loop-again c = let s = c .before .before .before .before .before .before .before .before .before in (search needs, (c .before .before .push-vertex .kept .0 ∙ c .before .before .before .before .before .before .loop .inv .1 .0, corners-more (c .before .before .before .before .before .before .loop .out) (c .before .before .push-vertex .last .0) (corners (s .args .polygon .now) (s .args .n)) (s .args .k) (c .before .before .before .before .before .before .loop .j) (c .before .before .before .vertex-at .result) (c .before .before .before .vertex-at .result) (omega (arith, c .before .before .before .before .before .loop-test .taken, points-length (s .args .polygon .now) 0 (s .args .n))) (at (s .args .polygon .now) (s .args .n) (c .before .before .before .before .before .before .loop .j) (c .before .before .before .vertex-at .result) (c .before .before .before .before .before .loop-test .taken) ∙ sym (c .before .before .before .vertex-at .ensures)) (c .before .before .push-vertex .ensures) ∙ c .before .before .before .before .before .before .loop .inv .1 .1))
 
--- src/outputs.rt:27:1
 same-length : tie.Need-same-length Inv-loop μ-loop
 same-length c = c .before .loop .inv .1 .0
 
--- src/outputs.rt:27:1
 returns : tie.Need-returns Inv-loop μ-loop
 returns c = let s = c .before .before .before .before in sym (corners-end (c .before .loop .out) _ (corners (s .args .polygon .now) (s .args .n)) (c .before .loop .j) (omega (arith, c .loop-test .left, points-length (s .args .polygon .now) 0 (s .args .n)))) ∙ c .before .loop .inv .1 .1
 

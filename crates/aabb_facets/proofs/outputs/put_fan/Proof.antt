@@ -19,95 +19,72 @@ Inv-loop out₀ at base n j₀ out j = (j ≤ n) × ((length out ≡ length out�
 abbrev μ-loop : tie.MeasureT-loop
 μ-loop out₀ at base n j₀ out j = n - j
 
--- src/outputs.rt:45:5
 loop-holds : tie.Need-loop-holds Inv-loop μ-loop
 loop-holds c = (search needs, (refl, fan-start _ _ _ _))
 
--- src/outputs.rt:46:20
 add-prev : tie.Need-add-prev Inv-loop μ-loop
 add-prev c = search needs
 
--- src/outputs.rt:46:20
 add-prev-2 : tie.Need-add-prev-2 Inv-loop μ-loop
 add-prev-2 c = search needs
 
--- src/outputs.rt:47:30
 mul-put-number : tie.Need-mul-put-number Inv-loop μ-loop
 mul-put-number c = search needs
 
--- src/outputs.rt:47:25
 add-put-number : tie.Need-add-put-number Inv-loop μ-loop
 add-put-number c = search needs
 
--- src/outputs.rt:47:37
 cast-put-number : tie.Need-cast-put-number Inv-loop μ-loop
 cast-put-number c = search needs
 
--- src/outputs.rt:47:9
 put-number-requires : tie.Need-put-number-requires Inv-loop μ-loop
 put-number-requires c κs = search needs
 
--- src/outputs.rt:48:30
 mul-put-number-2 : tie.Need-mul-put-number-2 Inv-loop μ-loop
 mul-put-number-2 c = search needs
 
--- src/outputs.rt:48:25
 add-put-number-2 : tie.Need-add-put-number-2 Inv-loop μ-loop
 add-put-number-2 c = search needs
 
--- src/outputs.rt:48:25
 add-put-number-3 : tie.Need-add-put-number-3 Inv-loop μ-loop
 add-put-number-3 c = search needs
 
--- src/outputs.rt:48:41
 cast-put-number-2 : tie.Need-cast-put-number-2 Inv-loop μ-loop
 cast-put-number-2 c = search needs
 
--- src/outputs.rt:48:9
 put-number-requires-2 : tie.Need-put-number-requires-2 Inv-loop μ-loop
 put-number-requires-2 c κs = search needs
 
--- src/outputs.rt:49:30
 mul-put-number-3 : tie.Need-mul-put-number-3 Inv-loop μ-loop
 mul-put-number-3 c = search needs
 
--- src/outputs.rt:49:25
 add-put-number-4 : tie.Need-add-put-number-4 Inv-loop μ-loop
 add-put-number-4 c = search needs
 
--- src/outputs.rt:49:25
 add-put-number-5 : tie.Need-add-put-number-5 Inv-loop μ-loop
 add-put-number-5 c = search needs
 
--- src/outputs.rt:49:42
 add-put-number-6 : tie.Need-add-put-number-6 Inv-loop μ-loop
 add-put-number-6 c = search needs
 
--- src/outputs.rt:49:41
 cast-put-number-3 : tie.Need-cast-put-number-3 Inv-loop μ-loop
 cast-put-number-3 c = search needs
 
--- src/outputs.rt:49:9
 put-number-requires-3 : tie.Need-put-number-requires-3 Inv-loop μ-loop
 put-number-requires-3 c κs = search needs
 
--- src/outputs.rt:50:9
 add-j : tie.Need-add-j Inv-loop μ-loop
 add-j c = search needs
 
--- src/outputs.rt:45:5
 loop-less : tie.Need-loop-less Inv-loop μ-loop
 loop-less c = search needs
 
--- src/outputs.rt:45:5
 loop-again : tie.Need-loop-again Inv-loop μ-loop
 loop-again c = (search needs, (c .before .before .put-number3 .kept .0 ∙ c .before .before .before .before .before .before .put-number2 .kept .0 ∙ c .before .before .before .before .before .before .before .before .before .before .put-number .kept .0 ∙ c .before .before .before .before .before .before .before .before .before .before .before .before .before .loop .inv .1 .0, fan-more _ _ _ _ _ _ _ _ (c .before .before .before .before .before .before .before .before .before .before .before .before .loop-test .taken) (c .before .before .before .before .before .before .before .before .before .before .put-number .ensures) (c .before .before .before .before .before .before .put-number2 .ensures) (c .before .before .put-number3 .ensures) ∙ c .before .before .before .before .before .before .before .before .before .before .before .before .before .loop .inv .1 .1))
 
--- src/outputs.rt:40:1
 same-length : tie.Need-same-length Inv-loop μ-loop
 same-length c = search needs
 
--- src/outputs.rt:40:1
 returns : tie.Need-returns Inv-loop μ-loop
 returns c = sym (fan-end _ _ _ _ _ (omega arith)) ∙ c .before .loop .inv .1 .1
 

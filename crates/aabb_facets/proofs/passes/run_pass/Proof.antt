@@ -12,31 +12,24 @@ use Rattle.aabb_facets.proofs.marks.mark_all.Reads as mark-all-reads
 use Rattle.aabb_facets.proofs.passes.clip_pass.Reads as clip-pass-reads
 use Rattle.words.proofs.zero.Reads as zero-reads
 
--- src/passes.rt:74:5
 mark-all-requires : tie.Need-mark-all-requires
 mark-all-requires c κs = search needs
 
--- src/passes.rt:75:9
 clip-pass-requires : tie.Need-clip-pass-requires
 clip-pass-requires c κs = let s = c .before .before .before .before .before .before .before .before .before .before .before .before in (s .pre .0, (s .pre .1 .0, c .before .before .before .before .before .mark-all .ensures ∙ ap (λ (k : ℕ). marks (s .args .vertices .now) (s .args .extents) (s .args .eps) 0 (replicate k 0)) (s .pre .1 .1)))
 
--- src/passes.rt:84:5
 zero-requires : tie.Need-zero-requires
 zero-requires c κs = search needs
 
--- src/passes.rt:59:1
 same-length : tie.Need-same-length
 same-length c = search needs
 
--- src/passes.rt:59:1
 same-length-2 : tie.Need-same-length-2
 same-length-2 c = search needs
 
--- src/passes.rt:59:1
 same-length-3 : tie.Need-same-length-3
 same-length-3 c = search needs
 
--- src/passes.rt:59:1
 returns : tie.Need-returns
 unfolding clipped
 returns c = (record { count = ap (λ (x : Room). x .nv) (c .before .before .before .before .before .before .before .before .before .before .clip-pass .ensures .0); numbers = ap (λ (x : Room). x .nf) (c .before .before .before .before .before .before .before .before .before .before .clip-pass .ensures .0); vertices = ap (λ (x : Room). x .vs) (c .before .before .before .before .before .before .before .before .before .before .clip-pass .ensures .0); facets = ap (λ (x : Room). x .fs) (c .before .before .before .before .before .before .before .before .before .before .clip-pass .ensures .0); zero = c .before .before .zero .ensures ∙ ap (λ (k : ℕ). replicate k 0) (c .before .before .before .before .before .before .before .before .before .before .clip-pass .kept .1 .1 .1 .1 .0 ∙ c .before .before .before .before .before .before .before .before .before .before .before .before .before .before .before .before .mark-all .kept .1 .1 .1 .0) }, c .before .before .before .before .before .before .before .before .before .before .clip-pass .ensures .1)

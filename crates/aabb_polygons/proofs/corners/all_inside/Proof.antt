@@ -23,35 +23,27 @@ Inv-loop polygon n plane extents eps i₀ i = (i ≤ n) × (every (λ p. inside 
 abbrev μ-loop : tie.MeasureT-loop
 μ-loop polygon n plane extents eps i₀ i = n - i
 
--- src/corners.rt:52:5
 loop-holds : tie.Need-loop-holds Inv-loop μ-loop
 loop-holds c = (search needs, refl)
 
--- src/corners.rt:53:32
 vertex-at-requires : tie.Need-vertex-at-requires Inv-loop μ-loop
 vertex-at-requires c κs = omega (arith, c .before .before .before .pre, c .before .loop .inv .0, c .loop-test .taken)
 
--- src/corners.rt:53:13
 point-inside-plane-requires : tie.Need-point-inside-plane-requires Inv-loop μ-loop
 point-inside-plane-requires c κs = search needs
 
--- src/corners.rt:54:13
 returns : tie.Need-returns Inv-loop μ-loop
 returns c = let s = c .before .before .before .before .before .before in sym (every-stop (λ p. inside (s .args .extents) (s .args .eps) (faceOf (s .args .plane)) p) (corners (s .args .polygon .now) (s .args .n)) (c .before .before .before .before .loop .i) (c .before .before .before .before .loop .inv .1) (c .before .before .vertex-at .result) (omega (arith, c .before .before .before .loop-test .taken, points-length (s .args .polygon .now) 0 (s .args .n))) (ap (λ (p : Point). inside (s .args .extents) (s .args .eps) (faceOf (s .args .plane)) p) (at (s .args .polygon .now) (s .args .n) (c .before .before .before .before .loop .i) (c .before .before .vertex-at .result) (c .before .before .before .loop-test .taken) ∙ sym (c .before .before .vertex-at .ensures)) ∙ sym (c .before .point-inside-plane .ensures) ∙ not-true _ (c .if1 .taken)))
 
--- src/corners.rt:56:9
 add-i : tie.Need-add-i Inv-loop μ-loop
 add-i c = search needs
 
--- src/corners.rt:52:5
 loop-less : tie.Need-loop-less Inv-loop μ-loop
 loop-less c = search needs
 
--- src/corners.rt:52:5
 loop-again : tie.Need-loop-again Inv-loop μ-loop
 loop-again c = let s = c .before .before .before .before .before .before in (search needs, every-more (λ p. inside (s .args .extents) (s .args .eps) (faceOf (s .args .plane)) p) (corners (s .args .polygon .now) (s .args .n)) (c .before .before .before .before .loop .i) (c .before .before .before .before .loop .inv .1) (c .before .before .vertex-at .result) (omega (arith, c .before .before .before .loop-test .taken, points-length (s .args .polygon .now) 0 (s .args .n))) (ap (λ (p : Point). inside (s .args .extents) (s .args .eps) (faceOf (s .args .plane)) p) (at (s .args .polygon .now) (s .args .n) (c .before .before .before .before .loop .i) (c .before .before .vertex-at .result) (c .before .before .before .loop-test .taken) ∙ sym (c .before .before .vertex-at .ensures)) ∙ sym (c .before .point-inside-plane .ensures) ∙ not-false _ (c .if1 .left)))
 
--- src/corners.rt:46:1
 returns-2 : tie.Need-returns-2 Inv-loop μ-loop
 returns-2 c = let s = c .before .before .before in sym (every-end (λ p. inside (s .args .extents) (s .args .eps) (faceOf (s .args .plane)) p) (corners (s .args .polygon .now) (s .args .n)) (c .before .loop .i) (c .before .loop .inv .1) (omega (arith, c .loop-test .left, points-length (s .args .polygon .now) 0 (s .args .n))))
 

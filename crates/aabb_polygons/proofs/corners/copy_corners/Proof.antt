@@ -18,35 +18,27 @@ Inv-loop to₀ from n i₀ to i = (i ≤ n) × ((length to ≡ length to₀) × 
 abbrev μ-loop : tie.MeasureT-loop
 μ-loop to₀ from n i₀ to i = n - i
 
--- src/corners.rt:82:5
 loop-holds : tie.Need-loop-holds Inv-loop μ-loop
 loop-holds c = let s = c .before .before in (search needs, (refl, copy-none (s .args .to .now) (s .args .from .now)))
 
--- src/corners.rt:83:28
 vertex-at-requires : tie.Need-vertex-at-requires Inv-loop μ-loop
 vertex-at-requires c κs = omega (arith, c .before .before .before .before .before .pre, c .before .before .loop .inv .0, c .before .loop-test .taken)
 
--- src/corners.rt:83:9
 push-corner-requires : tie.Need-push-corner-requires Inv-loop μ-loop
 push-corner-requires c κs = let s = c .before .before .before .before .before .before in (omega (arith, s .pre, c .before .before .loop-test .taken), omega (arith, s .pre, c .before .before .before .loop .inv .1 .0))
 
--- src/corners.rt:84:9
 add-i : tie.Need-add-i Inv-loop μ-loop
 add-i c = search needs
 
--- src/corners.rt:82:5
 loop-less : tie.Need-loop-less Inv-loop μ-loop
 loop-less c = search needs
 
--- src/corners.rt:82:5
 loop-again : tie.Need-loop-again Inv-loop μ-loop
 loop-again c = let s = c .before .before .before .before .before .before .before .before .before in (search needs, (c .before .before .push-corner .kept .0 ∙ c .before .before .before .before .before .before .loop .inv .1 .0, copy-more (c .before .before .before .before .before .before .loop .to) (s .args .from .now) (c .before .before .push-corner .last .0) (c .before .before .before .before .before .before .loop .i) (c .before .before .before .vertex-at .result) (c .before .before .before .before .before .before .loop .inv .1 .1) (c .before .before .before .vertex-at .ensures) (c .before .before .push-corner .ensures)))
 
--- src/corners.rt:76:1
 same-length : tie.Need-same-length Inv-loop μ-loop
 same-length c = c .before .loop .inv .1 .0
 
--- src/corners.rt:76:1
 returns : tie.Need-returns Inv-loop μ-loop
 returns c = let s = c .before .before .before .before in let e : c .before .loop .i ≡ s .args .n = omega (arith, c .loop-test .left, c .before .loop .inv .0) in ap (corners (c .before .loop .to)) (sym e) ∙ c .before .loop .inv .1 .1 ∙ ap (corners (s .args .from .now)) e
 

@@ -8,55 +8,42 @@ use Rattle.aabb_polygons.proofs.corners.push_corner.Tie as tie
 use Rattle.aabb_polygons.proofs.corners.push_corner.Reads as reads
 use Rattle.aabb_polygons.proofs.corners.push_corner.Lts as lts
 
--- src/corners.rt:32:9
 mul-out : tie.Need-mul-out
 mul-out c = search needs
 
--- src/corners.rt:32:5
 mul-out-2 : tie.Need-mul-out-2
 mul-out-2 c = search needs
 
--- src/corners.rt:32:5
 slice-write-out : tie.Need-slice-write-out
 slice-write-out c = search needs
 
--- src/corners.rt:33:9
 mul-out-3 : tie.Need-mul-out-3
 mul-out-3 c = search needs
 
--- src/corners.rt:33:9
 add-out : tie.Need-add-out
 add-out c = search needs
 
--- src/corners.rt:33:5
 mul-out-4 : tie.Need-mul-out-4
 mul-out-4 c = search needs
 
--- src/corners.rt:33:5
 slice-write-out-2 : tie.Need-slice-write-out-2
 slice-write-out-2 c = omega (arith, c .pre, length-set (c .args .out .now) (3 * c .args .n) (c .args .p .x))
 
--- src/corners.rt:34:9
 mul-out-5 : tie.Need-mul-out-5
 mul-out-5 c = search needs
 
--- src/corners.rt:34:9
 add-out-2 : tie.Need-add-out-2
 add-out-2 c = search needs
 
--- src/corners.rt:34:5
 mul-out-6 : tie.Need-mul-out-6
 mul-out-6 c = search needs
 
--- src/corners.rt:34:5
 slice-write-out-3 : tie.Need-slice-write-out-3
 slice-write-out-3 c = omega (arith, c .pre, length-set (c .args .out .now) (3 * c .args .n) (c .args .p .x), length-set (set (c .args .out .now) (3 * c .args .n) (c .args .p .x)) (3 * c .args .n + 1) (c .args .p .y))
 
--- src/corners.rt:28:1
 same-length : tie.Need-same-length
 same-length c = search needs
 
--- src/corners.rt:28:1
 returns : tie.Need-returns
 returns c = pushed (c .args .out .now) (c .args .n) (c .args .p) (c .pre .0) (c .pre .1)
 

@@ -6,23 +6,18 @@ use Rattle.aabb_polygons.proofs.corners.put_triangle.Reads as reads
 use Rattle.aabb_polygons.proofs.corners.put_triangle.Lts as lts
 use Rattle.aabb_polygons.proofs.corners.push_corner.Reads as push-corner-reads
 
--- src/corners.rt:41:5
 push-corner-requires : tie.Need-push-corner-requires
 push-corner-requires c κs = search needs
 
--- src/corners.rt:42:5
 push-corner-requires-2 : tie.Need-push-corner-requires-2
 push-corner-requires-2 c κs = search needs
 
--- src/corners.rt:43:5
 push-corner-requires-3 : tie.Need-push-corner-requires-3
 push-corner-requires-3 c κs = search needs
 
--- src/corners.rt:37:1
 same-length : tie.Need-same-length
 same-length c = search needs
 
--- src/corners.rt:37:1
 returns : tie.Need-returns
 returns c = let s = c .before .before .before .before .before .before .before .before .before .before .before .before .before in three-put (s .args .out .now) (c .before .before .before .before .before .before .before .before .before .before .push-corner .last .0) (c .before .before .before .before .before .before .push-corner2 .last .0) (c .before .before .push-corner3 .last .0) (s .args .a) (s .args .b) (s .args .c) (c .before .before .before .before .before .before .before .before .before .before .push-corner .ensures) (c .before .before .before .before .before .before .push-corner2 .ensures) (c .before .before .push-corner3 .ensures)
 

@@ -21,39 +21,30 @@ Inv-loop to₀ from n extents eps i₀ to i = (i ≤ n) × ((length to ≡ lengt
 abbrev μ-loop : tie.MeasureT-loop
 μ-loop to₀ from n extents eps i₀ to i = n - i
 
--- src/corners.rt:94:5
 loop-holds : tie.Need-loop-holds Inv-loop μ-loop
 loop-holds c = let s = c .before .before in (search needs, (refl, snap-none (s .args .to .now) (s .args .from .now) (s .args .extents) (s .args .eps)))
 
--- src/corners.rt:95:43
 vertex-at-requires : tie.Need-vertex-at-requires Inv-loop μ-loop
 vertex-at-requires c κs = omega (arith, c .before .before .before .before .before .pre, c .before .before .loop .inv .0, c .before .loop-test .taken)
 
--- src/corners.rt:95:28
 snap-near-bbox-requires : tie.Need-snap-near-bbox-requires Inv-loop μ-loop
 snap-near-bbox-requires c κs = search needs
 
--- src/corners.rt:95:9
 push-corner-requires : tie.Need-push-corner-requires Inv-loop μ-loop
 push-corner-requires c κs = let s = c .before .before .before .before .before .before .before in (omega (arith, s .pre, c .before .before .before .loop-test .taken), omega (arith, s .pre, c .before .before .before .before .loop .inv .1 .0))
 
--- src/corners.rt:96:9
 add-i : tie.Need-add-i Inv-loop μ-loop
 add-i c = search needs
 
--- src/corners.rt:94:5
 loop-less : tie.Need-loop-less Inv-loop μ-loop
 loop-less c = search needs
 
--- src/corners.rt:94:5
 loop-again : tie.Need-loop-again Inv-loop μ-loop
 loop-again c = let s = c .before .before .before .before .before .before .before .before .before .before in (search needs, (c .before .before .push-corner .kept .0 ∙ c .before .before .before .before .before .before .before .loop .inv .1 .0, snap-more (s .args .extents) (s .args .eps) (c .before .before .before .before .before .before .before .loop .to) (s .args .from .now) (c .before .before .push-corner .last .0) (c .before .before .before .before .before .before .before .loop .i) (c .before .before .before .before .vertex-at .result) (c .before .before .before .snap-near-bbox .result) (c .before .before .before .before .before .before .before .loop .inv .1 .1) (c .before .before .before .before .vertex-at .ensures) (c .before .before .before .snap-near-bbox .ensures) (c .before .before .push-corner .ensures)))
 
--- src/corners.rt:88:1
 same-length : tie.Need-same-length Inv-loop μ-loop
 same-length c = c .before .loop .inv .1 .0
 
--- src/corners.rt:88:1
 returns : tie.Need-returns Inv-loop μ-loop
 returns c = let s = c .before .before .before .before in let e : c .before .loop .i ≡ s .args .n = omega (arith, c .loop-test .left, c .before .loop .inv .0) in ap (corners (c .before .loop .to)) (sym e) ∙ c .before .loop .inv .1 .1 ∙ ap (λ (k : ℕ). map (snapped (s .args .extents) (s .args .eps)) (corners (s .args .from .now) k)) e
 

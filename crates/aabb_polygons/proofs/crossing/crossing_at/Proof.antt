@@ -7,30 +7,24 @@ use Rattle.aabb_polygons.proofs.crossing.crossing_at.Reads as reads
 use Rattle.aabb_polygons.proofs.crossing.crossing_at.Lts as lts
 use Rattle.rounding.proofs.within.Reads as within-reads
 
--- src/crossing.rt:19:8
 within-requires : tie.Need-within-requires
 within-requires c κs = search needs
 
--- src/crossing.rt:20:9
 returns : tie.Need-returns
 unfolding crossing
 returns c = simp (sym (c .before .within .ensures) ∙ c .if1 .taken)
 
--- src/crossing.rt:22:8
 within-requires-2 : tie.Need-within-requires-2
 within-requires-2 c κs = search needs
 
--- src/crossing.rt:23:9
 returns-2 : tie.Need-returns-2
 unfolding crossing
 returns-2 c = simp (sym (c .before .before .before .within .ensures) ∙ c .before .before .if1 .left, sym (c .before .within2 .ensures) ∙ c .if2 .taken)
 
--- src/crossing.rt:26:9
 returns-3 : tie.Need-returns-3
 unfolding crossing
 returns-3 c = simp (sym (c .before .before .before .before .within .ensures) ∙ c .before .before .before .if1 .left, sym (c .before .before .within2 .ensures) ∙ c .before .if2 .left, c .if3 .taken)
 
--- src/crossing.rt:14:1
 returns-4 : tie.Need-returns-4
 unfolding crossing
 returns-4 c = simp (sym (c .before .before .before .before .within .ensures) ∙ c .before .before .before .if1 .left, sym (c .before .before .within2 .ensures) ∙ c .before .if2 .left, c .if3 .left)

@@ -6,7 +6,6 @@ use Rattle.aabb_polygons.proofs.crossing.interpolate_points.Tie as tie
 use Rattle.aabb_polygons.proofs.crossing.interpolate_points.Reads as reads
 use Rattle.aabb_polygons.proofs.crossing.interpolate_points.Lts as lts
 
--- src/crossing.rt:44:1
 returns : tie.Need-returns
 unfolding interpolated along
 returns c = refl

@@ -7,23 +7,18 @@ use Rattle.aabb_polygons.proofs.crossing.crossing_at.Reads as crossing-
 use Rattle.aabb_polygons.proofs.plane.coordinate.Reads as coordinate-reads
 use Rattle.aabb_polygons.proofs.plane.plane_coord.Reads as plane-coord-reads
 
--- src/crossing.rt:36:9
 plane-coord-requires : tie.Need-plane-coord-requires
 plane-coord-requires c κs = search needs
 
--- src/crossing.rt:37:9
 coordinate-requires : tie.Need-coordinate-requires
 coordinate-requires c κs = search needs
 
--- src/crossing.rt:38:9
 coordinate-requires-2 : tie.Need-coordinate-requires-2
 coordinate-requires-2 c κs = search needs
 
--- src/crossing.rt:35:5
 crossing-at-requires : tie.Need-crossing-at-requires
 crossing-at-requires c κs = search needs
 
--- src/crossing.rt:32:1
 returns : tie.Need-returns
 returns c = cc
 

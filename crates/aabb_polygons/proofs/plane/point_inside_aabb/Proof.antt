@@ -9,56 +9,44 @@ use Rattle.aabb_polygons.proofs.plane.point_inside_aabb.Reads as reads
 use Rattle.aabb_polygons.proofs.plane.point_inside_aabb.Lts as lts
 use Rattle.aabb_polygons.proofs.plane.point_inside_plane.Reads as point-inside-plane-reads
 
--- src/plane.rt:105:9
 point-inside-plane-requires : tie.Need-point-inside-plane-requires
 point-inside-plane-requires c κs = search needs
 
--- src/plane.rt:106:9
 returns : tie.Need-returns
 unfolding every
 returns c = sym (and-stop _ _ (sym (c .before .point-inside-plane .ensures) ∙ not-true _ (c .if1 .taken)))
 
--- src/plane.rt:108:9
 point-inside-plane-requires-2 : tie.Need-point-inside-plane-requires-2
 point-inside-plane-requires-2 c κs = search needs
 
--- src/plane.rt:109:9
 returns-2 : tie.Need-returns-2
 unfolding every
 returns-2 c = sym (and-next _ _ _ (sym (c .before .before .before .point-inside-plane .ensures) ∙ not-false _ (c .before .before .if1 .left)) (and-stop _ _ (sym (c .before .point-inside-plane2 .ensures) ∙ not-true _ (c .if2 .taken))))
 
--- src/plane.rt:111:9
 point-inside-plane-requires-3 : tie.Need-point-inside-plane-requires-3
 point-inside-plane-requires-3 c κs = search needs
 
--- src/plane.rt:112:9
 returns-3 : tie.Need-returns-3
 unfolding every
 returns-3 c = sym (and-next _ _ _ (sym (c .before .before .before .before .before .point-inside-plane .ensures) ∙ not-false _ (c .before .before .before .before .if1 .left)) (and-next _ _ _ (sym (c .before .before .before .point-inside-plane2 .ensures) ∙ not-false _ (c .before .before .if2 .left)) (and-stop _ _ (sym (c .before .point-inside-plane3 .ensures) ∙ not-true _ (c .if3 .taken)))))
 
--- src/plane.rt:114:9
 point-inside-plane-requires-4 : tie.Need-point-inside-plane-requires-4
 point-inside-plane-requires-4 c κs = search needs
 
--- src/plane.rt:115:9
 returns-4 : tie.Need-returns-4
 unfolding every
 returns-4 c = sym (and-next _ _ _ (sym (c .before .before .before .before .before .before .before .point-inside-plane .ensures) ∙ not-false _ (c .before .before .before .before .before .before .if1 .left)) (and-next _ _ _ (sym (c .before .before .before .before .before .point-inside-plane2 .ensures) ∙ not-false _ (c .before .before .before .before .if2 .left)) (and-next _ _ _ (sym (c .before .before .before .point-inside-plane3 .ensures) ∙ not-false _ (c .before .before .if3 .left)) (and-stop _ _ (sym (c .before .point-inside-plane4 .ensures) ∙ not-true _ (c .if4 .taken))))))
 
--- src/plane.rt:117:9
 point-inside-plane-requires-5 : tie.Need-point-inside-plane-requires-5
 point-inside-plane-requires-5 c κs = search needs
 
--- src/plane.rt:118:9
 returns-5 : tie.Need-returns-5
 unfolding every
 returns-5 c = sym (and-next _ _ _ (sym (c .before .before .before .before .before .before .before .before .before .point-inside-plane .ensures) ∙ not-false _ (c .before .before .before .before .before .before .before .before .if1 .left)) (and-next _ _ _ (sym (c .before .before .before .before .before .before .before .point-inside-plane2 .ensures) ∙ not-false _ (c .before .before .before .before .before .before .if2 .left)) (and-next _ _ _ (sym (c .before .before .before .before .before .point-inside-plane3 .ensures) ∙ not-false _ (c .before .before .before .before .if3 .left)) (and-next _ _ _ (sym (c .before .before .before .point-inside-plane4 .ensures) ∙ not-false _ (c .before .before .if4 .left)) (and-stop _ _ (sym (c .before .point-inside-plane5 .ensures) ∙ not-true _ (c .if5 .taken)))))))
 
--- src/plane.rt:120:5
 point-inside-plane-requires-6 : tie.Need-point-inside-plane-requires-6
 point-inside-plane-requires-6 c κs = search needs
 
--- src/plane.rt:102:1
 returns-6 : tie.Need-returns-6
 unfolding every
 returns-6 c = sym (and-next _ _ _ (sym (c .before .before .before .before .before .before .before .before .before .before .point-inside-plane .ensures) ∙ not-false _ (c .before .before .before .before .before .before .before .before .before .if1 .left)) (and-next _ _ _ (sym (c .before .before .before .before .before .before .before .before .point-inside-plane2 .ensures) ∙ not-false _ (c .before .before .before .before .before .before .before .if2 .left)) (and-next _ _ _ (sym (c .before .before .before .before .before .before .point-inside-plane3 .ensures) ∙ not-false _ (c .before .before .before .before .before .if3 .left)) (and-next _ _ _ (sym (c .before .before .before .before .point-inside-plane4 .ensures) ∙ not-false _ (c .before .before .before .if4 .left)) (and-next _ _ _ (sym (c .before .before .point-inside-plane5 .ensures) ∙ not-false _ (c .before .if5 .left)) (and-last _ ∙ sym (c .point-inside-plane6 .ensures)))))))

@@ -7,60 +7,47 @@ use Rattle.aabb_polygons.proofs.plane.snap_to_plane.Reads as reads
 use Rattle.aabb_polygons.proofs.plane.snap_to_plane.Lts as lts
 use Rattle.aabb_polygons.proofs.plane.plane_coord.Reads as plane-coord-reads
 
--- src/plane.rt:52:9
 plane-coord-requires : tie.Need-plane-coord-requires
 plane-coord-requires c κs = search needs
 
--- src/plane.rt:54:27
 enum-told : tie.Need-enum-told
 enum-told c = search needs
 
--- src/plane.rt:59:27
 enum-told-2 : tie.Need-enum-told-2
 enum-told-2 c = search needs
 
--- src/plane.rt:64:27
 enum-told-3 : tie.Need-enum-told-3
 enum-told-3 c = search needs
 
--- src/plane.rt:69:27
 enum-told-4 : tie.Need-enum-told-4
 enum-told-4 c = search needs
 
--- src/plane.rt:74:27
 enum-told-5 : tie.Need-enum-told-5
 enum-told-5 c = search needs
 
--- src/plane.rt:79:27
 enum-told-6 : tie.Need-enum-told-6
 enum-told-6 c = search needs
 
--- src/plane.rt:49:1
 returns : tie.Need-returns
 unfolding onPlane along
 returns c = simp (c .enum-told .given .1, c .before .before .plane-coord .ensures)
 
--- src/plane.rt:49:1
 returns-2 : tie.Need-returns-2
 unfolding onPlane along
 returns-2 c = simp (c .enum-told2 .given .1, c .before .before .plane-coord .ensures)
 
--- src/plane.rt:49:1
 returns-3 : tie.Need-returns-3
 unfolding onPlane along
 returns-3 c = simp (c .enum-told3 .given .1, c .before .before .plane-coord .ensures)
 
--- src/plane.rt:49:1
 returns-4 : tie.Need-returns-4
 unfolding onPlane along
 returns-4 c = simp (c .enum-told4 .given .1, c .before .before .plane-coord .ensures)
 
--- src/plane.rt:49:1
 returns-5 : tie.Need-returns-5
 unfolding onPlane along
 returns-5 c = simp (c .enum-told5 .given .1, c .before .before .plane-coord .ensures)
 
--- src/plane.rt:49:1
 returns-6 : tie.Need-returns-6
 unfolding onPlane along
 returns-6 c = simp (c .enum-told6 .given .1, c .before .before .plane-coord .ensures)

@@ -14,53 +14,41 @@ use Rattle.aabb_polygons.proofs.crossing.segment_plane_t.Reads as segme
 use Rattle.aabb_polygons.proofs.plane.snap_to_plane.Reads as snap-to-plane-reads
 use Rattle.aabb_polygons.proofs.snapping.snap_near_bbox.Reads as snap-near-bbox-reads
 
--- src/polygon.rt:46:9
 returns : tie.Need-returns
 returns c = let s = c .before .before in simp (c .if1 .taken) (sym (append-nil (corners (s .args .out .now) (s .args .n))))
 
--- src/polygon.rt:48:11
 segment-plane-t-requires : tie.Need-segment-plane-t-requires
 segment-plane-t-requires c κs = search needs
 
--- src/polygon.rt:49:22
 enum-known-t : tie.Need-enum-known-t
 enum-known-t c = search needs
 
--- src/polygon.rt:54:35
 interpolate-points-requires : tie.Need-interpolate-points-requires
 interpolate-points-requires c κs = search needs
 
--- src/polygon.rt:54:21
 snap-to-plane-requires : tie.Need-snap-to-plane-requires
 snap-to-plane-requires c κs = search needs
 
--- src/polygon.rt:53:17
 snap-near-bbox-requires : tie.Need-snap-near-bbox-requires
 snap-near-bbox-requires c κs = search needs
 
--- src/polygon.rt:50:13
 push-corner-requires : tie.Need-push-corner-requires
 unfolding crossed
 push-corner-requires c κs = let s = c .before .before .before .before .before .before .before .before .before .before in let e = sym (c .before .before .before .before .before .before .before .segment-plane-t .ensures) ∙ c .before .before .before .before .before .t .given .1 in (omega (arith, simp (c .before .before .before .before .before .before .before .before .if1 .left, e) at (s .pre .1)), s .pre .0)
 
--- src/polygon.rt:59:13
 add-result : tie.Need-add-result
 add-result c = search needs
 
--- src/polygon.rt:61:30
 enum-told : tie.Need-enum-told
 enum-told c = search needs
 
--- src/polygon.rt:31:1
 same-length : tie.Need-same-length
 same-length c = search needs
 
--- src/polygon.rt:31:1
 returns-2 : tie.Need-returns-2
 unfolding crossed
 returns-2 c = let e = sym (c .before .before .before .before .before .before .before .before .before .before .segment-plane-t .ensures) ∙ c .before .before .before .before .before .before .before .before .t .given .1 in simp (c .before .before .before .before .before .before .before .before .before .before .before .if1 .left, e) (simp (c .before .before .before .snap-near-bbox .ensures, c .before .before .before .before .snap-to-plane .ensures, c .before .before .before .before .before .interpolate-points .ensures) at (c .before .before .push-corner .ensures))
 
--- src/polygon.rt:31:1
 returns-3 : tie.Need-returns-3
 unfolding crossed
 returns-3 c = let s = c .before .before .before .before .before in let e = sym (c .before .before .segment-plane-t .ensures) ∙ c .enum-told .given .1 in simp (c .before .before .before .if1 .left, e) (sym (append-nil (corners (s .args .out .now) (s .args .n))))

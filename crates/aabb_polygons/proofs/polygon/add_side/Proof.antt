@@ -13,39 +13,30 @@ use Rattle.aabb_polygons.proofs.corners.push_corner.Reads as push-corne
 use Rattle.aabb_polygons.proofs.plane.point_inside_plane.Reads as point-inside-plane-reads
 use Rattle.aabb_polygons.proofs.polygon.add_crossing.Reads as add-crossing-reads
 
--- src/polygon.rt:79:9
 point-inside-plane-requires : tie.Need-point-inside-plane-requires
 point-inside-plane-requires c κs = search needs
 
--- src/polygon.rt:80:9
 point-inside-plane-requires-2 : tie.Need-point-inside-plane-requires-2
 point-inside-plane-requires-2 c κs = search needs
 
--- src/polygon.rt:81:9
 add-crossing-requires : tie.Need-add-crossing-requires
 add-crossing-requires c κs = let s = c .before .before .before .before in (s .pre .0, side-room (s .args .prev) (s .args .curr) (faceOf (s .args .plane)) (s .args .extents) (s .args .eps) [] _ _ (c .before .point-inside-plane2 .ensures) (c .before .before .point-inside-plane .ensures) (s .args .n) (s .pre .1))
 
--- src/polygon.rt:92:9
 push-corner-requires : tie.Need-push-corner-requires
 push-corner-requires c κs = let s = c .before .before .before .before .before .before .before .before .before in (room-left (c .before .before .before .before .add-crossing .last .0) (s .args .out .now) (c .before .before .before .before .add-crossing .result) (s .args .n) _ (c .before .before .before .before .add-crossing .ensures) (side-more (s .args .prev) (s .args .curr) (faceOf (s .args .plane)) (s .args .extents) (s .args .eps) [] _ _ (c .before .before .before .before .before .before .point-inside-plane2 .ensures) (c .before .before .before .before .before .before .before .point-inside-plane .ensures) (s .args .n) (s .pre .1) (c .before .if1 .taken)), omega (arith, s .pre .0, c .before .before .before .before .add-crossing .kept .0))
 
--- src/polygon.rt:93:16
 add-result : tie.Need-add-result
 add-result c = let s = c .before .before .before .before .before .before .before .before .before .before .before .before in omega (arith, room-left (c .before .before .before .before .before .before .before .add-crossing .last .0) (s .args .out .now) (c .before .before .before .before .before .before .before .add-crossing .result) (s .args .n) _ (c .before .before .before .before .before .before .before .add-crossing .ensures) (side-more (s .args .prev) (s .args .curr) (faceOf (s .args .plane)) (s .args .extents) (s .args .eps) [] _ _ (c .before .before .before .before .before .before .before .before .before .point-inside-plane2 .ensures) (c .before .before .before .before .before .before .before .before .before .before .point-inside-plane .ensures) (s .args .n) (s .pre .1) (c .before .before .before .before .if1 .taken)))
 
--- src/polygon.rt:93:9
 same-length : tie.Need-same-length
 same-length c = search needs
 
--- src/polygon.rt:93:9
 returns : tie.Need-returns
 returns c = let s = c .before .before .before .before .before .before .before .before .before .before .before .before in onto _ _ _ _ (c .before .before .push-corner .ensures) (c .before .before .before .before .before .before .before .add-crossing .ensures) ∙ side-in (s .args .prev) (s .args .curr) (faceOf (s .args .plane)) (s .args .extents) (s .args .eps) (corners (s .args .out .now) (s .args .n)) _ _ (c .before .before .before .before .before .before .before .before .before .point-inside-plane2 .ensures) (c .before .before .before .before .before .before .before .before .before .before .point-inside-plane .ensures) (c .before .before .before .before .if1 .taken)
 
--- src/polygon.rt:66:1
 same-length-2 : tie.Need-same-length-2
 same-length-2 c = search needs
 
--- src/polygon.rt:66:1
 returns-2 : tie.Need-returns-2
 returns-2 c = let s = c .before .before .before .before .before .before .before .before in c .before .before .before .add-crossing .ensures ∙ side-out (s .args .prev) (s .args .curr) (faceOf (s .args .plane)) (s .args .extents) (s .args .eps) (corners (s .args .out .now) (s .args .n)) _ _ (c .before .before .before .before .before .point-inside-plane2 .ensures) (c .before .before .before .before .before .before .point-inside-plane .ensures) (c .if1 .left)
 

@@ -17,51 +17,39 @@ use Rattle.aabb_polygons.proofs.corners.put_triangle.Reads as put-trian
 use Rattle.aabb_polygons.proofs.corners.snap_corners.Reads as snap-corners-reads
 use Rattle.aabb_polygons.proofs.polygon.walk_sides.Reads as walk-sides-reads
 
--- src/polygon.rt:161:5
 put-triangle-requires : tie.Need-put-triangle-requires
 put-triangle-requires c κs = search needs
 
--- src/polygon.rt:162:8
 all-inside-requires : tie.Need-all-inside-requires
 all-inside-requires c κs = search needs
 
--- src/polygon.rt:163:9
 snap-corners-requires : tie.Need-snap-corners-requires
 snap-corners-requires c κs = search needs
 
--- src/polygon.rt:164:9
 same-length : tie.Need-same-length
 same-length c = search needs
 
--- src/polygon.rt:164:9
 same-length-2 : tie.Need-same-length-2
 same-length-2 c = search needs
 
--- src/polygon.rt:164:9
 returns : tie.Need-returns
 returns c = let s = c .before .before .before .before .before .before .before .before .before .before .before .before .before .before in c .before .before .snap-corners .ensures ∙ whole-first (s .args .extents) (s .args .eps) 0 (corners (c .before .before .before .before .before .before .before .before .before .before .put-triangle .last .0) 3) (omega (arith, points-length (c .before .before .before .before .before .before .before .before .before .before .put-triangle .last .0) 0 3)) (sym (c .before .before .before .before .before .before .all-inside .ensures) ∙ c .before .before .before .before .before .if1 .taken) ∙ ap (λ (l : List Point). clipToPlane (s .args .extents) (s .args .eps) l 0) (c .before .before .before .before .before .before .before .before .before .before .put-triangle .ensures)
 
--- src/polygon.rt:166:9
 walk-sides-requires : tie.Need-walk-sides-requires
 walk-sides-requires c κs = search needs
 
--- src/polygon.rt:167:5
 copy-corners-requires : tie.Need-copy-corners-requires
 copy-corners-requires c κs = let s = c .before .before .before .before .before .before .before .before .before .before .before .before .before .before .before .before in ((omega (arith, s .pre, c .before .before .before .before .before .before .before .before .before .before .before .before .put-triangle .kept), omega (arith, s .pre, c .before .before .before .before .walk-sides .kept)), omega (arith, counted (c .before .before .before .before .walk-sides .last .1 .1 .1 .1 .1 .0) (c .before .before .before .before .walk-sides .result) _ (c .before .before .before .before .walk-sides .ensures), unsnapped-short 0 (s .args .extents) (s .args .eps) (corners (c .before .before .before .before .before .before .before .before .before .before .before .before .put-triangle .last .0) 3), points-length (c .before .before .before .before .before .before .before .before .before .before .before .before .put-triangle .last .0) 0 3))
 
--- src/polygon.rt:168:5
 snap-corners-requires-2 : tie.Need-snap-corners-requires-2
 snap-corners-requires-2 c κs = let s = c .before .before .before .before .before .before .before .before .before .before .before .before .before .before .before .before .before .before .before .before .before in ((omega (arith, s .pre, c .before .before .before .before .before .before .before .before .before .walk-sides .kept), omega (arith, s .pre, c .before .before .before .before .before .before .before .before .before .before .before .before .before .before .before .before .before .put-triangle .kept, c .before .before .before .before .copy-corners .kept)), omega (arith, counted (c .before .before .before .before .before .before .before .before .before .walk-sides .last .1 .1 .1 .1 .1 .0) (c .before .before .before .before .before .before .before .before .before .walk-sides .result) _ (c .before .before .before .before .before .before .before .before .before .walk-sides .ensures), unsnapped-short 0 (s .args .extents) (s .args .eps) (corners (c .before .before .before .before .before .before .before .before .before .before .before .before .before .before .before .before .before .put-triangle .last .0) 3), points-length (c .before .before .before .before .before .before .before .before .before .before .before .before .before .before .before .before .before .put-triangle .last .0) 0 3))
 
--- src/polygon.rt:149:1
 same-length-3 : tie.Need-same-length-3
 same-length-3 c = search needs
 
--- src/polygon.rt:149:1
 same-length-4 : tie.Need-same-length-4
 same-length-4 c = search needs
 
--- src/polygon.rt:149:1
 returns-2 : tie.Need-returns-2
 returns-2 c = let s = c .before .before .before .before .before .before .before .before .before .before .before .before .before .before .before .before .before .before .before .before .before .before .before .before in c .before .before .snap-corners2 .ensures ∙ ap (λ (l : List Point). map (snapped (s .args .extents) (s .args .eps)) l) (c .before .before .before .before .before .before .before .copy-corners .ensures ∙ c .before .before .before .before .before .before .before .before .before .before .before .before .walk-sides .ensures) ∙ unsnapped-snapped (s .args .extents) (s .args .eps) 0 (corners (c .before .before .before .before .before .before .before .before .before .before .before .before .before .before .before .before .before .before .before .before .put-triangle .last .0) 3) ∙ ap (λ (l : List Point). clipToPlane (s .args .extents) (s .args .eps) l 0) (c .before .before .before .before .before .before .before .before .before .before .before .before .before .before .before .before .before .before .before .before .put-triangle .ensures)
 

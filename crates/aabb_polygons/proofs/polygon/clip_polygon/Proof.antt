@@ -15,35 +15,27 @@ use Rattle.aabb_polygons.proofs.polygon.clip_polygon.Lts as lts
 use Rattle.aabb_polygons.proofs.polygon.clip_first.Reads as clip-first-reads
 use Rattle.aabb_polygons.proofs.polygon.clip_rest.Reads as clip-rest-reads
 
--- src/polygon.rt:218:9
 clip-first-requires : tie.Need-clip-first-requires
 clip-first-requires c κs = search needs
 
--- src/polygon.rt:220:9
 same-length : tie.Need-same-length
 same-length c = search needs
 
--- src/polygon.rt:220:9
 same-length-2 : tie.Need-same-length-2
 same-length-2 c = search needs
 
--- src/polygon.rt:220:9
 returns : tie.Need-returns
 returns c = (all-stop _ _ _ _ _ (c .before .before .before .before .before .clip-first .last .0) (c .before .before .before .before .before .clip-first .result) (c .before .before .before .before .before .clip-first .ensures) (c .if1 .taken), omega (arith, c .if1 .taken))
 
--- src/polygon.rt:222:5
 clip-rest-requires : tie.Need-clip-rest-requires
 clip-rest-requires c κs = let s = c .before .before .before .before .before .before .before .before .before .before .before .before in ((omega (arith, s .pre, c .before .before .before .before .before .before .before .clip-first .kept), omega (arith, s .pre, c .before .before .before .before .before .before .before .clip-first .kept)), ((omega (arith, c .before .before .if1 .left), omega (arith, counted (c .before .before .before .before .before .before .before .clip-first .last .0) (c .before .before .before .before .before .before .before .clip-first .result) _ (c .before .before .before .before .before .before .before .clip-first .ensures), clip-short (s .args .extents) (s .args .eps) 0 (s .args .a ∷ s .args .b ∷ s .args .c ∷ []))), ap (λ (l : List Point). map (snapped (s .args .extents) (s .args .eps)) l) (c .before .before .before .before .before .before .before .clip-first .ensures) ∙ clip-snapped (s .args .extents) (s .args .eps) 0 (s .args .a ∷ s .args .b ∷ s .args .c ∷ []) ∙ sym (c .before .before .before .before .before .before .before .clip-first .ensures)))
 
--- src/polygon.rt:205:1
 same-length-3 : tie.Need-same-length-3
 same-length-3 c = search needs
 
--- src/polygon.rt:205:1
 same-length-4 : tie.Need-same-length-4
 same-length-4 c = search needs
 
--- src/polygon.rt:205:1
 returns-2 : tie.Need-returns-2
 returns-2 c = let s = c .before .before .before .before .before .before .before .before .before .before .before .before .before .before .before .before .before in let e = all-go (s .args .extents) (s .args .eps) 0 (1 ∷ 2 ∷ 3 ∷ 4 ∷ 5 ∷ []) (s .args .a ∷ s .args .b ∷ s .args .c ∷ []) (c .before .before .before .before .before .before .before .before .before .before .before .before .clip-first .last .0) (c .before .before .before .before .before .before .before .before .before .before .before .before .clip-first .result) (c .before .before .before .before .before .before .before .before .before .before .before .before .clip-first .ensures) (corners (c .before .before .before .before .clip-rest .last .0) (c .before .before .before .before .clip-rest .result)) (c .before .before .before .before .before .before .before .if1 .left) (c .before .before .before .before .clip-rest .ensures) in (e, omega (arith, counted (c .before .before .before .before .clip-rest .last .0) (c .before .before .before .before .clip-rest .result) _ e, few (s .args .a) (s .args .b) (s .args .c) (s .args .extents) (s .args .eps)))
 

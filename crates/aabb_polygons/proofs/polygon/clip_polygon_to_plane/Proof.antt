@@ -15,47 +15,36 @@ use Rattle.aabb_polygons.proofs.corners.copy_corners.Reads as copy-corn
 use Rattle.aabb_polygons.proofs.corners.none_inside.Reads as none-inside-reads
 use Rattle.aabb_polygons.proofs.polygon.walk_sides.Reads as walk-sides-reads
 
--- src/polygon.rt:137:8
 all-inside-requires : tie.Need-all-inside-requires
 all-inside-requires c κs = search needs
 
--- src/polygon.rt:138:9
 same-length : tie.Need-same-length
 same-length c = search needs
 
--- src/polygon.rt:138:9
 returns : tie.Need-returns
 returns c = let s = c .before .before .before .before .before in whole (s .args .extents) (s .args .eps) (faceOf (s .args .plane)) (corners (s .args .polygon .now) (s .args .n)) (omega (arith, s .pre, points-length (s .args .polygon .now) 0 (s .args .n))) (s .pre .1 .1) (sym (c .before .all-inside .ensures) ∙ c .if1 .taken)
 
--- src/polygon.rt:140:8
 none-inside-requires : tie.Need-none-inside-requires
 none-inside-requires c κs = search needs
 
--- src/polygon.rt:141:9
 same-length-2 : tie.Need-same-length-2
 same-length-2 c = search needs
 
--- src/polygon.rt:141:9
 returns-2 : tie.Need-returns-2
 returns-2 c = let s = c .before .before .before .before .before .before .before .before in gone (s .args .extents) (s .args .eps) (faceOf (s .args .plane)) (s .args .polygon .now) (corners (s .args .polygon .now) (s .args .n)) (omega (arith, s .pre, points-length (s .args .polygon .now) 0 (s .args .n))) (sym (c .before .none-inside .ensures) ∙ c .if2 .taken)
 
--- src/polygon.rt:143:9
 walk-sides-requires : tie.Need-walk-sides-requires
 walk-sides-requires c κs = search needs
 
--- src/polygon.rt:144:5
 copy-corners-requires : tie.Need-copy-corners-requires
 copy-corners-requires c κs = let s = c .before .before .before .before .before .before .before .before .before .before .before .before .before .before .before in ((omega (arith, s .pre), omega (arith, s .pre, c .before .before .before .before .walk-sides .kept)), omega (arith, s .pre, grown (s .args .polygon .now) (c .before .before .before .before .walk-sides .last .1 .1 .1 .1 .1 .0) (s .args .n) (c .before .before .before .before .walk-sides .result) (faceOf (s .args .plane)) (s .args .extents) (s .args .eps) (c .before .before .before .before .walk-sides .ensures ∙ unsnapped-same (s .args .extents) (s .args .eps) (faceOf (s .args .plane)) (corners (s .args .polygon .now) (s .args .n)) (s .pre .1 .1))))
 
--- src/polygon.rt:124:1
 same-length-3 : tie.Need-same-length-3
 same-length-3 c = search needs
 
--- src/polygon.rt:124:1
 same-length-4 : tie.Need-same-length-4
 same-length-4 c = search needs
 
--- src/polygon.rt:124:1
 returns-3 : tie.Need-returns-3
 returns-3 c = let s = c .before .before .before .before .before .before .before .before .before .before .before .before .before .before .before .before .before .before in c .before .before .copy-corners .ensures ∙ (c .before .before .before .before .before .before .before .walk-sides .ensures ∙ unsnapped-same (s .args .extents) (s .args .eps) (faceOf (s .args .plane)) (corners (s .args .polygon .now) (s .args .n)) (s .pre .1 .1))
 

@@ -7,83 +7,63 @@ use Rattle.aabb_polygons.proofs.polygon.clip_rest.Reads as reads
 use Rattle.aabb_polygons.proofs.polygon.clip_rest.Lts as lts
 use Rattle.aabb_polygons.proofs.polygon.clip_polygon_to_plane.Reads as clip-polygon-to-plane-reads
 
--- src/polygon.rt:185:9
 clip-polygon-to-plane-requires : tie.Need-clip-polygon-to-plane-requires
 clip-polygon-to-plane-requires c κs = let s = c .before .before .before .before in (s .pre .0, ((s .pre .1 .0 .0, omega (arith, s .pre .1 .0)), s .pre .1 .1))
 
--- src/polygon.rt:187:9
 same-length : tie.Need-same-length
 same-length c = search needs
 
--- src/polygon.rt:187:9
 same-length-2 : tie.Need-same-length-2
 same-length-2 c = search needs
 
--- src/polygon.rt:187:9
 returns : tie.Need-returns
 returns c = all-stop _ _ _ _ _ (c .before .before .before .before .before .clip-polygon-to-plane .last .0) (c .before .before .before .before .before .clip-polygon-to-plane .result) (c .before .before .before .before .before .clip-polygon-to-plane .ensures) (c .if1 .taken)
 
--- src/polygon.rt:189:9
 clip-polygon-to-plane-requires-2 : tie.Need-clip-polygon-to-plane-requires-2
 clip-polygon-to-plane-requires-2 c κs = let s = c .before .before .before .before .before .before .before .before .before .before .before .before in ((omega (arith, s .pre .0, c .before .before .before .before .before .before .before .clip-polygon-to-plane .kept), omega (arith, s .pre .0, c .before .before .before .before .before .before .before .clip-polygon-to-plane .kept)), ((omega (arith, c .before .before .if1 .left), omega (arith, s .pre .1 .0, grown (s .args .polygon .now) (c .before .before .before .before .before .before .before .clip-polygon-to-plane .last .0) (s .args .n) (c .before .before .before .before .before .before .before .clip-polygon-to-plane .result) 1 (s .args .extents) (s .args .eps) (c .before .before .before .before .before .before .before .clip-polygon-to-plane .ensures))), still-snapped (s .args .polygon .now) (c .before .before .before .before .before .before .before .clip-polygon-to-plane .last .0) (s .args .n) (c .before .before .before .before .before .before .before .clip-polygon-to-plane .result) 1 (s .args .extents) (s .args .eps) (c .before .before .before .before .before .before .before .clip-polygon-to-plane .ensures)))
 
--- src/polygon.rt:191:9
 same-length-3 : tie.Need-same-length-3
 same-length-3 c = search needs
 
--- src/polygon.rt:191:9
 same-length-4 : tie.Need-same-length-4
 same-length-4 c = search needs
 
--- src/polygon.rt:191:9
 returns-2 : tie.Need-returns-2
 returns-2 c = all-go _ _ _ _ _ (c .before .before .before .before .before .before .before .before .before .before .before .before .before .clip-polygon-to-plane .last .0) (c .before .before .before .before .before .before .before .before .before .before .before .before .before .clip-polygon-to-plane .result) (c .before .before .before .before .before .before .before .before .before .before .before .before .before .clip-polygon-to-plane .ensures) _ (c .before .before .before .before .before .before .before .before .if1 .left) (all-stop _ _ _ _ _ (c .before .before .before .before .before .clip-polygon-to-plane2 .last .0) (c .before .before .before .before .before .clip-polygon-to-plane2 .result) (c .before .before .before .before .before .clip-polygon-to-plane2 .ensures) (c .if2 .taken))
 
--- src/polygon.rt:193:9
 clip-polygon-to-plane-requires-3 : tie.Need-clip-polygon-to-plane-requires-3
 clip-polygon-to-plane-requires-3 c κs = let s = c .before .before .before .before .before .before .before .before .before .before .before .before .before .before .before .before .before .before .before .before in ((omega (arith, s .pre .0, c .before .before .before .before .before .before .before .before .before .before .before .before .before .before .before .clip-polygon-to-plane .kept, c .before .before .before .before .before .before .before .clip-polygon-to-plane2 .kept), omega (arith, s .pre .0, c .before .before .before .before .before .before .before .before .before .before .before .before .before .before .before .clip-polygon-to-plane .kept, c .before .before .before .before .before .before .before .clip-polygon-to-plane2 .kept)), ((omega (arith, c .before .before .if2 .left), omega (arith, s .pre .1 .0, grown (s .args .polygon .now) (c .before .before .before .before .before .before .before .before .before .before .before .before .before .before .before .clip-polygon-to-plane .last .0) (s .args .n) (c .before .before .before .before .before .before .before .before .before .before .before .before .before .before .before .clip-polygon-to-plane .result) 1 (s .args .extents) (s .args .eps) (c .before .before .before .before .before .before .before .before .before .before .before .before .before .before .before .clip-polygon-to-plane .ensures), grown (c .before .before .before .before .before .before .before .before .before .before .before .before .before .before .before .clip-polygon-to-plane .last .0) (c .before .before .before .before .before .before .before .clip-polygon-to-plane2 .last .0) (c .before .before .before .before .before .before .before .before .before .before .before .before .before .before .before .clip-polygon-to-plane .result) (c .before .before .before .before .before .before .before .clip-polygon-to-plane2 .result) 2 (s .args .extents) (s .args .eps) (c .before .before .before .before .before .before .before .clip-polygon-to-plane2 .ensures))), still-snapped (c .before .before .before .before .before .before .before .before .before .before .before .before .before .before .before .clip-polygon-to-plane .last .0) (c .before .before .before .before .before .before .before .clip-polygon-to-plane2 .last .0) (c .before .before .before .before .before .before .before .before .before .before .before .before .before .before .before .clip-polygon-to-plane .result) (c .before .before .before .before .before .before .before .clip-polygon-to-plane2 .result) 2 (s .args .extents) (s .args .eps) (c .before .before .before .before .before .before .before .clip-polygon-to-plane2 .ensures)))
 
--- src/polygon.rt:195:9
 same-length-5 : tie.Need-same-length-5
 same-length-5 c = search needs
 
--- src/polygon.rt:195:9
 same-length-6 : tie.Need-same-length-6
 same-length-6 c = search needs
 
--- src/polygon.rt:195:9
 returns-3 : tie.Need-returns-3
 returns-3 c = all-go _ _ _ _ _ (c .before .before .before .before .before .before .before .before .before .before .before .before .before .before .before .before .before .before .before .before .before .clip-polygon-to-plane .last .0) (c .before .before .before .before .before .before .before .before .before .before .before .before .before .before .before .before .before .before .before .before .before .clip-polygon-to-plane .result) (c .before .before .before .before .before .before .before .before .before .before .before .before .before .before .before .before .before .before .before .before .before .clip-polygon-to-plane .ensures) _ (c .before .before .before .before .before .before .before .before .before .before .before .before .before .before .before .before .if1 .left) (all-go _ _ _ _ _ (c .before .before .before .before .before .before .before .before .before .before .before .before .before .clip-polygon-to-plane2 .last .0) (c .before .before .before .before .before .before .before .before .before .before .before .before .before .clip-polygon-to-plane2 .result) (c .before .before .before .before .before .before .before .before .before .before .before .before .before .clip-polygon-to-plane2 .ensures) _ (c .before .before .before .before .before .before .before .before .if2 .left) (all-stop _ _ _ _ _ (c .before .before .before .before .before .clip-polygon-to-plane3 .last .0) (c .before .before .before .before .before .clip-polygon-to-plane3 .result) (c .before .before .before .before .before .clip-polygon-to-plane3 .ensures) (c .if3 .taken)))
 
--- src/polygon.rt:197:9
 clip-polygon-to-plane-requires-4 : tie.Need-clip-polygon-to-plane-requires-4
 clip-polygon-to-plane-requires-4 c κs = let s = c .before .before .before .before .before .before .before .before .before .before .before .before .before .before .before .before .before .before .before .before .before .before .before .before .before .before .before .before in ((omega (arith, s .pre .0, c .before .before .before .before .before .before .before .before .before .before .before .before .before .before .before .before .before .before .before .before .before .before .before .clip-polygon-to-plane .kept, c .before .before .before .before .before .before .before .before .before .before .before .before .before .before .before .clip-polygon-to-plane2 .kept, c .before .before .before .before .before .before .before .clip-polygon-to-plane3 .kept), omega (arith, s .pre .0, c .before .before .before .before .before .before .before .before .before .before .before .before .before .before .before .before .before .before .before .before .before .before .before .clip-polygon-to-plane .kept, c .before .before .before .before .before .before .before .before .before .before .before .before .before .before .before .clip-polygon-to-plane2 .kept, c .before .before .before .before .before .before .before .clip-polygon-to-plane3 .kept)), ((omega (arith, c .before .before .if3 .left), omega (arith, s .pre .1 .0, grown (s .args .polygon .now) (c .before .before .before .before .before .before .before .before .before .before .before .before .before .before .before .before .before .before .before .before .before .before .before .clip-polygon-to-plane .last .0) (s .args .n) (c .before .before .before .before .before .before .before .before .before .before .before .before .before .before .before .before .before .before .before .before .before .before .before .clip-polygon-to-plane .result) 1 (s .args .extents) (s .args .eps) (c .before .before .before .before .before .before .before .before .before .before .before .before .before .before .before .before .before .before .before .before .before .before .before .clip-polygon-to-plane .ensures), grown (c .before .before .before .before .before .before .before .before .before .before .before .before .before .before .before .before .before .before .before .before .before .before .before .clip-polygon-to-plane .last .0) (c .before .before .before .before .before .before .before .before .before .before .before .before .before .before .before .clip-polygon-to-plane2 .last .0) (c .before .before .before .before .before .before .before .before .before .before .before .before .before .before .before .before .before .before .before .before .before .before .before .clip-polygon-to-plane .result) (c .before .before .before .before .before .before .before .before .before .before .before .before .before .before .before .clip-polygon-to-plane2 .result) 2 (s .args .extents) (s .args .eps) (c .before .before .before .before .before .before .before .before .before .before .before .before .before .before .before .clip-polygon-to-plane2 .ensures), grown (c .before .before .before .before .before .before .before .before .before .before .before .before .before .before .before .clip-polygon-to-plane2 .last .0) (c .before .before .before .before .before .before .before .clip-polygon-to-plane3 .last .0) (c .before .before .before .before .before .before .before .before .before .before .before .before .before .before .before .clip-polygon-to-plane2 .result) (c .before .before .before .before .before .before .before .clip-polygon-to-plane3 .result) 3 (s .args .extents) (s .args .eps) (c .before .before .before .before .before .before .before .clip-polygon-to-plane3 .ensures))), still-snapped (c .before .before .before .before .before .before .before .before .before .before .before .before .before .before .before .clip-polygon-to-plane2 .last .0) (c .before .before .before .before .before .before .before .clip-polygon-to-plane3 .last .0) (c .before .before .before .before .before .before .before .before .before .before .before .before .before .before .before .clip-polygon-to-plane2 .result) (c .before .before .before .before .before .before .before .clip-polygon-to-plane3 .result) 3 (s .args .extents) (s .args .eps) (c .before .before .before .before .before .before .before .clip-polygon-to-plane3 .ensures)))
 
--- src/polygon.rt:199:9
 same-length-7 : tie.Need-same-length-7
 same-length-7 c = search needs
 
--- src/polygon.rt:199:9
 same-length-8 : tie.Need-same-length-8
 same-length-8 c = search needs
 
--- src/polygon.rt:199:9
 returns-4 : tie.Need-returns-4
 returns-4 c = all-go _ _ _ _ _ (c .before .before .before .before .before .before .before .before .before .before .before .before .before .before .before .before .before .before .before .before .before .before .before .before .before .before .before .before .before .clip-polygon-to-plane .last .0) (c .before .before .before .before .before .before .before .before .before .before .before .before .before .before .before .before .before .before .before .before .before .before .before .before .before .before .before .before .before .clip-polygon-to-plane .result) (c .before .before .before .before .before .before .before .before .before .before .before .before .before .before .before .before .before .before .before .before .before .before .before .before .before .before .before .before .before .clip-polygon-to-plane .ensures) _ (c .before .before .before .before .before .before .before .before .before .before .before .before .before .before .before .before .before .before .before .before .before .before .before .before .if1 .left) (all-go _ _ _ _ _ (c .before .before .before .before .before .before .before .before .before .before .before .before .before .before .before .before .before .before .before .before .before .clip-polygon-to-plane2 .last .0) (c .before .before .before .before .before .before .before .before .before .before .before .before .before .before .before .before .before .before .before .before .before .clip-polygon-to-plane2 .result) (c .before .before .before .before .before .before .before .before .before .before .before .before .before .before .before .before .before .before .before .before .before .clip-polygon-to-plane2 .ensures) _ (c .before .before .before .before .before .before .before .before .before .before .before .before .before .before .before .before .if2 .left) (all-go _ _ _ _ _ (c .before .before .before .before .before .before .before .before .before .before .before .before .before .clip-polygon-to-plane3 .last .0) (c .before .before .before .before .before .before .before .before .before .before .before .before .before .clip-polygon-to-plane3 .result) (c .before .before .before .before .before .before .before .before .before .before .before .before .before .clip-polygon-to-plane3 .ensures) _ (c .before .before .before .before .before .before .before .before .if3 .left) (all-stop _ _ _ _ _ (c .before .before .before .before .before .clip-polygon-to-plane4 .last .0) (c .before .before .before .before .before .clip-polygon-to-plane4 .result) (c .before .before .before .before .before .clip-polygon-to-plane4 .ensures) (c .if4 .taken))))
 
--- src/polygon.rt:201:5
 clip-polygon-to-plane-requires-5 : tie.Need-clip-polygon-to-plane-requires-5
 clip-polygon-to-plane-requires-5 c κs = let s = c .before .before .before .before .before .before .before .before .before .before .before .before .before .before .before .before .before .before .before .before .before .before .before .before .before .before .before .before .before .before .before .before .before .before .before .before in ((omega (arith, s .pre .0, c .before .before .before .before .before .before .before .before .before .before .before .before .before .before .before .before .before .before .before .before .before .before .before .before .before .before .before .before .before .before .before .clip-polygon-to-plane .kept, c .before .before .before .before .before .before .before .before .before .before .before .before .before .before .before .before .before .before .before .before .before .before .before .clip-polygon-to-plane2 .kept, c .before .before .before .before .before .before .before .before .before .before .before .before .before .before .before .clip-polygon-to-plane3 .kept, c .before .before .before .before .before .before .before .clip-polygon-to-plane4 .kept), omega (arith, s .pre .0, c .before .before .before .before .before .before .before .before .before .before .before .before .before .before .before .before .before .before .before .before .before .before .before .before .before .before .before .before .before .before .before .clip-polygon-to-plane .kept, c .before .before .before .before .before .before .before .before .before .before .before .before .before .before .before .before .before .before .before .before .before .before .before .clip-polygon-to-plane2 .kept, c .before .before .before .before .before .before .before .before .before .before .before .before .before .before .before .clip-polygon-to-plane3 .kept, c .before .before .before .before .before .before .before .clip-polygon-to-plane4 .kept)), ((omega (arith, c .before .before .if4 .left), omega (arith, s .pre .1 .0, grown (s .args .polygon .now) (c .before .before .before .before .before .before .before .before .before .before .before .before .before .before .before .before .before .before .before .before .before .before .before .before .before .before .before .before .before .before .before .clip-polygon-to-plane .last .0) (s .args .n) (c .before .before .before .before .before .before .before .before .before .before .before .before .before .before .before .before .before .before .before .before .before .before .before .before .before .before .before .before .before .before .before .clip-polygon-to-plane .result) 1 (s .args .extents) (s .args .eps) (c .before .before .before .before .before .before .before .before .before .before .before .before .before .before .before .before .before .before .before .before .before .before .before .before .before .before .before .before .before .before .before .clip-polygon-to-plane .ensures), grown (c .before .before .before .before .before .before .before .before .before .before .before .before .before .before .before .before .before .before .before .before .before .before .before .before .before .before .before .before .before .before .before .clip-polygon-to-plane .last .0) (c .before .before .before .before .before .before .before .before .before .before .before .before .before .before .before .before .before .before .before .before .before .before .before .clip-polygon-to-plane2 .last .0) (c .before .before .before .before .before .before .before .before .before .before .before .before .before .before .before .before .before .before .before .before .before .before .before .before .before .before .before .before .before .before .before .clip-polygon-to-plane .result) (c .before .before .before .before .before .before .before .before .before .before .before .before .before .before .before .before .before .before .before .before .before .before .before .clip-polygon-to-plane2 .result) 2 (s .args .extents) (s .args .eps) (c .before .before .before .before .before .before .before .before .before .before .before .before .before .before .before .before .before .before .before .before .before .before .before .clip-polygon-to-plane2 .ensures), grown (c .before .before .before .before .before .before .before .before .before .before .before .before .before .before .before .before .before .before .before .before .before .before .before .clip-polygon-to-plane2 .last .0) (c .before .before .before .before .before .before .before .before .before .before .before .before .before .before .before .clip-polygon-to-plane3 .last .0) (c .before .before .before .before .before .before .before .before .before .before .before .before .before .before .before .before .before .before .before .before .before .before .before .clip-polygon-to-plane2 .result) (c .before .before .before .before .before .before .before .before .before .before .before .before .before .before .before .clip-polygon-to-plane3 .result) 3 (s .args .extents) (s .args .eps) (c .before .before .before .before .before .before .before .before .before .before .before .before .before .before .before .clip-polygon-to-plane3 .ensures), grown (c .before .before .before .before .before .before .before .before .before .before .before .before .before .before .before .clip-polygon-to-plane3 .last .0) (c .before .before .before .before .before .before .before .clip-polygon-to-plane4 .last .0) (c .before .before .before .before .before .before .before .before .before .before .before .before .before .before .before .clip-polygon-to-plane3 .result) (c .before .before .before .before .before .before .before .clip-polygon-to-plane4 .result) 4 (s .args .extents) (s .args .eps) (c .before .before .before .before .before .before .before .clip-polygon-to-plane4 .ensures))), still-snapped (c .before .before .before .before .before .before .before .before .before .before .before .before .before .before .before .clip-polygon-to-plane3 .last .0) (c .before .before .before .before .before .before .before .clip-polygon-to-plane4 .last .0) (c .before .before .before .before .before .before .before .before .before .before .before .before .before .before .before .clip-polygon-to-plane3 .result) (c .before .before .before .before .before .before .before .clip-polygon-to-plane4 .result) 4 (s .args .extents) (s .args .eps) (c .before .before .before .before .before .before .before .clip-polygon-to-plane4 .ensures)))
 
--- src/polygon.rt:173:1
 same-length-9 : tie.Need-same-length-9
 same-length-9 c = let s = c .before .before .before .before .before .before .before .before .before .before .before .before .before .before .before .before .before .before .before .before .before .before .before .before .before .before .before .before .before .before .before .before .before .before .before .before .before .before .before .before .before in omega (arith, s .pre .0, c .before .before .before .before .before .before .before .before .before .before .before .before .before .before .before .before .before .before .before .before .before .before .before .before .before .before .before .before .before .before .before .before .before .before .before .before .clip-polygon-to-plane .kept, c .before .before .before .before .before .before .before .before .before .before .before .before .before .before .before .before .before .before .before .before .before .before .before .before .before .before .before .before .clip-polygon-to-plane2 .kept, c .before .before .before .before .before .before .before .before .before .before .before .before .before .before .before .before .before .before .before .before .clip-polygon-to-plane3 .kept, c .before .before .before .before .before .before .before .before .before .before .before .before .clip-polygon-to-plane4 .kept, c .before .before .before .before .clip-polygon-to-plane5 .kept)
 
--- src/polygon.rt:173:1
 same-length-10 : tie.Need-same-length-10
 same-length-10 c = search needs
 
--- src/polygon.rt:173:1
 returns-5 : tie.Need-returns-5
 returns-5 c = all-go _ _ _ _ _ (c .before .before .before .before .before .before .before .before .before .before .before .before .before .before .before .before .before .before .before .before .before .before .before .before .before .before .before .before .before .before .before .before .before .before .before .before .clip-polygon-to-plane .last .0) (c .before .before .before .before .before .before .before .before .before .before .before .before .before .before .before .before .before .before .before .before .before .before .before .before .before .before .before .before .before .before .before .before .before .before .before .before .clip-polygon-to-plane .result) (c .before .before .before .before .before .before .before .before .before .before .before .before .before .before .before .before .before .before .before .before .before .before .before .before .before .before .before .before .before .before .before .before .before .before .before .before .clip-polygon-to-plane .ensures) _ (c .before .before .before .before .before .before .before .before .before .before .before .before .before .before .before .before .before .before .before .before .before .before .before .before .before .before .before .before .before .before .before .if1 .left) (all-go _ _ _ _ _ (c .before .before .before .before .before .before .before .before .before .before .before .before .before .before .before .before .before .before .before .before .before .before .before .before .before .before .before .before .clip-polygon-to-plane2 .last .0) (c .before .before .before .before .before .before .before .before .before .before .before .before .before .before .before .before .before .before .before .before .before .before .before .before .before .before .before .before .clip-polygon-to-plane2 .result) (c .before .before .before .before .before .before .before .before .before .before .before .before .before .before .before .before .before .before .before .before .before .before .before .before .before .before .before .before .clip-polygon-to-plane2 .ensures) _ (c .before .before .before .before .before .before .before .before .before .before .before .before .before .before .before .before .before .before .before .before .before .before .before .if2 .left) (all-go _ _ _ _ _ (c .before .before .before .before .before .before .before .before .before .before .before .before .before .before .before .before .before .before .before .before .clip-polygon-to-plane3 .last .0) (c .before .before .before .before .before .before .before .before .before .before .before .before .before .before .before .before .before .before .before .before .clip-polygon-to-plane3 .result) (c .before .before .before .before .before .before .before .before .before .before .before .before .before .before .before .before .before .before .before .before .clip-polygon-to-plane3 .ensures) _ (c .before .before .before .before .before .before .before .before .before .before .before .before .before .before .before .if3 .left) (all-go _ _ _ _ _ (c .before .before .before .before .before .before .before .before .before .before .before .before .clip-polygon-to-plane4 .last .0) (c .before .before .before .before .before .before .before .before .before .before .before .before .clip-polygon-to-plane4 .result) (c .before .before .before .before .before .before .before .before .before .before .before .before .clip-polygon-to-plane4 .ensures) _ (c .before .before .before .before .before .before .before .if4 .left) (all-last _ _ _ _ _ (c .before .before .before .before .clip-polygon-to-plane5 .ensures)))))
 

@@ -18,43 +18,33 @@ Inv-loop polygon n plane extents eps out₀ k₀ prev₀ i₀ out k prev i = (i 
 abbrev μ-loop : tie.MeasureT-loop
 μ-loop polygon n plane extents eps out₀ k₀ prev₀ i₀ out k prev i = n - i
 
--- src/polygon.rt:112:39
 sub-vertex-at : tie.Need-sub-vertex-at Inv-loop μ-loop
 sub-vertex-at c = search needs
 
--- src/polygon.rt:112:9
 vertex-at-requires : tie.Need-vertex-at-requires Inv-loop μ-loop
 vertex-at-requires c κs = omega (arith, c .before .before .pre)
 
--- src/polygon.rt:114:5
 loop-holds : tie.Need-loop-holds Inv-loop μ-loop
 loop-holds c = let s = c .before .before .before in (search needs, (refl, walked-start (s .args .polygon .now) (s .args .n) (s .pre .1 .0) (s .pre .1 .1) (faceOf (s .args .plane)) (s .args .extents) (s .args .eps) (s .args .out .now) _ (c .vertex-at .ensures)))
 
--- src/polygon.rt:115:13
 vertex-at-requires-2 : tie.Need-vertex-at-requires-2 Inv-loop μ-loop
 vertex-at-requires-2 c κs = omega (arith, c .before .before .before .before .before .pre, c .before .loop .inv .0, c .loop-test .taken)
 
--- src/polygon.rt:116:9
 add-side-requires : tie.Need-add-side-requires Inv-loop μ-loop
 add-side-requires c κs = let s = c .before .before .before .before .before .before .before in (omega (arith, s .pre, c .before .before .before .loop .inv .1 .0), walked-room (s .args .polygon .now) (s .args .n) (s .pre .1 .0) (s .pre .1 .1) (faceOf (s .args .plane)) (s .args .extents) (s .args .eps) (c .before .before .before .loop .out) (c .before .before .before .loop .k) (c .before .before .before .loop .prev) (c .before .before .before .loop .i) (c .before .before .before .loop .inv .1 .1) (c .before .vertex-at2 .result) (c .before .vertex-at2 .ensures) (c .before .before .loop-test .taken))
 
--- src/polygon.rt:118:9
 add-i : tie.Need-add-i Inv-loop μ-loop
 add-i c = search needs
 
--- src/polygon.rt:114:5
 loop-less : tie.Need-loop-less Inv-loop μ-loop
 loop-less c = search needs
 
--- src/polygon.rt:114:5
 loop-again : tie.Need-loop-again Inv-loop μ-loop
 loop-again c = let s = c .before .before .before .before .before .before .before .before .before .before in (search needs, (c .before .before .add-side .kept .0 ∙ c .before .before .before .before .before .before .loop .inv .1 .0, walked-more (s .args .polygon .now) (s .args .n) (s .pre .1 .0) (s .pre .1 .1) (faceOf (s .args .plane)) (s .args .extents) (s .args .eps) (c .before .before .before .before .before .before .loop .out) (c .before .before .before .before .before .before .loop .k) (c .before .before .before .before .before .before .loop .prev) (c .before .before .before .before .before .before .loop .i) (c .before .before .before .before .before .before .loop .inv .1 .1) (c .before .before .before .before .vertex-at2 .result) (c .before .before .before .before .vertex-at2 .ensures) (c .before .before .before .before .before .loop-test .taken) (c .before .before .add-side .last .0) (c .before .before .add-side .result) (c .before .before .add-side .ensures)))
 
--- src/polygon.rt:99:1
 same-length : tie.Need-same-length Inv-loop μ-loop
 same-length c = c .before .loop .inv .1 .0
 
--- src/polygon.rt:99:1
 returns : tie.Need-returns Inv-loop μ-loop
 returns c = let s = c .before .before .before .before .before in walked-end (s .args .polygon .now) (s .args .n) (s .pre .1 .0) (s .pre .1 .1) (faceOf (s .args .plane)) (s .args .extents) (s .args .eps) (c .before .loop .out) (c .before .loop .k) (c .before .loop .prev) (c .before .loop .i) (c .before .loop .inv .1 .1) (c .loop-test .left)
 

@@ -5,15 +5,12 @@ use Rattle.aabb_polygons.proofs.snapping.snap_axis.Reads as reads
 use Rattle.aabb_polygons.proofs.snapping.snap_axis.Lts as lts
 use Rattle.aabb_polygons.proofs.snapping.snap_to.Reads as snap-to-reads
 
--- src/snapping.rt:18:13
 snap-to-requires : tie.Need-snap-to-requires
 snap-to-requires c κs = search needs
 
--- src/snapping.rt:18:5
 snap-to-requires-2 : tie.Need-snap-to-requires-2
 snap-to-requires-2 c κs = search needs
 
--- src/snapping.rt:15:1
 returns : tie.Need-returns
 returns c = simp (c .snap-to2 .ensures, c .before .snap-to .ensures)
 

@@ -7,43 +7,33 @@ use Rattle.aabb_polygons.proofs.snapping.snap_near_bbox.Reads as reads
 use Rattle.aabb_polygons.proofs.snapping.snap_near_bbox.Lts as lts
 use Rattle.aabb_polygons.proofs.snapping.snap_axis.Reads as snap-axis-reads
 
--- src/snapping.rt:26:27
 element-copy-out-snap-axis : tie.Need-element-copy-out-snap-axis
 element-copy-out-snap-axis c = search needs
 
--- src/snapping.rt:26:50
 element-copy-out-snap-axis-2 : tie.Need-element-copy-out-snap-axis-2
 element-copy-out-snap-axis-2 c = search needs
 
--- src/snapping.rt:26:12
 snap-axis-requires : tie.Need-snap-axis-requires
 snap-axis-requires c κs = search needs
 
--- src/snapping.rt:27:27
 element-copy-out-snap-axis-3 : tie.Need-element-copy-out-snap-axis-3
 element-copy-out-snap-axis-3 c = search needs
 
--- src/snapping.rt:27:50
 element-copy-out-snap-axis-4 : tie.Need-element-copy-out-snap-axis-4
 element-copy-out-snap-axis-4 c = search needs
 
--- src/snapping.rt:27:12
 snap-axis-requires-2 : tie.Need-snap-axis-requires-2
 snap-axis-requires-2 c κs = search needs
 
--- src/snapping.rt:28:27
 element-copy-out-snap-axis-5 : tie.Need-element-copy-out-snap-axis-5
 element-copy-out-snap-axis-5 c = search needs
 
--- src/snapping.rt:28:50
 element-copy-out-snap-axis-6 : tie.Need-element-copy-out-snap-axis-6
 element-copy-out-snap-axis-6 c = search needs
 
--- src/snapping.rt:28:12
 snap-axis-requires-3 : tie.Need-snap-axis-requires-3
 snap-axis-requires-3 c κs = search needs
 
--- src/snapping.rt:22:1
 returns : tie.Need-returns
 unfolding snapped along
 returns c = simp (c .snap-axis3 .ensures, c .before .before .before .snap-axis2 .ensures, c .before .before .before .before .before .before .snap-axis .ensures)

@@ -7,16 +7,13 @@ use Rattle.aabb_polygons.proofs.snapping.snap_to.Reads as reads
 use Rattle.aabb_polygons.proofs.snapping.snap_to.Lts as lts
 use Rattle.rounding.proofs.within.Reads as within-reads
 
--- src/snapping.rt:11:8
 within-requires : tie.Need-within-requires
 within-requires c κs = search needs
 
--- src/snapping.rt:8:1
 returns : tie.Need-returns
 unfolding snapTo
 returns c = simp (sym (c .before .within .ensures) ∙ c .if1 .taken)
 
--- src/snapping.rt:8:1
 returns-2 : tie.Need-returns-2
 unfolding snapTo
 returns-2 c = simp (sym (c .before .within .ensures) ∙ c .if1 .left)

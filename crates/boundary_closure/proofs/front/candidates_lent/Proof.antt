@@ -9,51 +9,39 @@ use borrow.Author.Needs.{needs}
 use Rattle.boundary_closure.proofs.front.candidates_lent.Statement.{statement}
 use Rattle.boundary_closure.proofs.front.candidates_lent.Tie as tie
 
--- src/front.rt:117:11
 check-closure-requires : tie.Need-check-closure-requires
 check-closure-requires c κs = search needs
 
--- src/front.rt:119:16
 enum-told : tie.Need-enum-told
 enum-told c = search needs
 
--- src/front.rt:120:17
 returns : tie.Need-returns
 returns c = let a = c .before .before .before .before .before .before .before .before .before .before .before .args in no-facet (a .vertices .now) (a .facets .now) (a .extents) (a .eps) (a .resolution) (a .candidates .now) (a .face-lists .now) (a .constraints .now) (a .open-edges .now) (closureTests (a .vertices .now) (a .facets .now) (a .extents) (a .eps) (a .resolution) 0 (length (a .work .now))) (sym (c .before .before .before .check-closure .ensures) ∙ c .before .enum-told .given .1) (eq-eqb _ 0 (c .if1 .taken))
 
--- src/front.rt:122:13
 make-candidates-requires : tie.Need-make-candidates-requires
 make-candidates-requires c κs = let a = c .before .before .before .before .before .before .before .before .before .before .before .before .before .before .before .before .args in let s = sound (a .vertices .now) (a .facets .now) (a .extents) (a .eps) (a .resolution) 0 (length (a .work .now)) (sym (c .before .before .before .before .before .before .before .before .check-closure .ensures) ∙ c .before .before .before .before .before .before .enum-told .given .1) in (s, room-for (a .vertices .now) (a .facets .now) (a .extents) (a .eps) (a .resolution) s 0 (length (a .work .now)) (room-passed (a .vertices .now) (a .facets .now) (a .extents) (a .eps) (a .resolution) 0 (length (a .work .now)) (sym (c .before .before .before .before .before .before .before .before .check-closure .ensures) ∙ c .before .before .before .before .before .before .enum-told .given .1)))
 
--- src/front.rt:135:26
 enum-known-r : tie.Need-enum-known-r
 enum-known-r c = search needs
 
--- src/front.rt:103:1
 same-length : tie.Need-same-length
 same-length c = search needs
 
--- src/front.rt:103:1
 same-length-2 : tie.Need-same-length-2
 same-length-2 c = search needs
 
--- src/front.rt:103:1
 same-length-3 : tie.Need-same-length-3
 same-length-3 c = search needs
 
--- src/front.rt:103:1
 same-length-4 : tie.Need-same-length-4
 same-length-4 c = search needs
 
--- src/front.rt:103:1
 same-length-5 : tie.Need-same-length-5
 same-length-5 c = search needs
 
--- src/front.rt:103:1
 returns-2 : tie.Need-returns-2
 returns-2 c = let a = c .before .before .before .before .before .before .before .before .before .before .before .before .before .before .before .before .before .before .before .before .before .before .before .before .before .before .before .args in some-facet (a .vertices .now) (a .facets .now) (a .extents) (a .eps) (a .resolution) (a .candidates .now) (a .face-lists .now) (a .constraints .now) (a .open-edges .now) (closureTests (a .vertices .now) (a .facets .now) (a .extents) (a .eps) (a .resolution) 0 (length (a .work .now))) (sym (c .before .before .before .before .before .before .before .before .before .before .before .before .before .before .before .before .before .before .before .check-closure .ensures) ∙ c .before .before .before .before .before .before .before .before .before .before .before .before .before .before .before .before .before .enum-told .given .1) (ne-eqb _ 0 (c .before .before .before .before .before .before .before .before .before .before .before .before .before .before .before .before .if1 .left)) _ _ _ _ _ (c .before .before .before .before .before .before .before .before .before .before .make-candidates .ensures)
 
--- src/front.rt:103:1
 returns-3 : tie.Need-returns-3
 returns-3 c = let a = c .before .before .before .before .before .before .before .before .before .before .before .args in refused-before (a .vertices .now) (a .facets .now) (a .extents) (a .eps) (a .resolution) (a .candidates .now) (a .face-lists .now) (a .constraints .now) (a .open-edges .now) (closureTests (a .vertices .now) (a .facets .now) (a .extents) (a .eps) (a .resolution) 0 (length (a .work .now))) _ (sym (c .before .before .before .check-closure .ensures) ∙ c .before .r .given .1)
 

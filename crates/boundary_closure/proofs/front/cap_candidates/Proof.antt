@@ -3,35 +3,27 @@ use borrow.Author.Needs.{needs}
 use Rattle.boundary_closure.proofs.front.cap_candidates.Statement.{statement}
 use Rattle.boundary_closure.proofs.front.cap_candidates.Tie as tie
 
--- src/front.rt:154:9
 candidates-lent-requires : tie.Need-candidates-lent-requires
 candidates-lent-requires c κs = search needs
 
--- src/front.rt:166:5
 zero-requires : tie.Need-zero-requires
 zero-requires c κs = search needs
 
--- src/front.rt:140:1
 same-length : tie.Need-same-length
 same-length c = search needs
 
--- src/front.rt:140:1
 same-length-2 : tie.Need-same-length-2
 same-length-2 c = search needs
 
--- src/front.rt:140:1
 same-length-3 : tie.Need-same-length-3
 same-length-3 c = search needs
 
--- src/front.rt:140:1
 same-length-4 : tie.Need-same-length-4
 same-length-4 c = search needs
 
--- src/front.rt:140:1
 same-length-5 : tie.Need-same-length-5
 same-length-5 c = search needs
 
--- src/front.rt:140:1
 returns : tie.Need-returns
 returns c = let a = c .before .before .before .before .before .before .before .before .before .before .before .before .before .before .before .before .before .before .before .before .before .before .before .before .before .before .before .args in delivered (a .vertices .now) (a .facets .now) (a .extents) (a .eps) (a .resolution) (c .before .before .before .before .before .before .before .before .before .before .before .before .before .before .candidates-lent .result) (a .work .now) (c .before .before .before .before .before .before .before .before .before .before .before .before .before .before .candidates-lent .last .1 .1 .1 .1 .1 .0) (c .before .before .zero .last .0) (a .candidates .now) (c .before .before .before .before .before .before .before .before .before .before .before .before .before .before .candidates-lent .last .1 .1 .1 .1 .1 .1 .0) (a .face-lists .now) (c .before .before .before .before .before .before .before .before .before .before .before .before .before .before .candidates-lent .last .1 .1 .1 .1 .1 .1 .1 .0) (a .constraints .now) (c .before .before .before .before .before .before .before .before .before .before .before .before .before .before .candidates-lent .last .1 .1 .1 .1 .1 .1 .1 .1 .0) (a .open-edges .now) (c .before .before .before .before .before .before .before .before .before .before .before .before .before .before .candidates-lent .last .1 .1 .1 .1 .1 .1 .1 .1 .1 .0) (c .before .before .before .before .before .before .before .before .before .before .before .before .before .before .candidates-lent .ensures) (c .before .before .before .before .before .before .before .before .before .before .before .before .before .before .candidates-lent .kept .1 .1 .1 .1 .1 .0) (c .before .before .zero .ensures)
 

@@ -7,51 +7,39 @@ use borrow.Author.Needs.{needs}
 use Rattle.boundary_closure.proofs.front.list_candidates.Statement.{statement}
 use Rattle.boundary_closure.proofs.front.list_candidates.Tie as tie
 
--- src/front.rt:43:9
 enter-surface-requires : tie.Need-enter-surface-requires
 enter-surface-requires c κs = let a = c .before .before .before .before .before .before .before .before .args in ((c .before .before .before .before .before .before .before .before .pre .1 .0 .0), ((c .before .before .before .before .before .before .before .before .pre .1 .1), vertices-in (a .vertices .now) (a .facets .now) (a .extents) (a .eps) (a .resolution) (c .before .before .before .before .before .before .before .before .pre .0)))
 
--- src/front.rt:45:9
 same-length : tie.Need-same-length
 same-length c = search needs
 
--- src/front.rt:45:9
 returns : tie.Need-returns
 returns c = let a = c .before .before .before .before .before .before .before .before .before .before .before .before .args in no-ends (a .vertices .now) (a .facets .now) (a .extents) (a .eps) (a .resolution) (a .candidates .now) (a .face-lists .now) (a .constraints .now) (a .open-edges .now) (no-ends-left (a .vertices .now) (a .facets .now) (a .extents) (a .eps) (a .resolution) (c .before .before .before .enter-surface .result) (c .before .before .before .enter-surface .ensures .1) (c .if1 .taken))
 
--- src/front.rt:47:5
 complete-requires : tie.Need-complete-requires
 complete-requires c κs = let a = c .before .before .before .before .before .before .before .before .before .before .before .before .before .args in ((c .before .before .before .before .before .before .before .before .before .before .before .before .before .pre .0), (((fits-same (a .vertices .now) (a .facets .now) (a .n) (a .w .now) (c .before .before .before .before .enter-surface .last .1 .1 .1 .1 .0) (c .before .before .before .before .enter-surface .kept .1 .1 .1 .1 .0) (c .before .before .before .before .before .before .before .before .before .before .before .before .before .pre .1 .0 .0)), (c .before .before .before .before .before .before .before .before .before .before .before .before .before .pre .1 .0 .1), ((c .before .before .before .before .before .before .before .before .before .before .before .before .before .pre .1 .1) .table .within)), c .before .before .before .before .enter-surface .ensures .0))
 
--- src/front.rt:49:9
 all-constraints-requires : tie.Need-all-constraints-requires
 all-constraints-requires c κs = let a = c .before .before .before .before .before .before .before .before .before .before .before .before .before .before .before .before .before .args in (c .before .before .before .complete .ensures .holds, (c .before .before .before .complete .ensures .held, ((omega (arith, (c .before .before .before .before .before .before .before .before .before .before .before .before .before .before .before .before .before .pre .1 .0 .1), most-small (a .vertices .now) (a .facets .now) (a .extents) (a .eps) (a .resolution) (c .before .before .before .before .before .before .before .before .before .before .before .before .before .before .before .before .before .pre .0)), (fits-same (a .vertices .now) (a .facets .now) (a .n) (c .before .before .before .before .before .before .before .before .enter-surface .last .1 .1 .1 .1 .0) (c .before .before .before .complete .last .1 .1 .1 .1 .1 .0) (c .before .before .before .complete .kept .1 .1 .1 .1 .1 .0) (fits-same (a .vertices .now) (a .facets .now) (a .n) (a .w .now) (c .before .before .before .before .before .before .before .before .enter-surface .last .1 .1 .1 .1 .0) (c .before .before .before .before .before .before .before .before .enter-surface .kept .1 .1 .1 .1 .0) (c .before .before .before .before .before .before .before .before .before .before .before .before .before .before .before .before .before .pre .1 .0 .0))) .few, omega (arith, (fits-same (a .vertices .now) (a .facets .now) (a .n) (c .before .before .before .before .before .before .before .before .enter-surface .last .1 .1 .1 .1 .0) (c .before .before .before .complete .last .1 .1 .1 .1 .1 .0) (c .before .before .before .complete .kept .1 .1 .1 .1 .1 .0) (fits-same (a .vertices .now) (a .facets .now) (a .n) (a .w .now) (c .before .before .before .before .before .before .before .before .enter-surface .last .1 .1 .1 .1 .0) (c .before .before .before .before .before .before .before .before .enter-surface .kept .1 .1 .1 .1 .0) (c .before .before .before .before .before .before .before .before .before .before .before .before .before .before .before .before .before .pre .1 .0 .0))) .threes, ((c .before .before .before .before .before .before .before .before .before .before .before .before .before .before .before .before .before .pre .1 .1) .table .within)), (fits-same (a .vertices .now) (a .facets .now) (a .n) (c .before .before .before .before .before .before .before .before .enter-surface .last .1 .1 .1 .1 .0) (c .before .before .before .complete .last .1 .1 .1 .1 .1 .0) (c .before .before .before .complete .kept .1 .1 .1 .1 .1 .0) (fits-same (a .vertices .now) (a .facets .now) (a .n) (a .w .now) (c .before .before .before .before .before .before .before .before .enter-surface .last .1 .1 .1 .1 .0) (c .before .before .before .before .before .before .before .before .enter-surface .kept .1 .1 .1 .1 .0) (c .before .before .before .before .before .before .before .before .before .before .before .before .before .before .before .before .before .pre .1 .0 .0))) .size))))
 
--- src/front.rt:50:5
 deliver-requires : tie.Need-deliver-requires
 deliver-requires c κs = let a = c .before .before .before .before .before .before .before .before .before .before .before .before .before .before .before .before .before .before .before .before .before .before .before .before .before .args in readable (a .vertices .now) (a .facets .now) (a .extents) (a .eps) (a .resolution) (c .before .before .before .before .before .before .before .before .before .before .before .before .before .before .before .before .enter-surface .result) (c .before .before .before .before .before .before .before .before .before .before .before .before .before .before .before .before .enter-surface .ensures .1) (a .n) (a .k) (c .before .before .before .before .before .before .before .all-constraints .result) (c .before .before .before .before .before .before .before .before .before .before .before .complete .last .1 .1 .1 .1 .1 .0) (c .before .before .before .before .before .before .before .all-constraints .last .0) (fits-same (a .vertices .now) (a .facets .now) (a .n) (c .before .before .before .before .before .before .before .before .before .before .before .before .before .before .before .before .enter-surface .last .1 .1 .1 .1 .0) (c .before .before .before .before .before .before .before .before .before .before .before .complete .last .1 .1 .1 .1 .1 .0) (c .before .before .before .before .before .before .before .before .before .before .before .complete .kept .1 .1 .1 .1 .1 .0) (fits-same (a .vertices .now) (a .facets .now) (a .n) (a .w .now) (c .before .before .before .before .before .before .before .before .before .before .before .before .before .before .before .before .enter-surface .last .1 .1 .1 .1 .0) (c .before .before .before .before .before .before .before .before .before .before .before .before .before .before .before .before .enter-surface .kept .1 .1 .1 .1 .0) (c .before .before .before .before .before .before .before .before .before .before .before .before .before .before .before .before .before .before .before .before .before .before .before .before .before .pre .1 .0 .0))) ((c .before .before .before .before .before .before .before .before .before .before .before .before .before .before .before .before .before .before .before .before .before .before .before .before .before .pre .1 .1) .table .within) (c .before .before .before .before .before .before .before .before .before .before .before .complete .ensures) (c .before .before .before .before .before .before .before .all-constraints .ensures)
 
--- src/front.rt:24:1
 same-length-2 : tie.Need-same-length-2
 same-length-2 c = search needs
 
--- src/front.rt:24:1
 same-length-3 : tie.Need-same-length-3
 same-length-3 c = search needs
 
--- src/front.rt:24:1
 same-length-4 : tie.Need-same-length-4
 same-length-4 c = search needs
 
--- src/front.rt:24:1
 same-length-5 : tie.Need-same-length-5
 same-length-5 c = search needs
 
--- src/front.rt:24:1
 same-length-6 : tie.Need-same-length-6
 same-length-6 c = search needs
 
--- src/front.rt:24:1
 returns-2 : tie.Need-returns-2
 returns-2 c = let a = c .before .before .before .before .before .before .before .before .before .before .before .before .before .before .before .before .before .before .before .before .before .before .before .before .before .before .before .before .before .before .before .before .before .before .args in some-ends (a .vertices .now) (a .facets .now) (a .extents) (a .eps) (a .resolution) (a .candidates .now) (a .face-lists .now) (a .constraints .now) (a .open-edges .now) (ends-left (a .vertices .now) (a .facets .now) (a .extents) (a .eps) (a .resolution) (c .before .before .before .before .before .before .before .before .before .before .before .before .before .before .before .before .before .before .before .before .before .before .before .before .before .enter-surface .result) (c .before .before .before .before .before .before .before .before .before .before .before .before .before .before .before .before .before .before .before .before .before .before .before .before .before .enter-surface .ensures .1) (c .before .before .before .before .before .before .before .before .before .before .before .before .before .before .before .before .before .before .before .before .before .before .if1 .left)) _ (standing-is (a .vertices .now) (a .facets .now) (a .extents) (a .eps) (a .resolution) (c .before .before .before .before .before .before .before .before .before .before .before .before .before .before .before .before .before .before .before .before .before .before .before .before .before .enter-surface .result) (c .before .before .before .before .before .before .before .before .before .before .before .before .before .before .before .before .before .before .before .before .before .before .before .before .before .enter-surface .ensures .1) (a .n) (a .k) (c .before .before .before .before .before .before .before .before .before .before .before .before .before .before .before .before .all-constraints .result) (c .before .before .before .before .before .before .before .before .before .before .before .before .before .before .before .before .before .before .before .before .complete .last .1 .1 .1 .1 .1 .0) (c .before .before .before .before .before .before .before .before .before .before .before .before .before .before .before .before .all-constraints .last .0) (fits-same (a .vertices .now) (a .facets .now) (a .n) (c .before .before .before .before .before .before .before .before .before .before .before .before .before .before .before .before .before .before .before .before .before .before .before .before .before .enter-surface .last .1 .1 .1 .1 .0) (c .before .before .before .before .before .before .before .before .before .before .before .before .before .before .before .before .before .before .before .before .complete .last .1 .1 .1 .1 .1 .0) (c .before .before .before .before .before .before .before .before .before .before .before .before .before .before .before .before .before .before .before .before .complete .kept .1 .1 .1 .1 .1 .0) (fits-same (a .vertices .now) (a .facets .now) (a .n) (a .w .now) (c .before .before .before .before .before .before .before .before .before .before .before .before .before .before .before .before .before .before .before .before .before .before .before .before .before .enter-surface .last .1 .1 .1 .1 .0) (c .before .before .before .before .before .before .before .before .before .before .before .before .before .before .before .before .before .before .before .before .before .before .before .before .before .enter-surface .kept .1 .1 .1 .1 .0) (c .before .before .before .before .before .before .before .before .before .before .before .before .before .before .before .before .before .before .before .before .before .before .before .before .before .before .before .before .before .before .before .before .before .before .pre .1 .0 .0))) ((c .before .before .before .before .before .before .before .before .before .before .before .before .before .before .before .before .before .before .before .before .before .before .before .before .before .before .before .before .before .before .before .before .before .before .pre .1 .1) .table .within) (c .before .before .before .before .before .before .before .before .before .before .before .before .before .before .before .before .before .before .before .before .complete .ensures) (c .before .before .before .before .before .before .before .before .before .before .before .before .before .before .before .before .all-constraints .ensures)) _ _ _ _ _ (c .before .before .before .before .before .before .before .before .deliver .ensures)
 

@@ -8,59 +8,45 @@ use borrow.Author.Needs.{needs}
 use Rattle.boundary_closure.proofs.front.make_candidates.Statement.{statement}
 use Rattle.boundary_closure.proofs.front.make_candidates.Tie as tie
 
--- src/front.rt:81:9
 most-candidates-requires : tie.Need-most-candidates-requires
 most-candidates-requires c κs = search needs
 
--- src/front.rt:82:9
 table-edges-requires : tie.Need-table-edges-requires
 table-edges-requires c κs = let a = c .before .before .before .before .before .before .before .before .before .args in let m = (mesh-fits (a .vertices .now) (a .facets .now) (a .extents) (a .eps) (a .resolution) (c .before .before .before .before .before .before .before .before .before .pre .0) (c .before .most-candidates .result) (a .w .now) (c .before .most-candidates .ensures) (c .before .before .before .before .before .before .before .before .before .pre .1)) in (m .threes, ((m .small, m .few), m .size))
 
--- src/front.rt:83:11
 check-edges-requires : tie.Need-check-edges-requires
 check-edges-requires c κs = let a = c .before .before .before .before .before .before .before .before .before .before .before .before .before .args in ((fits-same (a .vertices .now) (a .facets .now) (c .before .before .before .before .before .most-candidates .result) (a .w .now) (c .before .before .before .table-edges .last .1 .0) (c .before .before .before .table-edges .kept .1 .0) (mesh-fits (a .vertices .now) (a .facets .now) (a .extents) (a .eps) (a .resolution) (c .before .before .before .before .before .before .before .before .before .before .before .before .before .pre .0) (c .before .before .before .before .before .most-candidates .result) (a .w .now) (c .before .before .before .before .before .most-candidates .ensures) (c .before .before .before .before .before .before .before .before .before .before .before .before .before .pre .1))), c .before .before .before .table-edges .ensures)
 
--- src/front.rt:90:13
 enum-told : tie.Need-enum-told
 enum-told c = search needs
 
--- src/front.rt:84:28
 list-candidates-requires : tie.Need-list-candidates-requires
 list-candidates-requires c κs = let a = c .before .before .before .before .before .before .before .before .before .before .before .before .before .before .before .before .before .before .before .before .before .args in (c .before .before .before .before .before .before .before .before .before .before .before .before .before .before .before .before .before .before .before .before .before .pre .0, (((fits-same (a .vertices .now) (a .facets .now) (c .before .before .before .before .before .before .before .before .before .before .before .before .before .most-candidates .result) (a .w .now) (c .before .before .before .before .before .before .before .before .before .before .before .table-edges .last .1 .0) (c .before .before .before .before .before .before .before .before .before .before .before .table-edges .kept .1 .0) (mesh-fits (a .vertices .now) (a .facets .now) (a .extents) (a .eps) (a .resolution) (c .before .before .before .before .before .before .before .before .before .before .before .before .before .before .before .before .before .before .before .before .before .pre .0) (c .before .before .before .before .before .before .before .before .before .before .before .before .before .most-candidates .result) (a .w .now) (c .before .before .before .before .before .before .before .before .before .before .before .before .before .most-candidates .ensures) (c .before .before .before .before .before .before .before .before .before .before .before .before .before .before .before .before .before .before .before .before .before .pre .1))), c .before .before .before .before .before .before .before .before .before .before .before .before .before .most-candidates .ensures), c .before .before .before .before .before .before .before .before .before .before .before .table-edges .ensures))
 
--- src/front.rt:98:26
 enum-known-r : tie.Need-enum-known-r
 enum-known-r c = search needs
 
--- src/front.rt:65:1
 same-length : tie.Need-same-length
 same-length c = search needs
 
--- src/front.rt:65:1
 same-length-2 : tie.Need-same-length-2
 same-length-2 c = search needs
 
--- src/front.rt:65:1
 same-length-3 : tie.Need-same-length-3
 same-length-3 c = search needs
 
--- src/front.rt:65:1
 same-length-4 : tie.Need-same-length-4
 same-length-4 c = search needs
 
--- src/front.rt:65:1
 same-length-5 : tie.Need-same-length-5
 same-length-5 c = search needs
 
--- src/front.rt:65:1
 returns : tie.Need-returns
 returns c = let a = c .before .before .before .before .before .before .before .before .before .before .before .before .before .before .before .before .before .before .before .before .before .before .before .before .before .before .before .before .before .before .before .before .args in passed (edgeTests (a .vertices .now) (a .facets .now) (a .extents) (a .eps) (a .resolution)) (rooms (surfaceResult (a .vertices .now) (a .facets .now) (a .extents) (a .eps) (a .resolution)) (a .candidates .now) (a .face-lists .now) (a .constraints .now) (a .open-edges .now)) (surfaceResult (a .vertices .now) (a .facets .now) (a .extents) (a .eps) (a .resolution)) _ _ _ _ _ _ _ _ _ (sym (c .before .before .before .before .before .before .before .before .before .before .before .before .before .before .before .before .before .before .check-edges .ensures) ∙ c .before .before .before .before .before .before .before .before .before .before .before .before .before .before .before .before .enum-told .given .1) (c .before .before .before .before .before .before .before .before .before .before .list-candidates .ensures)
 
--- src/front.rt:65:1
 same-length-6 : tie.Need-same-length-6
 same-length-6 c = search needs
 
--- src/front.rt:65:1
 returns-2 : tie.Need-returns-2
 returns-2 c = let a = c .before .before .before .before .before .before .before .before .before .before .before .before .before .before .before .before .before .args in refused (surfaceResult (a .vertices .now) (a .facets .now) (a .extents) (a .eps) (a .resolution)) (a .candidates .now) (a .face-lists .now) (a .constraints .now) (a .open-edges .now) (edgeTests (a .vertices .now) (a .facets .now) (a .extents) (a .eps) (a .resolution)) (rooms (surfaceResult (a .vertices .now) (a .facets .now) (a .extents) (a .eps) (a .resolution)) (a .candidates .now) (a .face-lists .now) (a .constraints .now) (a .open-edges .now)) _ (sym (c .before .before .before .check-edges .ensures) ∙ c .before .r .given .1)
 

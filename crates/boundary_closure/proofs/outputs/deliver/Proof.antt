@@ -15,87 +15,66 @@ use borrow.Author.Needs.{needs}
 use Rattle.boundary_closure.proofs.outputs.deliver.Statement.{statement}
 use Rattle.boundary_closure.proofs.outputs.deliver.Tie as tie
 
--- src/outputs.rt:146:17
 shared-slice-read-count : tie.Need-shared-slice-read-count
 shared-slice-read-count c = search needs
 
--- src/outputs.rt:147:13
 mul-c : tie.Need-mul-c
 mul-c c = search needs
 
--- src/outputs.rt:148:17
 listed-numbers-requires : tie.Need-listed-numbers-requires
 listed-numbers-requires c κs = search needs
 
--- src/outputs.rt:148:13
 add-l : tie.Need-add-l
 add-l c = search needs
 
--- src/outputs.rt:149:13
 mul-t : tie.Need-mul-t
 mul-t c = search needs
 
--- src/outputs.rt:150:13
 mul-e : tie.Need-mul-e
 mul-e c = let a = c .before .before .before .before .before .before .before .args in let w = a .w .now in let h = edges-few (a .n) (a .nf) (a .k) (a .listed) (a .total) w (c .before .before .before .before .before .before .before .pre) in omega (arith, h, c .before .before .before .before .before .before .before .pre .small-facets)
 
--- src/outputs.rt:152:9
 returns : tie.Need-returns
 returns c = let a = c .before .before .before .before .before .before .before .before .args in let w = a .w .now in short-candidates (standing (a .n) (a .nf) (a .k) (a .total) w) (5 * getD w 6 0) (6 + c .before .listed-numbers .result) (3 * a .total) (3 * a .listed) (candidates-long (a .n) (a .nf) (a .k) (a .listed) (a .total) w (c .before .before .before .before .before .before .before .before .pre)) (all-lists-long (a .n) (a .nf) (a .k) (a .listed) (a .total) w (c .before .before .before .before .before .before .before .before .pre) _ (c .before .listed-numbers .ensures .0)) (constraints-long (a .n) (a .nf) (a .k) (a .listed) (a .total) w (c .before .before .before .before .before .before .before .before .pre)) (edges-long (a .n) (a .nf) (a .k) (a .listed) (a .total) w (c .before .before .before .before .before .before .before .before .pre)) (a .candidates .now) (a .face-lists .now) (a .constraints .now) (a .open-edges .now) (c .if1 .taken)
 
--- src/outputs.rt:155:9
 returns-2 : tie.Need-returns-2
 returns-2 c = let a = c .before .before .before .before .before .before .before .before .before .args in let w = a .w .now in short-lists (standing (a .n) (a .nf) (a .k) (a .total) w) (5 * getD w 6 0) (6 + c .before .before .listed-numbers .result) (3 * a .total) (3 * a .listed) (candidates-long (a .n) (a .nf) (a .k) (a .listed) (a .total) w (c .before .before .before .before .before .before .before .before .before .pre)) (all-lists-long (a .n) (a .nf) (a .k) (a .listed) (a .total) w (c .before .before .before .before .before .before .before .before .before .pre) _ (c .before .before .listed-numbers .ensures .0)) (constraints-long (a .n) (a .nf) (a .k) (a .listed) (a .total) w (c .before .before .before .before .before .before .before .before .before .pre)) (edges-long (a .n) (a .nf) (a .k) (a .listed) (a .total) w (c .before .before .before .before .before .before .before .before .before .pre)) (a .candidates .now) (a .face-lists .now) (a .constraints .now) (a .open-edges .now) (c .before .if1 .left) (c .if2 .taken)
 
--- src/outputs.rt:158:9
 returns-3 : tie.Need-returns-3
 returns-3 c = let a = c .before .before .before .before .before .before .before .before .before .before .args in let w = a .w .now in short-constraints (standing (a .n) (a .nf) (a .k) (a .total) w) (5 * getD w 6 0) (6 + c .before .before .before .listed-numbers .result) (3 * a .total) (3 * a .listed) (candidates-long (a .n) (a .nf) (a .k) (a .listed) (a .total) w (c .before .before .before .before .before .before .before .before .before .before .pre)) (all-lists-long (a .n) (a .nf) (a .k) (a .listed) (a .total) w (c .before .before .before .before .before .before .before .before .before .before .pre) _ (c .before .before .before .listed-numbers .ensures .0)) (constraints-long (a .n) (a .nf) (a .k) (a .listed) (a .total) w (c .before .before .before .before .before .before .before .before .before .before .pre)) (edges-long (a .n) (a .nf) (a .k) (a .listed) (a .total) w (c .before .before .before .before .before .before .before .before .before .before .pre)) (a .candidates .now) (a .face-lists .now) (a .constraints .now) (a .open-edges .now) (c .before .before .if1 .left) (c .before .if2 .left) (c .if3 .taken)
 
--- src/outputs.rt:161:9
 returns-4 : tie.Need-returns-4
 returns-4 c = let a = c .before .before .before .before .before .before .before .before .before .before .before .args in let w = a .w .now in short-edges (standing (a .n) (a .nf) (a .k) (a .total) w) (5 * getD w 6 0) (6 + c .before .before .before .before .listed-numbers .result) (3 * a .total) (3 * a .listed) (candidates-long (a .n) (a .nf) (a .k) (a .listed) (a .total) w (c .before .before .before .before .before .before .before .before .before .before .before .pre)) (all-lists-long (a .n) (a .nf) (a .k) (a .listed) (a .total) w (c .before .before .before .before .before .before .before .before .before .before .before .pre) _ (c .before .before .before .before .listed-numbers .ensures .0)) (constraints-long (a .n) (a .nf) (a .k) (a .listed) (a .total) w (c .before .before .before .before .before .before .before .before .before .before .before .pre)) (edges-long (a .n) (a .nf) (a .k) (a .listed) (a .total) w (c .before .before .before .before .before .before .before .before .before .before .before .pre)) (a .candidates .now) (a .face-lists .now) (a .constraints .now) (a .open-edges .now) (c .before .before .before .if1 .left) (c .before .before .if2 .left) (c .before .if3 .left) (c .if4 .taken)
 
--- src/outputs.rt:163:5
 write-words-requires : tie.Need-write-words-requires
 write-words-requires c κs = search needs
 
--- src/outputs.rt:164:5
 write-face-lists-requires : tie.Need-write-face-lists-requires
 write-face-lists-requires c κs = let a = c .before .before .before .before .before .before .before .before .before .before .before .before .before .before .before .before .args in let w = a .w .now in ((c .before .before .before .before .before .before .before .before .before .before .before .before .before .before .before .before .pre .small, omega (arith, c .before .before .before .before .before .before .before .before .before .before .before .before .before .before .before .before .pre .size)), (c .before .before .before .before .before .before .before .before .before .before .before .before .before .before .before .before .pre .short, omega (arith, c .before .before .before .before .before .before .before .if2 .left, all-lists-long (a .n) (a .nf) (a .k) (a .listed) (a .total) w (c .before .before .before .before .before .before .before .before .before .before .before .before .before .before .before .before .pre) _ (c .before .before .before .before .before .before .before .before .before .listed-numbers .ensures .0))))
 
--- src/outputs.rt:165:26
 constraints-at-requires : tie.Need-constraints-at-requires
 constraints-at-requires c κs = search needs
 
--- src/outputs.rt:165:5
 write-constraints-requires : tie.Need-write-constraints-requires
 write-constraints-requires c κs = search needs
 
--- src/outputs.rt:166:20
 edges-at-requires : tie.Need-edges-at-requires
 edges-at-requires c κs = search needs
 
--- src/outputs.rt:166:5
 write-edges-requires : tie.Need-write-edges-requires
 write-edges-requires c κs = let a = c .before .before .before .before .before .before .before .before .before .before .before .before .before .before .before .before .before .before .before .before .before .before .before .before .before .before .args in let w = a .w .now in (omega (arith, c .before .before .before .before .before .before .before .before .before .before .before .before .before .before .before .before .before .before .before .before .before .before .before .before .before .before .pre .size, c .before .before .before .before .before .before .before .before .before .before .before .before .before .before .before .before .before .before .before .before .before .before .before .before .before .before .pre .edges, c .before .edges-at .ensures), let e = ap (λ (x : ℕ). length (flat (edgesAt w x (a .k)))) (c .before .edges-at .ensures) in omega (arith, c .before .before .before .before .before .before .before .before .before .before .before .before .before .before .before .if4 .left, edges-long (a .n) (a .nf) (a .k) (a .listed) (a .total) w (c .before .before .before .before .before .before .before .before .before .before .before .before .before .before .before .before .before .before .before .before .before .before .before .before .before .before .pre), e))
 
--- src/outputs.rt:131:1
 same-length : tie.Need-same-length
 same-length c = search needs
 
--- src/outputs.rt:131:1
 same-length-2 : tie.Need-same-length-2
 same-length-2 c = search needs
 
--- src/outputs.rt:131:1
 same-length-3 : tie.Need-same-length-3
 same-length-3 c = search needs
 
--- src/outputs.rt:131:1
 same-length-4 : tie.Need-same-length-4
 same-length-4 c = search needs
 
--- src/outputs.rt:131:1
 returns-5 : tie.Need-returns-5
 returns-5 c = let a = c .before .before .before .before .before .before .before .before .before .before .before .before .before .before .before .before .before .before .before .before .before .before .before .before .before .before .before .before .before .args in let w = a .w .now in done (standing (a .n) (a .nf) (a .k) (a .total) w) (5 * getD w 6 0) (6 + c .before .before .before .before .before .before .before .before .before .before .before .before .before .before .before .before .before .before .before .before .before .before .listed-numbers .result) (3 * a .total) (3 * a .listed) (candidates-long (a .n) (a .nf) (a .k) (a .listed) (a .total) w (c .before .before .before .before .before .before .before .before .before .before .before .before .before .before .before .before .before .before .before .before .before .before .before .before .before .before .before .before .before .pre)) (all-lists-long (a .n) (a .nf) (a .k) (a .listed) (a .total) w (c .before .before .before .before .before .before .before .before .before .before .before .before .before .before .before .before .before .before .before .before .before .before .before .before .before .before .before .before .before .pre) _ (c .before .before .before .before .before .before .before .before .before .before .before .before .before .before .before .before .before .before .before .before .before .before .listed-numbers .ensures .0)) (constraints-long (a .n) (a .nf) (a .k) (a .listed) (a .total) w (c .before .before .before .before .before .before .before .before .before .before .before .before .before .before .before .before .before .before .before .before .before .before .before .before .before .before .before .before .before .pre)) (edges-long (a .n) (a .nf) (a .k) (a .listed) (a .total) w (c .before .before .before .before .before .before .before .before .before .before .before .before .before .before .before .before .before .before .before .before .before .before .before .before .before .before .before .before .before .pre)) (a .candidates .now) (a .face-lists .now) (a .constraints .now) (a .open-edges .now) (c .before .before .before .before .before .before .before .before .before .before .before .before .before .before .before .before .before .before .before .before .before .if1 .left) (c .before .before .before .before .before .before .before .before .before .before .before .before .before .before .before .before .before .before .before .before .if2 .left) (c .before .before .before .before .before .before .before .before .before .before .before .before .before .before .before .before .before .before .before .if3 .left) (c .before .before .before .before .before .before .before .before .before .before .before .before .before .before .before .before .before .before .if4 .left) _ _ _ _ (c .before .before .before .before .before .before .before .before .before .before .before .before .before .before .before .before .write-words .ensures ∙ ap (sets (a .candidates .now) 0) (sym (c .before .before .before .before .before .before .before .before .before .before .before .before .before .before .before .before .before .before .before .before .before .before .before .before .before .before .before .before .before .pre .words))) (c .before .before .before .before .before .before .before .before .before .before .before .before .write-face-lists .ensures) (c .before .before .before .before .before .before .before .write-constraints .ensures ∙ ap (λ (x : ℕ). sets (a .constraints .now) 0 (flat (map unpacked (view w x (a .total))))) (c .before .before .before .before .before .before .before .before .before .constraints-at .ensures)) (c .before .before .write-edges .ensures ∙ ap (λ (x : ℕ). sets (a .open-edges .now) 0 (flat (edgesAt w x (a .k)))) (c .before .before .before .before .edges-at .ensures))
 

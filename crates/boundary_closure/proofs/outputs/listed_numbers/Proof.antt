@@ -4,51 +4,39 @@ use borrow.Author.Needs.{needs}
 use Rattle.boundary_closure.proofs.outputs.listed_numbers.Statement.{statement}
 use Rattle.boundary_closure.proofs.outputs.listed_numbers.Tie as tie
 
--- src/outputs.rt:47:6
 shared-slice-read-result : tie.Need-shared-slice-read-result
 shared-slice-read-result c = search needs
 
--- src/outputs.rt:47:14
 shared-slice-read-result-2 : tie.Need-shared-slice-read-result-2
 shared-slice-read-result-2 c = search needs
 
--- src/outputs.rt:47:22
 shared-slice-read-result-3 : tie.Need-shared-slice-read-result-3
 shared-slice-read-result-3 c = search needs
 
--- src/outputs.rt:47:30
 shared-slice-read-result-4 : tie.Need-shared-slice-read-result-4
 shared-slice-read-result-4 c = search needs
 
--- src/outputs.rt:47:38
 shared-slice-read-result-5 : tie.Need-shared-slice-read-result-5
 shared-slice-read-result-5 c = search needs
 
--- src/outputs.rt:47:45
 shared-slice-read-result-6 : tie.Need-shared-slice-read-result-6
 shared-slice-read-result-6 c = search needs
 
--- src/outputs.rt:47:38
 add-result : tie.Need-add-result
 add-result c = let h = c .before .before .before .before .before .before .pre .1 in omega (arith, c .before .before .before .before .before .before .pre .0 .1, h 0 (omega arith), h 1 (omega arith), h 2 (omega arith), h 3 (omega arith), h 4 (omega arith), h 5 (omega arith))
 
--- src/outputs.rt:47:30
 add-result-2 : tie.Need-add-result-2
 add-result-2 c = let h = c .before .before .before .before .before .before .pre .1 in omega (arith, c .before .before .before .before .before .before .pre .0 .1, h 0 (omega arith), h 1 (omega arith), h 2 (omega arith), h 3 (omega arith), h 4 (omega arith), h 5 (omega arith))
 
--- src/outputs.rt:47:22
 add-result-3 : tie.Need-add-result-3
 add-result-3 c = let h = c .before .before .before .before .before .before .pre .1 in omega (arith, c .before .before .before .before .before .before .pre .0 .1, h 0 (omega arith), h 1 (omega arith), h 2 (omega arith), h 3 (omega arith), h 4 (omega arith), h 5 (omega arith))
 
--- src/outputs.rt:47:14
 add-result-4 : tie.Need-add-result-4
 add-result-4 c = let h = c .before .before .before .before .before .before .pre .1 in omega (arith, c .before .before .before .before .before .before .pre .0 .1, h 0 (omega arith), h 1 (omega arith), h 2 (omega arith), h 3 (omega arith), h 4 (omega arith), h 5 (omega arith))
 
--- src/outputs.rt:47:6
 add-result-5 : tie.Need-add-result-5
 add-result-5 c = let h = c .before .before .before .before .before .before .pre .1 in omega (arith, c .before .before .before .before .before .before .pre .0 .1, h 0 (omega arith), h 1 (omega arith), h 2 (omega arith), h 3 (omega arith), h 4 (omega arith), h 5 (omega arith))
 
--- src/outputs.rt:42:1
 returns : tie.Need-returns
 returns c = (refl, let h = c .before .before .before .before .before .before .pre .1 in omega (arith, c .before .before .before .before .before .before .pre .0 .1, h 0 (omega arith), h 1 (omega arith), h 2 (omega arith), h 3 (omega arith), h 4 (omega arith), h 5 (omega arith)))
 

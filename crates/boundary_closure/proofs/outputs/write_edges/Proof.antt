@@ -13,39 +13,30 @@ Inv-loop w edges k out₀ o₀ i₀ out o i = (i ≤ k) × Run (edgeBlock w edge
 abbrev μ-loop : tie.MeasureT-loop
 μ-loop w edges k out₀ o₀ i₀ out o i = k - i
 
--- src/outputs.rt:113:5
 loop-holds : tie.Need-loop-holds Inv-loop μ-loop
 loop-holds c = let a = c .before .before .args in (omega arith, run-start (edgeBlock (a .w .now) (a .edges)) (a .out .now) 0)
 
--- src/outputs.rt:114:35
 mul-write-edge : tie.Need-mul-write-edge Inv-loop μ-loop
 mul-write-edge c = omega arith
 
--- src/outputs.rt:114:27
 add-write-edge : tie.Need-add-write-edge Inv-loop μ-loop
 add-write-edge c = omega arith
 
--- src/outputs.rt:114:9
 write-edge-requires : tie.Need-write-edge-requires Inv-loop μ-loop
 write-edge-requires c κs = let a = c .before .before .before .before .before .args in let l = ap length (edges-are (a .w .now) (a .edges) (a .k)) in let r = run-room (edgeBlock (a .w .now) (a .edges)) (a .out .now) (c .before .before .loop .out) 0 (c .before .before .loop .i) (c .before .before .loop .o) (c .before .before .loop .inv .1) (a .k) (c .before .loop-test .taken) (omega (arith, l, c .before .before .before .before .before .pre .1)) in (omega arith, r)
 
--- src/outputs.rt:115:9
 add-i : tie.Need-add-i Inv-loop μ-loop
 add-i c = omega arith
 
--- src/outputs.rt:113:5
 loop-less : tie.Need-loop-less Inv-loop μ-loop
 loop-less c = omega arith
 
--- src/outputs.rt:113:5
 loop-again : tie.Need-loop-again Inv-loop μ-loop
 loop-again c = let a = c .before .before .before .before .before .before .before .before .args in (omega arith, run-turn (edgeBlock (a .w .now) (a .edges)) (a .out .now) (c .before .before .before .before .before .loop .out) 0 (c .before .before .before .before .before .loop .i) (c .before .before .before .before .before .loop .o) (c .before .before .before .before .before .loop .inv .1) _ _ (c .before .before .write-edge .ensures .1) (c .before .before .write-edge .ensures .0))
 
--- src/outputs.rt:106:1
 same-length : tie.Need-same-length Inv-loop μ-loop
 same-length c = let a = c .before .before .before .before .args in run-long (edgeBlock (a .w .now) (a .edges)) (a .out .now) (c .before .loop .out) 0 (c .before .loop .i) (c .before .loop .o) (c .before .loop .inv .1)
 
--- src/outputs.rt:106:1
 returns : tie.Need-returns Inv-loop μ-loop
 returns c = let a = c .before .before .before .before .args in run-end (edgeBlock (a .w .now) (a .edges)) (a .out .now) (c .before .loop .out) 0 (c .before .loop .i) (c .before .loop .o) (c .before .loop .inv .1) (a .k) (c .before .loop .inv .0) (c .loop-test .left) _ (edges-are (a .w .now) (a .edges) (a .k))
 

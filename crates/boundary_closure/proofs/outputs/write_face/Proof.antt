@@ -8,27 +8,21 @@ use borrow.Author.Needs.{needs}
 use Rattle.boundary_closure.proofs.outputs.write_face.Statement.{statement}
 use Rattle.boundary_closure.proofs.outputs.write_face.Tie as tie
 
--- src/outputs.rt:94:9
 has-face-requires : tie.Need-has-face-requires
 has-face-requires c κs = search needs
 
--- src/outputs.rt:95:9
 returns : tie.Need-returns
 returns c = let a = c .before .before .before .args in let b = face-left (a .mask) (a .a) (a .b) (a .face) (sym (c .before .has-face .ensures) ∙ not-true _ (c .if1 .taken)) in (let q = ap length b in omega (arith, q), ap (sets (a .out .now) (a .at)) (sym b))
 
--- src/outputs.rt:97:5
 write-three-requires : tie.Need-write-three-requires
 write-three-requires c κs = let a = c .before .before .before .before .args in let b = face-taken (a .mask) (a .a) (a .b) (a .face) (sym (c .before .before .has-face .ensures) ∙ not-false _ (c .before .if1 .left)) in let q = ap length b in omega (arith, q, c .before .before .before .before .pre .1)
 
--- src/outputs.rt:98:5
 add-result : tie.Need-add-result
 add-result c = let a = c .before .before .before .before .before .before .before .args in let b = face-taken (a .mask) (a .a) (a .b) (a .face) (sym (c .before .before .before .before .before .has-face .ensures) ∙ not-false _ (c .before .before .before .before .if1 .left)) in let q = ap length b in omega (arith, q, c .before .before .before .before .before .before .before .pre .1)
 
--- src/outputs.rt:90:1
 same-length : tie.Need-same-length
 same-length c = search needs
 
--- src/outputs.rt:90:1
 returns-2 : tie.Need-returns-2
 returns-2 c = let a = c .before .before .before .before .before .before .before .args in let b = face-taken (a .mask) (a .a) (a .b) (a .face) (sym (c .before .before .before .before .before .has-face .ensures) ∙ not-false _ (c .before .before .before .before .if1 .left)) in (let q = ap length b in omega (arith, q), c .before .before .write-three .ensures ∙ ap (sets (a .out .now) (a .at)) (sym b))
 

@@ -3,55 +3,42 @@ use borrow.Author.Needs.{needs}
 use Rattle.boundary_closure.proofs.outputs.write_words.Statement.{statement}
 use Rattle.boundary_closure.proofs.outputs.write_words.Tie as tie
 
--- src/outputs.rt:30:25
 add-copy-words : tie.Need-add-copy-words
 add-copy-words c = search needs
 
--- src/outputs.rt:30:16
 mul-copy-words : tie.Need-mul-copy-words
 mul-copy-words c = search needs
 
--- src/outputs.rt:30:16
 sub-copy-words : tie.Need-sub-copy-words
 sub-copy-words c = search needs
 
--- src/outputs.rt:30:16
 part-copy-words-start : tie.Need-part-copy-words-start
 part-copy-words-start c = search needs
 
--- src/outputs.rt:30:16
 part-copy-words-end : tie.Need-part-copy-words-end
 part-copy-words-end c = search needs
 
--- src/outputs.rt:30:49
 add-copy-words-2 : tie.Need-add-copy-words-2
 add-copy-words-2 c = search needs
 
--- src/outputs.rt:30:36
 mul-copy-words-2 : tie.Need-mul-copy-words-2
 mul-copy-words-2 c = search needs
 
--- src/outputs.rt:30:36
 sub-copy-words-2 : tie.Need-sub-copy-words-2
 sub-copy-words-2 c = search needs
 
--- src/outputs.rt:30:36
 part-copy-words-start-2 : tie.Need-part-copy-words-start-2
 part-copy-words-start-2 c = search needs
 
--- src/outputs.rt:30:36
 part-copy-words-end-2 : tie.Need-part-copy-words-end-2
 part-copy-words-end-2 c = search needs
 
--- src/outputs.rt:30:5
 copy-words-requires : tie.Need-copy-words-requires
 copy-words-requires c κs = search needs
 
--- src/outputs.rt:26:1
 same-length : tie.Need-same-length
 same-length c = search needs
 
--- src/outputs.rt:26:1
 returns : tie.Need-returns
 returns c = let a = c .before .before .before .before .before .before .before .args in part-copied (a .w .now) (a .out .now) _ (a .from) (a .n) (a .at) (c .before .before .before .before .before .before .before .pre .0) (c .before .before .before .before .before .before .before .pre .1) (c .before .before .copy-words .ensures)
 

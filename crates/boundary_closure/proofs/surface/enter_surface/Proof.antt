@@ -4,19 +4,15 @@ use borrow.Author.Needs.{needs}
 use Rattle.boundary_closure.proofs.surface.enter_surface.Statement.{statement}
 use Rattle.boundary_closure.proofs.surface.enter_surface.Tie as tie
 
--- src/surface.rt:56:5
 clear-pool-requires : tie.Need-clear-pool-requires
 clear-pool-requires c κs = ((c .before .before .before .before .pre .0 .small, omega (arith, c .before .before .before .before .pre .0 .size)))
 
--- src/surface.rt:57:5
 enter-edges-requires : tie.Need-enter-edges-requires
 enter-edges-requires c κs = let a = c .before .before .before .before .before .before .before .before .args in (fits-same (a .vertices .now) (a .facets .now) (a .n) (a .w .now) (c .before .before .before .clear-pool .last .0) (c .before .before .before .clear-pool .kept .0) (c .before .before .before .before .before .before .before .before .pre .0), (table-left (a .vertices .now) (a .facets .now) (a .extents) (a .eps) (a .n) (a .k) (a .w .now) (c .before .before .before .clear-pool .last .0) (c .before .before .before .clear-pool .ensures) (c .before .before .before .before .before .before .before .before .pre .1 .0), (c .before .before .before .before .before .before .before .before .pre .1 .1, ((c .before .before .before .clear-pool .ensures .holds, c .before .before .before .clear-pool .ensures .pool)))))
 
--- src/surface.rt:42:1
 same-length : tie.Need-same-length
 same-length c = search needs
 
--- src/surface.rt:42:1
 returns : tie.Need-returns
 returns c = let a = c .before .before .before .before .before .before .before .before .before .before .before .args in (surfaced (a .vertices .now) (a .facets .now) (a .extents) (a .eps) (a .n) (a .k) _ (c .before .before .before .before .before .before .clear-pool .last .0) (c .before .before .enter-edges .last .0) (c .before .before .enter-edges .ensures), c .before .before .enter-edges .ensures .listed)
 

@@ -5,15 +5,12 @@ use borrow.Author.Needs.{needs}
 use Rattle.boundary_closure.proofs.surface.most_candidates.Statement.{statement}
 use Rattle.boundary_closure.proofs.surface.most_candidates.Tie as tie
 
--- src/surface.rt:26:26
 grid-size-requires : tie.Need-grid-size-requires
 grid-size-requires c κs = search needs
 
--- src/surface.rt:26:5
 add-result : tie.Need-add-result
 add-result c = let a = c .before .before .args in let g = grid-small (a .extents) (a .eps) (oneResolution (a .resolution)) (c .before .before .pre .1) in omega (arith, g, c .grid-size .ensures, c .before .before .pre .0)
 
--- src/surface.rt:22:1
 returns : tie.Need-returns
 returns c = search needs
 

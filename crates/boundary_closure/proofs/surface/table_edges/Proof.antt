@@ -3,43 +3,33 @@ use borrow.Author.Needs.{needs}
 use Rattle.boundary_closure.proofs.surface.table_edges.Statement.{statement}
 use Rattle.boundary_closure.proofs.surface.table_edges.Tie as tie
 
--- src/surface.rt:37:9
 table-at-requires : tie.Need-table-at-requires
 table-at-requires c κs = search needs
 
--- src/surface.rt:38:53
 mul-open-edges : tie.Need-mul-open-edges
 mul-open-edges c = search needs
 
--- src/surface.rt:38:45
 add-open-edges : tie.Need-add-open-edges
 add-open-edges c = search needs
 
--- src/surface.rt:38:31
 mul-open-edges-2 : tie.Need-mul-open-edges-2
 mul-open-edges-2 c = search needs
 
--- src/surface.rt:38:31
 sub-open-edges : tie.Need-sub-open-edges
 sub-open-edges c = search needs
 
--- src/surface.rt:38:31
 part-open-edges-start : tie.Need-part-open-edges-start
 part-open-edges-start c = search needs
 
--- src/surface.rt:38:31
 part-open-edges-end : tie.Need-part-open-edges-end
 part-open-edges-end c = search needs
 
--- src/surface.rt:38:5
 open-edges-requires : tie.Need-open-edges-requires
 open-edges-requires c κs = search needs
 
--- src/surface.rt:30:1
 same-length : tie.Need-same-length
 same-length c = search needs
 
--- src/surface.rt:30:1
 returns : tie.Need-returns
 returns c = let a = c .before .before .before .before .before .before .before .args in table-put (a .facets .now) (a .w .now) (c .before .before .open-edges .last .1 .0) (a .n) _ (c .before .before .before .before .table-at .result) (c .before .before .before .before .table-at .ensures) (c .before .before .before .before .before .before .before .pre .0) (c .before .before .before .before .before .before .before .pre .1 .1) (c .before .before .open-edges .ensures)
 

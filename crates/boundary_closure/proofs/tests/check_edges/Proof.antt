@@ -7,59 +7,45 @@ use borrow.Author.Needs.{needs}
 use Rattle.boundary_closure.proofs.tests.check_edges.Statement.{statement}
 use Rattle.boundary_closure.proofs.tests.check_edges.Tie as tie
 
--- src/tests.rt:94:8
 has-far-key-requires : tie.Need-has-far-key-requires
 has-far-key-requires c κs = search needs
 
--- src/tests.rt:95:9
 returns : tie.Need-returns
 returns c = let a = c .before .before .before .before .before .args in key-refused (a .vertices .now) (a .facets .now) (a .extents) (a .eps) (a .resolution) (or-stop _ _ (sym (c .before .has-far-key .ensures) ∙ c .if1 .taken))
 
--- src/tests.rt:97:8
 box-has-far-key-requires : tie.Need-box-has-far-key-requires
 box-has-far-key-requires c κs = search needs
 
--- src/tests.rt:98:9
 returns-2 : tie.Need-returns-2
 returns-2 c = let a = c .before .before .before .before .before .before .before .args in key-refused (a .vertices .now) (a .facets .now) (a .extents) (a .eps) (a .resolution) (or-next _ _ _ (sym (c .before .before .before .has-far-key .ensures) ∙ c .before .before .if1 .left) (sym (c .before .box-has-far-key .ensures) ∙ c .if2 .taken))
 
--- src/tests.rt:100:9
 stray-edge-requires : tie.Need-stray-edge-requires
 stray-edge-requires c κs = (c .before .before .before .before .before .before .before .pre .0, (c .before .before .before .before .before .before .before .pre .1 .table))
 
--- src/tests.rt:102:13
 table-at-requires : tie.Need-table-at-requires
 table-at-requires c κs = search needs
 
--- src/tests.rt:103:29
 mul-key : tie.Need-mul-key
 mul-key c = search needs
 
--- src/tests.rt:103:21
 add-key : tie.Need-add-key
 add-key c = search needs
 
--- src/tests.rt:103:19
 mul-key-2 : tie.Need-mul-key-2
 mul-key-2 c = search needs
 
--- src/tests.rt:103:19
 shared-slice-read-key : tie.Need-shared-slice-read-key
 shared-slice-read-key c = search needs
 
--- src/tests.rt:104:13
 pair-first-requires : tie.Need-pair-first-requires
 pair-first-requires c κs = search needs
 
--- src/tests.rt:105:13
 pair-second-requires : tie.Need-pair-second-requires
 pair-second-requires c κs = search needs
 
--- src/tests.rt:106:9
 returns-3 : tie.Need-returns-3
 returns-3 c = let a = c .before .before .before .before .before .before .before .before .before .before .before .before .before .args in let q = (ends-of (a .vertices .now) (a .facets .now) (a .n) (a .k) (a .w .now) (c .before .before .before .before .before .before .before .before .before .before .before .before .before .pre .0) (c .before .before .before .before .before .before .before .before .before .before .before .before .before .pre .1) _ (c .before .before .before .before .if3 .taken) _ (ap (λ (x : ℕ). getD (a .w .now) (x + 2 * c .before .before .before .before .before .stray-edge .result) 0) (c .before .before .before .table-at .ensures))) in edge-refused (a .vertices .now) (a .facets .now) (a .extents) (a .eps) (a .resolution) (or-next _ _ _ (sym (c .before .before .before .before .before .before .before .before .before .has-far-key .ensures) ∙ c .before .before .before .before .before .before .before .before .if1 .left) (sym (c .before .before .before .before .before .before .before .box-has-far-key .ensures) ∙ c .before .before .before .before .before .before .if2 .left)) _ (c .before .before .before .before .before .stray-edge .ensures) (a .k) (c .before .before .before .before .before .before .before .before .before .before .before .before .before .pre .1 .table .count) _ _ (c .before .pair-first .ensures ∙ q .smaller) (c .pair-second .ensures ∙ q .greater) (c .before .before .before .before .if3 .taken)
 
--- src/tests.rt:80:1
 returns-4 : tie.Need-returns-4
 returns-4 c = let a = c .before .before .before .before .before .before .before .before .before .args in edges-passed (a .vertices .now) (a .facets .now) (a .extents) (a .eps) (a .resolution) (or-next _ _ _ (sym (c .before .before .before .before .before .has-far-key .ensures) ∙ c .before .before .before .before .if1 .left) (sym (c .before .before .before .box-has-far-key .ensures) ∙ c .before .before .if2 .left)) _ (c .before .stray-edge .ensures) (a .k) (c .before .before .before .before .before .before .before .before .before .pre .1 .table .count) (c .if3 .left)
 

@@ -5,35 +5,27 @@ use borrow.Author.Needs.{needs}
 use Rattle.boundary_closure.proofs.tests.numbers_in_range.Statement.{statement}
 use Rattle.boundary_closure.proofs.tests.numbers_in_range.Tie as tie
 
--- src/tests.rt:33:9
 all-in-range-requires : tie.Need-all-in-range-requires
 all-in-range-requires c κs = search needs
 
--- src/tests.rt:34:9
 returns : tie.Need-returns
 returns c = sym (and-stop _ _ (sym (c .before .all-in-range .ensures) ∙ not-true _ (c .if1 .taken)))
 
--- src/tests.rt:36:9
 box-in-range-requires : tie.Need-box-in-range-requires
 box-in-range-requires c κs = search needs
 
--- src/tests.rt:37:9
 returns-2 : tie.Need-returns-2
 returns-2 c = sym (and-next _ _ _ (sym (c .before .before .before .all-in-range .ensures) ∙ not-false _ (c .before .before .if1 .left)) (and-stop _ _ (sym (c .before .box-in-range .ensures) ∙ not-true _ (c .if2 .taken))))
 
--- src/tests.rt:39:9
 eps-in-range-requires : tie.Need-eps-in-range-requires
 eps-in-range-requires c κs = search needs
 
--- src/tests.rt:40:9
 returns-3 : tie.Need-returns-3
 returns-3 c = sym (and-next _ _ _ (sym (c .before .before .before .before .before .all-in-range .ensures) ∙ not-false _ (c .before .before .before .before .if1 .left)) (and-next _ _ _ (sym (c .before .before .before .box-in-range .ensures) ∙ not-false _ (c .before .before .if2 .left)) (and-stop _ _ (sym (c .before .eps-in-range .ensures) ∙ not-true _ (c .if3 .taken)))))
 
--- src/tests.rt:42:5
 resolution-in-range-requires : tie.Need-resolution-in-range-requires
 resolution-in-range-requires c κs = search needs
 
--- src/tests.rt:30:1
 returns-4 : tie.Need-returns-4
 returns-4 c = sym (and-next _ _ _ (sym (c .before .before .before .before .before .before .all-in-range .ensures) ∙ not-false _ (c .before .before .before .before .before .if1 .left)) (and-next _ _ _ (sym (c .before .before .before .before .box-in-range .ensures) ∙ not-false _ (c .before .before .before .if2 .left)) (and-next _ _ _ (sym (c .before .before .eps-in-range .ensures) ∙ not-false _ (c .before .if3 .left)) (sym (c .resolution-in-range .ensures)))))
 

@@ -8,17 +8,14 @@ use Rattle.box_faces.proofs.faces.along.Tie as tie
 use Rattle.box_faces.proofs.faces.along.Reads as reads
 use Rattle.box_faces.proofs.faces.along.Lts as lts
 
--- src/faces.rt:31:1
 returns : tie.Need-returns
 unfolding along
 returns c = simp (c .if1 .taken)
 
--- src/faces.rt:31:1
 returns-2 : tie.Need-returns-2
 unfolding along
 returns-2 c = simp (c .if2 .taken)
 
--- src/faces.rt:31:1
 returns-3 : tie.Need-returns-3
 returns-3 c = last-axis _ _ (c .before .if1 .left) (c .if2 .left)
 

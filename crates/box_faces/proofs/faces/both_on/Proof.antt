@@ -7,23 +7,18 @@ use Rattle.box_faces.proofs.faces.both_on.Reads as reads
 use Rattle.box_faces.proofs.faces.both_on.Lts as lts
 use Rattle.rounding.proofs.within.Reads as within-reads
 
--- src/faces.rt:82:8
 within-requires : tie.Need-within-requires
 within-requires c κs = search needs
 
--- src/faces.rt:83:12
 within-requires-2 : tie.Need-within-requires-2
 within-requires-2 c κs = search needs
 
--- src/faces.rt:79:1
 returns : tie.Need-returns
 returns c = (omega arith, simp (sym (c .before .before .before .within .ensures) ∙ c .before .before .if1 .taken, sym (c .before .within2 .ensures) ∙ c .if2 .taken))
 
--- src/faces.rt:79:1
 returns-2 : tie.Need-returns-2
 returns-2 c = (omega arith, simp (sym (c .before .before .before .within .ensures) ∙ c .before .before .if1 .taken, sym (c .before .within2 .ensures) ∙ c .if2 .left))
 
--- src/faces.rt:79:1
 returns-3 : tie.Need-returns-3
 returns-3 c = (omega arith, simp (sym (c .before .within .ensures) ∙ c .if1 .left))
 

@@ -7,17 +7,14 @@ use Rattle.box_faces.proofs.faces.ccw_is_outward.Tie as tie
 use Rattle.box_faces.proofs.faces.ccw_is_outward.Reads as reads
 use Rattle.box_faces.proofs.faces.ccw_is_outward.Lts as lts
 
--- src/faces.rt:132:1
 returns : tie.Need-returns
 unfolding some
 returns c = simp (c .if1 .taken)
 
--- src/faces.rt:132:1
 returns-2 : tie.Need-returns-2
 unfolding some
 returns-2 c = simp (c .if2 .taken)
 
--- src/faces.rt:132:1
 returns-3 : tie.Need-returns-3
 unfolding some
 returns-3 c = simp (ne-eqb _ _ (c .before .if1 .left), ne-eqb _ _ (c .if2 .left)) (sym (or-last _))

@@ -9,51 +9,39 @@ use Rattle.box_faces.proofs.faces.count_faces.Reads as reads
 use Rattle.box_faces.proofs.faces.count_faces.Lts as lts
 use Rattle.box_faces.proofs.faces.face_bit.Reads as face-bit-reads
 
--- src/faces.rt:122:9
 face-bit-requires : tie.Need-face-bit-requires
 face-bit-requires c κs = search needs
 
--- src/faces.rt:123:9
 face-bit-requires-2 : tie.Need-face-bit-requires-2
 face-bit-requires-2 c κs = search needs
 
--- src/faces.rt:124:9
 face-bit-requires-3 : tie.Need-face-bit-requires-3
 face-bit-requires-3 c κs = search needs
 
--- src/faces.rt:125:9
 face-bit-requires-4 : tie.Need-face-bit-requires-4
 face-bit-requires-4 c κs = search needs
 
--- src/faces.rt:126:9
 face-bit-requires-5 : tie.Need-face-bit-requires-5
 face-bit-requires-5 c κs = search needs
 
--- src/faces.rt:127:9
 face-bit-requires-6 : tie.Need-face-bit-requires-6
 face-bit-requires-6 c κs = search needs
 
--- src/faces.rt:128:41
 add-result : tie.Need-add-result
 add-result c = omega arith
 
--- src/faces.rt:128:32
 add-result-2 : tie.Need-add-result-2
 add-result-2 c = omega arith
 
--- src/faces.rt:128:23
 add-result-3 : tie.Need-add-result-3
 add-result-3 c = omega arith
 
--- src/faces.rt:128:14
 add-result-4 : tie.Need-add-result-4
 add-result-4 c = omega arith
 
--- src/faces.rt:128:5
 add-result-5 : tie.Need-add-result-5
 add-result-5 c = omega arith
 
--- src/faces.rt:119:1
 returns : tie.Need-returns
 unfolding bitCount
 returns c = count-of (hasBit (c .before .before .before .before .before .before .args .mask)) _ _ _ _ _ _ (c .before .before .before .before .before .face-bit .ensures .1) (c .before .before .before .before .face-bit2 .ensures .1) (c .before .before .before .face-bit3 .ensures .1) (c .before .before .face-bit4 .ensures .1) (c .before .face-bit5 .ensures .1) (c .face-bit6 .ensures .1)

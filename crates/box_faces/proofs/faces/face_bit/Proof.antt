@@ -7,15 +7,12 @@ use Rattle.box_faces.proofs.faces.face_bit.Reads as reads
 use Rattle.box_faces.proofs.faces.face_bit.Lts as lts
 use Rattle.box_faces.proofs.faces.has_face.Reads as has-face-reads
 
--- src/faces.rt:115:8
 has-face-requires : tie.Need-has-face-requires
 has-face-requires c κs = search needs
 
--- src/faces.rt:111:1
 returns : tie.Need-returns
 returns c = (omega arith, simp (sym (c .before .has-face .ensures) ∙ c .if1 .taken))
 
--- src/faces.rt:111:1
 returns-2 : tie.Need-returns-2
 returns-2 c = (omega arith, simp (sym (c .before .has-face .ensures) ∙ c .if1 .left))
 

@@ -7,11 +7,9 @@ use Rattle.box_faces.proofs.faces.has_face.Tie as tie
 use Rattle.box_faces.proofs.faces.has_face.Reads as reads
 use Rattle.box_faces.proofs.faces.has_face.Lts as lts
 
--- src/faces.rt:107:6
 shr-result : tie.Need-shr-result
 shr-result c = omega arith
 
--- src/faces.rt:103:1
 returns : tie.Need-returns
 unfolding hasBit
 returns c = refl

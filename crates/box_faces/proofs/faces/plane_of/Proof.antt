@@ -6,27 +6,21 @@ use Rattle.box_faces.proofs.faces.plane_of.Tie as tie
 use Rattle.box_faces.proofs.faces.plane_of.Reads as reads
 use Rattle.box_faces.proofs.faces.plane_of.Lts as lts
 
--- src/faces.rt:62:9
 mul-result : tie.Need-mul-result
 mul-result c = search needs
 
--- src/faces.rt:62:9
 element-copy-out-result : tie.Need-element-copy-out-result
 element-copy-out-result c = search needs
 
--- src/faces.rt:64:9
 mul-result-2 : tie.Need-mul-result-2
 mul-result-2 c = search needs
 
--- src/faces.rt:64:9
 element-copy-out-result-2 : tie.Need-element-copy-out-result-2
 element-copy-out-result-2 c = search needs
 
--- src/faces.rt:57:1
 returns : tie.Need-returns
 returns c = simp (c .before .if1 .taken, c .result .given)
 
--- src/faces.rt:57:1
 returns-2 : tie.Need-returns-2
 returns-2 c = simp (ne-eqb _ _ (c .before .if1 .left), c .result2 .given)
 

@@ -10,19 +10,15 @@ use Rattle.box_faces.proofs.faces.along.Reads as along-reads
 use Rattle.box_faces.proofs.faces.plane_of.Reads as plane-of-reads
 use Rattle.rounding.proofs.within.Reads as within-reads
 
--- src/faces.rt:73:9
 plane-of-requires : tie.Need-plane-of-requires
 plane-of-requires c κs = search needs
 
--- src/faces.rt:74:9
 along-requires : tie.Need-along-requires
 along-requires c κs = omega arith
 
--- src/faces.rt:75:5
 within-requires : tie.Need-within-requires
 within-requires c κs = search needs
 
--- src/faces.rt:69:1
 returns : tie.Need-returns
 unfolding onFace
 returns c = cc

@@ -11,23 +11,18 @@ use Rattle.box_faces.proofs.faces.along.Reads as along-reads
 use Rattle.box_faces.proofs.faces.u_axis.Reads as u-axis-reads
 use Rattle.box_faces.proofs.faces.v_axis.Reads as v-axis-reads
 
--- src/faces.rt:48:9
 u-axis-requires : tie.Need-u-axis-requires
 u-axis-requires c κs = search needs
 
--- src/faces.rt:49:9
 v-axis-requires : tie.Need-v-axis-requires
 v-axis-requires c κs = search needs
 
--- src/faces.rt:51:12
 along-requires : tie.Need-along-requires
 along-requires c κs = c .before .u-axis .ensures .0
 
--- src/faces.rt:52:12
 along-requires-2 : tie.Need-along-requires-2
 along-requires-2 c κs = c .before .v-axis .ensures .0
 
--- src/faces.rt:45:1
 returns : tie.Need-returns
 unfolding project
 returns c = uv-is (c .before .along .ensures ∙ ap (points.along (c .before .before .before .before .args .p)) (c .before .before .before .u-axis .ensures .1)) (c .along2 .ensures ∙ ap (points.along (c .before .before .before .before .args .p)) (c .before .before .v-axis .ensures .1))

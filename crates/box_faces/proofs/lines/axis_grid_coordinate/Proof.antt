@@ -8,20 +8,16 @@ use Rattle.box_faces.proofs.lines.axis_grid_coordinate.Tie as tie
 use Rattle.box_faces.proofs.lines.axis_grid_coordinate.Reads as reads
 use Rattle.box_faces.proofs.lines.axis_grid_coordinate.Lts as lts
 
--- src/lines.rt:15:31
 int-to-float-result : tie.Need-int-to-float-result
 int-to-float-result c = can-cast _ (omega arith)
 
--- src/lines.rt:15:42
 int-to-float-result-2 : tie.Need-int-to-float-result-2
 int-to-float-result-2 c = can-cast _ (omega arith)
 
--- src/lines.rt:8:1
 returns : tie.Need-returns
 unfolding lineAt
 returns c = simp (eq-eqb _ _ (c .if1 .taken))
 
--- src/lines.rt:8:1
 returns-2 : tie.Need-returns-2
 unfolding lineAt
 returns-2 c = simp (ne-eqb _ _ (c .before .before .if1 .left))

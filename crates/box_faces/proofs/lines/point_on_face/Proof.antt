@@ -9,17 +9,14 @@ use Rattle.box_faces.proofs.lines.point_on_face.Tie as tie
 use Rattle.box_faces.proofs.lines.point_on_face.Reads as reads
 use Rattle.box_faces.proofs.lines.point_on_face.Lts as lts
 
--- src/lines.rt:19:1
 returns : tie.Need-returns
 unfolding pointOnFace
 returns c = simp (c .if1 .taken)
 
--- src/lines.rt:19:1
 returns-2 : tie.Need-returns-2
 unfolding pointOnFace
 returns-2 c = simp (c .if2 .taken)
 
--- src/lines.rt:19:1
 returns-3 : tie.Need-returns-3
 unfolding pointOnFace
 returns-3 c = let e : (c .before .before .args .face) / 2 ≡ 2 = third _ (omega arith) (c .before .if1 .left) (c .if2 .left) in simp e

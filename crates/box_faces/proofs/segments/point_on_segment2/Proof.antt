@@ -9,27 +9,21 @@ use Rattle.box_faces.proofs.segments.point_on_segment2.Lts as lts
 use Rattle.box_faces.proofs.segments.sub.Reads as sub-reads
 use Rattle.rounding.proofs.abs.Reads as abs-reads
 
--- src/segments.rt:41:9
 sub-requires : tie.Need-sub-requires
 sub-requires c κs = search needs
 
--- src/segments.rt:42:9
 sub-requires-2 : tie.Need-sub-requires-2
 sub-requires-2 c κs = search needs
 
--- src/segments.rt:43:9
 sub-requires-3 : tie.Need-sub-requires-3
 sub-requires-3 c κs = search needs
 
--- src/segments.rt:45:16
 abs-requires : tie.Need-abs-requires
 abs-requires c κs = search needs
 
--- src/segments.rt:38:1
 returns : tie.Need-returns
 returns c = far-off (c .before .before .before .before .before .before .before .before .before .args .bound) (c .before .before .before .before .before .before .before .before .before .args .tolerance) (c .before .before .before .before .before .before .before .before .before .args .p) (c .before .before .before .before .before .before .before .before .before .args .a) (c .before .before .before .before .before .before .before .before .before .args .b) (c .before .before .before .before .before .before .before .before .sub .ensures) (c .before .before .before .before .before .before .before .sub2 .ensures) (c .before .before .before .before .before .before .sub3 .ensures) (c .before .abs .ensures) (c .if1 .taken)
 
--- src/segments.rt:38:1
 returns-2 : tie.Need-returns-2
 returns-2 c = near-by (c .before .before .before .before .before .before .before .before .before .before .before .before .before .args .bound) (c .before .before .before .before .before .before .before .before .before .before .before .before .before .args .tolerance) (c .before .before .before .before .before .before .before .before .before .before .before .before .before .args .p) (c .before .before .before .before .before .before .before .before .before .before .before .before .before .args .a) (c .before .before .before .before .before .before .before .before .before .before .before .before .before .args .b) (c .before .before .before .before .before .before .before .before .before .before .before .before .sub .ensures) (c .before .before .before .before .before .before .before .before .before .before .before .sub2 .ensures) (c .before .before .before .before .before .before .before .before .before .before .sub3 .ensures) (c .before .before .before .before .before .abs .ensures) (c .before .before .before .before .if1 .left)
 

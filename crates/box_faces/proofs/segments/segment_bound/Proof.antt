@@ -15,19 +15,15 @@ use Rattle.box_faces.proofs.segments.segment_length.Reads as segment-le
 use Rattle.box_faces.proofs.segments.sub.Reads as sub-reads
 use Rattle.rounding.proofs.max.Reads as max-reads
 
--- src/segments.rt:33:33
 sub-requires : tie.Need-sub-requires
 sub-requires c κs = search needs
 
--- src/segments.rt:33:9
 segment-length-requires : tie.Need-segment-length-requires
 segment-length-requires c κs = subst⁻¹ (λ (d : Uv). T (rootable (d .u ⊗ d .u ⊕ d .v ⊗ d .v))) (c .sub .ensures) (c .before .pre)
 
--- src/segments.rt:34:17
 max-requires : tie.Need-max-requires
 max-requires c κs = search needs
 
--- src/segments.rt:29:1
 returns : tie.Need-returns
 unfolding segmentBound
 returns c = ap (λ x. c .before .before .before .args .tolerance ⊗ x) (c .max .ensures ∙ ap (λ l. larger l oneF) (c .before .segment-length .ensures ∙ ap segmentLength (c .before .before .sub .ensures)))

@@ -7,11 +7,9 @@ use Rattle.box_faces.proofs.segments.segment_length.Reads as reads
 use Rattle.box_faces.proofs.segments.segment_length.Lts as lts
 use Rattle.root.proofs.sqrt.Reads as sqrt-reads
 
--- src/segments.rt:26:5
 sqrt-requires : tie.Need-sqrt-requires
 sqrt-requires c κs = search needs
 
--- src/segments.rt:22:1
 returns : tie.Need-returns
 returns c = c .sqrt .ensures .computed ∙ sym (segmentLengthIs (c .before .before .before .args .d))
 

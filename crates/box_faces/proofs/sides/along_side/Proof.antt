@@ -12,28 +12,22 @@ use Rattle.rounding.proofs.within.Reads as within-reads
 use Rattle.rounding.proofs.abs.Reads as abs-reads
 use Rattle.rounding.proofs.max.Reads as max-reads
 
--- src/sides.rt:90:8
 within-requires : tie.Need-within-requires
 within-requires c κs = search needs
 
--- src/sides.rt:91:27
 abs-requires : tie.Need-abs-requires
 abs-requires c κs = search needs
 
--- src/sides.rt:91:13
 max-requires : tie.Need-max-requires
 max-requires c κs = search needs
 
--- src/sides.rt:92:9
 between-ends-requires : tie.Need-between-ends-requires
 between-ends-requires c κs = search needs
 
--- src/sides.rt:87:1
 returns : tie.Need-returns
 unfolding alongSide
 returns c = simp (sym (c .before .before .before .before .within .ensures) ∙ c .before .before .before .if1 .taken) (c .between-ends .ensures ∙ ap (λ l. betweenEnds (c .before .before .before .before .before .args .from ⊘ c .before .before .before .before .before .args .d) (c .before .before .before .before .before .args .eps ⊘ l)) (c .before .max .ensures ∙ ap (λ m. larger m (c .before .before .before .before .before .args .eps)) (c .before .before .abs .ensures)))
 
--- src/sides.rt:87:1
 returns-2 : tie.Need-returns-2
 unfolding alongSide
 returns-2 c = simp (sym (c .before .within .ensures) ∙ c .if1 .left)

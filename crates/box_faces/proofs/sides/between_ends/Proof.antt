@@ -7,21 +7,17 @@ use Rattle.box_faces.proofs.sides.between_ends.Reads as reads
 use Rattle.box_faces.proofs.sides.between_ends.Lts as lts
 use Rattle.rounding.proofs.clamp01.Reads as clamp01-reads
 
--- src/sides.rt:76:26
 clamp01-requires : tie.Need-clamp01-requires
 clamp01-requires c κs = search needs
 
--- src/sides.rt:71:1
 returns : tie.Need-returns
 unfolding betweenEnds
 returns c = simp (c .before .before .if1 .taken, c .before .if2 .taken, c .clamp01 .ensures)
 
--- src/sides.rt:71:1
 returns-2 : tie.Need-returns-2
 unfolding betweenEnds
 returns-2 c = simp (c .before .if1 .taken, c .if2 .left)
 
--- src/sides.rt:71:1
 returns-3 : tie.Need-returns-3
 unfolding betweenEnds
 returns-3 c = simp (c .if1 .left)

@@ -9,28 +9,22 @@ use Rattle.box_faces.proofs.sides.candidate_on_face_side.Lts as lts
 use Rattle.box_faces.proofs.sides.along_side.Reads as along-side-reads
 use Rattle.rounding.proofs.abs.Reads as abs-reads
 
--- src/sides.rt:106:8
 abs-requires : tie.Need-abs-requires
 abs-requires c κs = search needs
 
--- src/sides.rt:106:19
 abs-requires-2 : tie.Need-abs-requires-2
 abs-requires-2 c κs = search needs
 
--- src/sides.rt:107:9
 along-side-requires : tie.Need-along-side-requires
 along-side-requires c κs = search needs
 
--- src/sides.rt:109:9
 along-side-requires-2 : tie.Need-along-side-requires-2
 along-side-requires-2 c κs = search needs
 
--- src/sides.rt:99:1
 returns : tie.Need-returns
 unfolding onSide
 returns c = simp (le-same (c .before .before .before .abs .ensures) (c .before .before .abs2 .ensures) (c .before .if1 .taken)) (c .along-side .ensures)
 
--- src/sides.rt:99:1
 returns-2 : tie.Need-returns-2
 unfolding onSide
 returns-2 c = simp (le-same (c .before .before .before .abs .ensures) (c .before .before .abs2 .ensures) (c .before .if1 .left)) (c .along-side2 .ensures)

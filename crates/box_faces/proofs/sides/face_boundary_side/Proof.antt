@@ -9,62 +9,48 @@ use Rattle.box_faces.proofs.sides.face_boundary_side.Lts as lts
 use Rattle.box_faces.proofs.faces.u_axis.Reads as u-axis-reads
 use Rattle.box_faces.proofs.faces.v_axis.Reads as v-axis-reads
 
--- src/sides.rt:24:9
 u-axis-requires : tie.Need-u-axis-requires
 u-axis-requires c κs = search needs
 
--- src/sides.rt:25:9
 v-axis-requires : tie.Need-v-axis-requires
 v-axis-requires c κs = search needs
 
--- src/sides.rt:27:12
 mul-t9 : tie.Need-mul-t9
 mul-t9 c = search needs
 
--- src/sides.rt:27:12
 element-copy-out-t12 : tie.Need-element-copy-out-t12
 element-copy-out-t12 c = search needs
 
--- src/sides.rt:28:12
 mul-t13 : tie.Need-mul-t13
 mul-t13 c = search needs
 
--- src/sides.rt:28:12
 element-copy-out-t16 : tie.Need-element-copy-out-t16
 element-copy-out-t16 c = search needs
 
--- src/sides.rt:31:12
 mul-t9-2 : tie.Need-mul-t9-2
 mul-t9-2 c = search needs
 
--- src/sides.rt:31:12
 element-copy-out-t16-2 : tie.Need-element-copy-out-t16-2
 element-copy-out-t16-2 c = search needs
 
--- src/sides.rt:32:12
 mul-t13-2 : tie.Need-mul-t13-2
 mul-t13-2 c = search needs
 
--- src/sides.rt:32:12
 element-copy-out-t12-2 : tie.Need-element-copy-out-t12-2
 element-copy-out-t12-2 c = search needs
 
--- src/sides.rt:35:9
 returns : tie.Need-returns
 unfolding faceSides
 returns c = simp (c .if1 .taken, c .before .before .before .before .before .before .u-axis .ensures .1, c .before .before .before .before .before .v-axis .ensures .1)
 
--- src/sides.rt:44:9
 returns-2 : tie.Need-returns-2
 unfolding faceSides
 returns-2 c = simp (c .if2 .taken, c .before .before .before .before .before .before .before .u-axis .ensures .1, c .before .before .before .before .before .before .v-axis .ensures .1)
 
--- src/sides.rt:53:9
 returns-3 : tie.Need-returns-3
 unfolding faceSides
 returns-3 c = simp (c .if3 .taken, c .before .before .before .before .before .before .before .before .u-axis .ensures .1, c .before .before .before .before .before .before .before .v-axis .ensures .1)
 
--- src/sides.rt:20:1
 returns-4 : tie.Need-returns-4
 unfolding faceSides
 returns-4 c = let e : c .before .before .before .before .before .before .before .before .before .args .k ≡ 3 = fourth _ (c .before .before .before .before .before .before .before .before .before .pre) (c .before .before .if1 .left) (c .before .if2 .left) (c .if3 .left) in simp (e, c .before .before .before .before .before .before .before .before .u-axis .ensures .1, c .before .before .before .before .before .before .before .v-axis .ensures .1)

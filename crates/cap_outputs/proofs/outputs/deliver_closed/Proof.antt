@@ -7,79 +7,60 @@ use borrow.Author.Needs.{needs}
 use Rattle.cap_outputs.proofs.outputs.deliver_closed.Statement.{statement}
 use Rattle.cap_outputs.proofs.outputs.deliver_closed.Tie as tie
 
--- src/outputs.rt:167:19
 vertices-at-requires : tie.Need-vertices-at-requires
 vertices-at-requires c κs = search needs
 
--- src/outputs.rt:167:17
 mul-count : tie.Need-mul-count
 mul-count c = search needs
 
--- src/outputs.rt:167:17
 shared-slice-read-count : tie.Need-shared-slice-read-count
 shared-slice-read-count c = search needs
 
--- src/outputs.rt:168:13
 mul-v : tie.Need-mul-v
 mul-v c = let a = c .before .before .before .before .before .before .before .args in let q = many-few (a .vertices .now) (a .facets .now) (a .n) (a .nc) (a .left) (a .caps) (a .positive) (a .w .now) (c .before .before .before .before .before .before .before .pre) (c .before .vertices-at .result) (c .before .vertices-at .ensures) in omega (arith, q)
 
--- src/outputs.rt:169:28
 mul-f : tie.Need-mul-f
 mul-f c = let a = c .before .before .before .before .before .before .before .args in let q = caps-few (a .vertices .now) (a .facets .now) (a .n) (a .nc) (a .left) (a .caps) (a .positive) (a .w .now) (c .before .before .before .before .before .before .before .pre) in omega (arith, q)
 
--- src/outputs.rt:169:13
 add-f : tie.Need-add-f
 add-f c = let a = c .before .before .before .before .before .before .before .args in let q = caps-few (a .vertices .now) (a .facets .now) (a .n) (a .nc) (a .left) (a .caps) (a .positive) (a .w .now) (c .before .before .before .before .before .before .before .pre) in omega (arith, q, c .before .before .before .before .before .before .before .pre .few-facets, c .before .before .before .before .before .before .before .pre .whole-facets)
 
--- src/outputs.rt:171:9
 returns : tie.Need-returns
 returns c = let a = c .before .before .before .before .before .before .before .before .args in short-vertices (standing (a .vertices .now) (a .facets .now) (a .n) (a .nc) (a .positive) (a .left) (a .w .now)) (3 * getD (a .w .now) (c .before .before .vertices-at .result) 0) (length (a .facets .now) + 3 * a .caps) (vertices-long (a .vertices .now) (a .facets .now) (a .n) (a .nc) (a .left) (a .caps) (a .positive) (a .w .now) (c .before .before .before .before .before .before .before .before .pre) (c .before .before .vertices-at .result) (c .before .before .vertices-at .ensures)) (facets-long (a .vertices .now) (a .facets .now) (a .n) (a .nc) (a .left) (a .caps) (a .positive) (a .w .now) (c .before .before .before .before .before .before .before .before .pre)) (a .out-vertices .now) (a .out-facets .now) (c .if1 .taken)
 
--- src/outputs.rt:174:9
 returns-2 : tie.Need-returns-2
 returns-2 c = let a = c .before .before .before .before .before .before .before .before .before .args in short-facets (standing (a .vertices .now) (a .facets .now) (a .n) (a .nc) (a .positive) (a .left) (a .w .now)) (3 * getD (a .w .now) (c .before .before .before .vertices-at .result) 0) (length (a .facets .now) + 3 * a .caps) (vertices-long (a .vertices .now) (a .facets .now) (a .n) (a .nc) (a .left) (a .caps) (a .positive) (a .w .now) (c .before .before .before .before .before .before .before .before .before .pre) (c .before .before .before .vertices-at .result) (c .before .before .before .vertices-at .ensures)) (facets-long (a .vertices .now) (a .facets .now) (a .n) (a .nc) (a .left) (a .caps) (a .positive) (a .w .now) (c .before .before .before .before .before .before .before .before .before .pre)) (a .out-vertices .now) (a .out-facets .now) (c .before .if1 .left) (c .if2 .taken)
 
--- src/outputs.rt:176:5
 copy-doubles-requires : tie.Need-copy-doubles-requires
 copy-doubles-requires c κs = let a = c .before .before .before .before .before .before .before .before .before .before .args in let q = own-least (a .vertices .now) (a .facets .now) (a .n) (a .nc) (a .left) (a .caps) (a .positive) (a .w .now) (c .before .before .before .before .before .before .before .before .before .before .pre) (c .before .before .before .before .vertices-at .result) (c .before .before .before .before .vertices-at .ensures) in omega (arith, q, c .before .before .if1 .left, c .before .before .before .before .before .before .before .before .before .before .pre .whole-vertices)
 
--- src/outputs.rt:179:9
 fresh-at-requires : tie.Need-fresh-at-requires
 fresh-at-requires c κs = search needs
 
--- src/outputs.rt:180:9
 sub-write-fresh : tie.Need-sub-write-fresh
 sub-write-fresh c = let a = c .before .before .before .before .before .before .before .before .before .before .before .before .before .before .args in own-least (a .vertices .now) (a .facets .now) (a .n) (a .nc) (a .left) (a .caps) (a .positive) (a .w .now) (c .before .before .before .before .before .before .before .before .before .before .before .before .before .before .pre) (c .before .before .before .before .before .before .before .before .vertices-at .result) (c .before .before .before .before .before .before .before .before .vertices-at .ensures)
 
--- src/outputs.rt:177:5
 write-fresh-requires : tie.Need-write-fresh-requires
 write-fresh-requires c κs = let a = c .before .before .before .before .before .before .before .before .before .before .before .before .before .before .before .args in let q = own-least (a .vertices .now) (a .facets .now) (a .n) (a .nc) (a .left) (a .caps) (a .positive) (a .w .now) (c .before .before .before .before .before .before .before .before .before .before .before .before .before .before .before .pre) (c .before .before .before .before .before .before .before .before .before .vertices-at .result) (c .before .before .before .before .before .before .before .before .before .vertices-at .ensures) in ((fresh-room (a .vertices .now) (a .facets .now) (a .n) (a .nc) (a .left) (a .caps) (a .positive) (a .w .now) (c .before .before .before .before .before .before .before .before .before .before .before .before .before .before .before .pre) (c .before .before .before .before .before .before .before .before .before .vertices-at .result) (c .before .before .before .before .before .before .before .before .before .vertices-at .ensures) (c .before .fresh-at .result) (c .before .fresh-at .ensures), omega (arith, q, c .before .before .before .before .before .before .before .if1 .left, c .before .before .before .before .before .before .before .before .before .before .before .before .before .before .before .pre .whole-vertices, c .before .before .before .before .copy-doubles .kept .1 .0)), fresh-stored (a .vertices .now) (a .facets .now) (a .n) (a .nc) (a .left) (a .caps) (a .positive) (a .w .now) (c .before .before .before .before .before .before .before .before .before .before .before .before .before .before .before .pre) (c .before .before .before .before .before .before .before .before .before .vertices-at .result) (c .before .before .before .before .before .before .before .before .before .vertices-at .ensures) (c .before .fresh-at .result) (c .before .fresh-at .ensures))
 
--- src/outputs.rt:184:5
 write-own-requires : tie.Need-write-own-requires
 write-own-requires c κs = search needs
 
--- src/outputs.rt:187:9
 left-at-requires : tie.Need-left-at-requires
 left-at-requires c κs = search needs
 
--- src/outputs.rt:188:9
 firsts-at-requires : tie.Need-firsts-at-requires
 firsts-at-requires c κs = search needs
 
--- src/outputs.rt:185:5
 write-caps-requires : tie.Need-write-caps-requires
 write-caps-requires c κs = let a = c .before .before .before .before .before .before .before .before .before .before .before .before .before .before .before .before .before .before .before .before .before .before .before .before .before .args in let q = firsts-long (a .vertices .now) (a .facets .now) (a .n) (a .nc) (a .left) (a .caps) (a .positive) (a .w .now) (c .before .before .before .before .before .before .before .before .before .before .before .before .before .before .before .before .before .before .before .before .before .before .before .before .before .pre) (c .before .before .left-at .result) (c .before .firsts-at .result) (c .before .before .left-at .ensures) (c .before .firsts-at .ensures) in ((omega (arith, c .before .before .left-at .ensures, c .before .before .before .before .before .before .before .before .before .before .before .before .before .before .before .before .before .before .before .before .before .before .before .before .before .pre .size, c .before .before .before .before .before .before .before .before .before .before .before .before .before .before .before .before .before .before .before .before .before .before .before .before .before .pre .left-few), omega (arith, c .before .firsts-at .ensures, c .before .before .before .before .before .before .before .before .before .before .before .before .before .before .before .before .before .before .before .before .before .before .before .before .before .pre .size, c .before .before .before .before .before .before .before .before .before .before .before .before .before .before .before .before .before .before .before .before .before .before .before .before .before .pre .left-few)), (low-at (a .vertices .now) (a .facets .now) (a .n) (a .nc) (a .left) (a .caps) (a .positive) (a .w .now) (c .before .before .before .before .before .before .before .before .before .before .before .before .before .before .before .before .before .before .before .before .before .before .before .before .before .pre) (c .before .before .left-at .result) (c .before .before .left-at .ensures), omega (arith, q, c .before .before .before .before .before .before .before .before .before .before .before .before .before .before .before .before .if2 .left, c .before .before .before .before .before .write-own .kept .1 .1 .0)))
 
--- src/outputs.rt:150:1
 same-length : tie.Need-same-length
 same-length c = search needs
 
--- src/outputs.rt:150:1
 same-length-2 : tie.Need-same-length-2
 same-length-2 c = search needs
 
--- src/outputs.rt:150:1
 returns-3 : tie.Need-returns-3
 returns-3 c = let a = c .before .before .before .before .before .before .before .before .before .before .before .before .before .before .before .before .before .before .before .before .before .before .before .before .before .before .before .before .args in done (standing (a .vertices .now) (a .facets .now) (a .n) (a .nc) (a .positive) (a .left) (a .w .now)) (3 * getD (a .w .now) (c .before .before .before .before .before .before .before .before .before .before .before .before .before .before .before .before .before .before .before .before .before .before .vertices-at .result) 0) (length (a .facets .now) + 3 * a .caps) (vertices-long (a .vertices .now) (a .facets .now) (a .n) (a .nc) (a .left) (a .caps) (a .positive) (a .w .now) (c .before .before .before .before .before .before .before .before .before .before .before .before .before .before .before .before .before .before .before .before .before .before .before .before .before .before .before .before .pre) (c .before .before .before .before .before .before .before .before .before .before .before .before .before .before .before .before .before .before .before .before .before .before .vertices-at .result) (c .before .before .before .before .before .before .before .before .before .before .before .before .before .before .before .before .before .before .before .before .before .before .vertices-at .ensures)) (facets-long (a .vertices .now) (a .facets .now) (a .n) (a .nc) (a .left) (a .caps) (a .positive) (a .w .now) (c .before .before .before .before .before .before .before .before .before .before .before .before .before .before .before .before .before .before .before .before .before .before .before .before .before .before .before .before .pre)) (a .out-vertices .now) (a .out-facets .now) (c .before .before .before .before .before .before .before .before .before .before .before .before .before .before .before .before .before .before .before .before .if1 .left) (c .before .before .before .before .before .before .before .before .before .before .before .before .before .before .before .before .before .before .before .if2 .left) _ _ (vertices-laid (a .vertices .now) (a .facets .now) (a .n) (a .nc) (a .left) (a .caps) (a .positive) (a .w .now) (c .before .before .before .before .before .before .before .before .before .before .before .before .before .before .before .before .before .before .before .before .before .before .before .before .before .before .before .before .pre) (c .before .before .before .before .before .before .before .before .before .before .before .before .before .before .before .before .before .before .before .before .before .before .vertices-at .result) (c .before .before .before .before .before .before .before .before .before .before .before .before .before .before .before .before .before .before .before .before .before .before .vertices-at .ensures) (c .before .before .before .before .before .before .before .before .before .before .before .before .before .before .fresh-at .result) (c .before .before .before .before .before .before .before .before .before .before .before .before .before .before .fresh-at .ensures) (a .out-vertices .now) _ _ (c .before .before .before .before .before .before .before .before .before .before .before .before .before .before .before .before .before .before .before .before .if1 .left) (c .before .before .before .before .before .before .before .before .before .before .before .before .before .before .before .before .before .copy-doubles .ensures) (c .before .before .before .before .before .before .before .before .before .before .before .before .write-fresh .ensures)) (facets-laid (a .vertices .now) (a .facets .now) (a .n) (a .nc) (a .left) (a .caps) (a .positive) (a .w .now) (c .before .before .before .before .before .before .before .before .before .before .before .before .before .before .before .before .before .before .before .before .before .before .before .before .before .before .before .before .pre) (c .before .before .before .before .before .left-at .result) (c .before .before .before .before .firsts-at .result) (c .before .before .before .before .before .left-at .ensures) (c .before .before .before .before .firsts-at .ensures) (a .out-facets .now) _ _ (c .before .before .before .before .before .before .before .before .before .before .before .before .before .before .before .before .before .before .before .if2 .left) (c .before .before .before .before .before .before .before .before .write-own .ensures) (c .before .before .write-caps .ensures))
 

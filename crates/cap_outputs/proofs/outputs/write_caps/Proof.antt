@@ -16,43 +16,33 @@ Inv-loop w facets firsts left out₀ at o₀ i₀ out o i = (i ≤ left) × Run 
 abbrev μ-loop : tie.MeasureT-loop
 μ-loop w facets firsts left out₀ at o₀ i₀ out o i = left - i
 
--- src/outputs.rt:143:5
 loop-holds : tie.Need-loop-holds Inv-loop μ-loop
 loop-holds c = let a = c .before .before .args in (omega arith, run-start (capBlock (a .w .now) (a .facets) (a .firsts)) (a .out .now) (a .at) _ refl)
 
--- src/outputs.rt:144:35
 mul-write-cap : tie.Need-mul-write-cap Inv-loop μ-loop
 mul-write-cap c = omega arith
 
--- src/outputs.rt:144:26
 add-write-cap : tie.Need-add-write-cap Inv-loop μ-loop
 add-write-cap c = omega arith
 
--- src/outputs.rt:144:42
 add-write-cap-2 : tie.Need-add-write-cap-2 Inv-loop μ-loop
 add-write-cap-2 c = omega arith
 
--- src/outputs.rt:144:9
 write-cap-requires : tie.Need-write-cap-requires Inv-loop μ-loop
 write-cap-requires c κs = let a = c .before .before .before .before .before .args in let r = run-room (capBlock (a .w .now) (a .facets) (a .firsts)) (a .out .now) (c .before .before .loop .out) (a .at) (c .before .before .loop .i) (c .before .before .loop .o) (c .before .before .loop .inv .1) (a .left) (c .before .loop-test .taken) (c .before .before .before .before .before .pre .1 .1) in let x = c .before .before .before .before .before .pre .1 .0 (3 * c .before .before .loop .i) (omega arith) in let y = c .before .before .before .before .before .pre .1 .0 (3 * c .before .before .loop .i + 1) (omega arith) in let z = c .before .before .before .before .before .pre .1 .0 (3 * c .before .before .loop .i + 2) (omega arith) in let p : a .facets + 3 * c .before .before .loop .i + 1 ≡ a .facets + (3 * c .before .before .loop .i + 1) = omega arith in let q : a .facets + 3 * c .before .before .loop .i + 2 ≡ a .facets + (3 * c .before .before .loop .i + 2) = omega arith in let y' = ap (λ (k : ℕ). getD (a .w .now) k 0) p in let z' = ap (λ (k : ℕ). getD (a .w .now) k 0) q in ((omega arith, omega arith), ((x, omega (arith, y, y'), omega (arith, z, z')), r))
 
--- src/outputs.rt:145:9
 add-i : tie.Need-add-i Inv-loop μ-loop
 add-i c = omega arith
 
--- src/outputs.rt:143:5
 loop-less : tie.Need-loop-less Inv-loop μ-loop
 loop-less c = omega arith
 
--- src/outputs.rt:143:5
 loop-again : tie.Need-loop-again Inv-loop μ-loop
 loop-again c = let a = c .before .before .before .before .before .before .before .before .args in (omega arith, run-turn (capBlock (a .w .now) (a .facets) (a .firsts)) (a .out .now) (c .before .before .before .before .before .loop .out) (a .at) (c .before .before .before .before .before .loop .i) (c .before .before .before .before .before .loop .o) (c .before .before .before .before .before .loop .inv .1) _ _ (c .before .before .write-cap .ensures .1) (c .before .before .write-cap .ensures .0))
 
--- src/outputs.rt:128:1
 same-length : tie.Need-same-length Inv-loop μ-loop
 same-length c = let a = c .before .before .before .before .args in run-long (capBlock (a .w .now) (a .facets) (a .firsts)) (a .out .now) (c .before .loop .out) (a .at) (c .before .loop .i) (c .before .loop .o) (c .before .loop .inv .1)
 
--- src/outputs.rt:128:1
 returns : tie.Need-returns Inv-loop μ-loop
 returns c = let a = c .before .before .before .before .args in run-end (capBlock (a .w .now) (a .facets) (a .firsts)) (a .out .now) (c .before .loop .out) (a .at) (c .before .loop .i) (c .before .loop .o) (c .before .loop .inv .1) (a .left) (c .before .loop .inv .0) (c .loop-test .left) _ refl
 

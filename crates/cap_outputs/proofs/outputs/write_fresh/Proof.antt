@@ -15,55 +15,42 @@ Inv-loop w fresh count out₀ at i₀ out i = (i ≤ count) × Run (freshBlock w
 abbrev μ-loop : tie.MeasureT-loop
 μ-loop w fresh count out₀ at i₀ out i = count - i
 
--- src/outputs.rt:71:5
 loop-holds : tie.Need-loop-holds Inv-loop μ-loop
 loop-holds c = let a = c .before .before .args in (omega arith, run-start (freshBlock (a .w .now) (a .fresh)) (a .out .now) (a .at) _ (omega arith))
 
--- src/outputs.rt:72:19
 add-c : tie.Need-add-c Inv-loop μ-loop
 add-c c = omega arith
 
--- src/outputs.rt:72:17
 mul-c : tie.Need-mul-c Inv-loop μ-loop
 mul-c c = omega arith
 
--- src/outputs.rt:72:17
 shared-slice-read-c : tie.Need-shared-slice-read-c Inv-loop μ-loop
 shared-slice-read-c c = omega arith
 
--- src/outputs.rt:73:31
 mul-write-point : tie.Need-mul-write-point Inv-loop μ-loop
 mul-write-point c = omega arith
 
--- src/outputs.rt:73:26
 add-write-point : tie.Need-add-write-point Inv-loop μ-loop
 add-write-point c = omega arith
 
--- src/outputs.rt:73:38
 point-of-requires : tie.Need-point-of-requires Inv-loop μ-loop
 point-of-requires c κs = c .before .before .before .before .before .before .pre .1 (c .before .before .before .loop .i) (c .before .before .loop-test .taken)
 
--- src/outputs.rt:73:9
 write-point-requires : tie.Need-write-point-requires Inv-loop μ-loop
 write-point-requires c κs = let a = c .before .before .before .before .before .before .before .args in let l = ap length (fresh-are (a .w .now) (a .fresh) (a .count) (c .before .before .before .before .before .before .before .pre .0 .0)) in let m = fresh-long (a .w .now) (a .fresh) (a .count) (c .before .before .before .before .before .before .before .pre .0 .0) in let r = run-room (freshBlock (a .w .now) (a .fresh)) (a .out .now) (c .before .before .before .before .loop .out) (a .at) (c .before .before .before .before .loop .i) (a .at + 3 * c .before .before .before .before .loop .i) (c .before .before .before .before .loop .inv .1) (a .count) (c .before .before .before .loop-test .taken) (omega (arith, l, m, c .before .before .before .before .before .before .before .pre .0 .1)) in omega (arith, r)
 
--- src/outputs.rt:74:9
 add-i : tie.Need-add-i Inv-loop μ-loop
 add-i c = omega arith
 
--- src/outputs.rt:71:5
 loop-less : tie.Need-loop-less Inv-loop μ-loop
 loop-less c = omega arith
 
--- src/outputs.rt:71:5
 loop-again : tie.Need-loop-again Inv-loop μ-loop
 loop-again c = let a = c .before .before .before .before .before .before .before .before .before .before .args in (omega arith, run-turn (freshBlock (a .w .now) (a .fresh)) (a .out .now) (c .before .before .before .before .before .before .before .loop .out) (a .at) (c .before .before .before .before .before .before .before .loop .i) (a .at + 3 * c .before .before .before .before .before .before .before .loop .i) (c .before .before .before .before .before .before .before .loop .inv .1) _ _ (c .before .before .write-point .ensures ∙ ap (λ (p : Point). sets (c .before .before .before .before .before .before .before .loop .out) (a .at + 3 * c .before .before .before .before .before .before .before .loop .i) (three p)) (c .before .before .before .point-of .ensures)) (omega arith))
 
--- src/outputs.rt:65:1
 same-length : tie.Need-same-length Inv-loop μ-loop
 same-length c = let a = c .before .before .before .before .args in run-long (freshBlock (a .w .now) (a .fresh)) (a .out .now) (c .before .loop .out) (a .at) (c .before .loop .i) (a .at + 3 * c .before .loop .i) (c .before .loop .inv .1)
 
--- src/outputs.rt:65:1
 returns : tie.Need-returns Inv-loop μ-loop
 returns c = let a = c .before .before .before .before .args in run-end (freshBlock (a .w .now) (a .fresh)) (a .out .now) (c .before .loop .out) (a .at) (c .before .loop .i) (a .at + 3 * c .before .loop .i) (c .before .loop .inv .1) (a .count) (c .before .loop .inv .0) (c .loop-test .left) _ (fresh-are (a .w .now) (a .fresh) (a .count) (c .before .before .before .before .pre .0 .0))
 

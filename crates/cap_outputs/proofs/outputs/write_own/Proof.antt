@@ -8,27 +8,21 @@ use borrow.Author.Needs.{needs}
 use Rattle.cap_outputs.proofs.outputs.write_own.Statement.{statement}
 use Rattle.cap_outputs.proofs.outputs.write_own.Tie as tie
 
--- src/outputs.rt:101:9
 copy-numbers-requires : tie.Need-copy-numbers-requires
 copy-numbers-requires c κs = search needs
 
--- src/outputs.rt:103:9
 write-reversed-requires : tie.Need-write-reversed-requires
 write-reversed-requires c κs = search needs
 
--- src/outputs.rt:96:1
 same-length : tie.Need-same-length
 same-length c = search needs
 
--- src/outputs.rt:96:1
 returns : tie.Need-returns
 returns c = let a = c .before .before .before .before .before .before .before .args in c .before .before .copy-numbers .ensures ∙ sym (sets-overlay (a .facets .now) (a .out .now) (c .before .before .before .before .before .before .before .pre .1)) ∙ ap (sets (a .out .now) 0) (own-positive (a .facets .now) (c .before .before .before .before .before .before .before .pre .0) (a .positive) (c .before .before .before .before .if1 .taken))
 
--- src/outputs.rt:96:1
 same-length-2 : tie.Need-same-length-2
 same-length-2 c = search needs
 
--- src/outputs.rt:96:1
 returns-2 : tie.Need-returns-2
 returns-2 c = let a = c .before .before .before .before .before .before .before .args in c .before .before .write-reversed .ensures ∙ ap (sets (a .out .now) 0) (own-negative (a .facets .now) (c .before .before .before .before .before .before .before .pre .0) (a .positive) (c .before .before .before .before .if1 .left))
 

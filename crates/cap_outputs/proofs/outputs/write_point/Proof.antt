@@ -5,43 +5,33 @@ use borrow.Author.Needs.{needs}
 use Rattle.cap_outputs.proofs.outputs.write_point.Statement.{statement}
 use Rattle.cap_outputs.proofs.outputs.write_point.Tie as tie
 
--- src/outputs.rt:50:5
 mul-out : tie.Need-mul-out
 mul-out c = search needs
 
--- src/outputs.rt:50:5
 slice-write-out : tie.Need-slice-write-out
 slice-write-out c = search needs
 
--- src/outputs.rt:51:9
 add-out : tie.Need-add-out
 add-out c = search needs
 
--- src/outputs.rt:51:5
 mul-out-2 : tie.Need-mul-out-2
 mul-out-2 c = search needs
 
--- src/outputs.rt:51:5
 slice-write-out-2 : tie.Need-slice-write-out-2
 slice-write-out-2 c = simp length-set (omega arith)
 
--- src/outputs.rt:52:9
 add-out-2 : tie.Need-add-out-2
 add-out-2 c = search needs
 
--- src/outputs.rt:52:5
 mul-out-3 : tie.Need-mul-out-3
 mul-out-3 c = search needs
 
--- src/outputs.rt:52:5
 slice-write-out-3 : tie.Need-slice-write-out-3
 slice-write-out-3 c = search needs
 
--- src/outputs.rt:46:1
 same-length : tie.Need-same-length
 same-length c = search needs
 
--- src/outputs.rt:46:1
 returns : tie.Need-returns
 returns c = let a = c .args in three-set (a .out .now) (a .at) (a .p .x) (a .p .y) (a .p .z)
 

@@ -12,79 +12,60 @@ Inv-loop facets out₀ i₀ out i = (i ≤ length facets / 3) × Run (reversedBl
 abbrev μ-loop : tie.MeasureT-loop
 μ-loop facets out₀ i₀ out i = length facets / 3 - i
 
--- src/outputs.rt:84:5
 loop-holds : tie.Need-loop-holds Inv-loop μ-loop
 loop-holds c = let a = c .before .before .args in (omega arith, run-start (reversedBlock (a .facets .now)) (a .out .now) 0 _ (omega arith))
 
--- src/outputs.rt:87:13
 mul-write-three : tie.Need-mul-write-three Inv-loop μ-loop
 mul-write-three c = omega arith
 
--- src/outputs.rt:88:20
 mul-write-three-2 : tie.Need-mul-write-three-2 Inv-loop μ-loop
 mul-write-three-2 c = omega arith
 
--- src/outputs.rt:88:13
 mul-write-three-3 : tie.Need-mul-write-three-3 Inv-loop μ-loop
 mul-write-three-3 c = omega arith
 
--- src/outputs.rt:88:13
 shared-slice-read-write-three : tie.Need-shared-slice-read-write-three Inv-loop μ-loop
 shared-slice-read-write-three c = omega arith
 
--- src/outputs.rt:89:20
 mul-write-three-4 : tie.Need-mul-write-three-4 Inv-loop μ-loop
 mul-write-three-4 c = omega arith
 
--- src/outputs.rt:89:20
 add-write-three : tie.Need-add-write-three Inv-loop μ-loop
 add-write-three c = omega arith
 
--- src/outputs.rt:89:13
 mul-write-three-5 : tie.Need-mul-write-three-5 Inv-loop μ-loop
 mul-write-three-5 c = omega arith
 
--- src/outputs.rt:89:13
 shared-slice-read-write-three-2 : tie.Need-shared-slice-read-write-three-2 Inv-loop μ-loop
 shared-slice-read-write-three-2 c = omega arith
 
--- src/outputs.rt:90:20
 mul-write-three-6 : tie.Need-mul-write-three-6 Inv-loop μ-loop
 mul-write-three-6 c = omega arith
 
--- src/outputs.rt:90:20
 add-write-three-2 : tie.Need-add-write-three-2 Inv-loop μ-loop
 add-write-three-2 c = omega arith
 
--- src/outputs.rt:90:13
 mul-write-three-7 : tie.Need-mul-write-three-7 Inv-loop μ-loop
 mul-write-three-7 c = omega arith
 
--- src/outputs.rt:90:13
 shared-slice-read-write-three-3 : tie.Need-shared-slice-read-write-three-3 Inv-loop μ-loop
 shared-slice-read-write-three-3 c = omega arith
 
--- src/outputs.rt:85:9
 write-three-requires : tie.Need-write-three-requires Inv-loop μ-loop
 write-three-requires c κs = let a = c .before .before .before .before .before .before .before .before .args in let l = run-long (reversedBlock (a .facets .now)) (a .out .now) (c .before .before .before .before .before .loop .out) 0 (c .before .before .before .before .before .loop .i) (3 * c .before .before .before .before .before .loop .i) (c .before .before .before .before .before .loop .inv .1) in omega (arith, l, c .before .before .before .before .before .before .before .before .pre .1)
 
--- src/outputs.rt:92:9
 add-i : tie.Need-add-i Inv-loop μ-loop
 add-i c = omega arith
 
--- src/outputs.rt:84:5
 loop-less : tie.Need-loop-less Inv-loop μ-loop
 loop-less c = omega arith
 
--- src/outputs.rt:84:5
 loop-again : tie.Need-loop-again Inv-loop μ-loop
 loop-again c = let a = c .before .before .before .before .before .before .before .before .before .before .before .args in (omega arith, run-turn (reversedBlock (a .facets .now)) (a .out .now) (c .before .before .before .before .before .before .before .before .loop .out) 0 (c .before .before .before .before .before .before .before .before .loop .i) (3 * c .before .before .before .before .before .before .before .before .loop .i) (c .before .before .before .before .before .before .before .before .loop .inv .1) _ _ (c .before .before .write-three .ensures) (omega arith))
 
--- src/outputs.rt:79:1
 same-length : tie.Need-same-length Inv-loop μ-loop
 same-length c = let a = c .before .before .before .before .args in run-long (reversedBlock (a .facets .now)) (a .out .now) (c .before .loop .out) 0 (c .before .loop .i) (3 * c .before .loop .i) (c .before .loop .inv .1)
 
--- src/outputs.rt:79:1
 returns : tie.Need-returns Inv-loop μ-loop
 returns c = let a = c .before .before .before .before .args in run-end (reversedBlock (a .facets .now)) (a .out .now) (c .before .loop .out) 0 (c .before .loop .i) (3 * c .before .loop .i) (c .before .loop .inv .1) (length (a .facets .now) / 3) (c .before .loop .inv .0) (c .loop-test .left) _ (reversed-are (a .facets .now))
 

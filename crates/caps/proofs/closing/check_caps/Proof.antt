@@ -4,47 +4,36 @@ use borrow.Author.Needs.{needs}
 use Rattle.caps.proofs.closing.check_caps.Statement.{statement}
 use Rattle.caps.proofs.closing.check_caps.Tie as tie
 
--- src/closing.rt:35:9
 bad-cap-place-requires : tie.Need-bad-cap-place-requires
 bad-cap-place-requires c κs = ((c .before .before .before .pre .0 .pooled, c .before .before .before .pre .0 .fours))
 
--- src/closing.rt:37:9
 same-length : tie.Need-same-length
 same-length c = search needs
 
--- src/closing.rt:37:9
 returns : tie.Need-returns
 returns c = let a = c .before .before .before .before .before .args in bad-refused (a .n) (a .nf) (a .k) (a .cap-list .now) (a .w .now) (c .before .before .before .before .before .pre .0) (c .before .before .before .before .before .pre .1 .0 .0) (c .before .before .before .before .before .pre .1 .0 .1) (a .listed) (c .before .before .before .before .before .pre .1 .1) (c .before .bad-cap-place .result) (c .before .bad-cap-place .ensures) (c .if1 .taken)
 
--- src/closing.rt:39:5
 turn-caps-requires : tie.Need-turn-caps-requires
 turn-caps-requires c κs = let a = c .before .before .before .before .before .before .args in (c .before .before .before .before .before .before .pre .0, (good-list (a .n) (a .nf) (a .k) (a .cap-list .now) (a .w .now) (c .before .before .before .before .before .before .pre .0) (c .before .before .before .before .before .before .pre .1 .0 .0) (c .before .before .before .before .before .before .pre .1 .0 .1) (a .listed) (c .before .before .before .before .before .before .pre .1 .1) (c .before .before .bad-cap-place .result) (c .before .before .bad-cap-place .ensures) (c .before .if1 .left)))
 
--- src/closing.rt:40:5
 number-pairs-requires : tie.Need-number-pairs-requires
 number-pairs-requires c κs = let a = c .before .before .before .before .before .before .before .before .before .before .args in (turned-ready (a .n) (a .nf) (a .k) (a .cap-list .now) (a .w .now) (c .before .before .before .before .before .before .before .before .before .before .pre .0) (c .before .before .before .before .before .before .before .before .before .before .pre .1 .0 .0) (c .before .before .before .before .before .before .before .before .before .before .pre .1 .0 .1) (a .listed) (c .before .before .before .before .before .before .before .before .before .before .pre .1 .1) (c .before .before .before .before .before .before .bad-cap-place .result) (c .before .before .before .before .before .before .bad-cap-place .ensures) (c .before .before .before .before .before .if1 .left) (c .before .before .before .turn-caps .last .0) (c .before .before .before .turn-caps .ensures .0) (c .before .before .before .turn-caps .ensures .1))
 
--- src/closing.rt:41:5
 note-faces-requires : tie.Need-note-faces-requires
 note-faces-requires c κs = let a = c .before .before .before .before .before .before .before .before .before .before .before .before .before .before .args in (numbered-ready (a .n) (a .nf) (a .k) (a .cap-list .now) (a .w .now) (c .before .before .before .before .before .before .before .before .before .before .before .before .before .before .pre .0) (c .before .before .before .before .before .before .before .before .before .before .before .before .before .before .pre .1 .0 .0) (c .before .before .before .before .before .before .before .before .before .before .before .before .before .before .pre .1 .0 .1) (a .listed) (c .before .before .before .before .before .before .before .before .before .before .before .before .before .before .pre .1 .1) (c .before .before .before .before .before .before .before .before .before .before .bad-cap-place .result) (c .before .before .before .before .before .before .before .before .before .before .bad-cap-place .ensures) (c .before .before .before .before .before .before .before .before .before .if1 .left) (c .before .before .before .before .before .before .before .turn-caps .last .0) (c .before .before .before .before .before .before .before .turn-caps .ensures .0) (c .before .before .before .before .before .before .before .turn-caps .ensures .1) (c .before .before .before .number-pairs .last .0) (c .before .before .before .number-pairs .ensures), (c .before .before .before .number-pairs .ensures .numbers))
 
--- src/closing.rt:42:9
 missing-place-requires : tie.Need-missing-place-requires
 missing-place-requires c κs = let a = c .before .before .before .before .before .before .before .before .before .before .before .before .before .before .before .before .before .before .args in (noted-ready (a .n) (a .nf) (a .k) (a .cap-list .now) (a .w .now) (c .before .before .before .before .before .before .before .before .before .before .before .before .before .before .before .before .before .before .pre .0) (c .before .before .before .before .before .before .before .before .before .before .before .before .before .before .before .before .before .before .pre .1 .0 .0) (c .before .before .before .before .before .before .before .before .before .before .before .before .before .before .before .before .before .before .pre .1 .0 .1) (a .listed) (c .before .before .before .before .before .before .before .before .before .before .before .before .before .before .before .before .before .before .pre .1 .1) (c .before .before .before .before .before .before .before .before .before .before .before .before .before .before .bad-cap-place .result) (c .before .before .before .before .before .before .before .before .before .before .before .before .before .before .bad-cap-place .ensures) (c .before .before .before .before .before .before .before .before .before .before .before .before .before .if1 .left) (c .before .before .before .before .before .before .before .before .before .before .before .turn-caps .last .0) (c .before .before .before .before .before .before .before .before .before .before .before .turn-caps .ensures .0) (c .before .before .before .before .before .before .before .before .before .before .before .turn-caps .ensures .1) (c .before .before .before .before .before .before .before .number-pairs .last .0) (c .before .before .before .before .before .before .before .number-pairs .ensures) (c .before .before .before .note-faces .last .0) (c .before .before .before .note-faces .ensures .0), (c .before .before .before .note-faces .ensures .1))
 
--- src/closing.rt:44:9
 same-length-2 : tie.Need-same-length-2
 same-length-2 c = search needs
 
--- src/closing.rt:44:9
 returns-2 : tie.Need-returns-2
 returns-2 c = let a = c .before .before .before .before .before .before .before .before .before .before .before .before .before .before .before .before .before .before .before .before .args in missing-refused (a .n) (a .nf) (a .k) (a .cap-list .now) (a .w .now) (c .before .before .before .before .before .before .before .before .before .before .before .before .before .before .before .before .before .before .before .before .pre .0) (c .before .before .before .before .before .before .before .before .before .before .before .before .before .before .before .before .before .before .before .before .pre .1 .0 .0) (c .before .before .before .before .before .before .before .before .before .before .before .before .before .before .before .before .before .before .before .before .pre .1 .0 .1) (a .listed) (c .before .before .before .before .before .before .before .before .before .before .before .before .before .before .before .before .before .before .before .before .pre .1 .1) (c .before .before .before .before .before .before .before .before .before .before .before .before .before .before .before .before .bad-cap-place .result) (c .before .before .before .before .before .before .before .before .before .before .before .before .before .before .before .before .bad-cap-place .ensures) (c .before .before .before .before .before .before .before .before .before .before .before .before .before .before .before .if1 .left) (c .before .before .before .before .before .before .before .before .before .before .before .before .before .turn-caps .last .0) (c .before .before .before .before .before .before .before .before .before .before .before .before .before .turn-caps .ensures .0) (c .before .before .before .before .before .before .before .before .before .before .before .before .before .turn-caps .ensures .1) (c .before .before .before .before .before .before .before .before .before .number-pairs .last .0) (c .before .before .before .before .before .before .before .before .before .number-pairs .ensures) (c .before .before .before .before .before .note-faces .last .0) (c .before .before .before .before .before .note-faces .ensures .0) (c .before .missing-place .result) (c .before .missing-place .ensures) (c .if2 .taken)
 
--- src/closing.rt:22:1
 same-length-3 : tie.Need-same-length-3
 same-length-3 c = search needs
 
--- src/closing.rt:22:1
 returns-3 : tie.Need-returns-3
 returns-3 c = let a = c .before .before .before .before .before .before .before .before .before .before .before .before .before .before .before .before .before .before .before .before .args in all-passed (a .n) (a .nf) (a .k) (a .cap-list .now) (a .w .now) (c .before .before .before .before .before .before .before .before .before .before .before .before .before .before .before .before .before .before .before .before .pre .0) (c .before .before .before .before .before .before .before .before .before .before .before .before .before .before .before .before .before .before .before .before .pre .1 .0 .0) (c .before .before .before .before .before .before .before .before .before .before .before .before .before .before .before .before .before .before .before .before .pre .1 .0 .1) (a .listed) (c .before .before .before .before .before .before .before .before .before .before .before .before .before .before .before .before .before .before .before .before .pre .1 .1) (c .before .before .before .before .before .before .before .before .before .before .before .before .before .before .before .before .bad-cap-place .result) (c .before .before .before .before .before .before .before .before .before .before .before .before .before .before .before .before .bad-cap-place .ensures) (c .before .before .before .before .before .before .before .before .before .before .before .before .before .before .before .if1 .left) (c .before .before .before .before .before .before .before .before .before .before .before .before .before .turn-caps .last .0) (c .before .before .before .before .before .before .before .before .before .before .before .before .before .turn-caps .ensures .0) (c .before .before .before .before .before .before .before .before .before .before .before .before .before .turn-caps .ensures .1) (c .before .before .before .before .before .before .before .before .before .number-pairs .last .0) (c .before .before .before .before .before .before .before .before .before .number-pairs .ensures) (c .before .before .before .before .before .note-faces .last .0) (c .before .before .before .before .before .note-faces .ensures .0) (c .before .missing-place .result) (c .before .missing-place .ensures) (c .if2 .left) (c .before .before .before .before .before .note-faces .ensures .1)
 

@@ -4,31 +4,24 @@ use borrow.Author.Needs.{needs}
 use Rattle.caps.proofs.closing.close_mesh.Statement.{statement}
 use Rattle.caps.proofs.closing.close_mesh.Tie as tie
 
--- src/closing.rt:66:5
 select-caps-requires : tie.Need-select-caps-requires
 select-caps-requires c κs = (c .before .before .before .before .before .before .before .pre .ready, (c .before .before .before .before .before .before .before .pre .known))
 
--- src/closing.rt:67:9
 close-caps-requires : tie.Need-close-caps-requires
 close-caps-requires c κs = let a = c .before .before .before .before .before .before .before .before .before .before .before .args in (chosen-ready (a .vertices .now) (a .facets .now) (a .cap-list .now) (a .n) (a .k) (a .positive) (a .w .now) (c .before .before .before .before .before .before .before .before .before .before .before .pre) (c .before .before .before .select-caps .last .0) (c .before .before .before .select-caps .ensures), ((c .before .before .before .before .before .before .before .before .before .before .before .pre .within, omega (arith, c .before .before .before .before .before .before .before .before .before .before .before .pre .few-vertices), chosen-words (a .vertices .now) (a .facets .now) (a .cap-list .now) (a .n) (a .k) (a .positive) (a .w .now) (c .before .before .before .before .before .before .before .before .before .before .before .pre) (c .before .before .before .select-caps .last .0) (c .before .before .before .select-caps .ensures)), (c .before .before .before .select-caps .ensures .low)))
 
--- src/closing.rt:70:5
 deliver-closed-requires : tie.Need-deliver-closed-requires
 deliver-closed-requires c κs = let a = c .before .before .before .before .before .before .before .before .before .before .before .before .before .before .before .before .before .args in deliverable (a .vertices .now) (a .facets .now) (a .cap-list .now) (a .n) (a .k) (a .positive) (a .w .now) (c .before .before .before .before .before .before .before .before .before .before .before .before .before .before .before .before .before .pre) (c .before .before .before .before .before .before .before .before .before .select-caps .last .0) (c .before .before .before .before .before .before .before .before .before .select-caps .ensures) (c .before .before .before .before .before .close-caps .result .left) (c .before .before .before .before .before .close-caps .result .caps) (c .before .before .before .before .before .close-caps .last .0) (c .before .before .before .before .before .close-caps .ensures)
 
--- src/closing.rt:50:1
 same-length : tie.Need-same-length
 same-length c = search needs
 
--- src/closing.rt:50:1
 same-length-2 : tie.Need-same-length-2
 same-length-2 c = search needs
 
--- src/closing.rt:50:1
 same-length-3 : tie.Need-same-length-3
 same-length-3 c = search needs
 
--- src/closing.rt:50:1
 returns : tie.Need-returns
 returns c = let a = c .before .before .before .before .before .before .before .before .before .before .before .before .before .before .before .before .before .before .before .before .before .before .args in answered (a .vertices .now) (a .facets .now) (a .cap-list .now) (a .n) (a .k) (a .positive) (a .w .now) (c .before .before .before .before .before .before .before .before .before .before .before .before .before .before .before .before .before .before .before .before .before .before .pre) (c .before .before .before .before .before .before .before .before .before .before .before .before .before .before .select-caps .last .0) (c .before .before .before .before .before .before .before .before .before .before .before .before .before .before .select-caps .ensures) (c .before .before .before .before .before .before .before .before .before .before .close-caps .result .left) (c .before .before .before .before .before .before .before .before .before .before .close-caps .result .caps) (c .before .before .before .before .before .before .before .before .before .before .close-caps .last .0) (c .before .before .before .before .before .before .before .before .before .before .close-caps .ensures) (a .out-vertices .now) _ (a .out-facets .now) _ _ (c .before .before .before .before .deliver-closed .ensures)
 

@@ -3,27 +3,21 @@ use borrow.Author.Needs.{needs}
 use Rattle.caps.proofs.front.cap_mesh_to_aabb.Statement.{statement}
 use Rattle.caps.proofs.front.cap_mesh_to_aabb.Tie as tie
 
--- src/front.rt:173:9
 caps-lent-requires : tie.Need-caps-lent-requires
 caps-lent-requires c κs = search needs
 
--- src/front.rt:185:5
 zero-requires : tie.Need-zero-requires
 zero-requires c κs = search needs
 
--- src/front.rt:159:1
 same-length : tie.Need-same-length
 same-length c = search needs
 
--- src/front.rt:159:1
 same-length-2 : tie.Need-same-length-2
 same-length-2 c = search needs
 
--- src/front.rt:159:1
 same-length-3 : tie.Need-same-length-3
 same-length-3 c = search needs
 
--- src/front.rt:159:1
 returns : tie.Need-returns
 returns c = let a = c .before .before .before .before .before .before .before .before .before .before .before .before .before .before .before .before .before .before .before .before .args in capped (a .vertices .now) (a .facets .now) (a .cap-list .now) (a .extents) (a .eps) (a .resolution) (a .mode) (c .before .before .before .before .before .before .before .before .before .before .caps-lent .result) (a .work .now) (c .before .before .before .before .before .before .before .before .before .before .caps-lent .last .1 .1 .1 .1 .1 .1 .1 .0) (c .before .before .zero .last .0) (a .out-vertices .now) (c .before .before .before .before .before .before .before .before .before .before .caps-lent .last .1 .1 .1 .1 .1 .1 .1 .1 .0) (a .out-facets .now) (c .before .before .before .before .before .before .before .before .before .before .caps-lent .last .1 .1 .1 .1 .1 .1 .1 .1 .1 .0) (c .before .before .before .before .before .before .before .before .before .before .caps-lent .ensures) (c .before .before .before .before .before .before .before .before .before .before .caps-lent .kept .1 .1 .1 .1 .1 .1 .1 .0) (c .before .before .zero .ensures)
 

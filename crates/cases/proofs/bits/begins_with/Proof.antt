@@ -22,55 +22,42 @@ Inv-loop list front i₀ i = (i ≤ length front) × (every (λ (k : ℕ). sameB
 abbrev μ-loop : tie.MeasureT-loop
 μ-loop list front i₀ i = length front - i
 
--- src/bits.rt:21:9
 returns : tie.Need-returns Inv-loop μ-loop
 returns c = sym (and-stop _ _ (lt-leb _ _ (c .if1 .taken)))
 
--- src/bits.rt:24:5
 loop-holds : tie.Need-loop-holds Inv-loop μ-loop
 loop-holds c = (search needs, refl)
 
--- src/bits.rt:25:17
 mul-bits : tie.Need-mul-bits Inv-loop μ-loop
 mul-bits c = search needs
 
--- src/bits.rt:25:17
 shared-slice-read-bits : tie.Need-shared-slice-read-bits Inv-loop μ-loop
 shared-slice-read-bits c = search needs
 
--- src/bits.rt:25:12
 bits-requires : tie.Need-bits-requires Inv-loop μ-loop
 bits-requires c κs = search needs
 
--- src/bits.rt:25:34
 mul-bits-2 : tie.Need-mul-bits-2 Inv-loop μ-loop
 mul-bits-2 c = search needs
 
--- src/bits.rt:25:34
 shared-slice-read-bits-2 : tie.Need-shared-slice-read-bits-2 Inv-loop μ-loop
 shared-slice-read-bits-2 c = search needs
 
--- src/bits.rt:25:29
 bits-requires-2 : tie.Need-bits-requires-2 Inv-loop μ-loop
 bits-requires-2 c κs = search needs
 
--- src/bits.rt:26:13
 returns-2 : tie.Need-returns-2 Inv-loop μ-loop
 returns-2 c = sym (and-next _ _ _ (le-leb _ _ (c .before .before .before .before .before .before .before .if1 .left)) (row-stop _ _ _ (c .before .before .before .before .before .before .loop .inv .1) (c .before .before .before .before .before .loop-test .taken) (ne-eqb _ _ (λ e. c .if2 .taken (c .before .before .before .bits .ensures ∙ e ∙ sym (c .before .bits2 .ensures))))))
 
--- src/bits.rt:28:9
 add-i : tie.Need-add-i Inv-loop μ-loop
 add-i c = search needs
 
--- src/bits.rt:24:5
 loop-less : tie.Need-loop-less Inv-loop μ-loop
 loop-less c = search needs
 
--- src/bits.rt:24:5
 loop-again : tie.Need-loop-again Inv-loop μ-loop
 loop-again c = (search needs, row-more _ _ _ (c .before .before .before .before .before .before .loop .inv .1) (c .before .before .before .before .before .loop-test .taken) (eq-eqb _ _ (sym (c .before .before .before .bits .ensures) ∙ c .if2 .left ∙ c .before .bits2 .ensures)))
 
--- src/bits.rt:17:1
 returns-3 : tie.Need-returns-3 Inv-loop μ-loop
 returns-3 c = sym (and-next _ _ _ (le-leb _ _ (c .before .before .if1 .left)) (row-end _ _ _ (c .before .loop .inv .1) (c .loop-test .left)))
 

@@ -21,47 +21,36 @@ Inv-loop list front i₀ i = (i ≤ length front) × (every (λ (k : ℕ). eqb (
 abbrev μ-loop : tie.MeasureT-loop
 μ-loop list front i₀ i = length front - i
 
--- src/bits.rt:38:9
 returns : tie.Need-returns Inv-loop μ-loop
 returns c = sym (and-stop _ _ (lt-leb _ _ (c .if1 .taken)))
 
--- src/bits.rt:41:5
 loop-holds : tie.Need-loop-holds Inv-loop μ-loop
 loop-holds c = (search needs, refl)
 
--- src/bits.rt:42:12
 mul-if2 : tie.Need-mul-if2 Inv-loop μ-loop
 mul-if2 c = search needs
 
--- src/bits.rt:42:12
 shared-slice-read-if2 : tie.Need-shared-slice-read-if2 Inv-loop μ-loop
 shared-slice-read-if2 c = search needs
 
--- src/bits.rt:42:23
 mul-if2-2 : tie.Need-mul-if2-2 Inv-loop μ-loop
 mul-if2-2 c = search needs
 
--- src/bits.rt:42:23
 shared-slice-read-if2-2 : tie.Need-shared-slice-read-if2-2 Inv-loop μ-loop
 shared-slice-read-if2-2 c = search needs
 
--- src/bits.rt:43:13
 returns-2 : tie.Need-returns-2 Inv-loop μ-loop
 returns-2 c = sym (and-next _ _ _ (le-leb _ _ (c .before .before .before .before .before .if1 .left)) (row-stop _ _ _ (c .before .before .before .before .loop .inv .1) (c .before .before .before .loop-test .taken) (ne-eqb _ _ (c .if2 .taken))))
 
--- src/bits.rt:45:9
 add-i : tie.Need-add-i Inv-loop μ-loop
 add-i c = search needs
 
--- src/bits.rt:41:5
 loop-less : tie.Need-loop-less Inv-loop μ-loop
 loop-less c = search needs
 
--- src/bits.rt:41:5
 loop-again : tie.Need-loop-again Inv-loop μ-loop
 loop-again c = (search needs, row-more _ _ _ (c .before .before .before .before .loop .inv .1) (c .before .before .before .loop-test .taken) (eq-eqb _ _ (c .if2 .left)))
 
--- src/bits.rt:34:1
 returns-3 : tie.Need-returns-3 Inv-loop μ-loop
 returns-3 c = sym (and-next _ _ _ (le-leb _ _ (c .before .before .if1 .left)) (row-end _ _ _ (c .before .loop .inv .1) (c .loop-test .left)))
 

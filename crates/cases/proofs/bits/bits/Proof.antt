@@ -6,15 +6,12 @@ use Rattle.cases.proofs.bits.bits.Tie as tie
 use Rattle.cases.proofs.bits.bits.Reads as reads
 use Rattle.cases.proofs.bits.bits.Lts as lts
 
--- src/bits.rt:13:17
 float-to-bits-result : tie.Need-float-to-bits-result
 float-to-bits-result c = number-itself _ (c .if1 .taken)
 
--- src/bits.rt:10:1
 returns : tie.Need-returns
 returns c = sym (cond-true _ _ _ _ (c .if1 .taken) refl)
 
--- src/bits.rt:10:1
 returns-2 : tie.Need-returns-2
 returns-2 c = sym (cond-false _ _ _ _ (c .if1 .left) refl)
 

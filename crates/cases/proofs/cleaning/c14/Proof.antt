@@ -9,43 +9,33 @@ use Rattle.cases.proofs.cleaning.c14.Lts as lts
 use Rattle.cases.proofs.cleaning.cleans_to.Reads as cleans-to-reads
 use Rattle.cases.proofs.cleaning.has_far_key.Reads as has-far-key-reads
 
--- src/cleaning.rt:102:19
 slice-aggregate-cleans-to : tie.Need-slice-aggregate-cleans-to
 slice-aggregate-cleans-to c = search needs
 
--- src/cleaning.rt:102:26
 slice-aggregate-cleans-to-2 : tie.Need-slice-aggregate-cleans-to-2
 slice-aggregate-cleans-to-2 c = search needs
 
--- src/cleaning.rt:102:38
 slice-aggregate-cleans-to-3 : tie.Need-slice-aggregate-cleans-to-3
 slice-aggregate-cleans-to-3 c = search needs
 
--- src/cleaning.rt:102:45
 slice-aggregate-cleans-to-4 : tie.Need-slice-aggregate-cleans-to-4
 slice-aggregate-cleans-to-4 c = search needs
 
--- src/cleaning.rt:102:9
 cleans-to-requires : tie.Need-cleans-to-requires
 cleans-to-requires c κs = search needs
 
--- src/cleaning.rt:103:9
 returns : tie.Need-returns
 returns c = sym (and-stop _ _ (sym (c .before .cleans-to .ensures) ∙ not-true _ (c .if1 .taken)))
 
--- src/cleaning.rt:105:17
 slice-aggregate-has-far-key : tie.Need-slice-aggregate-has-far-key
 slice-aggregate-has-far-key c = search needs
 
--- src/cleaning.rt:105:23
 slice-aggregate-has-far-key-2 : tie.Need-slice-aggregate-has-far-key-2
 slice-aggregate-has-far-key-2 c = search needs
 
--- src/cleaning.rt:105:5
 has-far-key-requires : tie.Need-has-far-key-requires
 has-far-key-requires c κs = search needs
 
--- src/cleaning.rt:96:1
 returns-2 : tie.Need-returns-2
 returns-2 c = sym (and-next _ _ _ (sym (c .before .before .before .before .cleans-to .ensures) ∙ not-false _ (c .before .before .before .if1 .left)) (sym (c .has-far-key .ensures)))
 

@@ -10,35 +10,27 @@ use Rattle.cases.proofs.cleaning.cleans_to.Lts as lts
 use Rattle.cases.proofs.cleaning.is_mesh.Reads as is-mesh-reads
 use Rattle.mesh_cleanup.proofs.clean_mesh.Reads as clean-mesh-reads
 
--- src/cleaning.rt:63:51
 slice-aggregate-clean-mesh : tie.Need-slice-aggregate-clean-mesh
 slice-aggregate-clean-mesh c = search needs
 
--- src/cleaning.rt:63:62
 slice-aggregate-clean-mesh-2 : tie.Need-slice-aggregate-clean-mesh-2
 slice-aggregate-clean-mesh-2 c = search needs
 
--- src/cleaning.rt:63:81
 slice-aggregate-clean-mesh-3 : tie.Need-slice-aggregate-clean-mesh-3
 slice-aggregate-clean-mesh-3 c = search needs
 
--- src/cleaning.rt:63:9
 clean-mesh-requires : tie.Need-clean-mesh-requires
 clean-mesh-requires c κs = search needs
 
--- src/cleaning.rt:64:20
 slice-aggregate-is-mesh : tie.Need-slice-aggregate-is-mesh
 slice-aggregate-is-mesh c = search needs
 
--- src/cleaning.rt:64:35
 slice-aggregate-is-mesh-2 : tie.Need-slice-aggregate-is-mesh-2
 slice-aggregate-is-mesh-2 c = search needs
 
--- src/cleaning.rt:64:5
 is-mesh-requires : tie.Need-is-mesh-requires
 is-mesh-requires c κs = search needs
 
--- src/cleaning.rt:51:1
 returns : tie.Need-returns
 returns c = c .is-mesh .ensures ∙ cleaned-to _ _ _ _ _ _ _ _ (length-replicate {A = ℕ} 2048 0) (c .before .before .before .before .before .before .clean-mesh .ensures) _ _
 

@@ -10,27 +10,21 @@ use Rattle.cases.proofs.cleaning.has_far_key.Lts as lts
 use Rattle.cases.proofs.cleaning.is_key_range.Reads as is-key-range-reads
 use Rattle.mesh_cleanup.proofs.clean_mesh.Reads as clean-mesh-reads
 
--- src/cleaning.rt:73:52
 slice-aggregate-clean-mesh : tie.Need-slice-aggregate-clean-mesh
 slice-aggregate-clean-mesh c = search needs
 
--- src/cleaning.rt:73:63
 slice-aggregate-clean-mesh-2 : tie.Need-slice-aggregate-clean-mesh-2
 slice-aggregate-clean-mesh-2 c = search needs
 
--- src/cleaning.rt:73:82
 slice-aggregate-clean-mesh-3 : tie.Need-slice-aggregate-clean-mesh-3
 slice-aggregate-clean-mesh-3 c = search needs
 
--- src/cleaning.rt:73:18
 clean-mesh-requires : tie.Need-clean-mesh-requires
 clean-mesh-requires c κs = search needs
 
--- src/cleaning.rt:73:5
 is-key-range-requires : tie.Need-is-key-range-requires
 is-key-range-requires c κs = search needs
 
--- src/cleaning.rt:67:1
 returns : tie.Need-returns
 returns c = c .is-key-range .ensures ∙ cleaned-key _ _ _ _ _ _ _ _ (length-replicate {A = ℕ} 2048 0) (c .before .before .before .before .clean-mesh .ensures)
 

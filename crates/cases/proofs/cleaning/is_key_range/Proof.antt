@@ -8,11 +8,9 @@ use Rattle.cases.proofs.cleaning.is_key_range.Reads as reads
 use Rattle.cases.proofs.cleaning.is_key_range.Lts as lts
 use Rattle.refusals.proofs.report.report_mesh.Reads as report-mesh-reads
 
--- src/cleaning.rt:48:5
 report-mesh-requires : tie.Need-report-mesh-requires
 report-mesh-requires c κs = search needs
 
--- src/cleaning.rt:44:1
 returns : tie.Need-returns
 returns c = ap (λ (n : ℕ). eqb n 8) (c .report-mesh .ensures .number)
 

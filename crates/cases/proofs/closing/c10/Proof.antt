@@ -11,19 +11,15 @@ use Rattle.cases.proofs.closing.c10.Lts as lts
 use Rattle.cases.proofs.closing.box_to.Reads as box-to-reads
 use Rattle.cases.proofs.closing.reply_to_facet.Reads as reply-to-facet-reads
 
--- src/closing.rt:162:9
 box-to-requires : tie.Need-box-to-requires
 box-to-requires c κs = search needs
 
--- src/closing.rt:165:9
 slice-aggregate-reply-to-facet : tie.Need-slice-aggregate-reply-to-facet
 slice-aggregate-reply-to-facet c = search needs
 
--- src/closing.rt:161:5
 reply-to-facet-requires : tie.Need-reply-to-facet-requires
 reply-to-facet-requires c κs = search needs
 
--- src/closing.rt:156:1
 returns : tie.Need-returns
 returns c = ap (λ (n : ℕ). eqb n 0) (facet-number _ _ _ _ _ _ _ _ (c .before .before .before .before .box-to .ensures) (length-replicate {A = ℕ} 8192 0) (c .before .reply-to-facet .ensures))
 

@@ -14,43 +14,33 @@ use Rattle.cases.proofs.closing.box_to.Reads as box-to-reads
 use Rattle.cases.proofs.closing.is_later_point.Reads as is-later-point-reads
 use Rattle.cases.proofs.closing.list_candidates.Reads as list-candidates-reads
 
--- src/closing.rt:118:9
 slice-aggregate-list-candidates : tie.Need-slice-aggregate-list-candidates
 slice-aggregate-list-candidates c = search needs
 
--- src/closing.rt:119:9
 slice-aggregate-list-candidates-2 : tie.Need-slice-aggregate-list-candidates-2
 slice-aggregate-list-candidates-2 c = search needs
 
--- src/closing.rt:120:9
 box-to-requires : tie.Need-box-to-requires
 box-to-requires c κs = search needs
 
--- src/closing.rt:123:9
 slice-aggregate-list-candidates-3 : tie.Need-slice-aggregate-list-candidates-3
 slice-aggregate-list-candidates-3 c = search needs
 
--- src/closing.rt:124:9
 slice-aggregate-list-candidates-4 : tie.Need-slice-aggregate-list-candidates-4
 slice-aggregate-list-candidates-4 c = search needs
 
--- src/closing.rt:117:9
 list-candidates-requires : tie.Need-list-candidates-requires
 list-candidates-requires c κs = search needs
 
--- src/closing.rt:128:9
 returns : tie.Need-returns
 returns c = sym (and-stop _ _ (ne-eqb _ _ (λ e. c .if1 .taken (listed-number _ _ _ _ 8192 8192 _ _ _ _ _ _ (c .before .before .before .before .before .before .before .box-to .ensures) (length-replicate {A = ℕ} 8192 0) (c .before .before .before .list-candidates .ensures) ∙ e))))
 
--- src/closing.rt:130:20
 slice-aggregate-is-later-point : tie.Need-slice-aggregate-is-later-point
 slice-aggregate-is-later-point c = search needs
 
--- src/closing.rt:130:5
 is-later-point-requires : tie.Need-is-later-point-requires
 is-later-point-requires c κs = search needs
 
--- src/closing.rt:99:1
 returns-2 : tie.Need-returns-2
 returns-2 c = c .is-later-point .ensures ∙ ap isLater (listed-words _ _ _ _ 8192 8192 _ _ _ _ _ _ (c .before .before .before .before .before .before .before .before .before .box-to .ensures) (length-replicate {A = ℕ} 8192 0) (c .before .before .before .before .before .list-candidates .ensures)) ∙ sym (and-next _ _ _ (eq-eqb _ _ (sym (listed-number _ _ _ _ 8192 8192 _ _ _ _ _ _ (c .before .before .before .before .before .before .before .before .before .box-to .ensures) (length-replicate {A = ℕ} 8192 0) (c .before .before .before .before .before .list-candidates .ensures)) ∙ c .before .before .if1 .left)) refl)
 

@@ -7,35 +7,27 @@ use Rattle.cases.proofs.closing.list_candidates.Lts as lts
 use Rattle.boundary_closure.proofs.cap_candidates.Reads as cap-candidates-reads
 use Rattle.cases.proofs.closing.report_candidates.Reads as report-candidates-reads
 
--- src/closing.rt:65:9
 slice-aggregate-cap-candidates : tie.Need-slice-aggregate-cap-candidates
 slice-aggregate-cap-candidates c = search needs
 
--- src/closing.rt:66:9
 slice-aggregate-cap-candidates-2 : tie.Need-slice-aggregate-cap-candidates-2
 slice-aggregate-cap-candidates-2 c = search needs
 
--- src/closing.rt:67:9
 slice-aggregate-cap-candidates-3 : tie.Need-slice-aggregate-cap-candidates-3
 slice-aggregate-cap-candidates-3 c = search needs
 
--- src/closing.rt:57:9
 cap-candidates-requires : tie.Need-cap-candidates-requires
 cap-candidates-requires c κs = search needs
 
--- src/closing.rt:69:5
 report-candidates-requires : tie.Need-report-candidates-requires
 report-candidates-requires c κs = search needs
 
--- src/closing.rt:42:1
 same-length : tie.Need-same-length
 same-length c = search needs
 
--- src/closing.rt:42:1
 same-length-2 : tie.Need-same-length-2
 same-length-2 c = search needs
 
--- src/closing.rt:42:1
 returns : tie.Need-returns
 returns c = listing _ _ _ _ _ _ _ _ _ _ _ _ _ _ _ (c .before .before .before .before .before .before .before .before .before .cap-candidates .ensures) (c .report-candidates .ensures)
 

@@ -6,27 +6,21 @@ use Rattle.cases.proofs.closing.reply_to_facet.Reads as reads
 use Rattle.cases.proofs.closing.reply_to_facet.Lts as lts
 use Rattle.cases.proofs.closing.list_candidates.Reads as list-candidates-reads
 
--- src/closing.rt:144:9
 slice-aggregate-list-candidates : tie.Need-slice-aggregate-list-candidates
 slice-aggregate-list-candidates c = search needs
 
--- src/closing.rt:145:9
 slice-aggregate-list-candidates-2 : tie.Need-slice-aggregate-list-candidates-2
 slice-aggregate-list-candidates-2 c = search needs
 
--- src/closing.rt:150:9
 slice-aggregate-list-candidates-3 : tie.Need-slice-aggregate-list-candidates-3
 slice-aggregate-list-candidates-3 c = search needs
 
--- src/closing.rt:143:5
 list-candidates-requires : tie.Need-list-candidates-requires
 list-candidates-requires c κs = search needs
 
--- src/closing.rt:131:1
 same-length : tie.Need-same-length
 same-length c = search needs
 
--- src/closing.rt:131:1
 returns : tie.Need-returns
 returns c = facet-listing _ _ _ _ _ _ _ (c .before .before .before .list-candidates .ensures)
 

@@ -8,39 +8,30 @@ use Rattle.cases.proofs.bits.bits.Reads as bits-reads
 use Rattle.cases.proofs.halves.point.Reads as point-reads
 use Rattle.cases.proofs.listed.place_of.Reads as place-of-reads
 
--- src/halves.rt:215:13
 point-requires : tie.Need-point-requires
 point-requires c κs = search needs
 
--- src/halves.rt:216:31
 array-read-bits : tie.Need-array-read-bits
 array-read-bits c = search needs
 
--- src/halves.rt:216:26
 bits-requires : tie.Need-bits-requires
 bits-requires c κs = search needs
 
--- src/halves.rt:216:43
 array-read-bits-2 : tie.Need-array-read-bits-2
 array-read-bits-2 c = search needs
 
--- src/halves.rt:216:38
 bits-requires-2 : tie.Need-bits-requires-2
 bits-requires-2 c κs = search needs
 
--- src/halves.rt:216:55
 array-read-bits-3 : tie.Need-array-read-bits-3
 array-read-bits-3 c = search needs
 
--- src/halves.rt:216:50
 bits-requires-3 : tie.Need-bits-requires-3
 bits-requires-3 c κs = search needs
 
--- src/halves.rt:216:5
 place-of-requires : tie.Need-place-of-requires
 place-of-requires c κs = search needs
 
--- src/halves.rt:212:1
 returns : tie.Need-returns
 returns c = placed _ _ _ _ _ _ _ (c .before .before .before .before .point .ensures) (c .before .before .before .bits .ensures) (c .before .before .bits2 .ensures) (c .before .bits3 .ensures) (c .place-of .ensures)
 

@@ -8,31 +8,24 @@ use Rattle.cases.proofs.halves.cap_word.Reads as reads
 use Rattle.cases.proofs.halves.cap_word.Lts as lts
 use Rattle.cases.proofs.halves.candidate_at.Reads as candidate-at-reads
 
--- src/halves.rt:225:16
 mul-result : tie.Need-mul-result
 mul-result c = search needs
 
--- src/halves.rt:225:16
 array-read-result : tie.Need-array-read-result
 array-read-result c = search needs
 
--- src/halves.rt:225:9
 returns : tie.Need-returns
 returns c = sym (cond-true _ _ _ _ (eq-eqb _ _ (c .if1 .taken)) refl)
 
--- src/halves.rt:227:30
 mul-candidate-at : tie.Need-mul-candidate-at
 mul-candidate-at c = search needs
 
--- src/halves.rt:227:30
 array-read-candidate-at : tie.Need-array-read-candidate-at
 array-read-candidate-at c = search needs
 
--- src/halves.rt:227:5
 candidate-at-requires : tie.Need-candidate-at-requires
 candidate-at-requires c κs = search needs
 
--- src/halves.rt:220:1
 returns-2 : tie.Need-returns-2
 returns-2 c = c .candidate-at .ensures ∙ sym (cond-false _ _ _ _ (ne-eqb _ _ (c .before .if1 .left)) refl)
 

@@ -19,47 +19,36 @@ Inv-loop vertices facets stated i₀ i = (i ≤ 36) × (hasFacets vertices facet
 abbrev μ-loop : tie.MeasureT-loop
 μ-loop vertices facets stated i₀ i = 36 - i
 
--- src/halves.rt:253:5
 loop-holds : tie.Need-loop-holds Inv-loop μ-loop
 loop-holds c = (search needs, corner-start _ _ _)
 
--- src/halves.rt:254:32
 mul-is-point : tie.Need-mul-is-point Inv-loop μ-loop
 mul-is-point c = search needs
 
--- src/halves.rt:254:32
 element-copy-out-is-point : tie.Need-element-copy-out-is-point Inv-loop μ-loop
 element-copy-out-is-point c = search needs
 
--- src/halves.rt:254:43
 mul-is-point-2 : tie.Need-mul-is-point-2 Inv-loop μ-loop
 mul-is-point-2 c = search needs
 
--- src/halves.rt:254:43
 element-copy-out-is-point-2 : tie.Need-element-copy-out-is-point-2 Inv-loop μ-loop
 element-copy-out-is-point-2 c = search needs
 
--- src/halves.rt:254:13
 is-point-requires : tie.Need-is-point-requires Inv-loop μ-loop
 is-point-requires c κs = search needs
 
--- src/halves.rt:255:13
 returns : tie.Need-returns Inv-loop μ-loop
 returns c = sym (corner-stop _ _ _ _ (c .before .before .before .before .before .loop .inv .1) (c .before .before .before .before .loop-test .taken) (sym (c .before .is-point .ensures) ∙ not-true _ (c .if1 .taken)))
 
--- src/halves.rt:257:9
 add-i : tie.Need-add-i Inv-loop μ-loop
 add-i c = search needs
 
--- src/halves.rt:253:5
 loop-less : tie.Need-loop-less Inv-loop μ-loop
 loop-less c = search needs
 
--- src/halves.rt:253:5
 loop-again : tie.Need-loop-again Inv-loop μ-loop
 loop-again c = (search needs, corner-more _ _ _ _ (c .before .before .before .before .before .loop .inv .1) (c .before .before .before .before .loop-test .taken) (sym (c .before .is-point .ensures) ∙ not-false _ (c .if1 .left)))
 
--- src/halves.rt:249:1
 returns-2 : tie.Need-returns-2 Inv-loop μ-loop
 returns-2 c = sym (corner-end _ _ _ _ (c .before .loop .inv .1) (c .loop-test .left))
 

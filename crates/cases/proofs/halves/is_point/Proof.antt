@@ -12,44 +12,34 @@ use Rattle.cases.proofs.halves.is_point.Lts as lts
 use Rattle.cases.proofs.bits.begins_with.Reads as begins-with-reads
 use Rattle.cases.proofs.halves.point.Reads as point-reads
 
--- src/halves.rt:242:9
 returns : tie.Need-returns
 unfolding isPoint
 returns c = sym (and-stop _ _ (le-ltb _ _ (c .if1 .taken)))
 
--- src/halves.rt:244:13
 point-requires : tie.Need-point-requires
 point-requires c κs = search needs
 
--- src/halves.rt:245:27
 mul-begins-with : tie.Need-mul-begins-with
 mul-begins-with c = search needs
 
--- src/halves.rt:245:17
 mul-begins-with-2 : tie.Need-mul-begins-with-2
 mul-begins-with-2 c = search needs
 
--- src/halves.rt:245:17
 sub-begins-with : tie.Need-sub-begins-with
 sub-begins-with c = search needs
 
--- src/halves.rt:245:17
 part-begins-with-start : tie.Need-part-begins-with-start
 part-begins-with-start c = search needs
 
--- src/halves.rt:245:17
 part-begins-with-end : tie.Need-part-begins-with-end
 part-begins-with-end c = search needs
 
--- src/halves.rt:245:37
 slice-aggregate-begins-with : tie.Need-slice-aggregate-begins-with
 slice-aggregate-begins-with c = search needs
 
--- src/halves.rt:245:5
 begins-with-requires : tie.Need-begins-with-requires
 begins-with-requires c κs = search needs
 
--- src/halves.rt:237:1
 returns-2 : tie.Need-returns-2
 returns-2 c = point-goes (now (c .before .before .before .before .before .before .args .vertices)) _ _ _ _ (c .begins-with .ensures) (c .before .before .before .point .ensures) (c .before .before .before .before .if1 .left)
 

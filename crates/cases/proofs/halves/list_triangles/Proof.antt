@@ -18,35 +18,27 @@ Inv-loop candidates list₀ i₀ list i = (i ≤ 80) × (length list ≡ 80) × 
 abbrev μ-loop : tie.MeasureT-loop
 μ-loop candidates list₀ i₀ list i = 80 - i
 
--- src/halves.rt:236:5
 loop-holds : tie.Need-loop-holds Inv-loop μ-loop
 loop-holds c = (search needs, length-replicate {A = ℕ} 80 0, below-none _)
 
--- src/halves.rt:237:19
 cap-word-requires : tie.Need-cap-word-requires Inv-loop μ-loop
 cap-word-requires c κs = search needs
 
--- src/halves.rt:237:9
 mul-list : tie.Need-mul-list Inv-loop μ-loop
 mul-list c = search needs
 
--- src/halves.rt:237:9
 array-write-list : tie.Need-array-write-list Inv-loop μ-loop
 array-write-list c = search needs
 
--- src/halves.rt:238:9
 add-i : tie.Need-add-i Inv-loop μ-loop
 add-i c = search needs
 
--- src/halves.rt:236:5
 loop-less : tie.Need-loop-less Inv-loop μ-loop
 loop-less c = search needs
 
--- src/halves.rt:236:5
 loop-again : tie.Need-loop-again Inv-loop μ-loop
 loop-again c = (search needs, length-set {A = ℕ} (c .before .before .loop .list) (c .before .before .loop .i) (c .cap-word .result) ∙ c .before .before .loop .inv .1, turned-more _ (c .before .before .loop .list) (c .before .before .loop .i) (c .before .before .loop .inv .1) (c .before .before .loop .inv .2) (c .cap-word .result) (c .before .loop-test .taken) (c .cap-word .ensures))
 
--- src/halves.rt:231:1
 returns : tie.Need-returns Inv-loop μ-loop
 returns c = turned-all _ _ _ (c .before .loop .inv .1) (c .before .loop .inv .2) (c .loop-test .left)
 

@@ -6,62 +6,50 @@ use Rattle.cases.proofs.halves.point.Tie as tie
 use Rattle.cases.proofs.halves.point.Reads as reads
 use Rattle.cases.proofs.halves.point.Lts as lts
 
--- src/halves.rt:192:1
 returns : tie.Need-returns
 unfolding pointAt
 returns c = ap pointAt (sym (c .match .keys1))
 
--- src/halves.rt:192:1
 returns-2 : tie.Need-returns-2
 unfolding pointAt
 returns-2 c = ap pointAt (sym (c .match .keys2))
 
--- src/halves.rt:192:1
 returns-3 : tie.Need-returns-3
 unfolding pointAt
 returns-3 c = ap pointAt (sym (c .match .keys3))
 
--- src/halves.rt:192:1
 returns-4 : tie.Need-returns-4
 unfolding pointAt
 returns-4 c = ap pointAt (sym (c .match .keys4))
 
--- src/halves.rt:192:1
 returns-5 : tie.Need-returns-5
 unfolding pointAt
 returns-5 c = ap pointAt (sym (c .match .keys5))
 
--- src/halves.rt:192:1
 returns-6 : tie.Need-returns-6
 unfolding pointAt
 returns-6 c = ap pointAt (sym (c .match .keys6))
 
--- src/halves.rt:192:1
 returns-7 : tie.Need-returns-7
 unfolding pointAt
 returns-7 c = ap pointAt (sym (c .match .keys7))
 
--- src/halves.rt:192:1
 returns-8 : tie.Need-returns-8
 unfolding pointAt
 returns-8 c = ap pointAt (sym (c .match .keys8))
 
--- src/halves.rt:192:1
 returns-9 : tie.Need-returns-9
 unfolding pointAt
 returns-9 c = ap pointAt (sym (c .match .keys9))
 
--- src/halves.rt:192:1
 returns-10 : tie.Need-returns-10
 unfolding pointAt
 returns-10 c = ap pointAt (sym (c .match .keys10))
 
--- src/halves.rt:192:1
 returns-11 : tie.Need-returns-11
 unfolding pointAt
 returns-11 c = ap pointAt (sym (c .match .keys11))
 
--- src/halves.rt:192:1
 returns-12 : tie.Need-returns-12
 returns-12 c = last-point _ (c .match .rest .0 .0 .0 .0 .0 .0 .0 .0 .0 .0 .1) (c .match .rest .0 .0 .0 .0 .0 .0 .0 .0 .0 .1) (c .match .rest .0 .0 .0 .0 .0 .0 .0 .0 .1) (c .match .rest .0 .0 .0 .0 .0 .0 .0 .1) (c .match .rest .0 .0 .0 .0 .0 .0 .1) (c .match .rest .0 .0 .0 .0 .0 .1) (c .match .rest .0 .0 .0 .0 .1) (c .match .rest .0 .0 .0 .1) (c .match .rest .0 .0 .1) (c .match .rest .0 .1) (c .match .rest .1)
 

@@ -19,47 +19,36 @@ Inv-loop candidates at n i₀ i = (i ≤ n) × (every (free candidates at) (upTo
 abbrev μ-loop : tie.MeasureT-loop
 μ-loop candidates at n i₀ i = n - i
 
--- src/listed.rt:29:5
 loop-holds : tie.Need-loop-holds Inv-loop μ-loop
 loop-holds c = (search needs, refl)
 
--- src/listed.rt:30:32
 mul-is-free : tie.Need-mul-is-free Inv-loop μ-loop
 mul-is-free c = search needs
 
--- src/listed.rt:30:32
 add-is-free : tie.Need-add-is-free Inv-loop μ-loop
 add-is-free c = search needs
 
--- src/listed.rt:30:21
 mul-is-free-2 : tie.Need-mul-is-free-2 Inv-loop μ-loop
 mul-is-free-2 c = search needs
 
--- src/listed.rt:30:21
 shared-slice-read-is-free : tie.Need-shared-slice-read-is-free Inv-loop μ-loop
 shared-slice-read-is-free c = search needs
 
--- src/listed.rt:30:13
 is-free-requires : tie.Need-is-free-requires Inv-loop μ-loop
 is-free-requires c κs = search needs
 
--- src/listed.rt:31:13
 returns : tie.Need-returns Inv-loop μ-loop
 returns c = sym (row-stop _ _ _ (c .before .before .before .before .loop .inv .1) (c .before .before .before .loop-test .taken) (sym (c .before .is-free .ensures) ∙ not-true _ (c .if1 .taken)))
 
--- src/listed.rt:33:9
 add-i : tie.Need-add-i Inv-loop μ-loop
 add-i c = search needs
 
--- src/listed.rt:29:5
 loop-less : tie.Need-loop-less Inv-loop μ-loop
 loop-less c = search needs
 
--- src/listed.rt:29:5
 loop-again : tie.Need-loop-again Inv-loop μ-loop
 loop-again c = (search needs, row-more _ _ _ (c .before .before .before .before .loop .inv .1) (c .before .before .before .loop-test .taken) (sym (c .before .is-free .ensures) ∙ not-false _ (c .if1 .left)))
 
--- src/listed.rt:24:1
 returns-2 : tie.Need-returns-2 Inv-loop μ-loop
 returns-2 c = sym (row-end _ _ _ (c .before .loop .inv .1) (c .loop-test .left))
 

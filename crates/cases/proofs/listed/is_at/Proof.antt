@@ -8,59 +8,45 @@ use Rattle.cases.proofs.listed.is_at.Tie as tie
 use Rattle.cases.proofs.listed.is_at.Reads as reads
 use Rattle.cases.proofs.listed.is_at.Lts as lts
 
--- src/listed.rt:38:19
 mul-if1 : tie.Need-mul-if1
 mul-if1 c = search needs
 
--- src/listed.rt:38:8
 mul-if1-2 : tie.Need-mul-if1-2
 mul-if1-2 c = search needs
 
--- src/listed.rt:38:8
 shared-slice-read-if1 : tie.Need-shared-slice-read-if1
 shared-slice-read-if1 c = search needs
 
--- src/listed.rt:39:9
 returns : tie.Need-returns
 returns c = sym (and-stop _ _ (ne-eqb _ _ (c .if1 .taken)))
 
--- src/listed.rt:41:19
 mul-if2 : tie.Need-mul-if2
 mul-if2 c = search needs
 
--- src/listed.rt:41:19
 add-if2 : tie.Need-add-if2
 add-if2 c = search needs
 
--- src/listed.rt:41:8
 mul-if2-2 : tie.Need-mul-if2-2
 mul-if2-2 c = search needs
 
--- src/listed.rt:41:8
 shared-slice-read-if2 : tie.Need-shared-slice-read-if2
 shared-slice-read-if2 c = search needs
 
--- src/listed.rt:42:9
 returns-2 : tie.Need-returns-2
 returns-2 c = sym (and-next _ _ _ (eq-eqb _ _ (c .before .before .if1 .left)) (and-stop _ _ (ne-eqb _ _ (c .if2 .taken))))
 
--- src/listed.rt:44:16
 mul-result : tie.Need-mul-result
 mul-result c = search needs
 
--- src/listed.rt:44:16
 add-result : tie.Need-add-result
 add-result c = search needs
 
--- src/listed.rt:44:5
 mul-result-2 : tie.Need-mul-result-2
 mul-result-2 c = search needs
 
--- src/listed.rt:44:5
 shared-slice-read-result : tie.Need-shared-slice-read-result
 shared-slice-read-result c = search needs
 
--- src/listed.rt:34:1
 returns-3 : tie.Need-returns-3
 returns-3 c = sym (and-next _ _ _ (eq-eqb _ _ (c .before .before .before .if1 .left)) (and-next _ _ _ (eq-eqb _ _ (c .before .if2 .left)) refl))
 

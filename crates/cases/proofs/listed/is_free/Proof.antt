@@ -7,15 +7,12 @@ use Rattle.cases.proofs.listed.is_free.Tie as tie
 use Rattle.cases.proofs.listed.is_free.Reads as reads
 use Rattle.cases.proofs.listed.is_free.Lts as lts
 
--- src/listed.rt:15:9
 returns : tie.Need-returns
 returns c = sym (or-stop _ _ (eq-eqb _ _ (c .if1 .taken)))
 
--- src/listed.rt:18:9
 returns-2 : tie.Need-returns-2
 returns-2 c = sym (or-next _ _ _ (ne-eqb _ _ (c .before .if1 .left)) (and-stop _ _ (ap not (eq-eqb _ _ (c .if2 .taken)))))
 
--- src/listed.rt:11:1
 returns-3 : tie.Need-returns-3
 returns-3 c = sym (or-next _ _ _ (ne-eqb _ _ (c .before .if1 .left)) (and-next _ _ _ (ap not (ne-eqb _ _ (c .if2 .left))) refl))
 

@@ -19,31 +19,24 @@ Inv-loop candidates x y z n i₀ i = (i ≤ n) × ((k : ℕ) → k < i → stand
 abbrev μ-loop : tie.MeasureT-loop
 μ-loop candidates x y z n i₀ i = n - i
 
--- src/listed.rt:53:5
 loop-holds : tie.Need-loop-holds Inv-loop μ-loop
 loop-holds c = (search needs, first-none _)
 
--- src/listed.rt:54:12
 is-at-requires : tie.Need-is-at-requires Inv-loop μ-loop
 is-at-requires c κs = omega arith
 
--- src/listed.rt:55:13
 returns : tie.Need-returns Inv-loop μ-loop
 returns c = record { within = search needs; before = c .before .before .before .loop .inv .1; there = λ _. sym (c .before .is-at .ensures) ∙ c .if1 .taken }
 
--- src/listed.rt:57:9
 add-i : tie.Need-add-i Inv-loop μ-loop
 add-i c = search needs
 
--- src/listed.rt:53:5
 loop-less : tie.Need-loop-less Inv-loop μ-loop
 loop-less c = search needs
 
--- src/listed.rt:53:5
 loop-again : tie.Need-loop-again Inv-loop μ-loop
 loop-again c = (search needs, first-more _ _ (c .before .before .before .loop .inv .1) (sym (c .before .is-at .ensures) ∙ c .if1 .left))
 
--- src/listed.rt:48:1
 returns-2 : tie.Need-returns-2 Inv-loop μ-loop
 returns-2 c = record { within = search needs; before = first-all _ _ _ (c .before .loop .inv .1) (c .loop-test .left); there = λ h. absurd (omega arith) }
 

@@ -10,53 +10,41 @@ use Rattle.refusals.proofs.boxes.box_in_range.Reads as reads
 use Rattle.refusals.proofs.boxes.box_in_range.Lts as lts
 use Rattle.refusals.proofs.boxes.pair_in_range.Reads as pair-in-range-reads
 
--- src/boxes.rt:19:23
 element-copy-out-pair-in-range : tie.Need-element-copy-out-pair-in-range
 element-copy-out-pair-in-range c = search needs
 
--- src/boxes.rt:19:46
 element-copy-out-pair-in-range-2 : tie.Need-element-copy-out-pair-in-range-2
 element-copy-out-pair-in-range-2 c = search needs
 
--- src/boxes.rt:19:9
 pair-in-range-requires : tie.Need-pair-in-range-requires
 pair-in-range-requires c κs = search needs
 
--- src/boxes.rt:20:9
 returns : tie.Need-returns
 unfolding boxInRange every
 returns c = sym (and-stop _ _ (sym (c .before .pair-in-range .ensures) ∙ not-true _ (c .if1 .taken)))
 
--- src/boxes.rt:22:23
 element-copy-out-pair-in-range-3 : tie.Need-element-copy-out-pair-in-range-3
 element-copy-out-pair-in-range-3 c = search needs
 
--- src/boxes.rt:22:46
 element-copy-out-pair-in-range-4 : tie.Need-element-copy-out-pair-in-range-4
 element-copy-out-pair-in-range-4 c = search needs
 
--- src/boxes.rt:22:9
 pair-in-range-requires-2 : tie.Need-pair-in-range-requires-2
 pair-in-range-requires-2 c κs = search needs
 
--- src/boxes.rt:23:9
 returns-2 : tie.Need-returns-2
 unfolding boxInRange every
 returns-2 c = sym (and-next _ _ _ (sym (c .before .before .before .before .before .pair-in-range .ensures) ∙ not-false _ (c .before .before .before .before .if1 .left)) (and-stop _ _ (sym (c .before .pair-in-range2 .ensures) ∙ not-true _ (c .if2 .taken))))
 
--- src/boxes.rt:25:19
 element-copy-out-pair-in-range-5 : tie.Need-element-copy-out-pair-in-range-5
 element-copy-out-pair-in-range-5 c = search needs
 
--- src/boxes.rt:25:42
 element-copy-out-pair-in-range-6 : tie.Need-element-copy-out-pair-in-range-6
 element-copy-out-pair-in-range-6 c = search needs
 
--- src/boxes.rt:25:5
 pair-in-range-requires-3 : tie.Need-pair-in-range-requires-3
 pair-in-range-requires-3 c κs = search needs
 
--- src/boxes.rt:16:1
 returns-3 : tie.Need-returns-3
 unfolding boxInRange every
 returns-3 c = sym (and-next _ _ _ (sym (c .before .before .before .before .before .before .before .before .pair-in-range .ensures) ∙ not-false _ (c .before .before .before .before .before .before .before .if1 .left)) (and-next _ _ _ (sym (c .before .before .before .before .pair-in-range2 .ensures) ∙ not-false _ (c .before .before .before .if2 .left)) (and-last _ ∙ sym (c .pair-in-range3 .ensures))))

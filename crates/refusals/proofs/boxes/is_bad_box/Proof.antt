@@ -9,53 +9,41 @@ use Rattle.refusals.proofs.boxes.is_bad_box.Reads as reads
 use Rattle.refusals.proofs.boxes.is_bad_box.Lts as lts
 use Rattle.refusals.proofs.boxes.is_closed.Reads as is-closed-reads
 
--- src/boxes.rt:38:18
 element-copy-out-is-closed : tie.Need-element-copy-out-is-closed
 element-copy-out-is-closed c = search needs
 
--- src/boxes.rt:38:41
 element-copy-out-is-closed-2 : tie.Need-element-copy-out-is-closed-2
 element-copy-out-is-closed-2 c = search needs
 
--- src/boxes.rt:38:8
 is-closed-requires : tie.Need-is-closed-requires
 is-closed-requires c κs = search needs
 
--- src/boxes.rt:39:9
 returns : tie.Need-returns
 unfolding badBox some
 returns c = sym (or-stop _ _ (sym (c .before .is-closed .ensures) ∙ c .if1 .taken))
 
--- src/boxes.rt:41:18
 element-copy-out-is-closed-3 : tie.Need-element-copy-out-is-closed-3
 element-copy-out-is-closed-3 c = search needs
 
--- src/boxes.rt:41:41
 element-copy-out-is-closed-4 : tie.Need-element-copy-out-is-closed-4
 element-copy-out-is-closed-4 c = search needs
 
--- src/boxes.rt:41:8
 is-closed-requires-2 : tie.Need-is-closed-requires-2
 is-closed-requires-2 c κs = search needs
 
--- src/boxes.rt:42:9
 returns-2 : tie.Need-returns-2
 unfolding badBox some
 returns-2 c = sym (or-next _ _ _ (sym (c .before .before .before .before .before .is-closed .ensures) ∙ c .before .before .before .before .if1 .left) (or-stop _ _ (sym (c .before .is-closed2 .ensures) ∙ c .if2 .taken)))
 
--- src/boxes.rt:44:15
 element-copy-out-is-closed-5 : tie.Need-element-copy-out-is-closed-5
 element-copy-out-is-closed-5 c = search needs
 
--- src/boxes.rt:44:38
 element-copy-out-is-closed-6 : tie.Need-element-copy-out-is-closed-6
 element-copy-out-is-closed-6 c = search needs
 
--- src/boxes.rt:44:5
 is-closed-requires-3 : tie.Need-is-closed-requires-3
 is-closed-requires-3 c κs = search needs
 
--- src/boxes.rt:35:1
 returns-3 : tie.Need-returns-3
 unfolding badBox some
 returns-3 c = sym (or-next _ _ _ (sym (c .before .before .before .before .before .before .before .before .is-closed .ensures) ∙ c .before .before .before .before .before .before .before .if1 .left) (or-next _ _ _ (sym (c .before .before .before .before .is-closed2 .ensures) ∙ c .before .before .before .if2 .left) (or-last _ ∙ sym (c .is-closed3 .ensures))))

@@ -7,19 +7,15 @@ use Rattle.refusals.proofs.boxes.pair_in_range.Reads as reads
 use Rattle.refusals.proofs.boxes.pair_in_range.Lts as lts
 use Rattle.refusals.proofs.front.in_range.Reads as in-range-reads
 
--- src/boxes.rt:12:8
 in-range-requires : tie.Need-in-range-requires
 in-range-requires c κs = search needs
 
--- src/boxes.rt:12:24
 in-range-requires-2 : tie.Need-in-range-requires-2
 in-range-requires-2 c κs = search needs
 
--- src/boxes.rt:9:1
 returns : tie.Need-returns
 returns c = c .in-range2 .ensures ∙ sym (and-next _ _ _ (sym (c .before .before .in-range .ensures) ∙ c .before .if1 .taken) refl)
 
--- src/boxes.rt:9:1
 returns-2 : tie.Need-returns-2
 returns-2 c = sym (and-stop _ _ (sym (c .before .in-range .ensures) ∙ c .if1 .left))
 

@@ -18,39 +18,30 @@ Inv-loop vertices i₀ i = (i ≤ length vertices) × (every inRange vertices �
 abbrev μ-loop : tie.MeasureT-loop
 μ-loop vertices i₀ i = length vertices - i
 
--- src/front.rt:55:5
 loop-holds : tie.Need-loop-holds Inv-loop μ-loop
 loop-holds c = (search needs, refl)
 
--- src/front.rt:56:22
 mul-in-range : tie.Need-mul-in-range Inv-loop μ-loop
 mul-in-range c = search needs
 
--- src/front.rt:56:22
 shared-slice-read-in-range : tie.Need-shared-slice-read-in-range Inv-loop μ-loop
 shared-slice-read-in-range c = search needs
 
--- src/front.rt:56:13
 in-range-requires : tie.Need-in-range-requires Inv-loop μ-loop
 in-range-requires c κs = search needs
 
--- src/front.rt:57:13
 returns : tie.Need-returns Inv-loop μ-loop
 returns c = sym (every-stop _ _ _ (c .before .before .before .before .loop .inv .1) _ (c .before .before .before .loop-test .taken) (sym (c .before .in-range .ensures) ∙ not-true _ (c .if1 .taken)))
 
--- src/front.rt:59:9
 add-i : tie.Need-add-i Inv-loop μ-loop
 add-i c = search needs
 
--- src/front.rt:55:5
 loop-less : tie.Need-loop-less Inv-loop μ-loop
 loop-less c = search needs
 
--- src/front.rt:55:5
 loop-again : tie.Need-loop-again Inv-loop μ-loop
 loop-again c = (search needs, every-more _ _ _ (c .before .before .before .before .loop .inv .1) _ (c .before .before .before .loop-test .taken) (sym (c .before .in-range .ensures) ∙ not-false _ (c .if1 .left)))
 
--- src/front.rt:51:1
 returns-2 : tie.Need-returns-2 Inv-loop μ-loop
 returns-2 c = sym (every-end _ _ _ (c .before .loop .inv .1) (c .loop-test .left))
 

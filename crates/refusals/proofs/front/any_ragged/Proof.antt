@@ -7,27 +7,21 @@ use Rattle.refusals.proofs.front.any_ragged.Reads as reads
 use Rattle.refusals.proofs.front.any_ragged.Lts as lts
 use Rattle.refusals.proofs.front.is_ragged.Reads as is-ragged-reads
 
--- src/front.rt:46:8
 is-ragged-requires : tie.Need-is-ragged-requires
 is-ragged-requires c κs = search needs
 
--- src/front.rt:47:9
 returns : tie.Need-returns
 returns c = sym (or-stop _ _ (sym (c .before .is-ragged .ensures) ∙ c .if1 .taken))
 
--- src/front.rt:49:8
 is-ragged-requires-2 : tie.Need-is-ragged-requires-2
 is-ragged-requires-2 c κs = search needs
 
--- src/front.rt:50:9
 returns-2 : tie.Need-returns-2
 returns-2 c = sym (or-next _ _ _ (sym (c .before .before .before .is-ragged .ensures) ∙ c .before .before .if1 .left) (or-stop _ _ (sym (c .before .is-ragged2 .ensures) ∙ c .if2 .taken)))
 
--- src/front.rt:52:5
 is-ragged-requires-3 : tie.Need-is-ragged-requires-3
 is-ragged-requires-3 c κs = search needs
 
--- src/front.rt:43:1
 returns-3 : tie.Need-returns-3
 returns-3 c = sym (or-next _ _ _ (sym (c .before .before .before .before .is-ragged .ensures) ∙ c .before .before .before .if1 .left) (or-next _ _ _ (sym (c .before .before .is-ragged2 .ensures) ∙ c .before .if2 .left) (sym (c .is-ragged3 .ensures))))
 

@@ -7,27 +7,21 @@ use Rattle.refusals.proofs.front.any_too_many.Reads as reads
 use Rattle.refusals.proofs.front.any_too_many.Lts as lts
 use Rattle.refusals.proofs.front.is_too_many.Reads as is-too-many-reads
 
--- src/front.rt:59:8
 is-too-many-requires : tie.Need-is-too-many-requires
 is-too-many-requires c κs = search needs
 
--- src/front.rt:60:9
 returns : tie.Need-returns
 returns c = sym (or-stop _ _ (sym (c .before .is-too-many .ensures) ∙ c .if1 .taken))
 
--- src/front.rt:62:8
 is-too-many-requires-2 : tie.Need-is-too-many-requires-2
 is-too-many-requires-2 c κs = search needs
 
--- src/front.rt:63:9
 returns-2 : tie.Need-returns-2
 returns-2 c = sym (or-next _ _ _ (sym (c .before .before .before .is-too-many .ensures) ∙ c .before .before .if1 .left) (or-stop _ _ (sym (c .before .is-too-many2 .ensures) ∙ c .if2 .taken)))
 
--- src/front.rt:65:5
 is-too-many-requires-3 : tie.Need-is-too-many-requires-3
 is-too-many-requires-3 c κs = search needs
 
--- src/front.rt:56:1
 returns-3 : tie.Need-returns-3
 returns-3 c = sym (or-next _ _ _ (sym (c .before .before .before .before .is-too-many .ensures) ∙ c .before .before .before .if1 .left) (or-next _ _ _ (sym (c .before .before .is-too-many2 .ensures) ∙ c .before .if2 .left) (sym (c .is-too-many3 .ensures))))
 

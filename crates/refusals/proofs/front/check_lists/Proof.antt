@@ -9,31 +9,24 @@ use Rattle.refusals.proofs.front.any_ragged.Reads as any-ragged-reads
 use Rattle.refusals.proofs.front.any_too_many.Reads as any-too-many-reads
 use Rattle.refusals.proofs.front.has_bad_index.Reads as has-bad-index-reads
 
--- src/front.rt:72:8
 any-ragged-requires : tie.Need-any-ragged-requires
 any-ragged-requires c κs = search needs
 
--- src/front.rt:73:9
 returns : tie.Need-returns
 returns c = sym (holds _ _ _ (sym (c .before .any-ragged .ensures) ∙ c .if1 .taken))
 
--- src/front.rt:75:8
 any-too-many-requires : tie.Need-any-too-many-requires
 any-too-many-requires c κs = search needs
 
--- src/front.rt:76:9
 returns-2 : tie.Need-returns-2
 returns-2 c = sym (passes _ _ _ (sym (c .before .before .before .any-ragged .ensures) ∙ c .before .before .if1 .left) ∙ holds _ _ _ (sym (c .before .any-too-many .ensures) ∙ c .if2 .taken))
 
--- src/front.rt:78:8
 has-bad-index-requires : tie.Need-has-bad-index-requires
 has-bad-index-requires c κs = search needs
 
--- src/front.rt:79:9
 returns-3 : tie.Need-returns-3
 returns-3 c = sym (passes _ _ _ (sym (c .before .before .before .before .before .any-ragged .ensures) ∙ c .before .before .before .before .if1 .left) ∙ passes _ _ _ (sym (c .before .before .before .any-too-many .ensures) ∙ c .before .before .if2 .left) ∙ holds _ _ _ (sym (c .before .has-bad-index .ensures) ∙ c .if3 .taken))
 
--- src/front.rt:69:1
 returns-4 : tie.Need-returns-4
 returns-4 c = sym (passes _ _ _ (sym (c .before .before .before .before .before .any-ragged .ensures) ∙ c .before .before .before .before .if1 .left) ∙ passes _ _ _ (sym (c .before .before .before .any-too-many .ensures) ∙ c .before .before .if2 .left) ∙ passes _ _ _ (sym (c .before .has-bad-index .ensures) ∙ c .if3 .left) ∙ none-left)
 

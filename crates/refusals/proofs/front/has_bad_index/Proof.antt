@@ -20,40 +20,31 @@ Inv-loop facets count i₀ i = (i ≤ length facets) × (some (λ k. not (ltb k 
 abbrev μ-loop : tie.MeasureT-loop
 μ-loop facets count i₀ i = length facets - i
 
--- src/front.rt:30:5
 loop-holds : tie.Need-loop-holds Inv-loop μ-loop
 loop-holds c = (search needs, refl)
 
--- src/front.rt:31:12
 mul-if1 : tie.Need-mul-if1 Inv-loop μ-loop
 mul-if1 c = search needs
 
--- src/front.rt:31:12
 shared-slice-read-if1 : tie.Need-shared-slice-read-if1 Inv-loop μ-loop
 shared-slice-read-if1 c = search needs
 
--- src/front.rt:31:12
 cast-if1 : tie.Need-cast-if1 Inv-loop μ-loop
 cast-if1 c = omega (arith, c .shared-slice-known .given (c .before .before .loop .i))
 
--- src/front.rt:32:13
 returns : tie.Need-returns Inv-loop μ-loop
 unfolding badIndex
 returns c = sym (some-stop _ _ _ (c .before .before .before .loop .inv .1) 0 (c .before .before .loop-test .taken) (ap not (le-ltb _ _ (c .if1 .taken))))
 
--- src/front.rt:34:9
 add-i : tie.Need-add-i Inv-loop μ-loop
 add-i c = search needs
 
--- src/front.rt:30:5
 loop-less : tie.Need-loop-less Inv-loop μ-loop
 loop-less c = search needs
 
--- src/front.rt:30:5
 loop-again : tie.Need-loop-again Inv-loop μ-loop
 loop-again c = (search needs, some-more _ _ _ (c .before .before .before .loop .inv .1) 0 (c .before .before .loop-test .taken) (ap not (lt-ltb _ _ (c .if1 .left))))
 
--- src/front.rt:26:1
 returns-2 : tie.Need-returns-2 Inv-loop μ-loop
 unfolding badIndex
 returns-2 c = sym (some-end _ _ _ (c .before .loop .inv .1) (c .loop-test .left))

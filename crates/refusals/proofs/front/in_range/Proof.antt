@@ -6,12 +6,10 @@ use Rattle.refusals.proofs.front.in_range.Tie as tie
 use Rattle.refusals.proofs.front.in_range.Reads as reads
 use Rattle.refusals.proofs.front.in_range.Lts as lts
 
--- src/front.rt:40:1
 returns : tie.Need-returns
 unfolding inRange
 returns c = sym (and-next _ _ _ (c .if1 .taken) refl)
 
--- src/front.rt:40:1
 returns-2 : tie.Need-returns-2
 unfolding inRange
 returns-2 c = sym (and-stop _ _ (c .if1 .left))

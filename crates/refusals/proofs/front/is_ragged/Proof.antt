@@ -6,11 +6,9 @@ use Rattle.refusals.proofs.front.is_ragged.Tie as tie
 use Rattle.refusals.proofs.front.is_ragged.Reads as reads
 use Rattle.refusals.proofs.front.is_ragged.Lts as lts
 
--- src/front.rt:14:5
 rem-result : tie.Need-rem-result
 rem-result c = search needs
 
--- src/front.rt:10:1
 returns : tie.Need-returns
 unfolding ragged
 returns c = refl

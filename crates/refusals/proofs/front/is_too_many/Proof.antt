@@ -6,11 +6,9 @@ use Rattle.refusals.proofs.front.is_too_many.Tie as tie
 use Rattle.refusals.proofs.front.is_too_many.Reads as reads
 use Rattle.refusals.proofs.front.is_too_many.Lts as lts
 
--- src/front.rt:22:15
 div-result : tie.Need-div-result
 div-result c = search needs
 
--- src/front.rt:18:1
 returns : tie.Need-returns
 unfolding tooMany
 returns c = refl

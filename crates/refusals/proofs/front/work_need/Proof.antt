@@ -6,27 +6,21 @@ use Rattle.refusals.proofs.front.work_need.Tie as tie
 use Rattle.refusals.proofs.front.work_need.Reads as reads
 use Rattle.refusals.proofs.front.work_need.Lts as lts
 
--- src/front.rt:87:12
 add-result : tie.Need-add-result
 add-result c = search needs
 
--- src/front.rt:87:12
 add-result-2 : tie.Need-add-result-2
 add-result-2 c = search needs
 
--- src/front.rt:87:12
 add-result-3 : tie.Need-add-result-3
 add-result-3 c = search needs
 
--- src/front.rt:87:5
 mul-result : tie.Need-mul-result
 mul-result c = search needs
 
--- src/front.rt:87:5
 add-result-4 : tie.Need-add-result-4
 add-result-4 c = search needs
 
--- src/front.rt:83:1
 returns : tie.Need-returns
 unfolding workNeed
 returns c = refl

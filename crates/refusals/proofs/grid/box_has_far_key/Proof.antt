@@ -7,27 +7,21 @@ use Rattle.refusals.proofs.grid.box_has_far_key.Reads as reads
 use Rattle.refusals.proofs.grid.box_has_far_key.Lts as lts
 use Rattle.refusals.proofs.grid.has_far_key.Reads as has-far-key-reads
 
--- src/grid.rt:73:20
 slice-aggregate-has-far-key : tie.Need-slice-aggregate-has-far-key
 slice-aggregate-has-far-key c = search needs
 
--- src/grid.rt:73:8
 has-far-key-requires : tie.Need-has-far-key-requires
 has-far-key-requires c κs = search needs
 
--- src/grid.rt:74:9
 returns : tie.Need-returns
 returns c = sym (or-stop _ _ (sym (c .before .has-far-key .ensures) ∙ c .if1 .taken))
 
--- src/grid.rt:76:17
 slice-aggregate-has-far-key-2 : tie.Need-slice-aggregate-has-far-key-2
 slice-aggregate-has-far-key-2 c = search needs
 
--- src/grid.rt:76:5
 has-far-key-requires-2 : tie.Need-has-far-key-requires-2
 has-far-key-requires-2 c κs = search needs
 
--- src/grid.rt:68:1
 returns-2 : tie.Need-returns-2
 returns-2 c = c .has-far-key2 .ensures ∙ sym (or-next _ _ _ (sym (c .before .before .before .has-far-key .ensures) ∙ c .before .before .if1 .left) refl)
 

@@ -8,55 +8,42 @@ use Rattle.refusals.proofs.grid.grid_size.Reads as reads
 use Rattle.refusals.proofs.grid.grid_size.Lts as lts
 use Rattle.refusals.proofs.grid.segments_of.Reads as segments-of-reads
 
--- src/grid.rt:41:13
 segments-of-requires : tie.Need-segments-of-requires
 segments-of-requires c κs = search needs
 
--- src/grid.rt:41:13
 add-x : tie.Need-add-x
 add-x c = search needs
 
--- src/grid.rt:42:13
 segments-of-requires-2 : tie.Need-segments-of-requires-2
 segments-of-requires-2 c κs = search needs
 
--- src/grid.rt:42:13
 add-y : tie.Need-add-y
 add-y c = search needs
 
--- src/grid.rt:43:13
 segments-of-requires-3 : tie.Need-segments-of-requires-3
 segments-of-requires-3 c κs = search needs
 
--- src/grid.rt:43:13
 add-z : tie.Need-add-z
 add-z c = search needs
 
--- src/grid.rt:44:10
 mul-result : tie.Need-mul-result
 mul-result c = omega (arith, small-product (c .before .before .segments-of .result + 1) (c .before .segments-of2 .result + 1) (omega arith) (omega arith))
 
--- src/grid.rt:44:18
 mul-result-2 : tie.Need-mul-result-2
 mul-result-2 c = omega (arith, small-product (c .before .before .segments-of .result + 1) (c .segments-of3 .result + 1) (omega arith) (omega arith))
 
--- src/grid.rt:44:10
 add-result : tie.Need-add-result
 add-result c = omega (arith, small-product (c .before .before .segments-of .result + 1) (c .before .segments-of2 .result + 1) (omega arith) (omega arith), small-product (c .before .before .segments-of .result + 1) (c .segments-of3 .result + 1) (omega arith) (omega arith))
 
--- src/grid.rt:44:26
 mul-result-3 : tie.Need-mul-result-3
 mul-result-3 c = omega (arith, small-product (c .before .segments-of2 .result + 1) (c .segments-of3 .result + 1) (omega arith) (omega arith))
 
--- src/grid.rt:44:10
 add-result-2 : tie.Need-add-result-2
 add-result-2 c = omega (arith, small-product (c .before .before .segments-of .result + 1) (c .before .segments-of2 .result + 1) (omega arith) (omega arith), small-product (c .before .before .segments-of .result + 1) (c .segments-of3 .result + 1) (omega arith) (omega arith), small-product (c .before .segments-of2 .result + 1) (c .segments-of3 .result + 1) (omega arith) (omega arith))
 
--- src/grid.rt:44:5
 mul-result-4 : tie.Need-mul-result-4
 mul-result-4 c = omega (arith, small-product (c .before .before .segments-of .result + 1) (c .before .segments-of2 .result + 1) (omega arith) (omega arith), small-product (c .before .before .segments-of .result + 1) (c .segments-of3 .result + 1) (omega arith) (omega arith), small-product (c .before .segments-of2 .result + 1) (c .segments-of3 .result + 1) (omega arith) (omega arith))
 
--- src/grid.rt:37:1
 returns : tie.Need-returns
 returns c = size-is _ _ _ _ _ _ (c .before .before .before .pre) (c .before .before .segments-of .ensures) (c .before .segments-of2 .ensures) (c .segments-of3 .ensures)
 

@@ -18,40 +18,31 @@ Inv-loop coordinates eps i₀ i = (i ≤ length coordinates) × (some (farKey ep
 abbrev μ-loop : tie.MeasureT-loop
 μ-loop coordinates eps i₀ i = length coordinates - i
 
--- src/grid.rt:58:5
 loop-holds : tie.Need-loop-holds Inv-loop μ-loop
 loop-holds c = (search needs, refl)
 
--- src/grid.rt:59:19
 mul-is-far : tie.Need-mul-is-far Inv-loop μ-loop
 mul-is-far c = search needs
 
--- src/grid.rt:59:19
 shared-slice-read-is-far : tie.Need-shared-slice-read-is-far Inv-loop μ-loop
 shared-slice-read-is-far c = search needs
 
--- src/grid.rt:59:12
 is-far-requires : tie.Need-is-far-requires Inv-loop μ-loop
 is-far-requires c κs = search needs
 
--- src/grid.rt:60:13
 returns : tie.Need-returns Inv-loop μ-loop
 unfolding farKeys
 returns c = sym (some-stop _ _ _ (c .before .before .before .before .loop .inv .1) _ (c .before .before .before .loop-test .taken) (sym (c .before .is-far .ensures) ∙ c .if1 .taken))
 
--- src/grid.rt:62:9
 add-i : tie.Need-add-i Inv-loop μ-loop
 add-i c = search needs
 
--- src/grid.rt:58:5
 loop-less : tie.Need-loop-less Inv-loop μ-loop
 loop-less c = search needs
 
--- src/grid.rt:58:5
 loop-again : tie.Need-loop-again Inv-loop μ-loop
 loop-again c = (search needs, some-more _ _ _ (c .before .before .before .before .loop .inv .1) _ (c .before .before .before .loop-test .taken) (sym (c .before .is-far .ensures) ∙ c .if1 .left))
 
--- src/grid.rt:54:1
 returns-2 : tie.Need-returns-2 Inv-loop μ-loop
 unfolding farKeys
 returns-2 c = sym (some-end _ _ _ (c .before .loop .inv .1) (c .loop-test .left))

@@ -10,15 +10,12 @@ use Rattle.refusals.proofs.grid.is_far.Lts as lts
 use Rattle.rounding.proofs.key_beyond.Reads as key-beyond-reads
 use Rattle.rounding.proofs.quantized_key.Reads as quantized-key-reads
 
--- src/grid.rt:50:16
 quantized-key-requires : tie.Need-quantized-key-requires
 quantized-key-requires c κs = search needs
 
--- src/grid.rt:50:5
 key-beyond-requires : tie.Need-key-beyond-requires
 key-beyond-requires c κs = search needs
 
--- src/grid.rt:47:1
 returns : tie.Need-returns
 unfolding farKey
 returns c = c .key-beyond .ensures ∙ ap beyond (toZ-ofZ w64 (c .before .quantized-key .result) (record { sfits = c .before .quantized-key .ok })) ∙ ap beyond (c .before .quantized-key .ensures)

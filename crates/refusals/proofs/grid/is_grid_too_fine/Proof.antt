@@ -11,29 +11,23 @@ use Rattle.refusals.proofs.grid.is_grid_too_fine.Reads as reads
 use Rattle.refusals.proofs.grid.is_grid_too_fine.Lts as lts
 use Rattle.refusals.proofs.grid.segments_of.Reads as segments-of-reads
 
--- src/grid.rt:27:14
 segments-of-requires : tie.Need-segments-of-requires
 segments-of-requires c κs = search needs
 
--- src/grid.rt:28:9
 returns : tie.Need-returns
 unfolding gridTooFine some
 returns c = sym (or-stop _ _ (sym (cut-over _ _ (c .before .segments-of .ensures)) ∙ lt-ltb _ _ (c .if1 .taken)))
 
--- src/grid.rt:30:14
 segments-of-requires-2 : tie.Need-segments-of-requires-2
 segments-of-requires-2 c κs = search needs
 
--- src/grid.rt:31:9
 returns-2 : tie.Need-returns-2
 unfolding gridTooFine some
 returns-2 c = sym (or-next _ _ _ (sym (cut-over _ _ (c .before .before .before .segments-of .ensures)) ∙ le-ltb _ _ (c .before .before .if1 .left)) (or-stop _ _ (sym (cut-over _ _ (c .before .segments-of2 .ensures)) ∙ lt-ltb _ _ (c .if2 .taken))))
 
--- src/grid.rt:33:11
 segments-of-requires-3 : tie.Need-segments-of-requires-3
 segments-of-requires-3 c κs = search needs
 
--- src/grid.rt:24:1
 returns-3 : tie.Need-returns-3
 unfolding gridTooFine some
 returns-3 c = cut-over _ _ (c .segments-of3 .ensures) ∙ sym (or-next _ _ _ (sym (cut-over _ _ (c .before .before .before .before .segments-of .ensures)) ∙ le-ltb _ _ (c .before .before .before .if1 .left)) (or-next _ _ _ (sym (cut-over _ _ (c .before .before .segments-of2 .ensures)) ∙ le-ltb _ _ (c .before .if2 .left)) (or-last _)))

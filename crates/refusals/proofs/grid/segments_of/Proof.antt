@@ -13,39 +13,30 @@ use Rattle.refusals.proofs.grid.segments_of.Lts as lts
 use Rattle.rounding.proofs.axis_segments.Reads as axis-segments-reads
 use Rattle.rounding.proofs.max.Reads as max-reads
 
--- src/grid.rt:19:18
 mul-length : tie.Need-mul-length
 mul-length c = search needs
 
--- src/grid.rt:19:18
 element-copy-out-length : tie.Need-element-copy-out-length
 element-copy-out-length c = search needs
 
--- src/grid.rt:19:45
 mul-length-2 : tie.Need-mul-length-2
 mul-length-2 c = search needs
 
--- src/grid.rt:19:45
 element-copy-out-length-2 : tie.Need-element-copy-out-length-2
 element-copy-out-length-2 c = search needs
 
--- src/grid.rt:20:31
 mul-max : tie.Need-mul-max
 mul-max c = search needs
 
--- src/grid.rt:20:31
 array-read-max : tie.Need-array-read-max
 array-read-max c = search needs
 
--- src/grid.rt:20:27
 max-requires : tie.Need-max-requires
 max-requires c κs = search needs
 
--- src/grid.rt:20:5
 axis-segments-requires : tie.Need-axis-segments-requires
 axis-segments-requires c κs = search needs
 
--- src/grid.rt:15:1
 returns : tie.Need-returns
 unfolding segments
 returns c = cc

@@ -7,27 +7,21 @@ use Rattle.refusals.proofs.report.report_mesh.Lts as lts
 use Rattle.refusals.proofs.report.report_done.Reads as report-done-reads
 use Rattle.refusals.proofs.report.report_refusal.Reads as report-refusal-reads
 
--- src/report.rt:47:25
 enum-known-reply : tie.Need-enum-known-reply
 enum-known-reply c = search needs
 
--- src/report.rt:48:13
 report-done-requires : tie.Need-report-done-requires
 report-done-requires c κs = search needs
 
--- src/report.rt:50:28
 enum-known-reply-2 : tie.Need-enum-known-reply-2
 enum-known-reply-2 c = search needs
 
--- src/report.rt:50:40
 report-refusal-requires : tie.Need-report-refusal-requires
 report-refusal-requires c κs = search needs
 
--- src/report.rt:43:1
 returns : tie.Need-returns
 returns c = mesh-done _ _ _ _ _ (c .before .before .before .reply .given .1) (c .report-done .ensures)
 
--- src/report.rt:43:1
 returns-2 : tie.Need-returns-2
 returns-2 c = mesh-refused _ _ _ _ (c .before .before .before .reply2 .given .1) (c .report-refusal .ensures)
 

@@ -10,27 +10,21 @@ use Rattle.replay.proofs.agreement.agrees.Lts as lts
 use Rattle.replay.proofs.agreement.tolerance_agrees.Reads as tolerance-agrees-reads
 use Rattle.replay.proofs.requests.lists_agree.Reads as lists-agree-reads
 
--- src/agreement.rt:38:9
 returns : tie.Need-returns
 returns c = refuted (λ a. short (now (c .before .before .args .stored)) (c .if1 .taken) a)
 
--- src/agreement.rt:40:8
 shared-slice-read-if2 : tie.Need-shared-slice-read-if2
 shared-slice-read-if2 c = search needs
 
--- src/agreement.rt:41:9
 tolerance-agrees-requires : tie.Need-tolerance-agrees-requires
 tolerance-agrees-requires c κs = search needs
 
--- src/agreement.rt:41:9
 returns-2 : tie.Need-returns-2
 returns-2 c = ends _ (c .tolerance-agrees .ensures) (λ t. tolerance (c .before .if2 .taken) t) (λ a. as-tolerance (now (c .before .before .before .before .before .args .stored)) (c .before .if2 .taken) a)
 
--- src/agreement.rt:43:5
 lists-agree-requires : tie.Need-lists-agree-requires
 lists-agree-requires c κs = search needs
 
--- src/agreement.rt:34:1
 returns-3 : tie.Need-returns-3
 returns-3 c = ends _ (c .lists-agree .ensures) (λ m. lists m) (λ a. as-lists (now (c .before .before .before .before .before .args .stored)) (c .before .if2 .left) a)
 

@@ -12,75 +12,57 @@ use Rattle.replay.proofs.contents.double.Reads as double-reads
 use Rattle.replay.proofs.layout.are_numbers.Reads as are-numbers-reads
 use Rattle.yongpham.proofs.yongpham_tolerance.Reads as yongpham-tolerance-reads
 
--- src/agreement.rt:15:9
 returns : tie.Need-returns
 returns c = refuted (λ a. c .if1 .taken (a .whole))
 
--- src/agreement.rt:17:9
 are-numbers-requires : tie.Need-are-numbers-requires
 are-numbers-requires c κs = search needs
 
--- src/agreement.rt:18:9
 returns-2 : tie.Need-returns-2
 returns-2 c = stops _ (c .before .are-numbers .ensures) (c .if2 .taken) (λ a. a .box)
 
--- src/agreement.rt:22:16
 shared-slice-read-double : tie.Need-shared-slice-read-double
 shared-slice-read-double c = search needs
 
--- src/agreement.rt:22:9
 double-requires : tie.Need-double-requires
 double-requires c κs = search needs
 
--- src/agreement.rt:23:16
 shared-slice-read-double-2 : tie.Need-shared-slice-read-double-2
 shared-slice-read-double-2 c = search needs
 
--- src/agreement.rt:23:9
 double-requires-2 : tie.Need-double-requires-2
 double-requires-2 c κs = search needs
 
--- src/agreement.rt:24:16
 shared-slice-read-double-3 : tie.Need-shared-slice-read-double-3
 shared-slice-read-double-3 c = search needs
 
--- src/agreement.rt:24:9
 double-requires-3 : tie.Need-double-requires-3
 double-requires-3 c κs = search needs
 
--- src/agreement.rt:25:16
 shared-slice-read-double-4 : tie.Need-shared-slice-read-double-4
 shared-slice-read-double-4 c = search needs
 
--- src/agreement.rt:25:9
 double-requires-4 : tie.Need-double-requires-4
 double-requires-4 c κs = search needs
 
--- src/agreement.rt:26:16
 shared-slice-read-double-5 : tie.Need-shared-slice-read-double-5
 shared-slice-read-double-5 c = search needs
 
--- src/agreement.rt:26:9
 double-requires-5 : tie.Need-double-requires-5
 double-requires-5 c κs = search needs
 
--- src/agreement.rt:27:16
 shared-slice-read-double-6 : tie.Need-shared-slice-read-double-6
 shared-slice-read-double-6 c = search needs
 
--- src/agreement.rt:27:9
 double-requires-6 : tie.Need-double-requires-6
 double-requires-6 c κs = search needs
 
--- src/agreement.rt:21:9
 yongpham-tolerance-requires : tie.Need-yongpham-tolerance-requires
 yongpham-tolerance-requires c κs = search needs
 
--- src/agreement.rt:30:5
 same-reply-requires : tie.Need-same-reply-requires
 same-reply-requires c κs = search needs
 
--- src/agreement.rt:11:1
 returns-3 : tie.Need-returns-3
 returns-3 c = tolerance-decides (now (c .before .before .before .before .before .before .before .before .before .before .before .before .before .before .before .before .before .before .before .before .args .stored)) _ _ _ _ (c .before .before .before .before .before .before .before .before .before .before .before .before .before .before .before .before .before .before .if1 .left) (passes (c .before .before .before .before .before .before .before .before .before .before .before .before .before .before .before .before .before .are-numbers .ensures) (c .before .before .before .before .before .before .before .before .before .before .before .before .before .before .before .before .if2 .left)) (same-box (now (c .before .before .before .before .before .before .before .before .before .before .before .before .before .before .before .before .before .before .before .before .args .stored)) (c .before .before .before .before .before .before .before .before .before .before .before .before .before .before .double .ensures) (c .before .before .before .before .before .before .before .before .before .before .before .before .double2 .ensures) (c .before .before .before .before .before .before .before .before .before .before .double3 .ensures) (c .before .before .before .before .before .before .before .before .double4 .ensures) (c .before .before .before .before .before .before .double5 .ensures) (c .before .before .before .before .double6 .ensures)) (c .before .before .yongpham-tolerance .ensures) (c .same-reply .ensures)
 

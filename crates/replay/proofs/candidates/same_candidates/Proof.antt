@@ -8,27 +8,21 @@ use Rattle.replay.proofs.candidates.same_outputs.Reads as same-outputs-
 use Rattle.replay.proofs.compare.is_zero.Reads as is-zero-reads
 use Rattle.replay.proofs.compare.same_reply.Reads as same-reply-reads
 
--- src/candidates.rt:59:9
 same-reply-requires : tie.Need-same-reply-requires
 same-reply-requires c κs = search needs
 
--- src/candidates.rt:60:9
 returns : tie.Need-returns
 returns c = stops _ (c .before .same-reply .ensures) (c .if1 .taken) (λ a. a .replied)
 
--- src/candidates.rt:62:9
 is-zero-requires : tie.Need-is-zero-requires
 is-zero-requires c κs = search needs
 
--- src/candidates.rt:63:9
 returns-2 : tie.Need-returns-2
 returns-2 c = stops _ (c .before .is-zero .ensures) (c .if2 .taken) (λ a. a .cleared)
 
--- src/candidates.rt:65:5
 same-outputs-requires : tie.Need-same-outputs-requires
 same-outputs-requires c κs = search needs
 
--- src/candidates.rt:45:1
 returns-3 : tie.Need-returns-3
 returns-3 c = ends _ (c .same-outputs .ensures) (λ z. record { replied = passes (c .before .before .before .before .same-reply .ensures) (c .before .before .before .if1 .left); cleared = passes (c .before .before .is-zero .ensures) (c .before .if2 .left); outputs = z }) (λ a. a .outputs)
 

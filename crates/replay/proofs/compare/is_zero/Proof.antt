@@ -15,35 +15,27 @@ Inv-loop room i₀ i = Passed (λ k. getD room k 0 ≡ 0) (length room) i
 abbrev μ-loop : tie.MeasureT-loop
 μ-loop room i₀ i = length room - i
 
--- src/compare.rt:80:5
 loop-holds : tie.Need-loop-holds Inv-loop μ-loop
 loop-holds c = passed-start _ _
 
--- src/compare.rt:81:12
 mul-if1 : tie.Need-mul-if1 Inv-loop μ-loop
 mul-if1 c = search needs
 
--- src/compare.rt:81:12
 shared-slice-read-if1 : tie.Need-shared-slice-read-if1 Inv-loop μ-loop
 shared-slice-read-if1 c = search needs
 
--- src/compare.rt:82:13
 returns : tie.Need-returns Inv-loop μ-loop
 returns c = passed-stop _ _ _ (c .before .before .loop-test .taken) (c .if1 .taken)
 
--- src/compare.rt:84:9
 add-i : tie.Need-add-i Inv-loop μ-loop
 add-i c = search needs
 
--- src/compare.rt:80:5
 loop-less : tie.Need-loop-less Inv-loop μ-loop
 loop-less c = search needs
 
--- src/compare.rt:80:5
 loop-again : tie.Need-loop-again Inv-loop μ-loop
 loop-again c = passed-more _ _ _ (c .before .before .before .loop .inv) (c .before .before .loop-test .taken) (c .if1 .left)
 
--- src/compare.rt:76:1
 returns-2 : tie.Need-returns-2 Inv-loop μ-loop
 returns-2 c = passed-end _ _ _ (c .before .loop .inv) (c .loop-test .left)
 

@@ -9,63 +9,48 @@ use Rattle.replay.proofs.compare.same_doubles.Reads as same-doubles-rea
 use Rattle.replay.proofs.compare.same_numbers.Reads as same-numbers-reads
 use Rattle.replay.proofs.compare.same_reply.Reads as same-reply-reads
 
--- src/compare.rt:102:9
 same-reply-requires : tie.Need-same-reply-requires
 same-reply-requires c κs = search needs
 
--- src/compare.rt:103:9
 returns : tie.Need-returns
 returns c = stops _ (c .before .same-reply .ensures) (c .if1 .taken) (λ a. a .replied)
 
--- src/compare.rt:105:21
 shared-slice-read-from : tie.Need-shared-slice-read-from
 shared-slice-read-from c = search needs
 
--- src/compare.rt:105:16
 add-from : tie.Need-add-from
 add-from c = search needs
 
--- src/compare.rt:105:42
 shared-slice-read-from-2 : tie.Need-shared-slice-read-from-2
 shared-slice-read-from-2 c = search needs
 
--- src/compare.rt:105:16
 add-from-2 : tie.Need-add-from-2
 add-from-2 c = search needs
 
--- src/compare.rt:105:63
 shared-slice-read-from-3 : tie.Need-shared-slice-read-from-3
 shared-slice-read-from-3 c = search needs
 
--- src/compare.rt:105:16
 add-from-3 : tie.Need-add-from-3
 add-from-3 c = search needs
 
--- src/compare.rt:106:9
 same-doubles-requires : tie.Need-same-doubles-requires
 same-doubles-requires c κs = search needs
 
--- src/compare.rt:107:9
 returns-2 : tie.Need-returns-2
 returns-2 c = stops _ (c .before .same-doubles .ensures) (c .if2 .taken) (λ a. a .coordinates)
 
--- src/compare.rt:109:30
 add-same-numbers : tie.Need-add-same-numbers
 add-same-numbers c = search needs
 
--- src/compare.rt:109:9
 same-numbers-requires : tie.Need-same-numbers-requires
 same-numbers-requires c κs = search needs
 
--- src/compare.rt:110:9
 returns-3 : tie.Need-returns-3
 returns-3 c = stops _ (c .before .same-numbers .ensures) (c .if3 .taken) (λ a. a .numbers)
 
--- src/compare.rt:112:5
 is-zero-requires : tie.Need-is-zero-requires
 is-zero-requires c κs = search needs
 
--- src/compare.rt:90:1
 returns-4 : tie.Need-returns-4
 returns-4 c = ends _ (c .is-zero .ensures) (λ z. record { replied = passes (c .before .before .before .before .before .before .before .before .before .same-reply .ensures) (c .before .before .before .before .before .before .before .before .if1 .left); coordinates = passes (c .before .before .before .before .same-doubles .ensures) (c .before .before .before .if2 .left); numbers = passes (c .before .before .same-numbers .ensures) (c .before .if3 .left); cleared = z }) (λ a. a .cleared)
 

@@ -4,15 +4,12 @@ use Rattle.replay.proofs.compare.same_double.Tie as tie
 use Rattle.replay.proofs.compare.same_double.Reads as reads
 use Rattle.replay.proofs.compare.same_double.Lts as lts
 
--- src/compare.rt:42:9
 float-to-bits-result : tie.Need-float-to-bits-result
 float-to-bits-result c = number-itself _ (c .if1 .taken)
 
--- src/compare.rt:38:1
 returns : tie.Need-returns
 returns c = same-bits _ _ (c .if1 .taken)
 
--- src/compare.rt:38:1
 returns-2 : tie.Need-returns-2
 returns-2 c = no-number _ _ (c .if1 .left)
 

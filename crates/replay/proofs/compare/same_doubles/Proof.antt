@@ -20,51 +20,39 @@ Inv-loop stored from output i₀ i = Passed (λ k. SameDouble (getD output k nan
 abbrev μ-loop : tie.MeasureT-loop
 μ-loop stored from output i₀ i = length output - i
 
--- src/compare.rt:53:5
 loop-holds : tie.Need-loop-holds Inv-loop μ-loop
 loop-holds c = passed-start _ _
 
--- src/compare.rt:54:25
 mul-same-double : tie.Need-mul-same-double Inv-loop μ-loop
 mul-same-double c = search needs
 
--- src/compare.rt:54:25
 shared-slice-read-same-double : tie.Need-shared-slice-read-same-double Inv-loop μ-loop
 shared-slice-read-same-double c = search needs
 
--- src/compare.rt:54:43
 add-same-double : tie.Need-add-same-double Inv-loop μ-loop
 add-same-double c = search needs
 
--- src/compare.rt:54:36
 mul-same-double-2 : tie.Need-mul-same-double-2 Inv-loop μ-loop
 mul-same-double-2 c = search needs
 
--- src/compare.rt:54:36
 shared-slice-read-same-double-2 : tie.Need-shared-slice-read-same-double-2 Inv-loop μ-loop
 shared-slice-read-same-double-2 c = search needs
 
--- src/compare.rt:54:13
 same-double-requires : tie.Need-same-double-requires Inv-loop μ-loop
 same-double-requires c κs = search needs
 
--- src/compare.rt:55:13
 returns : tie.Need-returns Inv-loop μ-loop
 returns c = passed-stop _ _ _ (c .before .before .before .before .loop-test .taken) (λ s. clash (c .before .same-double .ensures .complete s) (not-true _ (c .if1 .taken)))
 
--- src/compare.rt:57:9
 add-i : tie.Need-add-i Inv-loop μ-loop
 add-i c = search needs
 
--- src/compare.rt:53:5
 loop-less : tie.Need-loop-less Inv-loop μ-loop
 loop-less c = search needs
 
--- src/compare.rt:53:5
 loop-again : tie.Need-loop-again Inv-loop μ-loop
 loop-again c = passed-more _ _ _ (c .before .before .before .before .before .loop .inv) (c .before .before .before .before .loop-test .taken) (c .before .same-double .ensures .sound (not-false _ (c .if1 .left)))
 
--- src/compare.rt:48:1
 returns-2 : tie.Need-returns-2 Inv-loop μ-loop
 returns-2 c = passed-end _ _ _ (c .before .loop .inv) (c .loop-test .left)
 

@@ -10,31 +10,24 @@ use Rattle.replay.proofs.compare.same_list.Reads as reads
 use Rattle.replay.proofs.compare.same_list.Lts as lts
 use Rattle.replay.proofs.compare.same_words.Reads as same-words-reads
 
--- src/compare.rt:80:15
 add-end : tie.Need-add-end
 add-end c = search needs
 
--- src/compare.rt:81:24
 mul-same-words : tie.Need-mul-same-words
 mul-same-words c = search needs
 
--- src/compare.rt:81:24
 sub-same-words : tie.Need-sub-same-words
 sub-same-words c = search needs
 
--- src/compare.rt:81:24
 part-same-words-start : tie.Need-part-same-words-start
 part-same-words-start c = search needs
 
--- src/compare.rt:81:24
 part-same-words-end : tie.Need-part-same-words-end
 part-same-words-end c = search needs
 
--- src/compare.rt:81:5
 same-words-requires : tie.Need-same-words-requires
 same-words-requires c κs = search needs
 
--- src/compare.rt:76:1
 returns : tie.Need-returns
 returns c = part-decides (now (c .before .before .before .before .args .stored)) (now (c .before .before .before .before .args .output)) (c .before .before .before .before .args .from) (c .before .before .before .before .args .from + length (now (c .before .before .before .before .args .output)) - c .before .before .before .before .args .from) (omega arith) (c .before .before .before .before .pre) _ (c .same-words .ensures)
 

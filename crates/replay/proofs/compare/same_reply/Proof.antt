@@ -7,31 +7,24 @@ use Rattle.replay.proofs.compare.same_reply.Reads as reads
 use Rattle.replay.proofs.compare.same_reply.Lts as lts
 use Rattle.replay.proofs.compare.same_words.Reads as same-words-reads
 
--- src/compare.rt:32:8
 shared-slice-read-if1 : tie.Need-shared-slice-read-if1
 shared-slice-read-if1 c = search needs
 
--- src/compare.rt:33:9
 returns : tie.Need-returns
 returns c = other-number (now (c .before .before .before .args .stored)) _ _ (c .before .before .before .pre) (c .if1 .taken)
 
--- src/compare.rt:35:24
 sub-same-words : tie.Need-sub-same-words
 sub-same-words c = search needs
 
--- src/compare.rt:35:24
 part-same-words-start : tie.Need-part-same-words-start
 part-same-words-start c = search needs
 
--- src/compare.rt:35:24
 part-same-words-end : tie.Need-part-same-words-end
 part-same-words-end c = search needs
 
--- src/compare.rt:35:5
 same-words-requires : tie.Need-same-words-requires
 same-words-requires c κs = search needs
 
--- src/compare.rt:28:1
 returns-2 : tie.Need-returns-2
 returns-2 c = same-values (now (c .before .before .before .before .before .before .args .stored)) _ _ _ (c .before .before .before .before .before .before .pre) (c .before .before .before .if1 .left) (c .same-words .ensures)
 

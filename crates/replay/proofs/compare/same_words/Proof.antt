@@ -14,47 +14,36 @@ Inv-loop a b i₀ i = Alike a b i
 abbrev μ-loop : tie.MeasureT-loop
 μ-loop a b i₀ i = length a - i
 
--- src/compare.rt:15:9
 returns : tie.Need-returns Inv-loop μ-loop
 returns c = other-length _ _ (c .if1 .taken)
 
--- src/compare.rt:18:5
 loop-holds : tie.Need-loop-holds Inv-loop μ-loop
 loop-holds c = alike-start _ _
 
--- src/compare.rt:19:12
 mul-if2 : tie.Need-mul-if2 Inv-loop μ-loop
 mul-if2 c = search needs
 
--- src/compare.rt:19:12
 shared-slice-read-if2 : tie.Need-shared-slice-read-if2 Inv-loop μ-loop
 shared-slice-read-if2 c = search needs
 
--- src/compare.rt:19:20
 mul-if2-2 : tie.Need-mul-if2-2 Inv-loop μ-loop
 mul-if2-2 c = search needs
 
--- src/compare.rt:19:20
 shared-slice-read-if2-2 : tie.Need-shared-slice-read-if2-2 Inv-loop μ-loop
 shared-slice-read-if2-2 c = search needs
 
--- src/compare.rt:20:13
 returns-2 : tie.Need-returns-2 Inv-loop μ-loop
 returns-2 c = other-at _ _ _ (c .if2 .taken)
 
--- src/compare.rt:22:9
 add-i : tie.Need-add-i Inv-loop μ-loop
 add-i c = search needs
 
--- src/compare.rt:18:5
 loop-less : tie.Need-loop-less Inv-loop μ-loop
 loop-less c = search needs
 
--- src/compare.rt:18:5
 loop-again : tie.Need-loop-again Inv-loop μ-loop
 loop-again c = alike-more _ _ _ (c .before .before .before .before .loop .inv) (c .before .before .before .loop-test .taken) (c .if2 .left)
 
--- src/compare.rt:11:1
 returns-3 : tie.Need-returns-3 Inv-loop μ-loop
 returns-3 c = alike-end _ _ _ (c .before .before .if1 .left) (c .before .loop .inv) (c .loop-test .left)
 

@@ -10,20 +10,16 @@ use Rattle.replay.proofs.contents.double.Reads as reads
 use Rattle.replay.proofs.contents.double.Lts as lts
 use Rattle.replay.proofs.layout.is_nan.Reads as is-nan-reads
 
--- src/contents.rt:12:8
 is-nan-requires : tie.Need-is-nan-requires
 is-nan-requires c κs = search needs
 
--- src/contents.rt:13:9
 returns : tie.Need-returns
 unfolding ofBits
 returns c = sym (cond-true _ _ _ _ (sym (c .before .is-nan .ensures) ∙ c .if1 .taken) refl)
 
--- src/contents.rt:15:5
 float-from-bits-result : tie.Need-float-from-bits-result
 float-from-bits-result c = subst T (ap not (sym (sym (c .before .is-nan .ensures) ∙ c .if1 .left))) tt
 
--- src/contents.rt:9:1
 returns-2 : tie.Need-returns-2
 returns-2 c = sym (cond-false _ _ _ _ (sym (c .before .is-nan .ensures) ∙ c .if1 .left) refl)
 

@@ -17,51 +17,39 @@ Inv-loop stored from list₀ i₀ list i = Filling (λ k. doubleOf (getD stored 
 abbrev μ-loop : tie.MeasureT-loop
 μ-loop stored from list₀ i₀ list i = length list₀ - i
 
--- src/contents.rt:23:5
 loop-holds : tie.Need-loop-holds Inv-loop μ-loop
 loop-holds c = filling-start _ _
 
--- src/contents.rt:24:33
 add-double : tie.Need-add-double Inv-loop μ-loop
 add-double c = search needs
 
--- src/contents.rt:24:26
 mul-double : tie.Need-mul-double Inv-loop μ-loop
 mul-double c = search needs
 
--- src/contents.rt:24:26
 shared-slice-read-double : tie.Need-shared-slice-read-double Inv-loop μ-loop
 shared-slice-read-double c = search needs
 
--- src/contents.rt:24:19
 double-requires : tie.Need-double-requires Inv-loop μ-loop
 double-requires c κs = search needs
 
--- src/contents.rt:24:9
 mul-list : tie.Need-mul-list Inv-loop μ-loop
 mul-list c = search needs
 
--- src/contents.rt:24:9
 slice-write-list : tie.Need-slice-write-list Inv-loop μ-loop
 slice-write-list c = search needs
 
--- src/contents.rt:25:9
 add-i : tie.Need-add-i Inv-loop μ-loop
 add-i c = search needs
 
--- src/contents.rt:23:5
 loop-less : tie.Need-loop-less Inv-loop μ-loop
 loop-less c = search needs
 
--- src/contents.rt:23:5
 loop-again : tie.Need-loop-again Inv-loop μ-loop
 loop-again c = filling-turn _ _ _ _ _ (c .before .before .before .loop .inv) (c .before .before .loop-test .taken) (c .double .ensures)
 
--- src/contents.rt:18:1
 same-length : tie.Need-same-length Inv-loop μ-loop
 same-length c = search needs
 
--- src/contents.rt:18:1
 returns : tie.Need-returns Inv-loop μ-loop
 returns c = filling-end _ _ _ _ (c .before .loop .inv) (c .loop-test .left)
 

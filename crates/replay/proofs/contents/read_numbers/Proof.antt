@@ -16,51 +16,39 @@ Inv-loop stored from list₀ i₀ list i = Filling (λ k. getD stored (from + k)
 abbrev μ-loop : tie.MeasureT-loop
 μ-loop stored from list₀ i₀ list i = length list₀ - i
 
--- src/contents.rt:41:5
 loop-holds : tie.Need-loop-holds Inv-loop μ-loop
 loop-holds c = filling-start _ _
 
--- src/contents.rt:42:35
 add-low-half : tie.Need-add-low-half Inv-loop μ-loop
 add-low-half c = search needs
 
--- src/contents.rt:42:28
 mul-low-half : tie.Need-mul-low-half Inv-loop μ-loop
 mul-low-half c = search needs
 
--- src/contents.rt:42:28
 shared-slice-read-low-half : tie.Need-shared-slice-read-low-half Inv-loop μ-loop
 shared-slice-read-low-half c = search needs
 
--- src/contents.rt:42:19
 low-half-requires : tie.Need-low-half-requires Inv-loop μ-loop
 low-half-requires c κs = search needs
 
--- src/contents.rt:42:9
 mul-list : tie.Need-mul-list Inv-loop μ-loop
 mul-list c = search needs
 
--- src/contents.rt:42:9
 slice-write-list : tie.Need-slice-write-list Inv-loop μ-loop
 slice-write-list c = search needs
 
--- src/contents.rt:43:9
 add-i : tie.Need-add-i Inv-loop μ-loop
 add-i c = search needs
 
--- src/contents.rt:41:5
 loop-less : tie.Need-loop-less Inv-loop μ-loop
 loop-less c = search needs
 
--- src/contents.rt:41:5
 loop-again : tie.Need-loop-again Inv-loop μ-loop
 loop-again c = filling-turn _ _ _ _ _ (c .before .before .before .loop .inv) (c .before .before .loop-test .taken) (c .low-half .ensures)
 
--- src/contents.rt:36:1
 same-length : tie.Need-same-length Inv-loop μ-loop
 same-length c = search needs
 
--- src/contents.rt:36:1
 returns : tie.Need-returns Inv-loop μ-loop
 returns c = filling-end _ _ _ _ (c .before .loop .inv) (c .loop-test .left)
 

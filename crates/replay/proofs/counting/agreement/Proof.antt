@@ -9,23 +9,18 @@ use Rattle.replay.proofs.counting.agreement.Lts as lts
 use Rattle.replay.proofs.agreement.agrees.Reads as agrees-reads
 use Rattle.replay.proofs.counting.request.Reads as request-reads
 
--- src/counting.rt:26:8
 request-requires : tie.Need-request-requires
 request-requires c κs = search needs
 
--- src/counting.rt:27:9
 returns : tie.Need-returns
 returns c = none-of (λ a. omega (arith, c .before .request .ensures .complete (a .0), c .if1 .taken))
 
--- src/counting.rt:29:8
 agrees-requires : tie.Need-agrees-requires
 agrees-requires c κs = search needs
 
--- src/counting.rt:23:1
 returns-2 : tie.Need-returns-2
 returns-2 c = one (c .before .before .before .request .ensures .sound (omega (arith, c .before .before .before .request .ensures .few, c .before .before .if1 .left)), c .before .agrees .ensures .sound (c .if2 .taken))
 
--- src/counting.rt:23:1
 returns-3 : tie.Need-returns-3
 returns-3 c = none-of (λ a. clash (c .before .agrees .ensures .complete (a .1)) (c .if2 .left))
 

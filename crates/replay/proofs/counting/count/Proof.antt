@@ -19,103 +19,78 @@ Inv-loop file operation requests₀ agreeing₀ at₀ requests agreeing at = Tal
 abbrev μ-loop : tie.MeasureT-loop
 μ-loop file operation requests₀ agreeing₀ at₀ requests agreeing at = length file - at
 
--- src/counting.rt:38:5
 loop-holds : tie.Need-loop-holds Inv-loop μ-loop
 loop-holds c = tally-start _ _
 
--- src/counting.rt:39:31
 mul-record-length : tie.Need-mul-record-length Inv-loop μ-loop
 mul-record-length c = search needs
 
--- src/counting.rt:39:31
 sub-record-length : tie.Need-sub-record-length Inv-loop μ-loop
 sub-record-length c = search needs
 
--- src/counting.rt:39:31
 part-record-length-start : tie.Need-part-record-length-start Inv-loop μ-loop
 part-record-length-start c = search needs
 
--- src/counting.rt:39:31
 part-record-length-end : tie.Need-part-record-length-end Inv-loop μ-loop
 part-record-length-end c = search needs
 
--- src/counting.rt:39:13
 record-length-requires : tie.Need-record-length-requires Inv-loop μ-loop
 record-length-requires c κs = search needs
 
--- src/counting.rt:43:50
 add-request : tie.Need-add-request Inv-loop μ-loop
 add-request c = search needs
 
--- src/counting.rt:43:40
 mul-request : tie.Need-mul-request Inv-loop μ-loop
 mul-request c = search needs
 
--- src/counting.rt:43:40
 sub-request : tie.Need-sub-request Inv-loop μ-loop
 sub-request c = search needs
 
--- src/counting.rt:43:40
 part-request-start : tie.Need-part-request-start Inv-loop μ-loop
 part-request-start c = search needs
 
--- src/counting.rt:43:40
 part-request-end : tie.Need-part-request-end Inv-loop μ-loop
 part-request-end c = search needs
 
--- src/counting.rt:43:21
 request-requires : tie.Need-request-requires Inv-loop μ-loop
 request-requires c κs = search needs
 
--- src/counting.rt:43:9
 add-requests : tie.Need-add-requests Inv-loop μ-loop
 add-requests c = omega (arith, c .before .before .before .before .before .before .loop .inv .few, c .request .ensures .few)
 
--- src/counting.rt:44:52
 add-agreement : tie.Need-add-agreement Inv-loop μ-loop
 add-agreement c = search needs
 
--- src/counting.rt:44:42
 mul-agreement : tie.Need-mul-agreement Inv-loop μ-loop
 mul-agreement c = search needs
 
--- src/counting.rt:44:42
 sub-agreement : tie.Need-sub-agreement Inv-loop μ-loop
 sub-agreement c = search needs
 
--- src/counting.rt:44:42
 part-agreement-start : tie.Need-part-agreement-start Inv-loop μ-loop
 part-agreement-start c = search needs
 
--- src/counting.rt:44:42
 part-agreement-end : tie.Need-part-agreement-end Inv-loop μ-loop
 part-agreement-end c = search needs
 
--- src/counting.rt:44:21
 agreement-requires : tie.Need-agreement-requires Inv-loop μ-loop
 agreement-requires c κs = search needs
 
--- src/counting.rt:44:9
 add-agreeing : tie.Need-add-agreeing Inv-loop μ-loop
 add-agreeing c = search needs
 
--- src/counting.rt:45:9
 add-at : tie.Need-add-at Inv-loop μ-loop
 add-at c = search needs
 
--- src/counting.rt:38:5
 loop-less : tie.Need-loop-less Inv-loop μ-loop
 loop-less c = search needs
 
--- src/counting.rt:38:5
 loop-again : tie.Need-loop-again Inv-loop μ-loop
 loop-again c = tally-more _ (now (c .before .before .before .before .before .before .before .before .before .before .args .file)) _ _ _ _ (c .before .before .before .before .before .before .before .before .loop .inv) _ _ (c .before .before .before .before .before .record-length .ensures .0) (c .before .before .before .before .if1 .left) (c .before .before .request .ensures) (c .agreement .ensures)
 
--- src/counting.rt:32:1
 returns : tie.Need-returns Inv-loop μ-loop
 returns c = tally-end _ (now (c .before .before .before .args .file)) _ _ _ 0 (c .before .loop .inv) (c .loop-test .left)
 
--- src/counting.rt:32:1
 returns-2 : tie.Need-returns-2 Inv-loop μ-loop
 returns-2 c = tally-stop _ (now (c .before .before .before .before .before .before .args .file)) _ _ _ _ (c .before .before .before .before .loop .inv) (c .before .record-length .ensures .0) (c .if1 .taken)
 

@@ -16,67 +16,51 @@ Inv-loop fd words₀ i₀ words i = (i ≤ length words) × (length words ≡ le
 abbrev μ-loop : tie.MeasureT-loop
 μ-loop fd words₀ i₀ words i = length words₀ - i
 
--- src/file.rt:54:5
 loop-holds : tie.Need-loop-holds Inv-loop μ-loop
 loop-holds c = search needs
 
--- src/file.rt:55:15
 read-word-requires : tie.Need-read-word-requires Inv-loop μ-loop
 read-word-requires c κs = search needs
 
--- src/file.rt:56:24
 enum-known-w : tie.Need-enum-known-w Inv-loop μ-loop
 enum-known-w c = search needs
 
--- src/file.rt:57:17
 mul-words : tie.Need-mul-words Inv-loop μ-loop
 mul-words c = search needs
 
--- src/file.rt:57:17
 slice-write-words : tie.Need-slice-write-words Inv-loop μ-loop
 slice-write-words c = search needs
 
--- src/file.rt:60:17
 enum-told : tie.Need-enum-told Inv-loop μ-loop
 enum-told c = search needs
 
--- src/file.rt:60:17
 same-length : tie.Need-same-length Inv-loop μ-loop
 same-length c = search needs
 
--- src/file.rt:60:17
 returns : tie.Need-returns Inv-loop μ-loop
 returns c = (c .before .before .before .before .loop .inv .0, sym (length-take-le _ _ (c .before .before .before .before .loop .inv .0)))
 
--- src/file.rt:63:17
 enum-told-2 : tie.Need-enum-told-2 Inv-loop μ-loop
 enum-told-2 c = search needs
 
--- src/file.rt:63:17
 same-length-2 : tie.Need-same-length-2 Inv-loop μ-loop
 same-length-2 c = search needs
 
--- src/file.rt:63:17
 returns-2 : tie.Need-returns-2 Inv-loop μ-loop
 returns-2 c = search needs
 
--- src/file.rt:66:9
 add-i : tie.Need-add-i Inv-loop μ-loop
 add-i c = search needs
 
--- src/file.rt:54:5
 loop-less : tie.Need-loop-less Inv-loop μ-loop
 loop-less c = omega (arith, c .before .before .before .before .before .loop .inv)
 
--- src/file.rt:54:5
 loop-again : tie.Need-loop-again Inv-loop μ-loop
 loop-again c = (simp length-set (omega arith), simp length-set (c .before .before .before .before .before .loop .inv .1))
 
--- src/file.rt:50:1
 same-length-3 : tie.Need-same-length-3 Inv-loop μ-loop
 same-length-3 c = search needs
 
--- src/file.rt:50:1
 returns-3 : tie.Need-returns-3 Inv-loop μ-loop
 returns-3 c = (c .before .loop .inv .0, sym (length-take-le _ _ (c .before .loop .inv .0)))
 

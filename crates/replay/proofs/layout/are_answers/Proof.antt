@@ -7,43 +7,33 @@ use Rattle.replay.proofs.layout.are_answers.Reads as reads
 use Rattle.replay.proofs.layout.are_answers.Lts as lts
 use Rattle.replay.proofs.layout.are_records.Reads as are-records-reads
 
--- src/layout.rt:58:9
 returns : tie.Need-returns
 returns c = refuted (λ a. omega (arith, c .if1 .taken, a .head))
 
--- src/layout.rt:60:8
 shared-slice-read-if2 : tie.Need-shared-slice-read-if2
 shared-slice-read-if2 c = search needs
 
--- src/layout.rt:61:9
 returns-2 : tie.Need-returns-2
 returns-2 c = refuted (λ a. c .if2 .taken (a .magic))
 
--- src/layout.rt:63:8
 shared-slice-read-if3 : tie.Need-shared-slice-read-if3
 shared-slice-read-if3 c = search needs
 
--- src/layout.rt:64:9
 returns-3 : tie.Need-returns-3
 returns-3 c = refuted (λ a. c .if3 .taken (a .format))
 
--- src/layout.rt:66:8
 shared-slice-read-if4 : tie.Need-shared-slice-read-if4
 shared-slice-read-if4 c = search needs
 
--- src/layout.rt:67:9
 returns-4 : tie.Need-returns-4
 returns-4 c = refuted (λ a. c .if4 .taken (a .size))
 
--- src/layout.rt:69:23
 shared-slice-read-are-records : tie.Need-shared-slice-read-are-records
 shared-slice-read-are-records c = search needs
 
--- src/layout.rt:69:5
 are-records-requires : tie.Need-are-records-requires
 are-records-requires c κs = search needs
 
--- src/layout.rt:54:1
 returns-5 : tie.Need-returns-5
 returns-5 c = ends _ (c .are-records .ensures) (λ r. record { head = c .before .before .before .before .before .before .before .before .if1 .left; magic = c .before .before .before .before .before .before .if2 .left; format = c .before .before .before .before .if3 .left; size = c .before .before .if4 .left; records = r }) (λ a. a .records)
 

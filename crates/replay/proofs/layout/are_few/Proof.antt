@@ -15,39 +15,30 @@ Inv-loop stored from n most i₀ i = Passed (λ k. getD stored (from + k) 0 ≤ 
 abbrev μ-loop : tie.MeasureT-loop
 μ-loop stored from n most i₀ i = n - i
 
--- src/layout.rt:98:5
 loop-holds : tie.Need-loop-holds Inv-loop μ-loop
 loop-holds c = passed-start _ _
 
--- src/layout.rt:99:19
 add-if1 : tie.Need-add-if1 Inv-loop μ-loop
 add-if1 c = search needs
 
--- src/layout.rt:99:12
 mul-if1 : tie.Need-mul-if1 Inv-loop μ-loop
 mul-if1 c = search needs
 
--- src/layout.rt:99:12
 shared-slice-read-if1 : tie.Need-shared-slice-read-if1 Inv-loop μ-loop
 shared-slice-read-if1 c = search needs
 
--- src/layout.rt:100:13
 returns : tie.Need-returns Inv-loop μ-loop
 returns c = passed-stop _ _ _ (c .before .before .loop-test .taken) (λ l. omega (arith, c .if1 .taken))
 
--- src/layout.rt:102:9
 add-i : tie.Need-add-i Inv-loop μ-loop
 add-i c = search needs
 
--- src/layout.rt:98:5
 loop-less : tie.Need-loop-less Inv-loop μ-loop
 loop-less c = search needs
 
--- src/layout.rt:98:5
 loop-again : tie.Need-loop-again Inv-loop μ-loop
 loop-again c = passed-more _ _ _ (c .before .before .before .loop .inv) (c .before .before .loop-test .taken) (c .if1 .left)
 
--- src/layout.rt:93:1
 returns-2 : tie.Need-returns-2 Inv-loop μ-loop
 returns-2 c = passed-end _ _ _ (c .before .loop .inv) (c .loop-test .left)
 

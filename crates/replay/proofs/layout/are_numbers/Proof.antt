@@ -19,43 +19,33 @@ Inv-loop stored from n i₀ i = Passed (λ k. nanBits binary64 (getD stored (fro
 abbrev μ-loop : tie.MeasureT-loop
 μ-loop stored from n i₀ i = n - i
 
--- src/layout.rt:83:5
 loop-holds : tie.Need-loop-holds Inv-loop μ-loop
 loop-holds c = passed-start _ _
 
--- src/layout.rt:84:26
 add-is-nan : tie.Need-add-is-nan Inv-loop μ-loop
 add-is-nan c = search needs
 
--- src/layout.rt:84:19
 mul-is-nan : tie.Need-mul-is-nan Inv-loop μ-loop
 mul-is-nan c = search needs
 
--- src/layout.rt:84:19
 shared-slice-read-is-nan : tie.Need-shared-slice-read-is-nan Inv-loop μ-loop
 shared-slice-read-is-nan c = search needs
 
--- src/layout.rt:84:12
 is-nan-requires : tie.Need-is-nan-requires Inv-loop μ-loop
 is-nan-requires c κs = search needs
 
--- src/layout.rt:85:13
 returns : tie.Need-returns Inv-loop μ-loop
 returns c = passed-stop _ _ _ (c .before .before .before .loop-test .taken) (λ e. clash (sym (c .before .is-nan .ensures) ∙ c .if1 .taken) e)
 
--- src/layout.rt:87:9
 add-i : tie.Need-add-i Inv-loop μ-loop
 add-i c = search needs
 
--- src/layout.rt:83:5
 loop-less : tie.Need-loop-less Inv-loop μ-loop
 loop-less c = search needs
 
--- src/layout.rt:83:5
 loop-again : tie.Need-loop-again Inv-loop μ-loop
 loop-again c = passed-more _ _ _ (c .before .before .before .before .loop .inv) (c .before .before .before .loop-test .taken) (sym (c .before .is-nan .ensures) ∙ c .if1 .left)
 
--- src/layout.rt:78:1
 returns-2 : tie.Need-returns-2 Inv-loop μ-loop
 returns-2 c = passed-end _ _ _ (c .before .loop .inv) (c .loop-test .left)
 

@@ -17,55 +17,42 @@ Inv-loop file count at₀ left₀ at left = Walking count file left at
 abbrev μ-loop : tie.MeasureT-loop
 μ-loop file count at₀ left₀ at left = length file - at
 
--- src/layout.rt:40:5
 loop-holds : tie.Need-loop-holds Inv-loop μ-loop
 loop-holds c = walking-start _ _
 
--- src/layout.rt:41:31
 mul-record-length : tie.Need-mul-record-length Inv-loop μ-loop
 mul-record-length c = search needs
 
--- src/layout.rt:41:31
 sub-record-length : tie.Need-sub-record-length Inv-loop μ-loop
 sub-record-length c = search needs
 
--- src/layout.rt:41:31
 part-record-length-start : tie.Need-part-record-length-start Inv-loop μ-loop
 part-record-length-start c = search needs
 
--- src/layout.rt:41:31
 part-record-length-end : tie.Need-part-record-length-end Inv-loop μ-loop
 part-record-length-end c = search needs
 
--- src/layout.rt:41:13
 record-length-requires : tie.Need-record-length-requires Inv-loop μ-loop
 record-length-requires c κs = search needs
 
--- src/layout.rt:43:13
 returns : tie.Need-returns Inv-loop μ-loop
 returns c = walking-stuck _ (now (c .before .before .before .before .before .before .args .file)) _ _ _ (c .before .before .before .before .loop .inv) (c .before .record-length .ensures .0) (c .before .before .before .loop-test .taken) (c .if1 .taken)
 
--- src/layout.rt:46:13
 returns-2 : tie.Need-returns-2 Inv-loop μ-loop
 returns-2 c = walking-over _ (now (c .before .before .before .before .before .before .before .args .file)) _ _ (c .before .before .before .before .before .loop .inv) (c .before .before .before .before .loop-test .taken) (c .if2 .taken)
 
--- src/layout.rt:48:9
 sub-left : tie.Need-sub-left Inv-loop μ-loop
 sub-left c = search needs
 
--- src/layout.rt:49:9
 add-at : tie.Need-add-at Inv-loop μ-loop
 add-at c = search needs
 
--- src/layout.rt:40:5
 loop-less : tie.Need-loop-less Inv-loop μ-loop
 loop-less c = search needs
 
--- src/layout.rt:40:5
 loop-again : tie.Need-loop-again Inv-loop μ-loop
 loop-again c = walking-more _ (now (c .before .before .before .before .before .before .before .args .file)) _ _ _ (c .before .before .before .before .before .loop .inv) (c .before .before .record-length .ensures .0) (c .before .if1 .left) (c .if2 .left)
 
--- src/layout.rt:35:1
 returns-3 : tie.Need-returns-3 Inv-loop μ-loop
 returns-3 c = walking-end _ (now (c .before .before .before .args .file)) _ _ (c .before .loop .inv) (c .loop-test .left)
 

@@ -10,39 +10,30 @@ use Rattle.replay.proofs.layout.is_laid.Lts as lts
 use Rattle.replay.proofs.layout.are_few.Reads as are-few-reads
 use Rattle.replay.proofs.layout.size.Reads as size-reads
 
--- src/layout.rt:125:9
 returns : tie.Need-returns
 returns c = refuted (λ l. omega (arith, c .if1 .taken, l .head))
 
--- src/layout.rt:127:9
 are-few-requires : tie.Need-are-few-requires
 are-few-requires c κs = search needs
 
--- src/layout.rt:128:9
 returns-2 : tie.Need-returns-2
 returns-2 c = stops _ (c .before .are-few .ensures) (c .if2 .taken) (λ l. l .lists)
 
--- src/layout.rt:130:9
 are-few-requires-2 : tie.Need-are-few-requires-2
 are-few-requires-2 c κs = search needs
 
--- src/layout.rt:131:9
 returns-3 : tie.Need-returns-3
 returns-3 c = stops _ (c .before .are-few2 .ensures) (c .if3 .taken) (λ l. l .outputs)
 
--- src/layout.rt:133:8
 shared-slice-read-if4 : tie.Need-shared-slice-read-if4
 shared-slice-read-if4 c = search needs
 
--- src/layout.rt:134:9
 returns-4 : tie.Need-returns-4
 returns-4 c = refuted (λ l. omega (arith, c .if4 .taken, l .work))
 
--- src/layout.rt:136:5
 size-requires : tie.Need-size-requires
 size-requires c κs = (c .before .before .before .before .before .before .if1 .left, (passes (c .before .before .before .before .before .are-few .ensures) (c .before .before .before .before .if2 .left), passes (c .before .before .before .are-few2 .ensures) (c .before .before .if3 .left)))
 
--- src/layout.rt:121:1
 returns-5 : tie.Need-returns-5
 returns-5 c = record { sound = λ t. record { head = c .before .before .before .before .before .before .before .if1 .left; lists = passes (c .before .before .before .before .before .before .are-few .ensures) (c .before .before .before .before .before .if2 .left); outputs = passes (c .before .before .before .before .are-few2 .ensures) (c .before .before .before .if3 .left); work = c .before .if4 .left; whole = sym (c .size .ensures) ∙ eqb-true _ _ t }; complete = λ l. eq-eqb _ _ (c .size .ensures ∙ l .whole) }
 

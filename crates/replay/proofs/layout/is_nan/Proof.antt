@@ -7,12 +7,10 @@ use Rattle.replay.proofs.layout.is_nan.Tie as tie
 use Rattle.replay.proofs.layout.is_nan.Reads as reads
 use Rattle.replay.proofs.layout.is_nan.Lts as lts
 
--- src/layout.rt:67:1
 returns : tie.Need-returns
 unfolding nanBits
 returns c = sym (and-next _ _ _ (eq-eqb _ _ (c .if1 .taken)) refl)
 
--- src/layout.rt:67:1
 returns-2 : tie.Need-returns-2
 unfolding nanBits
 returns-2 c = sym (and-stop _ _ (ne-eqb _ _ (c .if1 .left)))

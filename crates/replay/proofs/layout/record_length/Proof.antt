@@ -7,23 +7,18 @@ use Rattle.replay.proofs.layout.record_length.Tie as tie
 use Rattle.replay.proofs.layout.record_length.Reads as reads
 use Rattle.replay.proofs.layout.record_length.Lts as lts
 
--- src/layout.rt:21:9
 returns : tie.Need-returns
 returns c = (sym (cond-true _ _ _ _ (lt-ltb _ _ (c .if1 .taken)) refl), search needs)
 
--- src/layout.rt:23:18
 shared-slice-read-length : tie.Need-shared-slice-read-length
 shared-slice-read-length c = search needs
 
--- src/layout.rt:25:9
 returns-2 : tie.Need-returns-2
 returns-2 c = (sym (cond-false _ _ _ _ (le-ltb _ _ (c .before .before .if1 .left)) (cond-true _ _ _ _ (lt-ltb _ _ (c .if2 .taken)) refl)), search needs)
 
--- src/layout.rt:28:9
 returns-3 : tie.Need-returns-3
 returns-3 c = (sym (cond-false _ _ _ _ (le-ltb _ _ (c .before .before .before .if1 .left)) (cond-false _ _ _ _ (le-ltb _ _ (c .before .if2 .left)) (cond-true _ _ _ _ (lt-ltb _ _ (c .if3 .taken)) refl))), search needs)
 
--- src/layout.rt:17:1
 returns-4 : tie.Need-returns-4
 returns-4 c = (sym (cond-false _ _ _ _ (le-ltb _ _ (c .before .before .before .if1 .left)) (cond-false _ _ _ _ (le-ltb _ _ (c .before .if2 .left)) (cond-false _ _ _ _ (le-ltb _ _ (c .if3 .left)) refl))), search needs)
 

@@ -6,63 +6,48 @@ use Rattle.replay.proofs.layout.size.Tie as tie
 use Rattle.replay.proofs.layout.size.Reads as reads
 use Rattle.replay.proofs.layout.size.Lts as lts
 
--- src/layout.rt:112:17
 shared-slice-read-lists : tie.Need-shared-slice-read-lists
 shared-slice-read-lists c = search needs
 
--- src/layout.rt:112:38
 shared-slice-read-lists-2 : tie.Need-shared-slice-read-lists-2
 shared-slice-read-lists-2 c = search needs
 
--- src/layout.rt:112:17
 add-lists : tie.Need-add-lists
 add-lists c = omega (arith, c .before .before .pre .1 .0 0 (lit< tt), c .before .before .pre .1 .0 1 (lit< tt), c .before .before .pre .1 .0 2 (lit< tt), c .before .before .pre .1 .1 0 (lit< tt), c .before .before .pre .1 .1 1 (lit< tt), c .before .before .pre .1 .1 2 (lit< tt), c .before .before .pre .1 .1 3 (lit< tt))
 
--- src/layout.rt:112:59
 shared-slice-read-lists-3 : tie.Need-shared-slice-read-lists-3
 shared-slice-read-lists-3 c = search needs
 
--- src/layout.rt:112:17
 add-lists-2 : tie.Need-add-lists-2
 add-lists-2 c = omega (arith, c .before .before .before .pre .1 .0 0 (lit< tt), c .before .before .before .pre .1 .0 1 (lit< tt), c .before .before .before .pre .1 .0 2 (lit< tt), c .before .before .before .pre .1 .1 0 (lit< tt), c .before .before .before .pre .1 .1 1 (lit< tt), c .before .before .before .pre .1 .1 2 (lit< tt), c .before .before .before .pre .1 .1 3 (lit< tt))
 
--- src/layout.rt:113:19
 shared-slice-read-outputs : tie.Need-shared-slice-read-outputs
 shared-slice-read-outputs c = search needs
 
--- src/layout.rt:114:11
 shared-slice-read-outputs-2 : tie.Need-shared-slice-read-outputs-2
 shared-slice-read-outputs-2 c = search needs
 
--- src/layout.rt:113:19
 add-outputs : tie.Need-add-outputs
 add-outputs c = omega (arith, c .before .before .before .before .before .pre .1 .0 0 (lit< tt), c .before .before .before .before .before .pre .1 .0 1 (lit< tt), c .before .before .before .before .before .pre .1 .0 2 (lit< tt), c .before .before .before .before .before .pre .1 .1 0 (lit< tt), c .before .before .before .before .before .pre .1 .1 1 (lit< tt), c .before .before .before .before .before .pre .1 .1 2 (lit< tt), c .before .before .before .before .before .pre .1 .1 3 (lit< tt))
 
--- src/layout.rt:115:11
 shared-slice-read-outputs-3 : tie.Need-shared-slice-read-outputs-3
 shared-slice-read-outputs-3 c = search needs
 
--- src/layout.rt:113:19
 add-outputs-2 : tie.Need-add-outputs-2
 add-outputs-2 c = omega (arith, c .before .before .before .before .before .before .pre .1 .0 0 (lit< tt), c .before .before .before .before .before .before .pre .1 .0 1 (lit< tt), c .before .before .before .before .before .before .pre .1 .0 2 (lit< tt), c .before .before .before .before .before .before .pre .1 .1 0 (lit< tt), c .before .before .before .before .before .before .pre .1 .1 1 (lit< tt), c .before .before .before .before .before .before .pre .1 .1 2 (lit< tt), c .before .before .before .before .before .before .pre .1 .1 3 (lit< tt))
 
--- src/layout.rt:116:11
 shared-slice-read-outputs-4 : tie.Need-shared-slice-read-outputs-4
 shared-slice-read-outputs-4 c = search needs
 
--- src/layout.rt:113:19
 add-outputs-3 : tie.Need-add-outputs-3
 add-outputs-3 c = omega (arith, c .before .before .before .before .before .before .before .pre .1 .0 0 (lit< tt), c .before .before .before .before .before .before .before .pre .1 .0 1 (lit< tt), c .before .before .before .before .before .before .before .pre .1 .0 2 (lit< tt), c .before .before .before .before .before .before .before .pre .1 .1 0 (lit< tt), c .before .before .before .before .before .before .before .pre .1 .1 1 (lit< tt), c .before .before .before .before .before .before .before .pre .1 .1 2 (lit< tt), c .before .before .before .before .before .before .before .pre .1 .1 3 (lit< tt))
 
--- src/layout.rt:117:5
 add-result : tie.Need-add-result
 add-result c = omega (arith, c .before .before .before .before .before .before .before .pre .1 .0 0 (lit< tt), c .before .before .before .before .before .before .before .pre .1 .0 1 (lit< tt), c .before .before .before .before .before .before .before .pre .1 .0 2 (lit< tt), c .before .before .before .before .before .before .before .pre .1 .1 0 (lit< tt), c .before .before .before .before .before .before .before .pre .1 .1 1 (lit< tt), c .before .before .before .before .before .before .before .pre .1 .1 2 (lit< tt), c .before .before .before .before .before .before .before .pre .1 .1 3 (lit< tt))
 
--- src/layout.rt:117:5
 add-result-2 : tie.Need-add-result-2
 add-result-2 c = omega (arith, c .before .before .before .before .before .before .before .pre .1 .0 0 (lit< tt), c .before .before .before .before .before .before .before .pre .1 .0 1 (lit< tt), c .before .before .before .before .before .before .before .pre .1 .0 2 (lit< tt), c .before .before .before .before .before .before .before .pre .1 .1 0 (lit< tt), c .before .before .before .before .before .before .before .pre .1 .1 1 (lit< tt), c .before .before .before .before .before .before .before .pre .1 .1 2 (lit< tt), c .before .before .before .before .before .before .before .pre .1 .1 3 (lit< tt))
 
--- src/layout.rt:108:1
 returns : tie.Need-returns
 returns c = search needs
 

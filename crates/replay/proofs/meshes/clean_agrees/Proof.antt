@@ -10,35 +10,27 @@ use Rattle.replay.proofs.compare.same_answer.Reads as same-answer-reads
 use Rattle.replay.proofs.contents.double.Reads as double-reads
 use Rattle.yongpham.proofs.yongpham_clean.Reads as yongpham-clean-reads
 
--- src/meshes.rt:70:16
 shared-slice-read-double : tie.Need-shared-slice-read-double
 shared-slice-read-double c = search needs
 
--- src/meshes.rt:70:9
 double-requires : tie.Need-double-requires
 double-requires c κs = search needs
 
--- src/meshes.rt:67:9
 yongpham-clean-requires : tie.Need-yongpham-clean-requires
 yongpham-clean-requires c κs = search needs
 
--- src/meshes.rt:76:5
 same-answer-requires : tie.Need-same-answer-requires
 same-answer-requires c κs = outputs-within (now (c .before .before .before .before .before .before .before .before .before .before .before .before .before .before .before .before .before .before .before .before .before .before .before .args .stored)) (now (c .before .before .before .before .before .before .before .before .before .before .before .before .before .before .before .before .before .before .before .before .before .before .before .args .work)) (now (c .before .before .before .before .before .before .before .before .before .before .before .before .before .before .before .before .before .before .before .before .before .before .before .args .out-vertices)) (c .before .before .before .before .before .before .before .before .before .before .yongpham-clean .last .1 .1 .1 .1 .0) (now (c .before .before .before .before .before .before .before .before .before .before .before .before .before .before .before .before .before .before .before .before .before .before .before .args .out-facets)) (c .before .before .before .before .before .before .before .before .before .before .yongpham-clean .last .1 .1 .1 .1 .1 .0) (c .before .before .before .before .before .before .before .before .before .before .before .before .before .before .before .before .before .before .before .before .before .before .before .pre .0) (c .before .before .before .before .before .before .before .before .before .before .before .before .before .before .before .before .before .before .before .before .before .before .before .pre .1) (c .before .before .before .before .before .before .before .before .before .before .yongpham-clean .kept .1 .1 .1 .1 .0) (c .before .before .before .before .before .before .before .before .before .before .yongpham-clean .kept .1 .1 .1 .1 .1 .0)
 
--- src/meshes.rt:54:1
 same-length : tie.Need-same-length
 same-length c = search needs
 
--- src/meshes.rt:54:1
 same-length-2 : tie.Need-same-length-2
 same-length-2 c = search needs
 
--- src/meshes.rt:54:1
 same-length-3 : tie.Need-same-length-3
 same-length-3 c = search needs
 
--- src/meshes.rt:54:1
 returns : tie.Need-returns
 returns c = answer-decides (now (c .before .before .before .before .before .before .before .before .before .before .before .before .before .before .before .before .before .before .before .before .before .before .before .before .args .stored)) _ _ _ _ _ _ (now (c .before .before .before .before .before .before .before .before .before .before .before .before .before .before .before .before .before .before .before .before .before .before .before .before .args .work)) _ (now (c .before .before .before .before .before .before .before .before .before .before .before .before .before .before .before .before .before .before .before .before .before .before .before .before .args .out-vertices)) _ (now (c .before .before .before .before .before .before .before .before .before .before .before .before .before .before .before .before .before .before .before .before .before .before .before .before .args .out-facets)) _ (c .before .before .before .before .before .before .before .before .before .before .before .before .before .before .before .before .before .before .before .before .before .before .before .before .pre .1) (c .before .before .before .before .before .before .before .before .before .before .before .yongpham-clean .ensures .0) (clean-reply (now (c .before .before .before .before .before .before .before .before .before .before .before .before .before .before .before .before .before .before .before .before .before .before .before .before .args .stored)) (now (c .before .before .before .before .before .before .before .before .before .before .before .before .before .before .before .before .before .before .before .before .before .before .before .before .args .work)) (now (c .before .before .before .before .before .before .before .before .before .before .before .before .before .before .before .before .before .before .before .before .before .before .before .before .args .out-vertices)) (now (c .before .before .before .before .before .before .before .before .before .before .before .before .before .before .before .before .before .before .before .before .before .before .before .before .args .out-facets)) (c .before .before .before .before .before .before .before .before .before .before .before .before .before .before .before .before .before .before .before .before .before .before .before .before .pre .1) (now (c .before .before .before .before .before .before .before .before .before .before .before .before .before .before .before .before .before .before .before .before .before .before .before .before .args .vertices)) (now (c .before .before .before .before .before .before .before .before .before .before .before .before .before .before .before .before .before .before .before .before .before .before .before .before .args .facets)) (c .before .before .before .before .before .before .before .before .before .before .before .before .before .before .before .before .double .ensures)) (clean-result (now (c .before .before .before .before .before .before .before .before .before .before .before .before .before .before .before .before .before .before .before .before .before .before .before .before .args .stored)) (now (c .before .before .before .before .before .before .before .before .before .before .before .before .before .before .before .before .before .before .before .before .before .before .before .before .args .vertices)) (now (c .before .before .before .before .before .before .before .before .before .before .before .before .before .before .before .before .before .before .before .before .before .before .before .before .args .facets)) (c .before .before .before .before .before .before .before .before .before .before .before .before .before .before .before .before .double .ensures)) (c .before .before .before .before .before .before .before .before .before .before .before .yongpham-clean .kept .1 .1 .1 .1 .0) _ (c .same-answer .ensures)
 

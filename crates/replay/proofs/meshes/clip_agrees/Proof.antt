@@ -10,83 +10,63 @@ use Rattle.replay.proofs.compare.same_answer.Reads as same-answer-reads
 use Rattle.replay.proofs.contents.double.Reads as double-reads
 use Rattle.yongpham.proofs.yongpham_clip.Reads as yongpham-clip-reads
 
--- src/meshes.rt:39:16
 shared-slice-read-double : tie.Need-shared-slice-read-double
 shared-slice-read-double c = search needs
 
--- src/meshes.rt:39:9
 double-requires : tie.Need-double-requires
 double-requires c κs = search needs
 
--- src/meshes.rt:40:16
 shared-slice-read-double-2 : tie.Need-shared-slice-read-double-2
 shared-slice-read-double-2 c = search needs
 
--- src/meshes.rt:40:9
 double-requires-2 : tie.Need-double-requires-2
 double-requires-2 c κs = search needs
 
--- src/meshes.rt:41:16
 shared-slice-read-double-3 : tie.Need-shared-slice-read-double-3
 shared-slice-read-double-3 c = search needs
 
--- src/meshes.rt:41:9
 double-requires-3 : tie.Need-double-requires-3
 double-requires-3 c κs = search needs
 
--- src/meshes.rt:42:16
 shared-slice-read-double-4 : tie.Need-shared-slice-read-double-4
 shared-slice-read-double-4 c = search needs
 
--- src/meshes.rt:42:9
 double-requires-4 : tie.Need-double-requires-4
 double-requires-4 c κs = search needs
 
--- src/meshes.rt:43:16
 shared-slice-read-double-5 : tie.Need-shared-slice-read-double-5
 shared-slice-read-double-5 c = search needs
 
--- src/meshes.rt:43:9
 double-requires-5 : tie.Need-double-requires-5
 double-requires-5 c κs = search needs
 
--- src/meshes.rt:44:16
 shared-slice-read-double-6 : tie.Need-shared-slice-read-double-6
 shared-slice-read-double-6 c = search needs
 
--- src/meshes.rt:44:9
 double-requires-6 : tie.Need-double-requires-6
 double-requires-6 c κs = search needs
 
--- src/meshes.rt:45:16
 shared-slice-read-double-7 : tie.Need-shared-slice-read-double-7
 shared-slice-read-double-7 c = search needs
 
--- src/meshes.rt:45:9
 double-requires-7 : tie.Need-double-requires-7
 double-requires-7 c κs = search needs
 
--- src/meshes.rt:36:9
 yongpham-clip-requires : tie.Need-yongpham-clip-requires
 yongpham-clip-requires c κs = search needs
 
--- src/meshes.rt:51:5
 same-answer-requires : tie.Need-same-answer-requires
 same-answer-requires c κs = outputs-within (now (c .before .before .before .before .before .before .before .before .before .before .before .before .before .before .before .before .before .before .before .before .before .before .before .before .before .before .before .before .before .before .before .before .before .before .before .args .stored)) (now (c .before .before .before .before .before .before .before .before .before .before .before .before .before .before .before .before .before .before .before .before .before .before .before .before .before .before .before .before .before .before .before .before .before .before .before .args .work)) (now (c .before .before .before .before .before .before .before .before .before .before .before .before .before .before .before .before .before .before .before .before .before .before .before .before .before .before .before .before .before .before .before .before .before .before .before .args .out-vertices)) (c .before .before .before .before .before .before .before .before .before .before .yongpham-clip .last .1 .1 .1 .1 .1 .1 .1 .1 .1 .1 .0) (now (c .before .before .before .before .before .before .before .before .before .before .before .before .before .before .before .before .before .before .before .before .before .before .before .before .before .before .before .before .before .before .before .before .before .before .before .args .out-facets)) (c .before .before .before .before .before .before .before .before .before .before .yongpham-clip .last .1 .1 .1 .1 .1 .1 .1 .1 .1 .1 .1 .0) (c .before .before .before .before .before .before .before .before .before .before .before .before .before .before .before .before .before .before .before .before .before .before .before .before .before .before .before .before .before .before .before .before .before .before .before .pre .0) (c .before .before .before .before .before .before .before .before .before .before .before .before .before .before .before .before .before .before .before .before .before .before .before .before .before .before .before .before .before .before .before .before .before .before .before .pre .1) (c .before .before .before .before .before .before .before .before .before .before .yongpham-clip .kept .1 .1 .1 .1 .1 .1 .1 .1 .1 .1 .0) (c .before .before .before .before .before .before .before .before .before .before .yongpham-clip .kept .1 .1 .1 .1 .1 .1 .1 .1 .1 .1 .1 .0)
 
--- src/meshes.rt:23:1
 same-length : tie.Need-same-length
 same-length c = search needs
 
--- src/meshes.rt:23:1
 same-length-2 : tie.Need-same-length-2
 same-length-2 c = search needs
 
--- src/meshes.rt:23:1
 same-length-3 : tie.Need-same-length-3
 same-length-3 c = search needs
 
--- src/meshes.rt:23:1
 returns : tie.Need-returns
 returns c = answer-decides (now (c .before .before .before .before .before .before .before .before .before .before .before .before .before .before .before .before .before .before .before .before .before .before .before .before .before .before .before .before .before .before .before .before .before .before .before .before .args .stored)) _ _ _ _ _ _ (now (c .before .before .before .before .before .before .before .before .before .before .before .before .before .before .before .before .before .before .before .before .before .before .before .before .before .before .before .before .before .before .before .before .before .before .before .before .args .work)) _ (now (c .before .before .before .before .before .before .before .before .before .before .before .before .before .before .before .before .before .before .before .before .before .before .before .before .before .before .before .before .before .before .before .before .before .before .before .before .args .out-vertices)) _ (now (c .before .before .before .before .before .before .before .before .before .before .before .before .before .before .before .before .before .before .before .before .before .before .before .before .before .before .before .before .before .before .before .before .before .before .before .before .args .out-facets)) _ (c .before .before .before .before .before .before .before .before .before .before .before .before .before .before .before .before .before .before .before .before .before .before .before .before .before .before .before .before .before .before .before .before .before .before .before .before .pre .1) (c .before .before .before .before .before .before .before .before .before .before .before .yongpham-clip .ensures) (clip-reply (now (c .before .before .before .before .before .before .before .before .before .before .before .before .before .before .before .before .before .before .before .before .before .before .before .before .before .before .before .before .before .before .before .before .before .before .before .before .args .stored)) (now (c .before .before .before .before .before .before .before .before .before .before .before .before .before .before .before .before .before .before .before .before .before .before .before .before .before .before .before .before .before .before .before .before .before .before .before .before .args .work)) (now (c .before .before .before .before .before .before .before .before .before .before .before .before .before .before .before .before .before .before .before .before .before .before .before .before .before .before .before .before .before .before .before .before .before .before .before .before .args .out-vertices)) (now (c .before .before .before .before .before .before .before .before .before .before .before .before .before .before .before .before .before .before .before .before .before .before .before .before .before .before .before .before .before .before .before .before .before .before .before .before .args .out-facets)) (c .before .before .before .before .before .before .before .before .before .before .before .before .before .before .before .before .before .before .before .before .before .before .before .before .before .before .before .before .before .before .before .before .before .before .before .before .pre .1) (now (c .before .before .before .before .before .before .before .before .before .before .before .before .before .before .before .before .before .before .before .before .before .before .before .before .before .before .before .before .before .before .before .before .before .before .before .before .args .vertices)) (now (c .before .before .before .before .before .before .before .before .before .before .before .before .before .before .before .before .before .before .before .before .before .before .before .before .before .before .before .before .before .before .before .before .before .before .before .before .args .facets)) (same-box (now (c .before .before .before .before .before .before .before .before .before .before .before .before .before .before .before .before .before .before .before .before .before .before .before .before .before .before .before .before .before .before .before .before .before .before .before .before .args .stored)) (c .before .before .before .before .before .before .before .before .before .before .before .before .before .before .before .before .before .before .before .before .before .before .before .before .before .before .before .before .double .ensures) (c .before .before .before .before .before .before .before .before .before .before .before .before .before .before .before .before .before .before .before .before .before .before .before .before .before .before .double2 .ensures) (c .before .before .before .before .before .before .before .before .before .before .before .before .before .before .before .before .before .before .before .before .before .before .before .before .double3 .ensures) (c .before .before .before .before .before .before .before .before .before .before .before .before .before .before .before .before .before .before .before .before .before .before .double4 .ensures) (c .before .before .before .before .before .before .before .before .before .before .before .before .before .before .before .before .before .before .before .before .double5 .ensures) (c .before .before .before .before .before .before .before .before .before .before .before .before .before .before .before .before .before .before .double6 .ensures)) (c .before .before .before .before .before .before .before .before .before .before .before .before .before .before .before .before .double7 .ensures)) (clip-result (now (c .before .before .before .before .before .before .before .before .before .before .before .before .before .before .before .before .before .before .before .before .before .before .before .before .before .before .before .before .before .before .before .before .before .before .before .before .args .stored)) (now (c .before .before .before .before .before .before .before .before .before .before .before .before .before .before .before .before .before .before .before .before .before .before .before .before .before .before .before .before .before .before .before .before .before .before .before .before .args .vertices)) (now (c .before .before .before .before .before .before .before .before .before .before .before .before .before .before .before .before .before .before .before .before .before .before .before .before .before .before .before .before .before .before .before .before .before .before .before .before .args .facets)) (same-box (now (c .before .before .before .before .before .before .before .before .before .before .before .before .before .before .before .before .before .before .before .before .before .before .before .before .before .before .before .before .before .before .before .before .before .before .before .before .args .stored)) (c .before .before .before .before .before .before .before .before .before .before .before .before .before .before .before .before .before .before .before .before .before .before .before .before .before .before .before .before .double .ensures) (c .before .before .before .before .before .before .before .before .before .before .before .before .before .before .before .before .before .before .before .before .before .before .before .before .before .before .double2 .ensures) (c .before .before .before .before .before .before .before .before .before .before .before .before .before .before .before .before .before .before .before .before .before .before .before .before .double3 .ensures) (c .before .before .before .before .before .before .before .before .before .before .before .before .before .before .before .before .before .before .before .before .before .before .double4 .ensures) (c .before .before .before .before .before .before .before .before .before .before .before .before .before .before .before .before .before .before .before .before .double5 .ensures) (c .before .before .before .before .before .before .before .before .before .before .before .before .before .before .before .before .before .before .double6 .ensures)) (c .before .before .before .before .before .before .before .before .before .before .before .before .before .before .before .before .double7 .ensures)) (c .before .before .before .before .before .before .before .before .before .before .before .yongpham-clip .kept .1 .1 .1 .1 .1 .1 .1 .1 .1 .1 .0) _ (c .same-answer .ensures)
 

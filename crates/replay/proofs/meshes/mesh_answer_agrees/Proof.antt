@@ -12,59 +12,45 @@ use Rattle.replay.proofs.contents.room_for_numbers.Reads as room-for-nu
 use Rattle.replay.proofs.contents.room_for_work.Reads as room-for-work-reads
 use Rattle.replay.proofs.meshes.run.Reads as run-reads
 
--- src/meshes.rt:79:20
 room-for-work-requires : tie.Need-room-for-work-requires
 room-for-work-requires c κs = search needs
 
--- src/meshes.rt:80:28
 room-for-doubles-requires : tie.Need-room-for-doubles-requires
 room-for-doubles-requires c κs = search needs
 
--- src/meshes.rt:81:26
 room-for-numbers-requires : tie.Need-room-for-numbers-requires
 room-for-numbers-requires c κs = search needs
 
--- src/meshes.rt:82:16
 shared-slice-read-lent : tie.Need-shared-slice-read-lent
 shared-slice-read-lent c = search needs
 
--- src/meshes.rt:83:17
 shared-slice-read-out-v : tie.Need-shared-slice-read-out-v
 shared-slice-read-out-v c = search needs
 
--- src/meshes.rt:84:17
 shared-slice-read-out-f : tie.Need-shared-slice-read-out-f
 shared-slice-read-out-f c = search needs
 
--- src/meshes.rt:89:9
 array-borrow-prefix-work : tie.Need-array-borrow-prefix-work
 array-borrow-prefix-work c = search needs
 
--- src/meshes.rt:89:9
 slice-aggregate-run : tie.Need-slice-aggregate-run
 slice-aggregate-run c = sym (front-length _ _ (c .before .before .before .before .before .before .room-for-work .result) (c .before .before .before .before .before .before .room-for-work .ensures) (c .before .before .before .before .before .before .before .before .before .before .pre .work))
 
--- src/meshes.rt:90:9
 array-borrow-prefix-out-vertices : tie.Need-array-borrow-prefix-out-vertices
 array-borrow-prefix-out-vertices c = omega (arith, c .before .before .before .before .before .room-for-doubles .ensures, c .before .before .before .before .before .before .before .before .before .before .pre .outputs 0 (lit< tt))
 
--- src/meshes.rt:90:9
 slice-aggregate-run-2 : tie.Need-slice-aggregate-run-2
 slice-aggregate-run-2 c = sym (front-length _ _ (c .before .before .before .before .before .before .room-for-doubles .result) (c .before .before .before .before .before .before .room-for-doubles .ensures) (c .before .before .before .before .before .before .before .before .before .before .before .pre .outputs 0 (lit< tt)))
 
--- src/meshes.rt:91:9
 array-borrow-prefix-out-facets : tie.Need-array-borrow-prefix-out-facets
 array-borrow-prefix-out-facets c = omega (arith, c .before .before .before .before .before .room-for-numbers .ensures, c .before .before .before .before .before .before .before .before .before .before .before .pre .outputs 1 (lit< tt))
 
--- src/meshes.rt:91:9
 slice-aggregate-run-3 : tie.Need-slice-aggregate-run-3
 slice-aggregate-run-3 c = sym (front-length _ _ (c .before .before .before .before .before .before .room-for-numbers .result) (c .before .before .before .before .before .before .room-for-numbers .ensures) (c .before .before .before .before .before .before .before .before .before .before .before .before .pre .outputs 1 (lit< tt)))
 
--- src/meshes.rt:85:5
 run-requires : tie.Need-run-requires
 run-requires c κs = (c .before .before .before .before .before .before .before .before .before .before .before .before .pre, (front-length _ _ (c .before .before .before .before .before .before .before .before .room-for-work .result) (c .before .before .before .before .before .before .before .before .room-for-work .ensures) (c .before .before .before .before .before .before .before .before .before .before .before .before .pre .work), (front-length _ _ (c .before .before .before .before .before .before .before .room-for-doubles .result) (c .before .before .before .before .before .before .before .room-for-doubles .ensures) (c .before .before .before .before .before .before .before .before .before .before .before .before .pre .outputs 0 (lit< tt)), front-length _ _ (c .before .before .before .before .before .before .room-for-numbers .result) (c .before .before .before .before .before .before .room-for-numbers .ensures) (c .before .before .before .before .before .before .before .before .before .before .before .before .pre .outputs 1 (lit< tt)))))
 
--- src/meshes.rt:75:1
 returns : tie.Need-returns
 returns c = search needs
 

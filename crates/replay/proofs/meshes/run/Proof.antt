@@ -18,63 +18,48 @@ use Rattle.replay.proofs.meshes.caps_agrees.Reads as caps-agrees-reads
 use Rattle.replay.proofs.meshes.clean_agrees.Reads as clean-agrees-reads
 use Rattle.replay.proofs.meshes.clip_agrees.Reads as clip-agrees-reads
 
--- src/meshes.rt:92:5
 old-words-requires : tie.Need-old-words-requires
 old-words-requires c κs = search needs
 
--- src/meshes.rt:93:5
 old-doubles-requires : tie.Need-old-doubles-requires
 old-doubles-requires c κs = search needs
 
--- src/meshes.rt:94:5
 old-numbers-requires : tie.Need-old-numbers-requires
 old-numbers-requires c κs = omega (arith, c .before .before .before .before .before .before .before .before .before .before .before .before .before .before .before .pre .0 .outputs 1 (lit< tt), c .before .before .before .before .before .before .before .before .before .before .before .before .before .before .before .pre .1 .1 .1)
 
--- src/meshes.rt:95:8
 shared-slice-read-if1 : tie.Need-shared-slice-read-if1
 shared-slice-read-if1 c = search needs
 
--- src/meshes.rt:96:9
 clip-agrees-requires : tie.Need-clip-agrees-requires
 clip-agrees-requires c κs = (c .before .before .before .before .before .before .before .before .before .before .before .before .before .before .before .before .before .before .before .before .before .before .before .pre .0, record { lent = c .before .before .before .before .before .before .before .before .before .before .before .before .before .before .before .old-words .kept .0 ∙ c .before .before .before .before .before .before .before .before .before .before .before .before .before .before .before .before .before .before .before .before .before .before .before .pre .1 .0; coordinates = c .before .before .before .before .before .before .before .before .before .before .before .old-doubles .ensures ∙ ap oldDoubles (c .before .before .before .before .before .before .before .before .before .before .before .before .before .before .before .before .before .before .before .before .before .before .before .pre .1 .1 .0); numbers = c .before .before .before .before .before .before .before .old-numbers .ensures ∙ ap oldWords (c .before .before .before .before .before .before .before .before .before .before .before .before .before .before .before .before .before .before .before .before .before .before .before .pre .1 .1 .1) })
 
--- src/meshes.rt:96:9
 same-length : tie.Need-same-length
 same-length c = search needs
 
--- src/meshes.rt:96:9
 same-length-2 : tie.Need-same-length-2
 same-length-2 c = search needs
 
--- src/meshes.rt:96:9
 same-length-3 : tie.Need-same-length-3
 same-length-3 c = search needs
 
--- src/meshes.rt:96:9
 returns : tie.Need-returns
 returns c = ends _ (c .before .before .before .before .before .before .clip-agrees .ensures) (λ s. clip (c .before .before .before .before .before .before .before .before .before .before .if1 .taken) s) (λ m. as-clip (now (c .before .before .before .before .before .before .before .before .before .before .before .before .before .before .before .before .before .before .before .before .before .before .before .before .before .before .before .before .before .before .args .stored)) (now (c .before .before .before .before .before .before .before .before .before .before .before .before .before .before .before .before .before .before .before .before .before .before .before .before .before .before .before .before .before .before .args .vertices)) (now (c .before .before .before .before .before .before .before .before .before .before .before .before .before .before .before .before .before .before .before .before .before .before .before .before .before .before .before .before .before .before .args .facets)) (c .before .before .before .before .before .before .before .before .before .before .if1 .taken) m)
 
--- src/meshes.rt:98:8
 shared-slice-read-if2 : tie.Need-shared-slice-read-if2
 shared-slice-read-if2 c = search needs
 
--- src/meshes.rt:99:9
 clean-agrees-requires : tie.Need-clean-agrees-requires
 clean-agrees-requires c κs = (c .before .before .before .before .before .before .before .before .before .before .before .before .before .before .before .before .before .before .before .before .before .before .before .before .before .pre .0, record { lent = c .before .before .before .before .before .before .before .before .before .before .before .before .before .before .before .before .before .old-words .kept .0 ∙ c .before .before .before .before .before .before .before .before .before .before .before .before .before .before .before .before .before .before .before .before .before .before .before .before .before .pre .1 .0; coordinates = c .before .before .before .before .before .before .before .before .before .before .before .before .before .old-doubles .ensures ∙ ap oldDoubles (c .before .before .before .before .before .before .before .before .before .before .before .before .before .before .before .before .before .before .before .before .before .before .before .before .before .pre .1 .1 .0); numbers = c .before .before .before .before .before .before .before .before .before .old-numbers .ensures ∙ ap oldWords (c .before .before .before .before .before .before .before .before .before .before .before .before .before .before .before .before .before .before .before .before .before .before .before .before .before .pre .1 .1 .1) })
 
--- src/meshes.rt:99:9
 same-length-4 : tie.Need-same-length-4
 same-length-4 c = search needs
 
--- src/meshes.rt:99:9
 same-length-5 : tie.Need-same-length-5
 same-length-5 c = search needs
 
--- src/meshes.rt:99:9
 same-length-6 : tie.Need-same-length-6
 same-length-6 c = search needs
 
--- src/meshes.rt:99:9
 returns-2 : tie.Need-returns-2
 returns-2 c = ends _ (c .before .before .before .before .before .before .clean-agrees .ensures) (λ s. clean (c .before .before .before .before .before .before .before .before .before .before .if2 .taken) s) (λ m. as-clean (now (c .before .before .before .before .before .before .before .before .before .before .before .before .before .before .before .before .before .before .before .before .before .before .before .before .before .before .before .before .before .before .before .before .args .stored)) (now (c .before .before .before .before .before .before .before .before .before .before .before .before .before .before .before .before .before .before .before .before .before .before .before .before .before .before .before .before .before .before .before .before .args .vertices)) (now (c .before .before .before .before .before .before .before .before .before .before .before .before .before .before .before .before .before .before .before .before .before .before .before .before .before .before .before .before .before .before .before .before .args .facets)) (c .before .before .before .before .before .before .before .before .before .before .if2 .taken) m)
 

@@ -10,23 +10,18 @@ use Rattle.replay.proofs.requests.answer_agrees.Lts as lts
 use Rattle.replay.proofs.candidates.candidates_answer_agrees.Reads as candidates-answer-agrees-reads
 use Rattle.replay.proofs.meshes.mesh_answer_agrees.Reads as mesh-answer-agrees-reads
 
--- src/requests.rt:21:8
 shared-slice-read-if1 : tie.Need-shared-slice-read-if1
 shared-slice-read-if1 c = search needs
 
--- src/requests.rt:22:9
 candidates-answer-agrees-requires : tie.Need-candidates-answer-agrees-requires
 candidates-answer-agrees-requires c κs = search needs
 
--- src/requests.rt:22:9
 returns : tie.Need-returns
 returns c = ends _ (c .candidates-answer-agrees .ensures) (λ s. candidates (c .before .if1 .taken) s) (λ a. as-candidates (now (c .before .before .before .before .before .before .args .stored)) (now (c .before .before .before .before .before .before .args .vertices)) (now (c .before .before .before .before .before .before .args .facets)) (c .before .if1 .taken) a)
 
--- src/requests.rt:24:5
 mesh-answer-agrees-requires : tie.Need-mesh-answer-agrees-requires
 mesh-answer-agrees-requires c κs = search needs
 
--- src/requests.rt:17:1
 returns-2 : tie.Need-returns-2
 returns-2 c = ends _ (c .mesh-answer-agrees .ensures) (λ m. mesh m) (λ a. as-mesh (now (c .before .before .before .before .before .before .args .stored)) (now (c .before .before .before .before .before .before .args .vertices)) (now (c .before .before .before .before .before .before .args .facets)) (c .before .if1 .left) a)
 

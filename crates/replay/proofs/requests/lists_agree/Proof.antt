@@ -8,27 +8,21 @@ use Rattle.replay.proofs.layout.is_laid.Reads as is-laid-reads
 use Rattle.replay.proofs.requests.has_numbers.Reads as has-numbers-reads
 use Rattle.replay.proofs.requests.with_lists.Reads as with-lists-reads
 
--- src/requests.rt:124:9
 is-laid-requires : tie.Need-is-laid-requires
 is-laid-requires c κs = search needs
 
--- src/requests.rt:125:9
 returns : tie.Need-returns
 returns c = stops _ (c .before .is-laid .ensures) (c .if1 .taken) (λ a. a .laid)
 
--- src/requests.rt:127:9
 has-numbers-requires : tie.Need-has-numbers-requires
 has-numbers-requires c κs = passes (c .before .is-laid .ensures) (c .if1 .left)
 
--- src/requests.rt:128:9
 returns-2 : tie.Need-returns-2
 returns-2 c = stops _ (c .before .has-numbers .ensures) (c .if2 .taken) (λ a. a .numbers)
 
--- src/requests.rt:130:5
 with-lists-requires : tie.Need-with-lists-requires
 with-lists-requires c κs = passes (c .before .before .before .is-laid .ensures) (c .before .before .if1 .left)
 
--- src/requests.rt:121:1
 returns-3 : tie.Need-returns-3
 returns-3 c = ends _ (c .with-lists .ensures) (λ z. record { laid = passes (c .before .before .before .before .is-laid .ensures) (c .before .before .before .if1 .left); numbers = passes (c .before .before .has-numbers .ensures) (c .before .if2 .left); answer = z }) (λ a. a .answer)
 

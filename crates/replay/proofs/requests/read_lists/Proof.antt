@@ -10,31 +10,24 @@ use Rattle.replay.proofs.contents.read_doubles.Reads as read-doubles-re
 use Rattle.replay.proofs.contents.read_numbers.Reads as read-numbers-reads
 use Rattle.replay.proofs.requests.answer_agrees.Reads as answer-agrees-reads
 
--- src/requests.rt:100:5
 read-doubles-requires : tie.Need-read-doubles-requires
 read-doubles-requires c κs = search needs
 
--- src/requests.rt:101:26
 add-read-numbers : tie.Need-add-read-numbers
 add-read-numbers c = search needs
 
--- src/requests.rt:101:5
 read-numbers-requires : tie.Need-read-numbers-requires
 read-numbers-requires c κs = search needs
 
--- src/requests.rt:102:5
 answer-agrees-requires : tie.Need-answer-agrees-requires
 answer-agrees-requires c κs = search needs
 
--- src/requests.rt:95:1
 same-length : tie.Need-same-length
 same-length c = search needs
 
--- src/requests.rt:95:1
 same-length-2 : tie.Need-same-length-2
 same-length-2 c = search needs
 
--- src/requests.rt:95:1
 returns : tie.Need-returns
 returns c = lists-decides (now (c .before .before .before .before .before .before .before .before .before .before .before .before .before .before .args .stored)) _ _ _ _ _ _ (c .before .before .before .before .before .before .before .before .before .before .before .before .before .before .pre .1 .0) (c .before .before .before .before .before .before .before .before .before .read-doubles .kept .1 .1 .0 ∙ c .before .before .before .before .before .before .before .before .before .before .before .before .before .before .pre .1 .0) (c .before .before .before .before .before .before .before .before .before .before .before .before .before .before .pre .1 .1) (c .before .before .before .before .before .before .before .before .before .read-doubles .ensures) (c .before .before .before .before .before .read-numbers .ensures) (c .answer-agrees .ensures)
 

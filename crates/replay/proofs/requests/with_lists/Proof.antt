@@ -11,43 +11,33 @@ use Rattle.replay.proofs.contents.room_for_doubles.Reads as room-for-do
 use Rattle.replay.proofs.contents.room_for_numbers.Reads as room-for-numbers-reads
 use Rattle.replay.proofs.requests.read_lists.Reads as read-lists-reads
 
--- src/requests.rt:109:24
 room-for-doubles-requires : tie.Need-room-for-doubles-requires
 room-for-doubles-requires c κs = search needs
 
--- src/requests.rt:110:22
 room-for-numbers-requires : tie.Need-room-for-numbers-requires
 room-for-numbers-requires c κs = search needs
 
--- src/requests.rt:111:13
 shared-slice-read-v : tie.Need-shared-slice-read-v
 shared-slice-read-v c = search needs
 
--- src/requests.rt:112:13
 shared-slice-read-f : tie.Need-shared-slice-read-f
 shared-slice-read-f c = search needs
 
--- src/requests.rt:113:24
 array-borrow-prefix-vertices : tie.Need-array-borrow-prefix-vertices
 array-borrow-prefix-vertices c = omega (arith, c .before .before .before .room-for-doubles .ensures, c .before .before .before .before .before .pre .lists 0 (lit< tt))
 
--- src/requests.rt:113:24
 slice-aggregate-read-lists : tie.Need-slice-aggregate-read-lists
 slice-aggregate-read-lists c = sym (front-length _ _ (c .before .before .before .before .room-for-doubles .result) (c .before .before .before .before .room-for-doubles .ensures) (c .before .before .before .before .before .before .pre .lists 0 (lit< tt)))
 
--- src/requests.rt:113:44
 array-borrow-prefix-facets : tie.Need-array-borrow-prefix-facets
 array-borrow-prefix-facets c = omega (arith, c .before .before .before .room-for-numbers .ensures, c .before .before .before .before .before .before .pre .lists 1 (lit< tt))
 
--- src/requests.rt:113:44
 slice-aggregate-read-lists-2 : tie.Need-slice-aggregate-read-lists-2
 slice-aggregate-read-lists-2 c = sym (front-length _ _ (c .before .before .before .before .room-for-numbers .result) (c .before .before .before .before .room-for-numbers .ensures) (c .before .before .before .before .before .before .before .pre .lists 1 (lit< tt)))
 
--- src/requests.rt:113:5
 read-lists-requires : tie.Need-read-lists-requires
 read-lists-requires c κs = (c .before .before .before .before .before .before .before .pre, (front-length _ _ (c .before .before .before .before .before .room-for-doubles .result) (c .before .before .before .before .before .room-for-doubles .ensures) (c .before .before .before .before .before .before .before .pre .lists 0 (lit< tt)), front-length _ _ (c .before .before .before .before .room-for-numbers .result) (c .before .before .before .before .room-for-numbers .ensures) (c .before .before .before .before .before .before .before .pre .lists 1 (lit< tt))))
 
--- src/requests.rt:105:1
 returns : tie.Need-returns
 returns c = search needs
 

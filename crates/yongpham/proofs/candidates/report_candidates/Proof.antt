@@ -7,27 +7,21 @@ use Rattle.yongpham.proofs.candidates.report_candidates.Lts as lts
 use Rattle.refusals.proofs.report.report_done.Reads as report-done-reads
 use Rattle.refusals.proofs.report.report_refusal.Reads as report-refusal-reads
 
--- src/candidates.rt:16:31
 enum-known-reply : tie.Need-enum-known-reply
 enum-known-reply c = search needs
 
--- src/candidates.rt:16:83
 report-done-requires : tie.Need-report-done-requires
 report-done-requires c κs = search needs
 
--- src/candidates.rt:23:34
 enum-known-reply-2 : tie.Need-enum-known-reply-2
 enum-known-reply-2 c = search needs
 
--- src/candidates.rt:23:46
 report-refusal-requires : tie.Need-report-refusal-requires
 report-refusal-requires c κs = search needs
 
--- src/candidates.rt:12:1
 returns : tie.Need-returns
 returns c = candidates-done _ _ _ _ _ _ _ (c .before .before .before .reply .given .1) (c .report-done .ensures)
 
--- src/candidates.rt:12:1
 returns-2 : tie.Need-returns-2
 returns-2 c = candidates-refused _ _ _ _ (c .before .before .before .reply2 .given .1) (c .report-refusal .ensures)
 

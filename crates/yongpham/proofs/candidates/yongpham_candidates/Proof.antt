@@ -7,35 +7,27 @@ use Rattle.yongpham.proofs.candidates.yongpham_candidates.Lts as lts
 use Rattle.boundary_closure.proofs.cap_candidates.Reads as cap-candidates-reads
 use Rattle.yongpham.proofs.candidates.report_candidates.Reads as report-candidates-reads
 
--- src/candidates.rt:53:9
 cap-candidates-requires : tie.Need-cap-candidates-requires
 cap-candidates-requires c κs = search needs
 
--- src/candidates.rt:65:5
 report-candidates-requires : tie.Need-report-candidates-requires
 report-candidates-requires c κs = search needs
 
--- src/candidates.rt:28:1
 same-length : tie.Need-same-length
 same-length c = search needs
 
--- src/candidates.rt:28:1
 same-length-2 : tie.Need-same-length-2
 same-length-2 c = search needs
 
--- src/candidates.rt:28:1
 same-length-3 : tie.Need-same-length-3
 same-length-3 c = search needs
 
--- src/candidates.rt:28:1
 same-length-4 : tie.Need-same-length-4
 same-length-4 c = search needs
 
--- src/candidates.rt:28:1
 same-length-5 : tie.Need-same-length-5
 same-length-5 c = search needs
 
--- src/candidates.rt:28:1
 returns : tie.Need-returns
 returns c = candidates-reported _ _ _ _ _ _ _ _ _ _ _ _ _ _ _ _ _ _ (c .before .before .before .before .before .before .before .before .before .before .before .before .cap-candidates .ensures) (c .report-candidates .ensures)
 

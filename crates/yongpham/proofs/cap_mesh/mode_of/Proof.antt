@@ -4,15 +4,12 @@ use Rattle.yongpham.proofs.cap_mesh.mode_of.Tie as tie
 use Rattle.yongpham.proofs.cap_mesh.mode_of.Reads as reads
 use Rattle.yongpham.proofs.cap_mesh.mode_of.Lts as lts
 
--- src/cap_mesh.rt:19:9
 returns : tie.Need-returns
 returns c = mode-none _ (c .if1 .taken)
 
--- src/cap_mesh.rt:22:9
 returns-2 : tie.Need-returns-2
 returns-2 c = mode-positive _ (c .if2 .taken)
 
--- src/cap_mesh.rt:15:1
 returns-3 : tie.Need-returns-3
 returns-3 c = mode-negative _ (c .before .if1 .left) (c .if2 .left)
 

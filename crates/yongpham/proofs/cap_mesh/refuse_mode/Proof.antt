@@ -7,31 +7,24 @@ use Rattle.yongpham.proofs.cap_mesh.refuse_mode.Lts as lts
 use Rattle.refusals.proofs.front.check_lists.Reads as check-lists-reads
 use Rattle.refusals.proofs.report.report_refusal.Reads as report-refusal-reads
 
--- src/cap_mesh.rt:31:11
 check-lists-requires : tie.Need-check-lists-requires
 check-lists-requires c κs = search needs
 
--- src/cap_mesh.rt:32:43
 enum-told : tie.Need-enum-told
 enum-told c = search needs
 
--- src/cap_mesh.rt:32:28
 report-refusal-requires : tie.Need-report-refusal-requires
 report-refusal-requires c κs = search needs
 
--- src/cap_mesh.rt:33:26
 enum-known-refusal : tie.Need-enum-known-refusal
 enum-known-refusal c = search needs
 
--- src/cap_mesh.rt:33:38
 report-refusal-requires-2 : tie.Need-report-refusal-requires-2
 report-refusal-requires-2 c κs = search needs
 
--- src/cap_mesh.rt:28:1
 returns : tie.Need-returns
 returns c = no-mode-passed _ _ _ _ _ _ (c .before .before .before .before .check-lists .ensures) (c .before .before .enum-told .given .1) (c .report-refusal .ensures)
 
--- src/cap_mesh.rt:28:1
 returns-2 : tie.Need-returns-2
 returns-2 c = no-mode-refused _ _ _ _ _ _ _ (c .before .before .before .before .before .check-lists .ensures) (c .before .before .before .refusal .given .1) (c .report-refusal2 .ensures)
 

@@ -11,47 +11,36 @@ use Rattle.words.proofs.zero.Reads as zero-reads
 use Rattle.yongpham.proofs.cap_mesh.mode_of.Reads as mode-of-reads
 use Rattle.yongpham.proofs.cap_mesh.refuse_mode.Reads as refuse-mode-reads
 
--- src/cap_mesh.rt:60:9
 zero-requires : tie.Need-zero-requires
 zero-requires c κs = search needs
 
--- src/cap_mesh.rt:61:9
 refuse-mode-requires : tie.Need-refuse-mode-requires
 refuse-mode-requires c κs = search needs
 
--- src/cap_mesh.rt:61:9
 same-length : tie.Need-same-length
 same-length c = search needs
 
--- src/cap_mesh.rt:61:9
 returns : tie.Need-returns
 returns c = caps-none _ _ _ _ _ _ _ _ _ _ _ _ _ _ _ (c .before .before .before .before .before .before .if1 .taken) (c .before .before .before .before .zero .ensures) refl refl (c .refuse-mode .ensures)
 
--- src/cap_mesh.rt:74:9
 mode-of-requires : tie.Need-mode-of-requires
 mode-of-requires c κs = search needs
 
--- src/cap_mesh.rt:67:9
 cap-mesh-to-aabb-requires : tie.Need-cap-mesh-to-aabb-requires
 cap-mesh-to-aabb-requires c κs = search needs
 
--- src/cap_mesh.rt:79:5
 report-mesh-requires : tie.Need-report-mesh-requires
 report-mesh-requires c κs = search needs
 
--- src/cap_mesh.rt:38:1
 same-length-2 : tie.Need-same-length-2
 same-length-2 c = search needs
 
--- src/cap_mesh.rt:38:1
 same-length-3 : tie.Need-same-length-3
 same-length-3 c = search needs
 
--- src/cap_mesh.rt:38:1
 same-length-4 : tie.Need-same-length-4
 same-length-4 c = search needs
 
--- src/cap_mesh.rt:38:1
 returns-2 : tie.Need-returns-2
 returns-2 c = caps-reported _ _ _ _ _ _ _ _ _ _ _ _ _ _ _ _ _ (c .before .before .before .before .before .before .before .before .before .before .before .before .before .if1 .left) (c .before .before .before .before .before .before .before .before .before .before .before .before .mode-of .ensures) (c .before .before .before .before .before .before .before .before .cap-mesh-to-aabb .ensures) (c .report-mesh .ensures)
 

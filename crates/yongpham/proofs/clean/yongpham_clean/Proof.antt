@@ -7,27 +7,21 @@ use Rattle.yongpham.proofs.clean.yongpham_clean.Lts as lts
 use Rattle.mesh_cleanup.proofs.clean_mesh.Reads as clean-mesh-reads
 use Rattle.refusals.proofs.report.report_mesh.Reads as report-mesh-reads
 
--- src/clean.rt:22:9
 clean-mesh-requires : tie.Need-clean-mesh-requires
 clean-mesh-requires c κs = search needs
 
--- src/clean.rt:23:5
 report-mesh-requires : tie.Need-report-mesh-requires
 report-mesh-requires c κs = search needs
 
--- src/clean.rt:9:1
 same-length : tie.Need-same-length
 same-length c = search needs
 
--- src/clean.rt:9:1
 same-length-2 : tie.Need-same-length-2
 same-length-2 c = search needs
 
--- src/clean.rt:9:1
 same-length-3 : tie.Need-same-length-3
 same-length-3 c = search needs
 
--- src/clean.rt:9:1
 returns : tie.Need-returns
 returns c = (mesh-reported _ _ _ _ _ _ _ _ _ _ _ (c .before .before .before .before .before .before .before .before .clean-mesh .ensures .replied) (c .before .before .before .before .before .before .before .before .clean-mesh .ensures .vertices) (c .before .before .before .before .before .before .before .before .clean-mesh .ensures .facets) (c .before .before .before .before .before .before .before .before .clean-mesh .ensures .work) (c .report-mesh .ensures), c .before .before .before .before .before .before .before .before .clean-mesh .ensures .rule)
 

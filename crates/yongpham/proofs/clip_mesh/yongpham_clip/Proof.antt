@@ -7,27 +7,21 @@ use Rattle.yongpham.proofs.clip_mesh.yongpham_clip.Lts as lts
 use Rattle.aabb_clipping.proofs.clip_mesh_to_aabb.Reads as clip-mesh-to-aabb-reads
 use Rattle.refusals.proofs.report.report_mesh.Reads as report-mesh-reads
 
--- src/clip_mesh.rt:29:9
 clip-mesh-to-aabb-requires : tie.Need-clip-mesh-to-aabb-requires
 clip-mesh-to-aabb-requires c κs = search needs
 
--- src/clip_mesh.rt:38:5
 report-mesh-requires : tie.Need-report-mesh-requires
 report-mesh-requires c κs = search needs
 
--- src/clip_mesh.rt:7:1
 same-length : tie.Need-same-length
 same-length c = search needs
 
--- src/clip_mesh.rt:7:1
 same-length-2 : tie.Need-same-length-2
 same-length-2 c = search needs
 
--- src/clip_mesh.rt:7:1
 same-length-3 : tie.Need-same-length-3
 same-length-3 c = search needs
 
--- src/clip_mesh.rt:7:1
 returns : tie.Need-returns
 returns c = mesh-reported _ _ _ _ _ _ _ _ _ _ _ (c .before .before .before .before .before .before .before .before .clip-mesh-to-aabb .ensures .replied) (c .before .before .before .before .before .before .before .before .clip-mesh-to-aabb .ensures .vertices) (c .before .before .before .before .before .before .before .before .clip-mesh-to-aabb .ensures .facets) (c .before .before .before .before .before .before .before .before .clip-mesh-to-aabb .ensures .work) (c .report-mesh .ensures)
 

@@ -9,35 +9,27 @@ use Rattle.tolerance.proofs.bbox_eps.Reads as bbox-eps-reads
 use Rattle.refusals.proofs.report.report_done.Reads as report-done-reads
 use Rattle.refusals.proofs.report.report_refusal.Reads as report-refusal-reads
 
--- src/tolerance_of_box.rt:26:11
 bbox-eps-requires : tie.Need-bbox-eps-requires
 bbox-eps-requires c κs = search needs
 
--- src/tolerance_of_box.rt:27:23
 enum-known-eps : tie.Need-enum-known-eps
 enum-known-eps c = search needs
 
--- src/tolerance_of_box.rt:27:51
 float-to-bits-report-done : tie.Need-float-to-bits-report-done
 float-to-bits-report-done c = eps-is-number _ (c .before .before .before .before .bbox-eps .ensures .admitted _ (c .before .before .eps .given .1))
 
--- src/tolerance_of_box.rt:27:31
 report-done-requires : tie.Need-report-done-requires
 report-done-requires c κs = search needs
 
--- src/tolerance_of_box.rt:28:28
 enum-known-refusal : tie.Need-enum-known-refusal
 enum-known-refusal c = search needs
 
--- src/tolerance_of_box.rt:28:40
 report-refusal-requires : tie.Need-report-refusal-requires
 report-refusal-requires c κs = search needs
 
--- src/tolerance_of_box.rt:10:1
 returns : tie.Need-returns
 returns c = tolerance-done _ _ _ _ _ (c .before .before .before .before .before .bbox-eps .ensures) (c .before .before .before .eps .given .1) (c .report-done .ensures)
 
--- src/tolerance_of_box.rt:10:1
 returns-2 : tie.Need-returns-2
 returns-2 c = tolerance-refused _ _ _ _ _ (c .before .before .before .before .before .bbox-eps .ensures) (c .before .before .before .refusal .given .1) (c .report-refusal .ensures)
 

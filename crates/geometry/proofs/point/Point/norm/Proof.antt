@@ -10,15 +10,12 @@ use Rattle.geometry.proofs.point.Point.norm.Lts as lts
 use Rattle.geometry.proofs.point.Point.norm2.Reads as norm2-reads
 use Rattle.root.proofs.sqrt.Reads as sqrt-reads
 
--- src/point.rt:54:14
 norm2-requires : tie.Need-norm2-requires
 norm2-requires c κs = search needs
 
--- src/point.rt:54:9
 sqrt-requires : tie.Need-sqrt-requires
 sqrt-requires c κs = subst⁻¹ (λ (x : Float). T (rootable x)) (c .norm2 .ensures) (c .before .pre)
 
--- src/point.rt:50:5
 returns : tie.Need-returns
 returns c = c .sqrt .ensures .computed ∙ ap root (c .before .norm2 .ensures)
 
