@@ -34,7 +34,8 @@ use Rattle.refusals.proofs.Replies.{head-passed, tail-passed, row-front, row-re
 use Rattle.refusals.proofs.Grids.{not-too-fine, small-product}
 use Rattle.candidate_edges.specs.Surface.{edgeFaces}
 use Rattle.candidate_edges.specs.Steps.{MeshFits}
-use Rattle.boundary_closure.specs.Operation.{oneResolution, mesh, closureTests, strayEdge, edgeTests}
+use Rattle.boundary_closure.specs.Asked.{Asked, oneResolution}
+use Rattle.boundary_closure.specs.Operation.{mesh, closureTests, strayEdge, edgeTests}
 use Rattle.boundary_closure.specs.Steps.{Sound, Tabled}
 
 -- ---- no count wraps
@@ -64,26 +65,26 @@ few-caps vs fs caps e =
     let s = or-none-right (tooMany ceiling (length vs) 3) (tooMany ceiling (length fs) 3 || tooMany capCeiling caps 4) r in
     ltb-false capCeiling (caps / 4) (or-none-right (tooMany ceiling (length fs) 3) (tooMany capCeiling caps 4) s)
 
-pub need-small : (vs : List Float) (fs : List ℕ) (box : AABB) (eps resolution : Float) (caps m : ℕ) → firstRefusal (listTests ceiling vs fs caps) ≡ Passed
-    → gridTooFine box eps (oneResolution resolution) ≡ false → m ≡ gridSize box eps (oneResolution resolution) → length vs / 3 + length fs / 3 + caps / 4 + m ≤ 4294967296
-need-small vs fs box eps resolution caps m e f g =
+pub need-small : (vs : List Float) (fs : List ℕ) (q : Asked) (caps m : ℕ) → firstRefusal (listTests ceiling vs fs caps) ≡ Passed
+    → gridTooFine (q .box) (q .eps) (oneResolution (q .resolution)) ≡ false → m ≡ gridSize (q .box) (q .eps) (oneResolution (q .resolution)) → length vs / 3 + length fs / 3 + caps / 4 + m ≤ 4294967296
+need-small vs fs q caps m e f g =
     let l = listed ceiling vs fs caps e in
-    omega (arith, l .few-vertices, l .few-facets, few-caps vs fs caps e, grid-small box eps (oneResolution resolution) f, g)
+    omega (arith, l .few-vertices, l .few-facets, few-caps vs fs caps e, grid-small (q .box) (q .eps) (oneResolution (q .resolution)) f, g)
 
 -- ---- 1 to 7
 
-module _ (vs : List Float) (fs : List ℕ) (box : AABB) (eps resolution : Float) (caps lent : ℕ) where
+module _ (vs : List Float) (fs : List ℕ) (q : Asked) (caps lent : ℕ) where
   abbrev lists : List Test
   lists = listTests ceiling vs fs caps
 
   abbrev bad : Bool
-  bad = not (every inRange vs && (boxInRange box && (epsInRange eps && resolutionInRange resolution)))
+  bad = not (every inRange vs && (boxInRange (q .box) && (epsInRange (q .eps) && resolutionInRange (q .resolution))))
 
   abbrev fine : Bool
-  fine = gridTooFine box eps (oneResolution resolution)
+  fine = gridTooFine (q .box) (q .eps) (oneResolution (q .resolution))
 
   abbrev need : ℕ
-  need = workNeed (length vs / 3) (length fs / 3) (caps / 4) (gridSize box eps (oneResolution resolution))
+  need = workNeed (length vs / 3) (length fs / 3) (caps / 4) (gridSize (q .box) (q .eps) (oneResolution (q .resolution)))
 
   abbrev work : List Test
   work = (ltb lent need, NoWorkRoom need) ∷ []
@@ -92,13 +93,13 @@ module _ (vs : List Float) (fs : List ℕ) (box : AABB) (eps resolution : Float)
   grids = (fine, GridTooFine) ∷ work
 
   abbrev boxes : List Test
-  boxes = (badBox box, BadBox) ∷ grids
+  boxes = (badBox (q .box), BadBox) ∷ grids
 
   abbrev rest : List Test
   rest = (bad, BadNumber) ∷ boxes
 
   abbrev found : Checked
-  found = firstRefusal (closureTests vs fs box eps resolution caps lent)
+  found = firstRefusal (closureTests vs fs q caps lent)
 
   pub lists-refused : (x : Checked) (r : Refusal) → x ≡ firstRefusal lists → x ≡ Refused r → x ≡ found
   unfolding closureTests
@@ -116,17 +117,17 @@ module _ (vs : List Float) (fs : List ℕ) (box : AABB) (eps resolution : Float)
       after-numbers : found ≡ firstRefusal boxes
       after-numbers = after-lists ∙ passes bad BadNumber boxes h
 
-      pub box-refused : badBox box ≡ true → Refused BadBox ≡ found
-      box-refused g = sym (after-numbers ∙ holds (badBox box) BadBox grids g)
+      pub box-refused : badBox (q .box) ≡ true → Refused BadBox ≡ found
+      box-refused g = sym (after-numbers ∙ holds (badBox (q .box)) BadBox grids g)
 
-      module _ (g : badBox box ≡ false) where
+      module _ (g : badBox (q .box) ≡ false) where
         after-box : found ≡ firstRefusal grids
-        after-box = after-numbers ∙ passes (badBox box) BadBox grids g
+        after-box = after-numbers ∙ passes (badBox (q .box)) BadBox grids g
 
         pub grid-refused : fine ≡ true → Refused GridTooFine ≡ found
         grid-refused f = sym (after-box ∙ holds fine GridTooFine work f)
 
-        module _ (f : fine ≡ false) (m : ℕ) (em : m ≡ gridSize box eps (oneResolution resolution)) (n : ℕ) (en : n ≡ workNeed (length vs / 3) (length fs / 3) (caps / 4) m) where
+        module _ (f : fine ≡ false) (m : ℕ) (em : m ≡ gridSize (q .box) (q .eps) (oneResolution (q .resolution))) (n : ℕ) (en : n ≡ workNeed (length vs / 3) (length fs / 3) (caps / 4) m) where
           after-grid : found ≡ firstRefusal ((ltb lent n, NoWorkRoom n) ∷ [])
           after-grid =
               after-box ∙ passes fine GridTooFine work f
@@ -151,48 +152,44 @@ module _ (vs : List Float) (fs : List ℕ) (box : AABB) (eps resolution : Float)
     boxes-passed = tail-passed bad BadNumber boxes rest-passed
 
     grids-passed : firstRefusal grids ≡ Passed
-    grids-passed = tail-passed (badBox box) BadBox grids boxes-passed
+    grids-passed = tail-passed (badBox (q .box)) BadBox grids boxes-passed
 
     work-passed : firstRefusal work ≡ Passed
     work-passed = tail-passed fine GridTooFine work grids-passed
 
-    numbers-good : (every inRange vs && (boxInRange box && (epsInRange eps && resolutionInRange resolution))) ≡ true
+    numbers-good : (every inRange vs && (boxInRange (q .box) && (epsInRange (q .eps) && resolutionInRange (q .resolution)))) ≡ true
     numbers-good = not-false _ (head-passed bad BadNumber boxes rest-passed)
 
-    pub sound : Sound vs fs box eps resolution
+    pub sound : Sound vs fs q
     sound =
         let l = listed ceiling vs fs caps front-passed in
-        let a = and-right (every inRange vs) (boxInRange box && (epsInRange eps && resolutionInRange resolution)) numbers-good in
-        let b = and-right (boxInRange box) (epsInRange eps && resolutionInRange resolution) a in
+        let a = and-right (every inRange vs) (boxInRange (q .box) && (epsInRange (q .eps) && resolutionInRange (q .resolution))) numbers-good in
+        let b = and-right (boxInRange (q .box)) (epsInRange (q .eps) && resolutionInRange (q .resolution)) a in
         record {
-          whole-vertices = l .whole-vertices;
-          whole-facets = l .whole-facets;
-          few-vertices = l .few-vertices;
-          few-facets = l .few-facets;
-          below = l .below;
-          numbers = and-left (every inRange vs) (boxInRange box && (epsInRange eps && resolutionInRange resolution)) numbers-good;
-          box-in = and-left (boxInRange box) (epsInRange eps && resolutionInRange resolution) a;
-          eps-in = and-left (epsInRange eps) (resolutionInRange resolution) b;
-          resolution-in = and-right (epsInRange eps) (resolutionInRange resolution) b;
-          box-good = head-passed (badBox box) BadBox grids boxes-passed;
+          lists = l;
+          numbers = and-left (every inRange vs) (boxInRange (q .box) && (epsInRange (q .eps) && resolutionInRange (q .resolution))) numbers-good;
+          box-in = and-left (boxInRange (q .box)) (epsInRange (q .eps) && resolutionInRange (q .resolution)) a;
+          eps-in = and-left (epsInRange (q .eps)) (resolutionInRange (q .resolution)) b;
+          resolution-in = and-right (epsInRange (q .eps)) (resolutionInRange (q .resolution)) b;
+          box-good = head-passed (badBox (q .box)) BadBox grids boxes-passed;
           coarse = head-passed fine GridTooFine work grids-passed;
         }
 
-    pub room-passed : 128 * (length vs / 3 + length fs / 3 + caps / 4 + gridSize box eps (oneResolution resolution)) + 1024 ≤ lent
+    pub room-passed : 128 * (length vs / 3 + length fs / 3 + caps / 4 + gridSize (q .box) (q .eps) (oneResolution (q .resolution))) + 1024 ≤ lent
     unfolding workNeed
     room-passed = ltb-false lent need (head-passed (ltb lent need) (NoWorkRoom need) [] work-passed)
 
 -- ---- 8 and 9
 
-module _ (vs : List Float) (fs : List ℕ) (box : AABB) (eps resolution : Float) where
+module _ (vs : List Float) (fs : List ℕ) (q : Asked) where
   abbrev far : Bool
-  far = farKeys eps vs || boxFarKeys eps box
+  far = farKeys (q .eps) vs || boxFarKeys (q .eps) (q .box)
 
   abbrev es : List (ℕ × ℕ)
   es = openEdges (threes fs)
 
   abbrev stray : ℕ
-  stray = place (λ e. eqb (length (edgeFaces box eps (mesh vs fs box eps resolution) e)) 0) es
+  stray = place (λ e. eqb (length (edgeFaces (q .box) (q .eps) (mesh vs fs q) e)) 0) es
 
   abbrev pairAt : ℕ → ℕ × ℕ
   pairAt i = sortedPair (getD es i (0, 0))
@@ -201,7 +198,7 @@ module _ (vs : List Float) (fs : List ℕ) (box : AABB) (eps resolution : Float)
   edges = (ltb stray (length es), OpenEdge (pairAt stray .0) (pairAt stray .1)) ∷ []
 
   abbrev told : Checked
-  told = firstRefusal (edgeTests vs fs box eps resolution)
+  told = firstRefusal (edgeTests vs fs q)
 
   pub key-refused : far ≡ true → Refused KeyRange ≡ told
   unfolding edgeTests strayEdge

@@ -20,7 +20,7 @@ use Rattle.candidate_edges.specs.Surface.{edgeSurface, cornerVertices, meshPool
 use Rattle.candidate_edges.specs.Steps.{TableAt, MeshFits, EdgesEntered, CornersEntered}
 use Rattle.candidate_grids.specs.Grid.{grid}
 use Rattle.candidate_grids.specs.Steps.{GridReady, Gridded}
-use Rattle.boundary_closure.specs.Operation.{setting}
+use Rattle.boundary_closure.specs.Asked.{asked, setting}
 use Rattle.boundary_closure.specs.Steps.{Sound, most, Tabled, Surfaced, Completed}
 use Rattle.boundary_closure.proofs.Fitting.{skips-within}
 use Rattle.boundary_closure.proofs.Frames.{table-kept, all-grown}
@@ -46,7 +46,7 @@ module _ (vs : List Float) (fs : List ℕ) (box : AABB) (eps : Float) (n k : ℕ
   pub surfaced : (r : ℕ) (w w' : List ℕ) → EdgesEntered vs fs box eps n k r w w' → Surfaced vs fs box eps n k w'
   surfaced r w w' E = record { pool = E .pool; edges = E .edges; holds = E .holds; held = E .held; sourced = E .sourced }
 
-  module _ (resolution : Float) (S : Sound vs fs box eps resolution) (w w' : List ℕ) (M : MeshFits vs fs n w) (en : n ≡ most vs box eps resolution) (few : k ≤ length fs)
+  module _ (resolution : Float) (S : Sound vs fs (asked box eps resolution)) (w w' : List ℕ) (M : MeshFits vs fs n w) (en : n ≡ most vs (asked box eps resolution)) (few : k ≤ length fs)
       (F : Surfaced vs fs box eps n k w) (long : length w' ≡ length w) (C : CornersEntered vs box eps n w w') where
     edges-here : k ≤ 3 * (length fs / 3)
     edges-here = let t = M .threes in omega arith
@@ -85,11 +85,11 @@ module _ (vs : List Float) (fs : List ℕ) (box : AABB) (eps : Float) (n k : ℕ
           skips = skips-within resolution (S .resolution-in);
         }
 
-    pub completed : (w'' : List ℕ) → Gridded box eps each skip n (length fs / 3) k w' w'' → Completed vs fs box eps resolution n k w''
+    pub completed : (w'' : List ℕ) → Gridded box eps each skip n (length fs / 3) k w' w'' → Completed vs fs (asked box eps resolution) n k w''
     completed w'' G =
         record {
           pool = G .pool
-              ∙ (λ t. foldl (insert (byKey eps)) (corner-pool t) (grid (setting box eps resolution) (corner-edges t) (corner-pool t)));
+              ∙ (λ t. foldl (insert (byKey eps)) (corner-pool t) (grid (setting (asked box eps resolution)) (corner-edges t) (corner-pool t)));
           edges = edges-same w' w'' edgesFrom k (λ x h l. G .rest x (omega arith) (let e = edges-here in omega arith)) ∙ corner-edges;
           holds = G .holds;
           held = G .held;

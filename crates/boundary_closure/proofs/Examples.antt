@@ -4,7 +4,7 @@ use Prim.Native.Nat.{ℕ}
 use mathlib.Core.Path.{_≡_, refl}
 use mathlib.Core.List.{List, [], _∷_, map, flatMap}
 use lib.Dec.{eqb}
-use lib.ListN.{getD}
+use lib.ListN.{getD, replicate}
 use lib.Ieee.{Float, ofBits, toBits, ofInt, round, add, sub, mul, div, neg, lt, le, eq}
 use Rattle.lists.specs.Lists.{every, some, keep, place, insertBy, sortBy, distinctFrom, upFrom}
 use Rattle.root.specs.Doubles.{bits, magnitude, within, larger, clamped, before, 1e-10}
@@ -12,13 +12,14 @@ use Rattle.rounding.specs.Rounding as rounding
 use Rattle.rounding.specs.Rounding.{halfUp, rounded, key, beyond, farKey, ceil, wholeUp}
 use Rattle.geometry.specs.declared.aabb.AABB.{AABB}
 use Rattle.geometry.specs.Points.{along}
-use Rattle.geometry.specs.Triangles.{Triangle, tri, threes}
+use Rattle.geometry.specs.Triangles.{Triangle, tri, threes, flat}
 use Rattle.geometry.specs.Axes.{segments, gridLine, gridSize}
 use Rattle.chains.specs.Links.{linkTo}
 use Rattle.mesh_weld.specs.Cells.{keyOf, sameKey}
 use Rattle.edges.specs.Edges.{samePair, pairBefore, openEdges}
 use Rattle.refusals.specs.Refusals.{documented, firstRefusal}
-use Rattle.refusals.specs.Front.{ragged, tooMany, badIndex, inRange, epsInRange, resolutionInRange, boxInRange, badBox, gridTooFine, workNeed, farKeys, roomTests}
+use Rattle.refusals.specs.Answers.{replyWith}
+use Rattle.refusals.specs.Front.{ragged, tooMany, badIndex, inRange, epsInRange, resolutionInRange, boxInRange, badBox, gridTooFine, workNeed, farKeys}
 use Rattle.box_faces.specs.Faces.{project, faceBits, onFace, facesOf}
 use Rattle.box_faces.specs.Sides.{faceSides, betweenEnds, alongSide, onSide}
 use Rattle.candidate_pool.specs.Pool.{byKey, renewed, listed, numberFor, insert}
@@ -26,7 +27,8 @@ use Rattle.candidate_grids.specs.Grid.{gridPoint, skipped, gridAt, faceGrid, gr
 use Rattle.candidate_constraints.specs.Constraints.{neighbours, sideOrder, edgePlaces, faceConstraints}
 use Rattle.candidate_edges.specs.Surface.{enterEdge, edgeSurface, cornerVertices, meshPool}
 use Rattle.boundary_closure.specs.Candidates.{candidates, candidateWords, listWords}
-use Rattle.boundary_closure.specs.Operation.{closureTests, strayEdge, edgeTests, noTwoEnds, candidatesResult, outputs, candidatesReply}
+use Rattle.boundary_closure.specs.Asked.{asked}
+use Rattle.boundary_closure.specs.Operation.{closureTests, strayEdge, edgeTests, noTwoEnds, candidatesTests, candidatesResult, candidateOutputs}
 
 abbrev +0 : Float
 +0 = bits 0x0000_0000_0000_0000
@@ -74,8 +76,18 @@ abbrev lone : List ℕ
 lone = 0 ∷ 1 ∷ 2 ∷ []
 
 -- far more room than any of them needs
+abbrev room : List ℕ
+room = replicate 1000 0
+
 abbrev reply : List Float → List ℕ → AABB → Float → Float → List ℕ
-reply vs fs box eps resolution = candidatesReply vs fs box eps resolution 1000000 (1000 ∷ 1000 ∷ 1000 ∷ 1000 ∷ [])
+reply vs fs box eps resolution =
+    let q = asked box eps resolution in
+    replyWith (candidatesTests vs fs q 1000000) (candidateOutputs (candidatesResult vs fs q) room room room room room room room room)
+
+abbrev outputs : List Float → List ℕ → AABB → Float → Float → List (List ℕ)
+outputs vs fs box eps resolution =
+    let r = candidatesResult vs fs (asked box eps resolution) in
+    candidateWords (r .all) ∷ listWords (r .lists) ∷ flat (r .constraints) ∷ flat (r .edges) ∷ []
 
 -- the facet (0,0,z), (1,0,z), (0,1,z)
 abbrev points9 : Float → List Float
@@ -123,5 +135,5 @@ pub record WorkedBlocks : Type 0 where
   c15 : reply points15 (0 ∷ 1 ∷ 2 ∷ 0 ∷ 2 ∷ 3 ∷ []) (boxTo +1 +1 +1) 1e-10 +1 ≡ 0 ∷ 60 ∷ 38 ∷ 108 ∷ 12 ∷ []
 
 pub computed : WorkedBlocks
-unfolding every some keep place insertBy sortBy distinctFrom upFrom flatMap magnitude within larger clamped before halfUp rounded key beyond farKey ceil wholeUp rounding.segments along threes segments gridLine gridSize linkTo keyOf sameKey samePair pairBefore openEdges documented firstRefusal ragged tooMany badIndex inRange epsInRange resolutionInRange boxInRange badBox gridTooFine workNeed farKeys roomTests project faceBits onFace facesOf faceSides betweenEnds alongSide onSide byKey renewed listed numberFor insert gridPoint skipped gridAt faceGrid grid neighbours sideOrder edgePlaces faceConstraints enterEdge edgeSurface cornerVertices meshPool candidates candidateWords listWords closureTests strayEdge edgeTests noTwoEnds candidatesResult outputs candidatesReply ofBits toBits ofInt round add sub mul div neg lt le eq
+unfolding every some keep place insertBy sortBy distinctFrom upFrom flatMap magnitude within larger clamped before halfUp rounded key beyond farKey ceil wholeUp rounding.segments along threes segments gridLine gridSize linkTo keyOf sameKey samePair pairBefore openEdges documented firstRefusal ragged tooMany badIndex inRange epsInRange resolutionInRange boxInRange badBox gridTooFine workNeed farKeys project faceBits onFace facesOf faceSides betweenEnds alongSide onSide byKey renewed listed numberFor insert gridPoint skipped gridAt faceGrid grid neighbours sideOrder edgePlaces faceConstraints enterEdge edgeSurface cornerVertices meshPool candidates candidateWords listWords closureTests strayEdge edgeTests noTwoEnds candidatesResult ofBits toBits ofInt round add sub mul div neg lt le eq
 computed = record { c9 = refl; c10 = refl; c13 = refl; c3b-first = refl; c3b-edges = refl; c3b = refl; infinite = refl; few = refl; downward = refl; c15 = refl }

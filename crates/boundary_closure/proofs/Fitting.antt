@@ -24,7 +24,7 @@ use Rattle.refusals.specs.Front.{badIndex, inRange, resolutionInRange, byAxis}
 use Rattle.refusals.proofs.Ranges.{in-range-within}
 use Rattle.candidate_pool.specs.Standing.{PointIn}
 use Rattle.candidate_edges.specs.Steps.{VerticesIn, MeshFits}
-use Rattle.boundary_closure.specs.Operation.{oneResolution}
+use Rattle.boundary_closure.specs.Asked.{Asked, oneResolution}
 use Rattle.boundary_closure.specs.Steps.{Sound, most}
 use Rattle.boundary_closure.proofs.Checking.{grid-small}
 
@@ -65,7 +65,7 @@ skips-within r h (suc (suc (suc a))) l = absurd (omega arith)
 
 -- ---- the mesh and the room
 
-module _ (vs : List Float) (fs : List ℕ) (box : AABB) (eps resolution : Float) (S : Sound vs fs box eps resolution) where
+module _ (vs : List Float) (fs : List ℕ) (q : Asked) (S : Sound vs fs q) where
   coordinate : (i : ℕ) → i < length vs → Within (2 ^ 48) (getD vs i nan)
   coordinate i h = within-pow 30 48 (omega arith) (in-range-within (getD vs i nan) (every-at inRange vs i nan (S .numbers) h))
 
@@ -74,26 +74,26 @@ module _ (vs : List Float) (fs : List ℕ) (box : AABB) (eps resolution : Float)
       subst PointIn (sym (vertex-at vs v nan (omega arith)))
       (record { x = coordinate (3 * v) (omega arith); y = coordinate (3 * v + 1) (omega arith); z = coordinate (3 * v + 2) (omega arith) })
 
-  pub most-small : most vs box eps resolution ≤ 464920
-  most-small = let a = grid-small box eps (oneResolution resolution) (S .coarse) in let b = S .few-vertices in omega (arith, a, b)
+  pub most-small : most vs q ≤ 464920
+  most-small = let a = grid-small (q .box) (q .eps) (oneResolution (q .resolution)) (S .coarse) in let b = S .lists .few-vertices in omega (arith, a, b)
 
   number-below : (i : ℕ) → i < length fs → getD fs i 0 < length vs / 3
   unfolding badIndex
   number-below i h =
       ltb-true (getD fs i 0) (length vs / 3)
-      (not-false (ltb (getD fs i 0) (length vs / 3)) (none-at (λ k. not (ltb k (length vs / 3))) fs i 0 (S .below) h))
+      (not-false (ltb (getD fs i 0) (length vs / 3)) (none-at (λ k. not (ltb k (length vs / 3))) fs i 0 (S .lists .below) h))
 
-  pub mesh-fits : (n : ℕ) (w : List ℕ) → n ≡ most vs box eps resolution → 8 + 62 * most vs box eps resolution + 66 * (length fs / 3) ≤ length w → MeshFits vs fs n w
+  pub mesh-fits : (n : ℕ) (w : List ℕ) → n ≡ most vs q → 8 + 62 * most vs q + 66 * (length fs / 3) ≤ length w → MeshFits vs fs n w
   mesh-fits n w e h =
       record {
-        threes = S .whole-facets;
+        threes = S .lists .whole-facets;
         numbers = number-below;
         vertices = omega (arith, e);
         small = let a = most-small in omega (arith, e, a);
-        few = let b = S .few-facets in omega (arith, b);
+        few = let b = S .lists .few-facets in omega (arith, b);
         size = omega (arith, e, h);
       }
 
-  pub room-for : (caps lent : ℕ) → 128 * (length vs / 3 + length fs / 3 + caps + gridSize box eps (oneResolution resolution)) + 1024 ≤ lent
-      → 8 + 62 * most vs box eps resolution + 66 * (length fs / 3) ≤ lent
+  pub room-for : (caps lent : ℕ) → 128 * (length vs / 3 + length fs / 3 + caps + gridSize (q .box) (q .eps) (oneResolution (q .resolution))) + 1024 ≤ lent
+      → 8 + 62 * most vs q + 66 * (length fs / 3) ≤ lent
   room-for caps lent h = omega arith

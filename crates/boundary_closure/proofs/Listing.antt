@@ -21,28 +21,29 @@ use Rattle.candidate_edges.specs.Steps.{MeshFits}
 use Rattle.candidate_constraints.specs.Constraints.{faceConstraints}
 use Rattle.candidate_constraints.specs.Steps.{Constrained}
 use Rattle.boundary_closure.specs.Candidates.{candidates}
-use Rattle.boundary_closure.specs.Operation.{setting, noTwoEnds}
+use Rattle.boundary_closure.specs.Asked.{Asked, setting}
+use Rattle.boundary_closure.specs.Operation.{noTwoEnds}
 use Rattle.boundary_closure.specs.Steps.{Completed, standing, Readable}
 use Rattle.boundary_closure.proofs.Frames.{words-same}
 
-module _ (vs : List Float) (fs : List ℕ) (box : AABB) (eps resolution : Float) (listed : ℕ) (el : listed ≡ length (edgeSurface box eps (byKey eps) (meshOf vs fs) .edges)) where
-  pub no-ends-left : listed ≡ 0 → noTwoEnds vs fs box eps resolution ≡ true
+module _ (vs : List Float) (fs : List ℕ) (q : Asked) (listed : ℕ) (el : listed ≡ length (edgeSurface (q .box) (q .eps) (byKey (q .eps)) (meshOf vs fs) .edges)) where
+  pub no-ends-left : listed ≡ 0 → noTwoEnds vs fs q ≡ true
   unfolding noTwoEnds
-  no-ends-left e = eq-eqb (length (edgeSurface box eps (byKey eps) (meshOf vs fs) .edges)) 0 (sym el ∙ e)
+  no-ends-left e = eq-eqb (length (edgeSurface (q .box) (q .eps) (byKey (q .eps)) (meshOf vs fs) .edges)) 0 (sym el ∙ e)
 
-  pub ends-left : (listed ≡ 0 → ⊥) → noTwoEnds vs fs box eps resolution ≡ false
+  pub ends-left : (listed ≡ 0 → ⊥) → noTwoEnds vs fs q ≡ false
   unfolding noTwoEnds
-  ends-left f = ne-eqb (length (edgeSurface box eps (byKey eps) (meshOf vs fs) .edges)) 0 (λ e. f (el ∙ e))
+  ends-left f = ne-eqb (length (edgeSurface (q .box) (q .eps) (byKey (q .eps)) (meshOf vs fs) .edges)) 0 (λ e. f (el ∙ e))
 
-  module _ (n k total : ℕ) (w w' : List ℕ) (M : MeshFits vs fs n w) (few : k ≤ length fs) (D : Completed vs fs box eps resolution n k w)
-      (K : Constrained box eps n (length fs / 3) k total w w') where
+  module _ (n k total : ℕ) (w w' : List ℕ) (M : MeshFits vs fs n w) (few : k ≤ length fs) (D : Completed vs fs q n k w)
+      (K : Constrained (q .box) (q .eps) n (length fs / 3) k total w w') where
     abbrev nf : ℕ
     nf = length fs / 3
 
     abbrev from : ℕ
     from = 8 + 62 * n + 30 * nf
 
-    edges-here : edgesAt w' from k ≡ edgeSurface box eps (byKey eps) (meshOf vs fs) .edges
+    edges-here : edgesAt w' from k ≡ edgeSurface (q .box) (q .eps) (byKey (q .eps)) (meshOf vs fs) .edges
     edges-here = edges-same w w' from k (λ x h l. K .high x h) ∙ D .edges
 
     pub readable : Readable n nf k listed total w'
@@ -52,16 +53,16 @@ module _ (vs : List Float) (fs : List ℕ) (box : AABB) (eps resolution : Float)
           small-facets = M .few;
           size = let s = M .size in let l = K .long in omega (arith, s, l);
           few = let c = K .low 6 (omega arith) in let f = D .holds .table .few in omega (arith, c, f);
-          words = words-same eps n w w' (D .holds) (K .long) (K .low);
+          words = words-same (q .eps) n w w' (D .holds) (K .long) (K .low);
           short = λ f h. let s = D .holds .lengths f h in let e = K .low f (omega arith) in omega (arith, s, e);
           constraints = K .few;
           edges = let t = M .threes in omega (arith, t, few);
           faces-listed = el ∙ sym (ap length edges-here);
         }
 
-    pub standing-is : standing n nf k total w' ≡ candidates (setting box eps resolution) (meshOf vs fs)
+    pub standing-is : standing n nf k total w' ≡ candidates (setting q) (meshOf vs fs)
     unfolding candidates
     standing-is =
-        let p = pool-same eps n w w' (D .holds) (K .long) (K .low) ∙ D .pool in
-        let c = K .listed ∙ (λ t. flatMap (faceConstraints box eps (D .edges t) (D .pool t)) faces) in
+        let p = pool-same (q .eps) n w w' (D .holds) (K .long) (K .low) ∙ D .pool in
+        let c = K .listed ∙ (λ t. flatMap (faceConstraints (q .box) (q .eps) (D .edges t) (D .pool t)) faces) in
         λ t. record { all = p t .all; lists = p t .lists; constraints = c t; edges = edges-here t }

@@ -1,3 +1,4 @@
+pub mod Asked
 pub mod Candidates
 pub mod Operation
 -- What the inner functions do: no part of what the product promises.

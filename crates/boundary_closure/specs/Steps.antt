@@ -8,9 +8,7 @@
 --   faceWords      "face and two candidates" as words, if the face is one of those in a mask
 --   standing       the four results that stand in the room
 --   Readable       what is asked of the room for them to be written out
---   lengths, rooms the lengths of four results, and test 12 of them
 --   surfaceResult  the result of a mesh with a facet
---   Answered       the reply to a row of tests, and the four outputs
 use Prim.Native.Nat.{ℕ, _+_, _*_, _/_, _%_, _≤_, _<_}
 use mathlib.Core.Path.{_≡_}
 use mathlib.Core.Bool.{true, false, cond}
@@ -25,8 +23,7 @@ use Rattle.geometry.specs.Meshes.{Mesh, meshOf, pointsOf}
 use Rattle.geometry.specs.Axes.{gridSize}
 use Rattle.edges.specs.Edges.{openEdges}
 use Rattle.edges.specs.Table.{keyOf}
-use Rattle.refusals.specs.Refusals.{Test, replyTo, Settled}
-use Rattle.refusals.specs.Front.{badIndex, inRange, epsInRange, resolutionInRange, boxInRange, badBox, gridTooFine, roomTests}
+use Rattle.refusals.specs.Front.{ceiling, inRange, epsInRange, resolutionInRange, boxInRange, badBox, gridTooFine, ListsPass}
 use Rattle.box_faces.specs.Faces.{hasBit}
 use Rattle.candidate_pool.specs.Pool.{Pool, byKey, insert}
 use Rattle.candidate_pool.specs.Setting.{Setting}
@@ -35,25 +32,21 @@ use Rattle.candidate_edges.specs.Surface.{edgeSurface, meshPool}
 use Rattle.candidate_edges.specs.Steps.{TableAt, Sourced}
 use Rattle.candidate_grids.specs.Grid.{grid}
 use Rattle.candidate_constraints.specs.Steps.{unpacked}
-use Rattle.boundary_closure.specs.declared.reply.CandidatesReply.{CandidatesReply}
 use Rattle.boundary_closure.specs.Candidates.{Candidates, noCandidates, candidates, candidateWords, listWords}
-use Rattle.boundary_closure.specs.Operation.{documentedCandidates, oneResolution, setting, noTwoEnds}
+use Rattle.boundary_closure.specs.Asked.{Asked, oneResolution, setting}
+use Rattle.boundary_closure.specs.Operation.{noTwoEnds}
 
-pub record Sound (vs : List Float) (fs : List ℕ) (box : AABB) (eps resolution : Float) : Type 0 where
-  pub whole-vertices : length vs % 3 ≡ 0
-  pub whole-facets : length fs % 3 ≡ 0
-  pub few-vertices : length vs / 3 ≤ 65536
-  pub few-facets : length fs / 3 ≤ 65536
-  pub below : badIndex (length vs / 3) fs ≡ false
+pub record Sound (vs : List Float) (fs : List ℕ) (q : Asked) : Type 0 where
+  pub lists : ListsPass ceiling vs fs
   pub numbers : every inRange vs ≡ true
-  pub box-in : boxInRange box ≡ true
-  pub eps-in : epsInRange eps ≡ true
-  pub resolution-in : resolutionInRange resolution ≡ true
-  pub box-good : badBox box ≡ false
-  pub coarse : gridTooFine box eps (oneResolution resolution) ≡ false
+  pub box-in : boxInRange (q .box) ≡ true
+  pub eps-in : epsInRange (q .eps) ≡ true
+  pub resolution-in : resolutionInRange (q .resolution) ≡ true
+  pub box-good : badBox (q .box) ≡ false
+  pub coarse : gridTooFine (q .box) (q .eps) (oneResolution (q .resolution)) ≡ false
 
-abbrev pub most : List Float → AABB → Float → Float → ℕ
-most vs box eps resolution = length vs / 3 + gridSize box eps (oneResolution resolution)
+abbrev pub most : List Float → Asked → ℕ
+most vs q = length vs / 3 + gridSize (q .box) (q .eps) (oneResolution (q .resolution))
 
 pub record Tabled (fs : List ℕ) (n k : ℕ) (w : List ℕ) : Type 0 where
   pub table : TableAt fs w (8 + 62 * n + 54 * (length fs / 3)) k
@@ -71,10 +64,10 @@ fullPool s mesh =
     foldl (insert (s .rule)) (meshPool (s .box) (s .eps) (s .rule) mesh)
     (grid s (edgeSurface (s .box) (s .eps) (s .rule) mesh .edges) (meshPool (s .box) (s .eps) (s .rule) mesh))
 
-pub record Completed (vs : List Float) (fs : List ℕ) (box : AABB) (eps resolution : Float) (n k : ℕ) (w : List ℕ) : Type 0 where
-  pub pool : poolAt n w ≡ fullPool (setting box eps resolution) (meshOf vs fs)
-  pub edges : edgesAt w (8 + 62 * n + 30 * (length fs / 3)) k ≡ edgeSurface box eps (byKey eps) (meshOf vs fs) .edges
-  pub holds : Holds eps n w
+pub record Completed (vs : List Float) (fs : List ℕ) (q : Asked) (n k : ℕ) (w : List ℕ) : Type 0 where
+  pub pool : poolAt n w ≡ fullPool (setting q) (meshOf vs fs)
+  pub edges : edgesAt w (8 + 62 * n + 30 * (length fs / 3)) k ≡ edgeSurface (q .box) (q .eps) (byKey (q .eps)) (meshOf vs fs) .edges
+  pub holds : Holds (q .eps) n w
   pub held : EdgesHeld (poolAt n w) w (8 + 62 * n + 30 * (length fs / 3)) k
 
 abbrev pub faceWords : ℕ → ℕ → ℕ → ℕ → List ℕ
@@ -101,19 +94,5 @@ pub record Readable (n nf k listed total : ℕ) (w : List ℕ) : Type 0 where
   pub edges : k ≤ 3 * nf
   pub faces-listed : listed ≡ length (edgesAt w (8 + 62 * n + 30 * nf) k)
 
-abbrev pub lengths : Candidates → List ℕ
-lengths r = length (candidateWords (r .all)) ∷ length (listWords (r .lists)) ∷ length (flat (r .constraints)) ∷ length (flat (r .edges)) ∷ []
-
-abbrev pub rooms : Candidates → List ℕ → List ℕ → List ℕ → List ℕ → List Test
-rooms r c l k e = roomTests (lengths r) (length c ∷ length l ∷ length k ∷ length e ∷ [])
-
-abbrev pub surfaceResult : List Float → List ℕ → AABB → Float → Float → Candidates
-surfaceResult vs fs box eps resolution = cond (noTwoEnds vs fs box eps resolution) noCandidates (candidates (setting box eps resolution) (meshOf vs fs))
-
--- the reply x to the tests ts, where the result is r, and the outputs from c, l, k and e to c', l', k' and e'
-pub record Answered (ts : List Test) (r : Candidates) (x : CandidatesReply) (c c' l l' k k' e e' : List ℕ) : Type 0 where
-  pub replied : documentedCandidates x ≡ replyTo ts (lengths r)
-  pub candidates : Settled (documentedCandidates x) (candidateWords (r .all)) c c'
-  pub face-lists : Settled (documentedCandidates x) (listWords (r .lists)) l l'
-  pub constraints : Settled (documentedCandidates x) (flat (r .constraints)) k k'
-  pub open-edges : Settled (documentedCandidates x) (flat (r .edges)) e e'
+abbrev pub surfaceResult : List Float → List ℕ → Asked → Candidates
+surfaceResult vs fs q = cond (noTwoEnds vs fs q) noCandidates (candidates (setting q) (meshOf vs fs))

@@ -1,14 +1,15 @@
 // The operation candidates: the order of its steps.
 ghost use mathlib.Core.Path.{_≡_};
-ghost use mathlib.Core.List.{_++_};
+ghost use mathlib.Core.List.{[]};
 ghost use Prim.Native.Nat.{_+_, _*_, _/_, _≤_};
 ghost use lib.ListN.{length};
-ghost use Rattle.refusals.specs.Refusals.{unless};
+ghost use Rattle.refusals.specs.Refusals.{documentedReply};
+ghost use Rattle.refusals.specs.Answers.{Answer, Answered};
 ghost use Rattle.candidate_edges.specs.Steps.{MeshFits};
-ghost use Rattle.boundary_closure.specs.Operation.{closureTests, edgeTests, noFacet, candidatesResult, Delivered};
-ghost use Rattle.boundary_closure.specs.Steps.{Sound, most, Tabled, surfaceResult, rooms, Answered};
+ghost use Rattle.boundary_closure.specs.Asked.{asked};
+ghost use Rattle.boundary_closure.specs.Operation.{edgeTests, candidatesTests, candidatesResult, candidateOutputs};
+ghost use Rattle.boundary_closure.specs.Steps.{Sound, most, Tabled, surfaceResult};
 use crate::outputs::deliver;
-use crate::reply::CandidatesReply;
 use crate::surface::complete;
 use crate::surface::enter_surface;
 use crate::surface::most_candidates;
@@ -18,6 +19,7 @@ use crate::tests::check_edges;
 use candidate_constraints::constraints::all_constraints;
 use geometry::aabb::AABB;
 use refusals::refusal::Checked;
+use refusals::reply::Reply;
 use words::zero;
 
 // All that follows test 9, for a mesh with k open edges. "if no open edge keeps two ends", all four lengths are 0.
@@ -34,15 +36,15 @@ fn list_candidates(
     face_lists: &mut [u64],
     constraints: &mut [u64],
     open_edges: &mut [u64],
-) -> CandidatesReply
-    requires { ⌜ Sound (now vertices) (now facets) extents eps resolution ⌝ }
-    requires { ⌜ MeshFits (now vertices) (now facets) n (now w) × (n ≡ most (now vertices) extents eps resolution) ⌝ }
+) -> Reply
+    requires { ⌜ Sound (now vertices) (now facets) (asked extents eps resolution) ⌝ }
+    requires { ⌜ MeshFits (now vertices) (now facets) n (now w) × (n ≡ most (now vertices) (asked extents eps resolution)) ⌝ }
     requires { ⌜ Tabled (now facets) n k (now w) ⌝ }
-    ensures { λ r. ⌜ Answered (rooms (surfaceResult (now (vertices .entry)) (now (facets .entry)) extents eps resolution) (now (candidates .entry)) (now («face_lists» .entry)) (now (constraints .entry)) (now («open_edges» .entry))) (surfaceResult (now (vertices .entry)) (now (facets .entry)) extents eps resolution) r (now (candidates .entry)) (now (candidates .exit)) (now («face_lists» .entry)) (now («face_lists» .exit)) (now (constraints .entry)) (now (constraints .exit)) (now («open_edges» .entry)) (now («open_edges» .exit)) ⌝ }
+    ensures { λ r. ⌜ Answer [] (candidateOutputs (surfaceResult (now (vertices .entry)) (now (facets .entry)) (asked extents eps resolution)) (now (candidates .entry)) (now (candidates .exit)) (now («face_lists» .entry)) (now («face_lists» .exit)) (now (constraints .entry)) (now (constraints .exit)) (now («open_edges» .entry)) (now («open_edges» .exit))) (documentedReply r) ⌝ }
 {
     let listed = enter_surface(vertices, facets, extents, eps, w, n, k);
     if listed == 0 {
-        return CandidatesReply::Done(0, 0, 0, 0);
+        return Reply::DoneFour(0, 0, 0, 0);
     }
     complete(vertices, facets, extents, eps, resolution, w, n, k);
     let nf = facets.len() / 3;
@@ -73,10 +75,10 @@ fn make_candidates(
     face_lists: &mut [u64],
     constraints: &mut [u64],
     open_edges: &mut [u64],
-) -> CandidatesReply
-    requires { ⌜ Sound (now vertices) (now facets) extents eps resolution ⌝ }
-    requires { ⌜ 8 + 62 * most (now vertices) extents eps resolution + 66 * (length (now facets) / 3) ≤ length (now w) ⌝ }
-    ensures { λ r. ⌜ Answered (edgeTests (now (vertices .entry)) (now (facets .entry)) extents eps resolution ++ rooms (surfaceResult (now (vertices .entry)) (now (facets .entry)) extents eps resolution) (now (candidates .entry)) (now («face_lists» .entry)) (now (constraints .entry)) (now («open_edges» .entry))) (surfaceResult (now (vertices .entry)) (now (facets .entry)) extents eps resolution) r (now (candidates .entry)) (now (candidates .exit)) (now («face_lists» .entry)) (now («face_lists» .exit)) (now (constraints .entry)) (now (constraints .exit)) (now («open_edges» .entry)) (now («open_edges» .exit)) ⌝ }
+) -> Reply
+    requires { ⌜ Sound (now vertices) (now facets) (asked extents eps resolution) ⌝ }
+    requires { ⌜ 8 + 62 * most (now vertices) (asked extents eps resolution) + 66 * (length (now facets) / 3) ≤ length (now w) ⌝ }
+    ensures { λ r. ⌜ Answer (edgeTests (now (vertices .entry)) (now (facets .entry)) (asked extents eps resolution)) (candidateOutputs (surfaceResult (now (vertices .entry)) (now (facets .entry)) (asked extents eps resolution)) (now (candidates .entry)) (now (candidates .exit)) (now («face_lists» .entry)) (now («face_lists» .exit)) (now (constraints .entry)) (now (constraints .exit)) (now («open_edges» .entry)) (now («open_edges» .exit))) (documentedReply r) ⌝ }
 {
     let n = most_candidates(vertices, extents, eps, resolution);
     let k = table_edges(facets, w, n);
@@ -95,7 +97,7 @@ fn make_candidates(
             constraints,
             open_edges,
         ),
-        Checked::Refused(r) => CandidatesReply::Refused(r),
+        Checked::Refused(r) => Reply::Refused(r),
     }
 }
 
@@ -111,13 +113,13 @@ fn candidates_lent(
     face_lists: &mut [u64],
     constraints: &mut [u64],
     open_edges: &mut [u64],
-) -> CandidatesReply
-    ensures { λ r. ⌜ Answered (closureTests (now (vertices .entry)) (now (facets .entry)) extents eps resolution 0 (length (now (work .entry))) ++ unless (noFacet (now (vertices .entry)) (now (facets .entry)) extents eps resolution) (edgeTests (now (vertices .entry)) (now (facets .entry)) extents eps resolution) ++ rooms (candidatesResult (now (vertices .entry)) (now (facets .entry)) extents eps resolution) (now (candidates .entry)) (now («face_lists» .entry)) (now (constraints .entry)) (now («open_edges» .entry))) (candidatesResult (now (vertices .entry)) (now (facets .entry)) extents eps resolution) r (now (candidates .entry)) (now (candidates .exit)) (now («face_lists» .entry)) (now («face_lists» .exit)) (now (constraints .entry)) (now (constraints .exit)) (now («open_edges» .entry)) (now («open_edges» .exit)) ⌝ }
+) -> Reply
+    ensures { λ r. ⌜ Answer (candidatesTests (now (vertices .entry)) (now (facets .entry)) (asked extents eps resolution) (length (now (work .entry)))) (candidateOutputs (candidatesResult (now (vertices .entry)) (now (facets .entry)) (asked extents eps resolution)) (now (candidates .entry)) (now (candidates .exit)) (now («face_lists» .entry)) (now («face_lists» .exit)) (now (constraints .entry)) (now (constraints .exit)) (now («open_edges» .entry)) (now («open_edges» .exit))) (documentedReply r) ⌝ }
 {
     match check_closure(vertices, facets, 0, extents, eps, resolution, work.len()) {
         Checked::Passed => {
             if facets.len() == 0 {
-                return CandidatesReply::Done(0, 0, 0, 0);
+                return Reply::DoneFour(0, 0, 0, 0);
             }
             make_candidates(
                 vertices,
@@ -132,7 +134,7 @@ fn candidates_lent(
                 open_edges,
             )
         }
-        Checked::Refused(r) => CandidatesReply::Refused(r),
+        Checked::Refused(r) => Reply::Refused(r),
     }
 }
 
@@ -148,8 +150,8 @@ pub fn cap_candidates(
     face_lists: &mut [u64],
     constraints: &mut [u64],
     open_edges: &mut [u64],
-) -> CandidatesReply
-    ensures { λ r. ⌜ Delivered (now (vertices .entry)) (now (facets .entry)) extents eps resolution r (now (work .entry)) (now (work .exit)) (now (candidates .entry)) (now (candidates .exit)) (now («face_lists» .entry)) (now («face_lists» .exit)) (now (constraints .entry)) (now (constraints .exit)) (now («open_edges» .entry)) (now («open_edges» .exit)) ⌝ }
+) -> Reply
+    ensures { λ r. ⌜ Answered (candidatesTests (now (vertices .entry)) (now (facets .entry)) (asked extents eps resolution) (length (now (work .entry)))) (candidateOutputs (candidatesResult (now (vertices .entry)) (now (facets .entry)) (asked extents eps resolution)) (now (candidates .entry)) (now (candidates .exit)) (now («face_lists» .entry)) (now («face_lists» .exit)) (now (constraints .entry)) (now (constraints .exit)) (now («open_edges» .entry)) (now («open_edges» .exit))) (now (work .entry)) (now (work .exit)) (documentedReply r) ⌝ }
 {
     let reply = candidates_lent(
         vertices,

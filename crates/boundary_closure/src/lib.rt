@@ -1,7 +1,6 @@
 // Candidates for the corners of caps (document 01, module 5; boundary_closure.rs).
 mod front;
 pub mod outputs;
-pub mod reply;
 pub mod surface;
 pub mod tests;
 

@@ -10,13 +10,16 @@ ghost use Rattle.geometry.specs.Triangles.{flat};
 ghost use Rattle.candidate_pool.specs.Standing.{edgeAt, edgesAt, poolAt};
 ghost use Rattle.candidate_constraints.specs.Steps.{unpacked};
 ghost use Rattle.boundary_closure.specs.Candidates.{listWords};
-ghost use Rattle.boundary_closure.specs.Steps.{faceWords, standing, Readable, rooms, Answered};
-use crate::reply::CandidatesReply;
+ghost use Rattle.refusals.specs.Refusals.{documentedReply};
+ghost use Rattle.refusals.specs.Answers.{Answer};
+ghost use Rattle.boundary_closure.specs.Operation.{candidateOutputs};
+ghost use Rattle.boundary_closure.specs.Steps.{faceWords, standing, Readable};
 use box_faces::faces::has_face;
 use candidate_pool::room::constraints_at;
 use candidate_pool::room::edges_at;
 use candidate_pool::room::list_at;
 use refusals::refusal::Refusal;
+use refusals::reply::Reply;
 use words::copy_words;
 use words::triple_first;
 use words::triple_second;
@@ -141,9 +144,9 @@ pub fn deliver(
     face_lists: &mut [u64],
     constraints: &mut [u64],
     open_edges: &mut [u64],
-) -> CandidatesReply
+) -> Reply
     requires { ⌜ Readable n nf k listed total (now w) ⌝ }
-    ensures { λ r. ⌜ Answered (rooms (standing n nf k total (now (w .entry))) (now (candidates .entry)) (now («face_lists» .entry)) (now (constraints .entry)) (now («open_edges» .entry))) (standing n nf k total (now (w .entry))) r (now (candidates .entry)) (now (candidates .exit)) (now («face_lists» .entry)) (now («face_lists» .exit)) (now (constraints .entry)) (now (constraints .exit)) (now («open_edges» .entry)) (now («open_edges» .exit)) ⌝ }
+    ensures { λ r. ⌜ Answer [] (candidateOutputs (standing n nf k total (now (w .entry))) (now (candidates .entry)) (now (candidates .exit)) (now («face_lists» .entry)) (now («face_lists» .exit)) (now (constraints .entry)) (now (constraints .exit)) (now («open_edges» .entry)) (now («open_edges» .exit))) (documentedReply r) ⌝ }
 {
     let count = w[6] as usize;
     let c = 5 * count;
@@ -151,20 +154,20 @@ pub fn deliver(
     let t = 3 * total;
     let e = 3 * listed;
     if candidates.len() < c {
-        return CandidatesReply::Refused(Refusal::NoRoom(c));
+        return Reply::Refused(Refusal::NoRoom(c));
     }
     if face_lists.len() < l {
-        return CandidatesReply::Refused(Refusal::NoRoom(l));
+        return Reply::Refused(Refusal::NoRoom(l));
     }
     if constraints.len() < t {
-        return CandidatesReply::Refused(Refusal::NoRoom(t));
+        return Reply::Refused(Refusal::NoRoom(t));
     }
     if open_edges.len() < e {
-        return CandidatesReply::Refused(Refusal::NoRoom(e));
+        return Reply::Refused(Refusal::NoRoom(e));
     }
     write_words(w, 8, c, candidates, 0);
     write_face_lists(w, n, face_lists);
     write_constraints(w, constraints_at(n, nf), total, constraints);
     write_edges(w, edges_at(n, nf), k, open_edges);
-    CandidatesReply::Done(c, l, t, e)
+    Reply::DoneFour(c, l, t, e)
 }

@@ -5,6 +5,7 @@ ghost use Rattle.lists.specs.Lists.{every};
 ghost use Rattle.refusals.specs.Refusals.{firstRefusal};
 ghost use Rattle.refusals.specs.Front.{inRange, epsInRange, resolutionInRange, boxInRange};
 ghost use Rattle.candidate_edges.specs.Steps.{MeshFits};
+ghost use Rattle.boundary_closure.specs.Asked.{asked};
 ghost use Rattle.boundary_closure.specs.Operation.{closureTests, edgeTests};
 ghost use Rattle.boundary_closure.specs.Steps.{Tabled};
 use candidate_edges::open::stray_edge;
@@ -52,7 +53,7 @@ pub fn check_closure(
     resolution: f64,
     lent: usize,
 ) -> Checked
-    ensures { λ r. ⌜ r ≡ firstRefusal (closureTests (now (vertices .entry)) (now (facets .entry)) extents eps resolution caps lent) ⌝ }
+    ensures { λ r. ⌜ r ≡ firstRefusal (closureTests (now (vertices .entry)) (now (facets .entry)) (asked extents eps resolution) caps lent) ⌝ }
 {
     let lists = check_lists(65536, vertices, facets, caps);
     if let Checked::Refused(_) = lists {
@@ -89,7 +90,7 @@ pub fn check_edges(
 ) -> Checked
     requires { ⌜ MeshFits (now vertices) (now facets) n (now w) ⌝ }
     requires { ⌜ Tabled (now facets) n k (now w) ⌝ }
-    ensures { λ r. ⌜ r ≡ firstRefusal (edgeTests (now (vertices .entry)) (now (facets .entry)) extents eps resolution) ⌝ }
+    ensures { λ r. ⌜ r ≡ firstRefusal (edgeTests (now (vertices .entry)) (now (facets .entry)) (asked extents eps resolution)) ⌝ }
 {
     if has_far_key(vertices, eps) {
         return Checked::Refused(Refusal::KeyRange);

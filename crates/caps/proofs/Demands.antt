@@ -73,26 +73,26 @@ module _ (pool : Pool) (boundary : List (Triangle ℕ)) (caps : List Cap) (posit
           → out ≡ closed pool caps positive mesh chosen
       same-mesh out chosen p q = λ i. record { points = p i; facets = q i }
 
-module _ (vs : List Float) (fs capList : List ℕ) (box : AABB) (eps resolution : Float) (mode : BoundaryClosure) where
+module _ (vs : List Float) (fs capList : List ℕ) (q : Asked) (mode : BoundaryClosure) where
   abbrev result : Mesh
-  result = capsResult vs fs capList box eps resolution mode
+  result = capsResult vs fs capList q mode
 
   abbrev Demand : Mesh → Type 0
   Demand out =
-      DemandThree (pool vs fs capList box eps resolution mode) (surface vs fs capList box eps resolution mode .edges) (caps vs fs capList box eps resolution mode) (isPositive mode) (meshOf vs fs) out
+      DemandThree (pool vs fs capList q mode) (surface vs fs capList q mode .edges) (caps vs fs capList q mode) (isPositive mode) (meshOf vs fs) out
 
-  pub result-meets : unchanged vs fs capList box eps resolution mode ≡ false → Demand result
+  pub result-meets : unchanged vs fs capList q mode ≡ false → Demand result
   unfolding capsResult
   result-meets e =
-      let p = pool vs fs capList box eps resolution mode in
-      let s = surface vs fs capList box eps resolution mode .edges in
-      let c = caps vs fs capList box eps resolution mode in
+      let p = pool vs fs capList q mode in
+      let s = surface vs fs capList q mode .edges in
+      let c = caps vs fs capList q mode in
       subst (λ (b : Bool). Demand (cond b (meshOf vs fs) (closed p c (isPositive mode) (meshOf vs fs) (selected s (outwardCaps p c))))) (sym e)
       (closed-meets p s c (isPositive mode) (meshOf vs fs) (selected s (outwardCaps p c)) (selected-selects s (outwardCaps p c)))
 
   -- what is settled in the outputs of a call that is not turned down is what demand 3 says
   pub closes : (r : MeshReply) (v v' : List Float) (f f' : List ℕ) → Settled (documentedMesh r) (coordinates (result .points)) v v' → Settled (documentedMesh r) (flat (result .facets)) f f'
-      → turnedDown r ≡ false → unchanged vs fs capList box eps resolution mode ≡ false → Closes vs fs capList box eps resolution mode v v' f f'
+      → turnedDown r ≡ false → unchanged vs fs capList q mode ≡ false → Closes vs fs capList q mode v v' f f'
   unfolding documentedMesh settle
   closes (Done a b) v v' f f' h g t e = record { out = result; demand = result-meets e; vertices = h .ends; facets = g .ends }
   closes (Refused r) v v' f f' h g t e = absurd (true-false t)

@@ -33,16 +33,16 @@ use Rattle.cap_triangles.specs.Room.{turnedAt}
 use Rattle.caps.specs.Steps.{CapsChecked, Listable, Closable}
 use Rattle.caps.proofs.Numbering.{full-low, words-low, words-kept}
 
-module _ (vs : List Float) (fs capList : List ℕ) (box : AABB) (eps resolution : Float) (w : List ℕ) (e : firstRefusal (closureTests vs fs box eps resolution (length capList) (length w)) ≡ Passed) where
+module _ (vs : List Float) (fs capList : List ℕ) (q : Asked) (w : List ℕ) (e : firstRefusal (closureTests vs fs q (length capList) (length w)) ≡ Passed) where
   abbrev lists : List Test
   lists = listTests ceiling vs fs (length capList)
 
   abbrev rest : List Test
   rest =
-      (not (every inRange vs && (boxInRange box && (epsInRange eps && resolutionInRange resolution))), BadNumber)
-      ∷ (badBox box, BadBox)
-      ∷ (gridTooFine box eps (oneResolution resolution), GridTooFine)
-      ∷ workTest (workNeed (length vs / 3) (length fs / 3) (length capList / 4) (gridSize box eps (oneResolution resolution))) (length w) ∷ []
+      (not (every inRange vs && (boxInRange (q .box) && (epsInRange (q .eps) && resolutionInRange (q .resolution)))), BadNumber)
+      ∷ (badBox (q .box), BadBox)
+      ∷ (gridTooFine (q .box) (q .eps) (oneResolution (q .resolution)), GridTooFine)
+      ∷ workTest (workNeed (length vs / 3) (length fs / 3) (length capList / 4) (gridSize (q .box) (q .eps) (oneResolution (q .resolution)))) (length w) ∷ []
 
   lists-passed : firstRefusal lists ≡ Passed
   unfolding closureTests
@@ -72,8 +72,8 @@ module _ (vs : List Float) (fs capList : List ℕ) (box : AABB) (eps resolution 
       let s = or-none-right (tooMany ceiling (length vs) 3) (tooMany ceiling (length fs) 3 || tooMany capCeiling (length capList) 4) r in
       ltb-false capCeiling (length capList / 4) (or-none-right (tooMany ceiling (length fs) 3) (tooMany capCeiling (length capList) 4) s)
 
-  pub listable : Listable vs fs capList (most vs box eps resolution) w
-  listable = record { fours = list-fours; few = list-few; size = let r = room-passed vs fs box eps resolution (length capList) (length w) e in omega (arith, r) }
+  pub listable : Listable vs fs capList (most vs q) w
+  listable = record { fours = list-fours; few = list-few; size = let r = room-passed vs fs q (length capList) (length w) e in omega (arith, r) }
 
 pub listable-same : (vs : List Float) (fs capList : List ℕ) (n m : ℕ) (w w' : List ℕ) → m ≡ n → length w' ≡ length w → Listable vs fs capList n w → Listable vs fs capList m w'
 listable-same vs fs capList n m w w' e l L = record { fours = L .fours; few = L .few; size = let s = L .size in omega (arith, e, l, s) }
@@ -82,18 +82,18 @@ pub tabled-room : (vs : List Float) (fs capList : List ℕ) (n : ℕ) (w : List 
 tabled-room vs fs capList n w L = let s = L .size in omega (arith, s)
 
 -- w₁ as the open edges left it, w as corner vertices and grids did, w' as the tests did
-pub closable : (vs : List Float) (fs capList : List ℕ) (box : AABB) (eps resolution : Float) (n k : ℕ) (w₁ w w' : List ℕ) (r : Checked) → Sound vs fs box eps resolution
-    → Surfaced vs fs box eps n k w₁ → Completed vs fs box eps resolution n k w → CapsChecked n (length fs / 3) k capList r w w' → r ≡ Passed → Closable vs fs capList n k w'
-closable vs fs capList box eps resolution n k w₁ w w' r S F D C e =
-    let low = full-low vs fs box eps resolution (subst (λ (p : Pool). Sourced (pointsOf vs) eps p) (F .pool) (F .sourced)) in
+pub closable : (vs : List Float) (fs capList : List ℕ) (q : Asked) (n k : ℕ) (w₁ w w' : List ℕ) (r : Checked) → Sound vs fs q
+    → Surfaced vs fs (q .box) (q .eps) n k w₁ → Completed vs fs q n k w → CapsChecked n (length fs / 3) k capList r w w' → r ≡ Passed → Closable vs fs capList n k w'
+closable vs fs capList q n k w₁ w w' r S F D C e =
+    let low = full-low vs fs q (subst (λ (p : Pool). Sourced (pointsOf vs) (q .eps) p) (F .pool) (F .sourced)) in
     record {
       whole-vertices = S .whole-vertices;
       whole-facets = S .whole-facets;
       few-vertices = S .few-vertices;
       few-facets = S .few-facets;
-      within = vertices-in vs fs box eps resolution S;
+      within = vertices-in vs fs q S;
       words = words-kept (turnedAt n (length fs / 3)) n (length vs / 3) w w' (C .above e) (omega arith) (D .holds .table .few)
-          (words-low n (length vs / 3) w (fullPool (setting box eps resolution) (meshOf vs fs)) (D .pool) low);
+          (words-low n (length vs / 3) w (fullPool (setting q) (meshOf vs fs)) (D .pool) low);
       ready = C .ready e;
       known = C .known e;
     }

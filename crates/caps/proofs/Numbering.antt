@@ -113,17 +113,17 @@ grid-low s edges p m =
     point-low f i j =
         one (interior s (uAxis f) i && (interior s (vAxis f) j && skipped s edges p f (project f (gridPoint s f i j)))) (gridPoint s f i j) (f ∷ [])
 
-pub full-low : (vs : List Float) (fs : List ℕ) (box : AABB) (eps resolution : Float) → Sourced (pointsOf vs) eps (edgeSurface box eps (byKey eps) (meshOf vs fs) .pool)
-    → Low (length vs / 3) (fullPool (setting box eps resolution) (meshOf vs fs))
+pub full-low : (vs : List Float) (fs : List ℕ) (q : Asked) → Sourced (pointsOf vs) (q .eps) (edgeSurface (q .box) (q .eps) (byKey (q .eps)) (meshOf vs fs) .pool)
+    → Low (length vs / 3) (fullPool (setting q) (meshOf vs fs))
 unfolding meshPool
-full-low vs fs box eps resolution S =
+full-low vs fs q S =
     let mesh = meshOf vs fs in
-    let first = edgeSurface box eps (byKey eps) mesh .pool in
+    let first = edgeSurface (q .box) (q .eps) (byKey (q .eps)) mesh .pool in
     let m = length (pointsOf vs) in
     let a : Low m first = low-all m (first .all) (S .low) in
-    let b = low-fold (byKey eps) m first (cornerVertices box eps mesh) a (corners-low box eps mesh) in
-    let c = low-fold (byKey eps) m (meshPool box eps (byKey eps) mesh) (grid (setting box eps resolution) (edgeSurface box eps (byKey eps) mesh .edges) (meshPool box eps (byKey eps) mesh)) b
-    (grid-low (setting box eps resolution) (edgeSurface box eps (byKey eps) mesh .edges) (meshPool box eps (byKey eps) mesh) m) in
+    let b = low-fold (byKey (q .eps)) m first (cornerVertices (q .box) (q .eps) mesh) a (corners-low (q .box) (q .eps) mesh) in
+    let c = low-fold (byKey (q .eps)) m (meshPool (q .box) (q .eps) (byKey (q .eps)) mesh) (grid (setting q) (edgeSurface (q .box) (q .eps) (byKey (q .eps)) mesh .edges) (meshPool (q .box) (q .eps) (byKey (q .eps)) mesh)) b
+    (grid-low (setting q) (edgeSurface (q .box) (q .eps) (byKey (q .eps)) mesh .edges) (meshPool (q .box) (q .eps) (byKey (q .eps)) mesh) m) in
     λ i. let h = c i in let l = length-pointsOf vs in omega (arith, h, l)
 
 -- ---- in the room

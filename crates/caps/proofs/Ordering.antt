@@ -40,41 +40,41 @@ use Rattle.caps.specs.Operation.{leavesOpen, isPositive, passedOver, unc
 use Rattle.caps.specs.Steps.{listTests, edgesIn, closedOf, closedMesh, surfaceMesh}
 use Rattle.caps.proofs.Demands.{closes}
 
-module _ (vs : List Float) (fs capList : List ℕ) (box : AABB) (eps resolution : Float) (mode : BoundaryClosure) where
+module _ (vs : List Float) (fs capList : List ℕ) (q : Asked) (mode : BoundaryClosure) where
   abbrev mesh : Mesh
   mesh = meshOf vs fs
 
   abbrev none : Bool
-  none = noTwoEnds vs fs box eps resolution
+  none = noTwoEnds vs fs q
 
   abbrev tests : List Test
-  tests = capTests vs fs capList box eps resolution mode
+  tests = capTests vs fs capList q mode
 
   abbrev closing : Mesh
   closing =
-      closedOf (pool vs fs capList box eps resolution mode) (caps vs fs capList box eps resolution mode) (surface vs fs capList box eps resolution mode .edges) (isPositive mode) mesh
+      closedOf (pool vs fs capList q mode) (caps vs fs capList q mode) (surface vs fs capList q mode .edges) (isPositive mode) mesh
 
   abbrev made : Mesh
-  made = surfaceMesh vs fs capList box eps resolution mode
+  made = surfaceMesh vs fs capList q mode
 
   abbrev result : Mesh
-  result = capsResult vs fs capList box eps resolution mode
+  result = capsResult vs fs capList q mode
 
   abbrev over : Bool
-  over = passedOver vs fs capList box eps resolution mode
+  over = passedOver vs fs capList q mode
 
   -- ---- what stands in the room
 
-  module _ (listed : ℕ) (el : listed ≡ length (edgeSurface box eps (byKey eps) mesh .edges)) where
+  module _ (listed : ℕ) (el : listed ≡ length (edgeSurface (q .box) (q .eps) (byKey (q .eps)) mesh .edges)) where
     pub no-ends-left : listed ≡ 0 → none ≡ true
     unfolding noTwoEnds
-    no-ends-left e = eq-eqb (length (edgeSurface box eps (byKey eps) mesh .edges)) 0 (sym el ∙ e)
+    no-ends-left e = eq-eqb (length (edgeSurface (q .box) (q .eps) (byKey (q .eps)) mesh .edges)) 0 (sym el ∙ e)
 
     pub ends-left : (listed ≡ 0 → ⊥) → none ≡ false
     unfolding noTwoEnds
-    ends-left g = ne-eqb (length (edgeSurface box eps (byKey eps) mesh .edges)) 0 (λ e. g (el ∙ e))
+    ends-left g = ne-eqb (length (edgeSurface (q .box) (q .eps) (byKey (q .eps)) mesh .edges)) 0 (λ e. g (el ∙ e))
 
-  module _ (n k : ℕ) (w : List ℕ) (D : Completed vs fs box eps resolution n k w) where
+  module _ (n k : ℕ) (w : List ℕ) (D : Completed vs fs q n k w) where
     pub tests-are : listTests (poolAt n w) (capsOf capList) (edgesIn n (length fs / 3) k w) ≡ tests
     unfolding capTests surface candidates
     tests-are = λ t. listTests (D .pool t) (capsOf capList) (D .edges t)
@@ -116,7 +116,7 @@ module _ (vs : List Float) (fs capList : List ℕ) (box : AABB) (eps resolution 
     -- ---- tests 8 and 9
 
     abbrev edges : List Test
-    edges = edgeTests vs fs box eps resolution
+    edges = edgeTests vs fs q
 
     pub edges-refused : (x : Refusal) → firstRefusal edges ≡ checked.Refused x → Answered (edges ++ behind ++ rooms made v f) made (Refused x) v v f f
     edges-refused x e = refused (edges ++ behind) (rooms made v f) made v f x (row-refused edges behind x e)
@@ -160,19 +160,19 @@ module _ (vs : List Float) (fs capList : List ℕ) (box : AABB) (eps resolution 
   -- ---- when the mesh comes back unchanged
 
   pub over-open : leavesOpen mode ≡ true → over ≡ true
-  over-open h = or-stop (leavesOpen mode) (noFacet vs fs box eps resolution) h
+  over-open h = or-stop (leavesOpen mode) (noFacet vs fs q) h
 
   pub over-none : leavesOpen mode ≡ false → length fs ≡ 0 → over ≡ true
-  over-none h e = or-next (leavesOpen mode) (noFacet vs fs box eps resolution) true h (eq-eqb (length fs) 0 e)
+  over-none h e = or-next (leavesOpen mode) (noFacet vs fs q) true h (eq-eqb (length fs) 0 e)
 
   pub over-neither : leavesOpen mode ≡ false → (length fs ≡ 0 → ⊥) → over ≡ false
-  over-neither h e = or-next (leavesOpen mode) (noFacet vs fs box eps resolution) false h (ne-eqb (length fs) 0 e)
+  over-neither h e = or-next (leavesOpen mode) (noFacet vs fs q) false h (ne-eqb (length fs) 0 e)
 
   -- ---- the work room cleared
 
   pub capped : (x : MeshReply) (w u w' : List ℕ) (v v' : List Float) (f f' : List ℕ)
-      → Answered (closureTests vs fs box eps resolution (length capList) (length w) ++ unless over (edgeTests vs fs box eps resolution ++ unless none tests) ++ rooms result v f) result x v v' f f'
-      → length u ≡ length w → w' ≡ replicate (length u) 0 → Capped vs fs capList box eps resolution mode x w w' v v' f f'
+      → Answered (closureTests vs fs q (length capList) (length w) ++ unless over (edgeTests vs fs q ++ unless none tests) ++ rooms result v f) result x v v' f f'
+      → length u ≡ length w → w' ≡ replicate (length u) 0 → Capped vs fs capList q mode x w w' v v' f f'
   unfolding capsReply
   capped x w u w' v v' f f' d h z =
       record {
@@ -180,5 +180,5 @@ module _ (vs : List Float) (fs capList : List ℕ) (box : AABB) (eps resolution 
         vertices = d .vertices;
         facets = d .facets;
         work = record { ends = z ∙ ap (λ (n : ℕ). replicate n 0) h };
-        rule = closes vs fs capList box eps resolution mode x v v' f f' (d .vertices) (d .facets);
+        rule = closes vs fs capList q mode x v v' f f' (d .vertices) (d .facets);
       }

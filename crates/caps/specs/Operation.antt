@@ -43,20 +43,20 @@ isPositive None = false
 isPositive ClosePositive = true
 isPositive CloseNegative = false
 
-module _ (vs : List Float) (fs capList : List ℕ) (box : AABB) (eps resolution : Float) (mode : BoundaryClosure) where
+module _ (vs : List Float) (fs capList : List ℕ) (q : Asked) (mode : BoundaryClosure) where
   abbrev pub passedOver : Bool
-  passedOver = leavesOpen mode || noFacet vs fs box eps resolution
+  passedOver = leavesOpen mode || noFacet vs fs q
 
   -- "and after test 9 if no open edge keeps two ends"
   abbrev pub unchanged : Bool
-  unchanged = passedOver || noTwoEnds vs fs box eps resolution
+  unchanged = passedOver || noTwoEnds vs fs q
 
   abbrev pub caps : List Cap
   caps = capsOf capList
 
   -- "Caps recomputes the candidates from the mesh"
   unfoldable pub surface : Candidates
-  surface = candidates (setting box eps resolution) (meshOf vs fs)
+  surface = candidates (setting q) (meshOf vs fs)
 
   abbrev pub pool : Pool
   pool = record { all = surface .all; lists = surface .lists }
@@ -77,8 +77,8 @@ module _ (vs : List Float) (fs capList : List ℕ) (box : AABB) (eps resolution 
   capsReply lent outs =
       let lengths = meshLengths capsResult in
       replyTo
-      (closureTests vs fs box eps resolution (length capList) lent
-      ++ unless passedOver (edgeTests vs fs box eps resolution ++ unless (noTwoEnds vs fs box eps resolution) capTests)
+      (closureTests vs fs q (length capList) lent
+      ++ unless passedOver (edgeTests vs fs q ++ unless (noTwoEnds vs fs q) capTests)
       ++ roomTests lengths outs)
       lengths
 
@@ -87,17 +87,17 @@ turnedDown (Done a b) = false
 turnedDown (Refused r) = true
 
 -- from outputs v and f to v' and f': whatever list is supplied
-pub record Closes (vs : List Float) (fs capList : List ℕ) (box : AABB) (eps resolution : Float) (mode : BoundaryClosure) (v v' : List Float) (f f' : List ℕ) : Type 0 where
+pub record Closes (vs : List Float) (fs capList : List ℕ) (q : Asked) (mode : BoundaryClosure) (v v' : List Float) (f f' : List ℕ) : Type 0 where
   pub out : Mesh
   pub demand :
-      DemandThree (pool vs fs capList box eps resolution mode) (surface vs fs capList box eps resolution mode .edges) (caps vs fs capList box eps resolution mode) (isPositive mode) (meshOf vs fs) out
+      DemandThree (pool vs fs capList q mode) (surface vs fs capList q mode .edges) (caps vs fs capList q mode) (isPositive mode) (meshOf vs fs) out
   pub vertices : v' ≡ overlay (coordinates (out .points)) v
   pub facets : f' ≡ overlay (flat (out .facets)) f
 
 -- from work room w and outputs v and f to w', v' and f', with the reply r
-pub record Capped (vs : List Float) (fs capList : List ℕ) (box : AABB) (eps resolution : Float) (mode : BoundaryClosure) (r : MeshReply) (w w' : List ℕ) (v v' : List Float) (f f' : List ℕ) : Type 0 where
-  pub replied : documentedMesh r ≡ capsReply vs fs capList box eps resolution mode (length w) (length v ∷ length f ∷ [])
-  pub vertices : Settled (documentedMesh r) (coordinates (capsResult vs fs capList box eps resolution mode .points)) v v'
-  pub facets : Settled (documentedMesh r) (flat (capsResult vs fs capList box eps resolution mode .facets)) f f'
+pub record Capped (vs : List Float) (fs capList : List ℕ) (q : Asked) (mode : BoundaryClosure) (r : MeshReply) (w w' : List ℕ) (v v' : List Float) (f f' : List ℕ) : Type 0 where
+  pub replied : documentedMesh r ≡ capsReply vs fs capList q mode (length w) (length v ∷ length f ∷ [])
+  pub vertices : Settled (documentedMesh r) (coordinates (capsResult vs fs capList q mode .points)) v v'
+  pub facets : Settled (documentedMesh r) (flat (capsResult vs fs capList q mode .facets)) f f'
   pub work : Zeroed w w'
-  pub rule : turnedDown r ≡ false → unchanged vs fs capList box eps resolution mode ≡ false → Closes vs fs capList box eps resolution mode v v' f f'
+  pub rule : turnedDown r ≡ false → unchanged vs fs capList q mode ≡ false → Closes vs fs capList q mode v v' f f'

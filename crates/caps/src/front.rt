@@ -42,11 +42,11 @@ fn cap_edges(
     out_vertices: &mut [f64],
     out_facets: &mut [u32],
 ) -> MeshReply
-    requires { ⌜ Sound (now vertices) (now facets) extents eps resolution ⌝ }
-    requires { ⌜ MeshFits (now vertices) (now facets) n (now w) × (n ≡ most (now vertices) extents eps resolution) ⌝ }
+    requires { ⌜ Sound (now vertices) (now facets) (asked extents eps resolution) ⌝ }
+    requires { ⌜ MeshFits (now vertices) (now facets) n (now w) × (n ≡ most (now vertices) (asked extents eps resolution)) ⌝ }
     requires { ⌜ Listable (now vertices) (now facets) (now «cap_list») n (now w) ⌝ }
     requires { ⌜ Tabled (now facets) n k (now w) ⌝ }
-    ensures { λ r. ⌜ Answered (unless (noTwoEnds (now (vertices .entry)) (now (facets .entry)) extents eps resolution) (capTests (now (vertices .entry)) (now (facets .entry)) (now («cap_list» .entry)) extents eps resolution mode) ++ rooms (surfaceMesh (now (vertices .entry)) (now (facets .entry)) (now («cap_list» .entry)) extents eps resolution mode) (now («out_vertices» .entry)) (now («out_facets» .entry))) (surfaceMesh (now (vertices .entry)) (now (facets .entry)) (now («cap_list» .entry)) extents eps resolution mode) r (now («out_vertices» .entry)) (now («out_vertices» .exit)) (now («out_facets» .entry)) (now («out_facets» .exit)) ⌝ }
+    ensures { λ r. ⌜ Answered (unless (noTwoEnds (now (vertices .entry)) (now (facets .entry)) (asked extents eps resolution)) (capTests (now (vertices .entry)) (now (facets .entry)) (now («cap_list» .entry)) (asked extents eps resolution) mode) ++ rooms (surfaceMesh (now (vertices .entry)) (now (facets .entry)) (now («cap_list» .entry)) (asked extents eps resolution) mode) (now («out_vertices» .entry)) (now («out_facets» .entry))) (surfaceMesh (now (vertices .entry)) (now (facets .entry)) (now («cap_list» .entry)) (asked extents eps resolution) mode) r (now («out_vertices» .entry)) (now («out_vertices» .exit)) (now («out_facets» .entry)) (now («out_facets» .exit)) ⌝ }
 {
     let listed = enter_surface(vertices, facets, extents, eps, w, n, k);
     if listed == 0 {
@@ -82,9 +82,9 @@ fn make_caps(
     out_vertices: &mut [f64],
     out_facets: &mut [u32],
 ) -> MeshReply
-    requires { ⌜ Sound (now vertices) (now facets) extents eps resolution ⌝ }
-    requires { ⌜ Listable (now vertices) (now facets) (now «cap_list») (most (now vertices) extents eps resolution) (now w) ⌝ }
-    ensures { λ r. ⌜ Answered (edgeTests (now (vertices .entry)) (now (facets .entry)) extents eps resolution ++ unless (noTwoEnds (now (vertices .entry)) (now (facets .entry)) extents eps resolution) (capTests (now (vertices .entry)) (now (facets .entry)) (now («cap_list» .entry)) extents eps resolution mode) ++ rooms (surfaceMesh (now (vertices .entry)) (now (facets .entry)) (now («cap_list» .entry)) extents eps resolution mode) (now («out_vertices» .entry)) (now («out_facets» .entry))) (surfaceMesh (now (vertices .entry)) (now (facets .entry)) (now («cap_list» .entry)) extents eps resolution mode) r (now («out_vertices» .entry)) (now («out_vertices» .exit)) (now («out_facets» .entry)) (now («out_facets» .exit)) ⌝ }
+    requires { ⌜ Sound (now vertices) (now facets) (asked extents eps resolution) ⌝ }
+    requires { ⌜ Listable (now vertices) (now facets) (now «cap_list») (most (now vertices) (asked extents eps resolution)) (now w) ⌝ }
+    ensures { λ r. ⌜ Answered (edgeTests (now (vertices .entry)) (now (facets .entry)) (asked extents eps resolution) ++ unless (noTwoEnds (now (vertices .entry)) (now (facets .entry)) (asked extents eps resolution)) (capTests (now (vertices .entry)) (now (facets .entry)) (now («cap_list» .entry)) (asked extents eps resolution) mode) ++ rooms (surfaceMesh (now (vertices .entry)) (now (facets .entry)) (now («cap_list» .entry)) (asked extents eps resolution) mode) (now («out_vertices» .entry)) (now («out_facets» .entry))) (surfaceMesh (now (vertices .entry)) (now (facets .entry)) (now («cap_list» .entry)) (asked extents eps resolution) mode) r (now («out_vertices» .entry)) (now («out_vertices» .exit)) (now («out_facets» .entry)) (now («out_facets» .exit)) ⌝ }
 {
     let n = most_candidates(vertices, extents, eps, resolution);
     let k = table_edges(facets, w, n);
@@ -120,7 +120,7 @@ fn caps_lent(
     out_vertices: &mut [f64],
     out_facets: &mut [u32],
 ) -> MeshReply
-    ensures { λ r. ⌜ Answered (closureTests (now (vertices .entry)) (now (facets .entry)) extents eps resolution (length (now («cap_list» .entry))) (length (now (work .entry))) ++ unless (passedOver (now (vertices .entry)) (now (facets .entry)) (now («cap_list» .entry)) extents eps resolution mode) (edgeTests (now (vertices .entry)) (now (facets .entry)) extents eps resolution ++ unless (noTwoEnds (now (vertices .entry)) (now (facets .entry)) extents eps resolution) (capTests (now (vertices .entry)) (now (facets .entry)) (now («cap_list» .entry)) extents eps resolution mode)) ++ rooms (capsResult (now (vertices .entry)) (now (facets .entry)) (now («cap_list» .entry)) extents eps resolution mode) (now («out_vertices» .entry)) (now («out_facets» .entry))) (capsResult (now (vertices .entry)) (now (facets .entry)) (now («cap_list» .entry)) extents eps resolution mode) r (now («out_vertices» .entry)) (now («out_vertices» .exit)) (now («out_facets» .entry)) (now («out_facets» .exit)) ⌝ }
+    ensures { λ r. ⌜ Answered (closureTests (now (vertices .entry)) (now (facets .entry)) (asked extents eps resolution) (length (now («cap_list» .entry))) (length (now (work .entry))) ++ unless (passedOver (now (vertices .entry)) (now (facets .entry)) (now («cap_list» .entry)) (asked extents eps resolution) mode) (edgeTests (now (vertices .entry)) (now (facets .entry)) (asked extents eps resolution) ++ unless (noTwoEnds (now (vertices .entry)) (now (facets .entry)) (asked extents eps resolution)) (capTests (now (vertices .entry)) (now (facets .entry)) (now («cap_list» .entry)) (asked extents eps resolution) mode)) ++ rooms (capsResult (now (vertices .entry)) (now (facets .entry)) (now («cap_list» .entry)) (asked extents eps resolution) mode) (now («out_vertices» .entry)) (now («out_facets» .entry))) (capsResult (now (vertices .entry)) (now (facets .entry)) (now («cap_list» .entry)) (asked extents eps resolution) mode) r (now («out_vertices» .entry)) (now («out_vertices» .exit)) (now («out_facets» .entry)) (now («out_facets» .exit)) ⌝ }
 {
     match check_closure(
         vertices,
@@ -168,7 +168,7 @@ pub fn cap_mesh_to_aabb(
     out_vertices: &mut [f64],
     out_facets: &mut [u32],
 ) -> MeshReply
-    ensures { λ r. ⌜ Capped (now (vertices .entry)) (now (facets .entry)) (now («cap_list» .entry)) extents eps resolution mode r (now (work .entry)) (now (work .exit)) (now («out_vertices» .entry)) (now («out_vertices» .exit)) (now («out_facets» .entry)) (now («out_facets» .exit)) ⌝ }
+    ensures { λ r. ⌜ Capped (now (vertices .entry)) (now (facets .entry)) (now («cap_list» .entry)) (asked extents eps resolution) mode r (now (work .entry)) (now (work .exit)) (now («out_vertices» .entry)) (now («out_vertices» .exit)) (now («out_facets» .entry)) (now («out_facets» .exit)) ⌝ }
 {
     let reply = caps_lent(
         vertices,

@@ -35,25 +35,25 @@ reply-refused reply refusal r ws q h = same-reply (documented refusal) (document
 zeros : length (replicate {A = ℕ} 8192 0) ≡ 8192
 zeros = length-replicate {A = ℕ} 8192 0
 
-module _ (vs : List Float) (fs : List ℕ) (box : AABB) (eps resolution : Float) (m : CandidatesReply) (w w' c c' l' k' e' : List ℕ) (r : ℕ) (ws : List ℕ) where
-  pub listing : Delivered vs fs box eps resolution m w w' c c' (replicate 8192 0) l' (replicate 8192 0) k' (replicate 8192 0) e' → Reported (documentedCandidates m) r ws
-      → Listing vs fs box eps resolution (length w) r ws c c'
+module _ (vs : List Float) (fs : List ℕ) (q : Asked) (m : CandidatesReply) (w w' c c' l' k' e' : List ℕ) (r : ℕ) (ws : List ℕ) where
+  pub listing : Delivered vs fs q m w w' c c' (replicate 8192 0) l' (replicate 8192 0) k' (replicate 8192 0) e' → Reported (documentedCandidates m) r ws
+      → Listing vs fs q (length w) r ws c c'
   listing d g =
-      let reply = listReply vs fs box eps resolution (length w) (length c) in
+      let reply = listReply vs fs q (length w) (length c) in
       let same : documentedCandidates m ≡ reply =
-      d .replied ∙ ap (λ (n : ℕ). candidatesReply vs fs box eps resolution (length w) (length c ∷ n ∷ n ∷ n ∷ [])) zeros in
+      d .replied ∙ ap (λ (n : ℕ). candidatesReply vs fs q (length w) (length c ∷ n ∷ n ∷ n ∷ [])) zeros in
       record {
         reported = same-reply (documentedCandidates m) reply r ws same g;
-        candidates = subst (λ (p : List ℕ). Settled p (candidateWords (candidatesResult vs fs box eps resolution .all)) c c') same (d .candidates);
+        candidates = subst (λ (p : List ℕ). Settled p (candidateWords (candidatesResult vs fs q .all)) c c') same (d .candidates);
       }
 
-pub facet-listing : (box : AABB) (eps resolution : Float) (lent r : ℕ) (ws c' : List ℕ)
-    → Listing (zeroF ∷ zeroF ∷ zeroF ∷ oneF ∷ zeroF ∷ zeroF ∷ zeroF ∷ oneF ∷ zeroF ∷ []) (0 ∷ 1 ∷ 2 ∷ []) box eps resolution lent r ws (replicate 8192 0) c'
-    → Reported (facetReply box eps resolution lent) r ws
+pub facet-listing : (q : Asked) (lent r : ℕ) (ws c' : List ℕ)
+    → Listing (zeroF ∷ zeroF ∷ zeroF ∷ oneF ∷ zeroF ∷ zeroF ∷ zeroF ∷ oneF ∷ zeroF ∷ []) (0 ∷ 1 ∷ 2 ∷ []) q lent r ws (replicate 8192 0) c'
+    → Reported (facetReply q lent) r ws
 unfolding facetReply
-facet-listing box eps resolution lent r ws c' h =
+facet-listing q lent r ws c' h =
     subst
-    (λ (n : ℕ). Reported (listReply (zeroF ∷ zeroF ∷ zeroF ∷ oneF ∷ zeroF ∷ zeroF ∷ zeroF ∷ oneF ∷ zeroF ∷ []) (0 ∷ 1 ∷ 2 ∷ []) box eps resolution lent n) r ws)
+    (λ (n : ℕ). Reported (listReply (zeroF ∷ zeroF ∷ zeroF ∷ oneF ∷ zeroF ∷ zeroF ∷ zeroF ∷ oneF ∷ zeroF ∷ []) (0 ∷ 1 ∷ 2 ∷ []) q lent n) r ws)
     zeros (h .reported)
 
 module _ (b box : AABB) (eps resolution : Float) (m n r : ℕ) (ws : List ℕ) (e : b ≡ box) (long : m ≡ n) (h : Reported (facetReply b eps resolution m) r ws) where

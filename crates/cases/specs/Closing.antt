@@ -30,9 +30,9 @@ boxTo x y z = record { «min_corner» = zeroF ∷ zeroF ∷ zeroF ∷ []; «max_
 abbrev pub listReply : List Float → List ℕ → AABB → Float → Float → ℕ → ℕ → List ℕ
 listReply vs fs box eps resolution lent n = candidatesReply vs fs box eps resolution lent (n ∷ 8192 ∷ 8192 ∷ 8192 ∷ [])
 
-pub record Listing (vs : List Float) (fs : List ℕ) (box : AABB) (eps resolution : Float) (lent r : ℕ) (values c c' : List ℕ) : Type 0 where
-  pub reported : Reported (listReply vs fs box eps resolution lent (length c)) r values
-  pub candidates : Settled (listReply vs fs box eps resolution lent (length c)) (candidateWords (candidatesResult vs fs box eps resolution .all)) c c'
+pub record Listing (vs : List Float) (fs : List ℕ) (q : Asked) (lent r : ℕ) (values c c' : List ℕ) : Type 0 where
+  pub reported : Reported (listReply vs fs q lent (length c)) r values
+  pub candidates : Settled (listReply vs fs q lent (length c)) (candidateWords (candidatesResult vs fs q .all)) c c'
 
 -- for room of n words, all zero
 unfoldable pub candidatesIn : List Float → List ℕ → AABB → Float → Float → ℕ → ℕ → List ℕ

@@ -50,7 +50,7 @@ pub fn list_candidates(
     candidates: &mut [u64],
     values: &mut [u64; 4],
 ) -> u32
-    ensures { λ r. ⌜ Listing (now (vertices .entry)) (now (facets .entry)) extents eps resolution (length (now (work .entry))) r (now (values .exit)) (now (candidates .entry)) (now (candidates .exit)) ⌝ }
+    ensures { λ r. ⌜ Listing (now (vertices .entry)) (now (facets .entry)) (asked extents eps resolution) (length (now (work .entry))) r (now (values .exit)) (now (candidates .entry)) (now (candidates .exit)) ⌝ }
 {
     let mut face_lists = [0u64; 8192];
     let mut constraints = [0u64; 8192];
@@ -138,7 +138,7 @@ fn reply_to_facet(
     work: &mut [u64],
     values: &mut [u64; 4],
 ) -> u32
-    ensures { λ r. ⌜ Reported (facetReply extents eps resolution (length (now (work .entry)))) r (now (values .exit)) ⌝ }
+    ensures { λ r. ⌜ Reported (facetReply (asked extents eps resolution) (length (now (work .entry)))) r (now (values .exit)) ⌝ }
 {
     let points = [0.0, 0.0, 0.0, 1.0, 0.0, 0.0, 0.0, 1.0, 0.0];
     let facet = [0, 1, 2];

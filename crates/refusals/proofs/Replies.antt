@@ -2,7 +2,7 @@
 --   reply-refused, reply-passed    a row of tests in front, that refused or passed
 --   short-first, short-second, roomy   test 12 of an operation with two outputs
 --   head-passed, tail-passed, row-front, row-rest   what is known once a row of tests has passed
---   Listed, listed                 the same of tests 1, 2 and 3
+--   listed                         the same of tests 1, 2 and 3
 use Prim.Native.Nat.{ℕ, _/_, _%_, _≤_, _<_}
 use mathlib.Core.Path.{_≡_, refl, ap, _∙_}
 use mathlib.Core.Bool.{Bool, true, false, cond, _||_}
@@ -18,7 +18,7 @@ use Rattle.refusals.specs.declared.refusal.Refusal.the-variants.{Ragged,
 use Rattle.refusals.specs.declared.refusal.Checked.{Checked}
 use Rattle.refusals.specs.declared.refusal.Checked.the-variants.{Passed, Refused}
 use Rattle.refusals.specs.Refusals.{documented, Test, firstRefusal, numbered, replyTo}
-use Rattle.refusals.specs.Front.{ragged, tooMany, capCeiling, badIndex, listTests, roomTests}
+use Rattle.refusals.specs.Front.{ragged, tooMany, capCeiling, badIndex, listTests, ListsPass, roomTests}
 use Rattle.refusals.proofs.Refusals.{holds, passes, none-left, row-passed, row-refused}
 
 module _ (ts us : List Test) (done : List ℕ) where
@@ -68,19 +68,12 @@ pub row-rest : (ts us : List Test) → firstRefusal (ts ++ us) ≡ Passed → fi
 row-rest [] us e = e
 row-rest (t ∷ ts) us e = row-rest ts us (tail-passed (t .0) (t .1) (ts ++ us) e)
 
-pub record Listed (most : ℕ) (vs : List Float) (fs : List ℕ) : Type 0 where
-  pub whole-vertices : length vs % 3 ≡ 0
-  pub whole-facets : length fs % 3 ≡ 0
-  pub few-vertices : length vs / 3 ≤ most
-  pub few-facets : length fs / 3 ≤ most
-  pub below : badIndex (length vs / 3) fs ≡ false
-
 module _ (most : ℕ) (vs : List Float) (fs : List ℕ) (caps : ℕ) where
   abbrev second : List Test
   second =
       (tooMany most (length vs) 3 || (tooMany most (length fs) 3 || tooMany capCeiling caps 4), TooMany) ∷ (badIndex (length vs / 3) fs, BadIndex) ∷ []
 
-  pub listed : firstRefusal (listTests most vs fs caps) ≡ Passed → Listed most vs fs
+  pub listed : firstRefusal (listTests most vs fs caps) ≡ Passed → ListsPass most vs fs
   unfolding ragged tooMany
   listed e =
       let r1 = head-passed (ragged (length vs) 3 || (ragged (length fs) 3 || ragged caps 4)) Ragged second e in

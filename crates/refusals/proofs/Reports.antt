@@ -5,7 +5,10 @@ use Prim.Native.Nat.{ℕ}
 use Rattle.refusals.specs.declared.refusal.Refusal.{Refusal}
 use Rattle.refusals.specs.declared.reply.MeshReply.{MeshReply}
 use Rattle.refusals.specs.declared.reply.MeshReply.the-variants.{Done, Refused}
-use Rattle.refusals.specs.Refusals.{documented, documentedMesh}
+use Rattle.refusals.specs.declared.reply.Reply.{Reply}
+use Rattle.refusals.specs.declared.reply.Reply.the-variants.{DoneTwo, DoneFour}
+use Rattle.refusals.specs.declared.reply.Reply.the-variants as reply
+use Rattle.refusals.specs.Refusals.{documented, documentedMesh, documentedReply}
 use Rattle.refusals.specs.Reports.{Reported}
 
 pub same-reply : (reply reply′ : List ℕ) (r : ℕ) (ws : List ℕ) → reply ≡ reply′ → Reported reply r ws → Reported reply′ r ws
@@ -21,3 +24,15 @@ mesh-done reply v f r ws e h = same-reply (0 ∷ v ∷ f ∷ []) (documentedMesh
 pub mesh-refused : (reply : MeshReply) (refusal : Refusal) (r : ℕ) (ws : List ℕ) → reply ≡ Refused refusal → Reported (documented refusal) r ws → Reported (documentedMesh reply) r ws
 unfolding documentedMesh
 mesh-refused reply refusal r ws e h = same-reply (documented refusal) (documentedMesh reply) r ws (ap documentedMesh (sym e)) h
+
+pub reply-two : (x : Reply) (a b r : ℕ) (ws : List ℕ) → x ≡ DoneTwo a b → (r ≡ 0) × (ws ≡ a ∷ b ∷ 0 ∷ 0 ∷ []) → Reported (documentedReply x) r ws
+unfolding documentedReply
+reply-two x a b r ws e h = same-reply (0 ∷ a ∷ b ∷ []) (documentedReply x) r ws (ap documentedReply (sym e)) (record { number = h .0; words = h .1 })
+
+pub reply-four : (x : Reply) (a b c d r : ℕ) (ws : List ℕ) → x ≡ DoneFour a b c d → (r ≡ 0) × (ws ≡ a ∷ b ∷ c ∷ d ∷ []) → Reported (documentedReply x) r ws
+unfolding documentedReply
+reply-four x a b c d r ws e h = same-reply (0 ∷ a ∷ b ∷ c ∷ d ∷ []) (documentedReply x) r ws (ap documentedReply (sym e)) (record { number = h .0; words = h .1 })
+
+pub reply-refused : (x : Reply) (refusal : Refusal) (r : ℕ) (ws : List ℕ) → x ≡ reply.Refused refusal → Reported (documented refusal) r ws → Reported (documentedReply x) r ws
+unfolding documentedReply
+reply-refused x refusal r ws e h = same-reply (documented refusal) (documentedReply x) r ws (ap documentedReply (sym e)) h

@@ -1,12 +1,13 @@
 -- The table's conditions that several operations share (document 01, "What the service takes" and "Refusals"). Each is total: an earlier test may have failed. Assumes nothing.
---   listTests           1, 2 and 3, of vertices, facets and cap list
+--   listTests           1, 2 and 3, of vertices, facets and cap list        ListsPass   what they give of a mesh, once they have passed
 --   inRange, epsInRange, resolutionInRange, boxInRange   the ranges of test 4
 --   badBox              5           gridTooFine   6
 --   workNeed, workTest  7           farKeys, boxFarKeys   8
 --   byAxis              a resolution for each axis, from a list of three
 --   roomTests           12
-use Prim.Native.Nat.{ℕ, _+_, _*_, _/_, _%_}
-use mathlib.Core.Bool.{Bool, not, _&&_, _||_}
+use Prim.Native.Nat.{ℕ, _+_, _*_, _/_, _%_, _≤_}
+use mathlib.Core.Path.{_≡_}
+use mathlib.Core.Bool.{Bool, false, not, _&&_, _||_}
 use mathlib.Core.List.{List, [], _∷_, _++_}
 use lib.Dec.{eqb, ltb}
 use lib.ListN.{length, getD}
@@ -24,11 +25,11 @@ use Rattle.refusals.specs.Refusals.{Test}
 
 -- "a list length is no multiple of 3 (cap list: of 4)"
 unfoldable pub ragged : ℕ → ℕ → Bool
-ragged length of = not (eqb (length % of) 0)
+ragged long of = not (eqb (long % of) 0)
 
 -- "a list exceeds its count": the ceiling is one number for vertices and for facets
 unfoldable pub tooMany : ℕ → ℕ → ℕ → Bool
-tooMany ceiling length of = ltb ceiling (length / of)
+tooMany most long of = ltb most (long / of)
 
 -- "At most 65,536 of each"; "at most 1,048,576" cap triangles
 abbrev pub ceiling : ℕ
@@ -47,6 +48,14 @@ listTests most vs fs caps =
     (ragged (length vs) 3 || (ragged (length fs) 3 || ragged caps 4), Ragged)
     ∷ (tooMany most (length vs) 3 || (tooMany most (length fs) 3 || tooMany capCeiling caps 4), TooMany)
     ∷ (badIndex (length vs / 3) fs, BadIndex) ∷ []
+
+-- what 1, 2 and 3 give, once they have passed
+pub record ListsPass (most : ℕ) (vs : List Float) (fs : List ℕ) : Type 0 where
+  pub whole-vertices : length vs % 3 ≡ 0
+  pub whole-facets : length fs % 3 ≡ 0
+  pub few-vertices : length vs / 3 ≤ most
+  pub few-facets : length fs / 3 ≤ most
+  pub below : badIndex (length vs / 3) fs ≡ false
 
 -- ---- 4: a NaN fails every comparison, so it is in no range
 

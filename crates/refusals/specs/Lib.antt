@@ -1,3 +1,4 @@
 pub mod Refusals
-pub mod Front
 pub mod Reports
+pub mod Answers
+pub mod Front

@@ -1,8 +1,10 @@
 -- Refusals, replies and outputs (document 01, "Refusals, in the order tested"). Assumes nothing.
 --   documented        "this paper's number and values for each of its cases"
 --   documentedMesh    the same of a reply that writes a mesh: 0 and the two lengths, or the refusal's
+--   documentedReply   the same of an operation's reply: 0 and the lengths written, or the refusal's
 --   Test              a row of the table: when it refuses, and as what
 --   firstRefusal      the first test that holds        unless    tests that are passed over
+--   Passes            no test of a row holds
 --   replyTo           the reply as numbers: the first refusal's, else 0 and the values of what was done
 --   settle            what an output ends as           Settled, Zeroed   the same as records, for contracts
 use Prim.Native.Nat.{ℕ, zero, suc}
@@ -17,6 +19,9 @@ use Rattle.refusals.specs.declared.refusal.Checked.the-variants.{Passed,
 use Rattle.refusals.specs.declared.reply.MeshReply.{MeshReply}
 use Rattle.refusals.specs.declared.reply.MeshReply.the-variants.{Done}
 use Rattle.refusals.specs.declared.reply.MeshReply.the-variants as mesh
+use Rattle.refusals.specs.declared.reply.Reply.{Reply}
+use Rattle.refusals.specs.declared.reply.Reply.the-variants.{DoneTwo, DoneFour}
+use Rattle.refusals.specs.declared.reply.Reply.the-variants as reply
 use Rattle.refusals.specs.declared.refusal.Refusal.the-variants.{Ragged, TooMany, BadIndex, BadNumber, BadBox, GridTooFine, NoWorkRoom, KeyRange, OpenEdge, BadCap, MissingEdge, NoRoom}
 
 unfoldable pub documented : Refusal → List ℕ
@@ -37,6 +42,12 @@ unfoldable pub documentedMesh : MeshReply → List ℕ
 documentedMesh (Done vertices facets) = 0 ∷ vertices ∷ facets ∷ []
 documentedMesh (mesh.Refused r) = documented r
 
+-- "counts returned are the lengths written"
+unfoldable pub documentedReply : Reply → List ℕ
+documentedReply (DoneTwo a b) = 0 ∷ a ∷ b ∷ []
+documentedReply (DoneFour a b c d) = 0 ∷ a ∷ b ∷ c ∷ d ∷ []
+documentedReply (reply.Refused r) = documented r
+
 abbrev pub Test : Type 0
 Test = Bool × Refusal
 
@@ -44,6 +55,10 @@ Test = Bool × Refusal
 unfoldable pub firstRefusal : List Test → Checked
 firstRefusal [] = Passed
 firstRefusal (t ∷ ts) = let r = firstRefusal ts in cond (t .0) (Refused (t .1)) r
+
+-- no test of the row holds
+abbrev pub Passes : List Test → Type 0
+Passes tests = firstRefusal tests ≡ Passed
 
 abbrev pub numbered : Checked → List ℕ → List ℕ
 numbered Passed done = 0 ∷ done

@@ -1,10 +1,11 @@
 // A reply as plain numbers, for callers in C and for stored answers: document 01's number, and its values in four words.
 ghost use mathlib.Core.Path.{_≡_};
 ghost use mathlib.Core.List.{[], _∷_};
-ghost use Rattle.refusals.specs.Refusals.{documented, documentedMesh};
+ghost use Rattle.refusals.specs.Refusals.{documented, documentedMesh, documentedReply};
 ghost use Rattle.refusals.specs.Reports.{Reported};
 use crate::refusal::Refusal;
 use crate::reply::MeshReply;
+use crate::reply::Reply;
 
 // The number 0, for done.
 pub fn report_done(values: &mut [u64; 4], a: u64, b: u64, c: u64, d: u64) -> u32
@@ -48,5 +49,17 @@ pub fn report_mesh(values: &mut [u64; 4], reply: MeshReply) -> u32
             report_done(values, vertices as u64, facets as u64, 0, 0)
         }
         MeshReply::Refused(refusal) => report_refusal(values, refusal),
+    }
+}
+
+pub fn report_reply(values: &mut [u64; 4], reply: Reply) -> u32
+    ensures { λ r. ⌜ Reported (documentedReply reply) r (now (values .exit)) ⌝ }
+{
+    match reply {
+        Reply::DoneTwo(a, b) => report_done(values, a as u64, b as u64, 0, 0),
+        Reply::DoneFour(a, b, c, d) => {
+            report_done(values, a as u64, b as u64, c as u64, d as u64)
+        }
+        Reply::Refused(refusal) => report_refusal(values, refusal),
     }
 }

@@ -82,11 +82,11 @@ pub candidates-refused : (reply : CandidatesReply) (refusal : Refusal) (r : ℕ)
 unfolding documentedCandidates
 candidates-refused reply refusal r ws q h = same-reply (documented refusal) (documentedCandidates reply) r ws (ap documentedCandidates (sym q)) h
 
-module _ (vs : List Float) (fs : List ℕ) (box : AABB) (eps resolution : Float) (m : CandidatesReply) (w w' c c' l l' k k' e e' : List ℕ) where
-  pub candidates-reported : (r : ℕ) (ws : List ℕ) → Delivered vs fs box eps resolution m w w' c c' l l' k k' e e' → Reported (documentedCandidates m) r ws
-      → CandidatesReported (candidatesReply vs fs box eps resolution (length w) (length c ∷ length l ∷ length k ∷ length e ∷ [])) (candidatesResult vs fs box eps resolution) r ws w w' c c' l l' k k' e e'
+module _ (vs : List Float) (fs : List ℕ) (q : Asked) (m : CandidatesReply) (w w' c c' l l' k k' e e' : List ℕ) where
+  pub candidates-reported : (r : ℕ) (ws : List ℕ) → Delivered vs fs q m w w' c c' l l' k k' e e' → Reported (documentedCandidates m) r ws
+      → CandidatesReported (candidatesReply vs fs q (length w) (length c ∷ length l ∷ length k ∷ length e ∷ [])) (candidatesResult vs fs q) r ws w w' c c' l l' k k' e e'
   candidates-reported r ws d g =
-      let result = candidatesResult vs fs box eps resolution in
+      let result = candidatesResult vs fs q in
       record {
         reported = same-reply (documentedCandidates m) _ r ws (d .replied) g;
         candidates = subst (λ (p : List ℕ). Settled p (candidateWords (result .all)) c c') (d .replied) (d .candidates);
@@ -159,26 +159,26 @@ module _ (vs : List Float) (fs : List ℕ) (n : ℕ) where
       go checked.Passed e = (BadNumber, no-mode-passes e)
       go (checked.Refused q) e = (q, no-mode-stops q e)
 
-module _ (vs : List Float) (fs capList : List ℕ) (box : AABB) (eps resolution : Float) (mode : ℕ) (w w' : List ℕ) (v v' : List Float) (f f' : List ℕ) (r : ℕ) (ws : List ℕ) where
+module _ (vs : List Float) (fs capList : List ℕ) (q : Asked) (mode : ℕ) (w w' : List ℕ) (v v' : List Float) (f f' : List ℕ) (r : ℕ) (ws : List ℕ) where
   abbrev called : List ℕ
-  called = calledReply vs fs capList box eps resolution mode (length w) (length v ∷ length f ∷ [])
+  called = calledReply vs fs capList q mode (length w) (length v ∷ length f ∷ [])
 
   called-none : 2 < mode → noModeReply vs fs (length capList) ≡ called
   unfolding calledReply
   called-none h =
-      sym (ap (λ (b : Bool). cond b (noModeReply vs fs (length capList)) (capsReply vs fs capList box eps resolution (modeOf mode) (length w) (length v ∷ length f ∷ []))) (lt-ltb 2 mode h))
+      sym (ap (λ (b : Bool). cond b (noModeReply vs fs (length capList)) (capsReply vs fs capList q (modeOf mode) (length w) (length v ∷ length f ∷ []))) (lt-ltb 2 mode h))
 
-  called-mode : mode ≤ 2 → capsReply vs fs capList box eps resolution (modeOf mode) (length w) (length v ∷ length f ∷ []) ≡ called
+  called-mode : mode ≤ 2 → capsReply vs fs capList q (modeOf mode) (length w) (length v ∷ length f ∷ []) ≡ called
   unfolding calledReply
   called-mode h =
-      sym (ap (λ (b : Bool). cond b (noModeReply vs fs (length capList)) (capsReply vs fs capList box eps resolution (modeOf mode) (length w) (length v ∷ length f ∷ []))) (le-ltb 2 mode h))
+      sym (ap (λ (b : Bool). cond b (noModeReply vs fs (length capList)) (capsReply vs fs capList q (modeOf mode) (length w) (length v ∷ length f ∷ []))) (le-ltb 2 mode h))
 
   pub caps-none : 2 < mode → w' ≡ replicate (length w) 0 → v' ≡ v → f' ≡ f → Reported (noModeReply vs fs (length capList)) r ws
-      → CapsReported vs fs capList box eps resolution mode r ws w w' v v' f f'
+      → CapsReported vs fs capList q mode r ws w w' v v' f f'
   caps-none h z p q g =
       let n = no-mode-is vs fs (length capList) in
       let e : called ≡ documented (n .0) = sym (called-none h) ∙ n .1 in
-      let result = capsResult vs fs capList box eps resolution (modeOf mode) in
+      let result = capsResult vs fs capList q (modeOf mode) in
       record {
         written = record {
           reported = same-reply (noModeReply vs fs (length capList)) called r ws (called-none h) g;
@@ -189,14 +189,14 @@ module _ (vs : List Float) (fs capList : List ℕ) (box : AABB) (eps resolution 
         rule = λ d. absurd (not-done (n .0) (ap (λ (l : List ℕ). getD l 0 0) (sym (n .1)) ∙ sym (g .number) ∙ d));
       }
 
-  as-mode : (x : BoundaryClosure) (m : MeshReply) → x ≡ modeOf mode → Capped vs fs capList box eps resolution x m w w' v v' f f' → Capped vs fs capList box eps resolution (modeOf mode) m w w' v v' f f'
-  as-mode x m e c = subst (λ (y : BoundaryClosure). Capped vs fs capList box eps resolution y m w w' v v' f f') e c
+  as-mode : (x : BoundaryClosure) (m : MeshReply) → x ≡ modeOf mode → Capped vs fs capList q x m w w' v v' f f' → Capped vs fs capList q (modeOf mode) m w w' v v' f f'
+  as-mode x m e c = subst (λ (y : BoundaryClosure). Capped vs fs capList q y m w w' v v' f f') e c
 
-  pub caps-reported : (x : BoundaryClosure) (m : MeshReply) → mode ≤ 2 → x ≡ modeOf mode → Capped vs fs capList box eps resolution x m w w' v v' f f' → Reported (documentedMesh m) r ws
-      → CapsReported vs fs capList box eps resolution mode r ws w w' v v' f f'
+  pub caps-reported : (x : BoundaryClosure) (m : MeshReply) → mode ≤ 2 → x ≡ modeOf mode → Capped vs fs capList q x m w w' v v' f f' → Reported (documentedMesh m) r ws
+      → CapsReported vs fs capList q mode r ws w w' v v' f f'
   caps-reported x m h e c g =
       let k = as-mode x m e c in
       record {
-        written = mesh-reported called (capsResult vs fs capList box eps resolution (modeOf mode)) m r ws w w' v v' f f' (k .replied ∙ called-mode h) (k .vertices) (k .facets) (k .work) g;
+        written = mesh-reported called (capsResult vs fs capList q (modeOf mode)) m r ws w w' v v' f f' (k .replied ∙ called-mode h) (k .vertices) (k .facets) (k .work) g;
         rule = λ d. k .rule (done-mesh m (sym (g .number) ∙ d));
       }

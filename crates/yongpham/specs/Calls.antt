@@ -50,12 +50,12 @@ modeOf m = cond (eqb m 0) None (cond (eqb m 1) ClosePositive CloseNegative)
 unfoldable pub noModeReply : List Float → List ℕ → ℕ → List ℕ
 noModeReply vs fs caps = replyTo (listTests ceiling vs fs caps ++ (true, BadNumber) ∷ []) []
 
-module _ (vs : List Float) (fs capList : List ℕ) (box : AABB) (eps resolution : Float) (mode : ℕ) where
+module _ (vs : List Float) (fs capList : List ℕ) (q : Asked) (mode : ℕ) where
   -- for so many words of work room lent, and outputs of the lengths outs
   unfoldable pub calledReply : ℕ → List ℕ → List ℕ
-  calledReply lent outs = cond (ltb 2 mode) (noModeReply vs fs (length capList)) (capsReply vs fs capList box eps resolution (modeOf mode) lent outs)
+  calledReply lent outs = cond (ltb 2 mode) (noModeReply vs fs (length capList)) (capsReply vs fs capList q (modeOf mode) lent outs)
 
-pub record CapsReported (vs : List Float) (fs capList : List ℕ) (box : AABB) (eps resolution : Float) (mode r : ℕ) (values w w' : List ℕ) (v v' : List Float) (f f' : List ℕ) : Type 0 where
+pub record CapsReported (vs : List Float) (fs capList : List ℕ) (q : Asked) (mode r : ℕ) (values w w' : List ℕ) (v v' : List Float) (f f' : List ℕ) : Type 0 where
   pub written :
-      MeshReported (calledReply vs fs capList box eps resolution mode (length w) (length v ∷ length f ∷ [])) (capsResult vs fs capList box eps resolution (modeOf mode)) r values w w' v v' f f'
-  pub rule : r ≡ 0 → unchanged vs fs capList box eps resolution (modeOf mode) ≡ false → Closes vs fs capList box eps resolution (modeOf mode) v v' f f'
+      MeshReported (calledReply vs fs capList q mode (length w) (length v ∷ length f ∷ [])) (capsResult vs fs capList q (modeOf mode)) r values w w' v v' f f'
+  pub rule : r ≡ 0 → unchanged vs fs capList q (modeOf mode) ≡ false → Closes vs fs capList q (modeOf mode) v v' f f'

@@ -1,4 +1,4 @@
-use Rattle.boundary_closure.proofs.Delivery.{delivered}
+use Rattle.refusals.proofs.Answers.{answered}
 use borrow.Author.Needs.{needs}
 use Rattle.boundary_closure.proofs.front.cap_candidates.Statement.{statement}
 use Rattle.boundary_closure.proofs.front.cap_candidates.Tie as tie
@@ -25,7 +25,7 @@ same-length-5 : tie.Need-same-length-5
 same-length-5 c = search needs
 
 returns : tie.Need-returns
-returns c = let a = c .before .before .before .before .before .before .before .before .before .before .before .before .before .before .before .before .before .before .before .before .before .before .before .before .before .before .before .args in delivered (a .vertices .now) (a .facets .now) (a .extents) (a .eps) (a .resolution) (c .before .before .before .before .before .before .before .before .before .before .before .before .before .before .candidates-lent .result) (a .work .now) (c .before .before .before .before .before .before .before .before .before .before .before .before .before .before .candidates-lent .last .1 .1 .1 .1 .1 .0) (c .before .before .zero .last .0) (a .candidates .now) (c .before .before .before .before .before .before .before .before .before .before .before .before .before .before .candidates-lent .last .1 .1 .1 .1 .1 .1 .0) (a .face-lists .now) (c .before .before .before .before .before .before .before .before .before .before .before .before .before .before .candidates-lent .last .1 .1 .1 .1 .1 .1 .1 .0) (a .constraints .now) (c .before .before .before .before .before .before .before .before .before .before .before .before .before .before .candidates-lent .last .1 .1 .1 .1 .1 .1 .1 .1 .0) (a .open-edges .now) (c .before .before .before .before .before .before .before .before .before .before .before .before .before .before .candidates-lent .last .1 .1 .1 .1 .1 .1 .1 .1 .1 .0) (c .before .before .before .before .before .before .before .before .before .before .before .before .before .before .candidates-lent .ensures) (c .before .before .before .before .before .before .before .before .before .before .before .before .before .before .candidates-lent .kept .1 .1 .1 .1 .1 .0) (c .before .before .zero .ensures)
+returns c = let a = c .before .before .before .before .before .before .before .before .before .before .before .before .before .before .before .before .before .before .before .before .before .before .before .before .before .before .before .args in answered _ _ (a .work .now) (c .before .before .before .before .before .before .before .before .before .before .before .before .before .before .candidates-lent .last .1 .1 .1 .1 .1 .0) (c .before .before .zero .last .0) _ (c .before .before .before .before .before .before .before .before .before .before .before .before .before .before .candidates-lent .ensures) (c .before .before .before .before .before .before .before .before .before .before .before .before .before .before .candidates-lent .kept .1 .1 .1 .1 .1 .0) (c .before .before .zero .ensures)
 
 pub cap-candidates-spec : {M : Type 1} → statement M
 cap-candidates-spec =

@@ -1,5 +1,5 @@
 use native.Mathlib.Omega.{arith}
-use Rattle.boundary_closure.specs.Operation.{oneResolution}
+use Rattle.boundary_closure.specs.Asked.{oneResolution}
 use Rattle.boundary_closure.proofs.Checking.{grid-small}
 use borrow.Author.Needs.{needs}
 use Rattle.boundary_closure.proofs.surface.most_candidates.Statement.{statement}

@@ -1,0 +1,62 @@
+-- An operation's answer (document 01, "Refusals"): its reply, and what its outputs and the work room end as. One form for every operation. Assumes nothing.
+--   Output, output   the result that an output is for, what stood there before the call and what stands there after it; elements of any type
+--   meshOutputs      the two outputs of an operation that writes a mesh
+--   resultLengths    the lengths of the results                roomChecks  12, of each output in turn
+--   settle           what an output ends as                    AllSettled  each output ended so
+--   replyWith        the reply as numbers to a row of tests, with 12 behind it
+--   Answer           that reply was given, and the outputs ended as it says
+--   Answered         the same of a whole operation: the work room ended zero too
+--   Called           the same of a function that C calls, whose reply is reported as a number and four words
+use Prim.Native.Nat.{ℕ}
+use mathlib.Core.Path.{_≡_}
+use mathlib.Core.List.{List, [], _∷_, _++_, map}
+use lib.Dec.{ltb}
+use lib.ListN.{length}
+use lib.Ieee.{Float}
+use Rattle.geometry.specs.Triangles.{flat}
+use Rattle.geometry.specs.Meshes.{Mesh, coordinates}
+use Rattle.refusals.specs.declared.refusal.Refusal.the-variants.{NoRoom}
+use Rattle.refusals.specs.Refusals.{Test, replyTo, settle, Zeroed}
+use Rattle.refusals.specs.Reports.{Reported}
+
+pub record Output : Type 1 where
+  pub Element : Type 0
+  pub result : List Element
+  pub before : List Element
+  pub after : List Element
+
+abbrev pub output : {A : Type 0} → List A → List A → List A → Output
+output {A = A} result before after = record { Element = A; result = result; before = before; after = after }
+
+-- "vertices, facets", from v and f to v' and f'
+abbrev pub meshOutputs : Mesh → List Float → List Float → List ℕ → List ℕ → List Output
+meshOutputs m v v' f f' = output (coordinates (m .points)) v v' ∷ output (flat (m .facets)) f f' ∷ []
+
+-- "counts returned are the lengths written"
+abbrev pub resultLengths : List Output → List ℕ
+resultLengths outs = map (λ o. length (o .result)) outs
+
+-- "an output is shorter than the result; the first short one counts"
+abbrev pub roomChecks : List Output → List Test
+roomChecks outs = map (λ o. (ltb (length (o .before)) (length (o .result)), NoRoom (length (o .result)))) outs
+
+abbrev pub AllSettled : List ℕ → List Output → Type 0
+AllSettled reply [] = Unit {0}
+AllSettled reply (o ∷ outs) = (o .after ≡ settle reply (o .result) (o .before)) × AllSettled reply outs
+
+abbrev pub replyWith : List Test → List Output → List ℕ
+replyWith tests outs = replyTo (tests ++ roomChecks outs) (resultLengths outs)
+
+pub record Answer (tests : List Test) (outs : List Output) (reply : List ℕ) : Type 0 where
+  pub replied : reply ≡ replyWith tests outs
+  pub settled : AllSettled reply outs
+
+-- from work room w to w'
+pub record Answered (tests : List Test) (outs : List Output) (w w' reply : List ℕ) : Type 0 where
+  pub answer : Answer tests outs reply
+  pub work : Zeroed w w'
+
+pub record Called (tests : List Test) (outs : List Output) (w w' : List ℕ) (number : ℕ) (values : List ℕ) : Type 0 where
+  pub reported : Reported (replyWith tests outs) number values
+  pub settled : AllSettled (replyWith tests outs) outs
+  pub work : Zeroed w w'
