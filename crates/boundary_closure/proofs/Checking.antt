@@ -1,9 +1,9 @@
 -- Laws of the tests before 12, one after the other, and of what is known once they have passed. Assumes nothing.
 --   lists-refused, number-refused, box-refused, grid-refused, room-refused, all-passed   tests 1 to 7
---   sound, room-passed                       what is known once they have passed
+--   lists-passed, sound, room-passed                       what is known once they have passed
 --   key-refused, edge-refused, edges-passed  tests 8 and 9
 --   ends-of                                  the key of an open edge is its sorted pair
---   grid-small, few-caps, need-small         no count wraps
+--   grid-small, need-small         no count wraps
 use Prim.Native.Nat.{ℕ, _+_, _*_, _/_, _≤_, _<_, min, max}
 use native.Mathlib.Omega.{arith}
 use mathlib.Core.Bool.{Bool, true, false, not, _&&_, _||_}
@@ -24,13 +24,13 @@ use Rattle.edges.specs.Edges.{sortedPair, openEdges}
 use Rattle.edges.specs.Table.{nextSide}
 use Rattle.edges.proofs.Sides.{side-at, next-in}
 use Rattle.refusals.specs.declared.refusal.Refusal.{Refusal}
-use Rattle.refusals.specs.declared.refusal.Refusal.the-variants.{Ragged, TooMany, BadIndex, BadNumber, BadBox, GridTooFine, NoWorkRoom, KeyRange, OpenEdge}
+use Rattle.refusals.specs.declared.refusal.Refusal.the-variants.{BadNumber, BadBox, GridTooFine, NoWorkRoom, KeyRange, OpenEdge}
 use Rattle.refusals.specs.declared.refusal.Checked.{Checked}
 use Rattle.refusals.specs.declared.refusal.Checked.the-variants.{Passed, Refused}
-use Rattle.refusals.specs.Refusals.{Test, firstRefusal}
-use Rattle.refusals.specs.Front.{ragged, tooMany, badIndex, ceiling, capCeiling, listTests, inRange, epsInRange, resolutionInRange, boxInRange, badBox, gridTooFine, workNeed, farKeys, boxFarKeys}
+use Rattle.refusals.specs.Refusals.{Test, firstRefusal, Passes}
+use Rattle.refusals.specs.Front.{ceiling, listTests, inRange, epsInRange, resolutionInRange, boxInRange, badBox, gridTooFine, workNeed, farKeys, boxFarKeys}
 use Rattle.refusals.proofs.Refusals.{holds, passes, none-left, row-passed, row-refused}
-use Rattle.refusals.proofs.Replies.{head-passed, tail-passed, row-front, row-rest, listed}
+use Rattle.refusals.proofs.Replies.{head-passed, tail-passed, row-front, row-rest, listed, cap-listed}
 use Rattle.refusals.proofs.Grids.{not-too-fine, small-product}
 use Rattle.candidate_edges.specs.Surface.{edgeFaces}
 use Rattle.candidate_edges.specs.Steps.{MeshFits}
@@ -55,21 +55,11 @@ grid-small box eps resolution e =
     twice : (a b c : ℕ) → a ≤ 66564 → b ≤ 66564 → c ≤ 66564 → 2 * (a + b + c) ≤ 399384
     twice a b c p q r = omega arith
 
-few-caps : (vs : List Float) (fs : List ℕ) (caps : ℕ) → firstRefusal (listTests ceiling vs fs caps) ≡ Passed → caps / 4 ≤ 1048576
-unfolding tooMany
-few-caps vs fs caps e =
-    let bad = badIndex (length vs / 3) fs in
-    let many = tooMany ceiling (length vs) 3 || (tooMany ceiling (length fs) 3 || tooMany capCeiling caps 4) in
-    let e2 = tail-passed (ragged (length vs) 3 || (ragged (length fs) 3 || ragged caps 4)) Ragged ((many, TooMany) ∷ (bad, BadIndex) ∷ []) e in
-    let r = head-passed many TooMany ((bad, BadIndex) ∷ []) e2 in
-    let s = or-none-right (tooMany ceiling (length vs) 3) (tooMany ceiling (length fs) 3 || tooMany capCeiling caps 4) r in
-    ltb-false capCeiling (caps / 4) (or-none-right (tooMany ceiling (length fs) 3) (tooMany capCeiling caps 4) s)
-
 pub need-small : (vs : List Float) (fs : List ℕ) (q : Asked) (caps m : ℕ) → firstRefusal (listTests ceiling vs fs caps) ≡ Passed
     → gridTooFine (q .box) (q .eps) (oneResolution (q .resolution)) ≡ false → m ≡ gridSize (q .box) (q .eps) (oneResolution (q .resolution)) → length vs / 3 + length fs / 3 + caps / 4 + m ≤ 4294967296
 need-small vs fs q caps m e f g =
     let l = listed ceiling vs fs caps e in
-    omega (arith, l .few-vertices, l .few-facets, few-caps vs fs caps e, grid-small (q .box) (q .eps) (oneResolution (q .resolution)) f, g)
+    omega (arith, l .few-vertices, l .few-facets, cap-listed ceiling vs fs caps e .few, grid-small (q .box) (q .eps) (oneResolution (q .resolution)) f, g)
 
 -- ---- 1 to 7
 
@@ -140,9 +130,9 @@ module _ (vs : List Float) (fs : List ℕ) (q : Asked) (caps lent : ℕ) where
           all-passed k = sym (after-grid ∙ passes (ltb lent n) (NoWorkRoom n) [] (le-ltb lent n k) ∙ none-left)
 
   module _ (e : found ≡ Passed) where
-    front-passed : firstRefusal lists ≡ Passed
+    pub lists-passed : Passes lists
     unfolding closureTests
-    front-passed = row-front lists rest e
+    lists-passed = row-front lists rest e
 
     rest-passed : firstRefusal rest ≡ Passed
     unfolding closureTests
@@ -162,7 +152,7 @@ module _ (vs : List Float) (fs : List ℕ) (q : Asked) (caps lent : ℕ) where
 
     pub sound : Sound vs fs q
     sound =
-        let l = listed ceiling vs fs caps front-passed in
+        let l = listed ceiling vs fs caps lists-passed in
         let a = and-right (every inRange vs) (boxInRange (q .box) && (epsInRange (q .eps) && resolutionInRange (q .resolution))) numbers-good in
         let b = and-right (boxInRange (q .box)) (epsInRange (q .eps) && resolutionInRange (q .resolution)) a in
         record {

@@ -76,9 +76,13 @@ module _ (r : Candidates) (x y z u : ℕ) (ex : x ≡ length (candidateWords (r 
             → e' ≡ sets e 0 (flat (r .edges)) → Answer [] (candidateOutputs r c c' l l' k k' e e') (documentedReply (DoneFour x y z u))
         done hu c' l' k' e' hc hl hk he =
             let fit-four : length (flat (r .edges)) ≤ length e = omega (arith, eu, hu) in
-            done-four (first c') (second l') (third k') (fourth e') x y z u ex ey ez eu (fit-one, (fit-two, (fit-three, (fit-four, tt))))
-            (hc ∙ sets-overlay (candidateWords (r .all)) c fit-one, (hl ∙ sets-overlay (listWords (r .lists)) l fit-two,
-            (hk ∙ sets-overlay (flat (r .constraints)) k fit-three, (he ∙ sets-overlay (flat (r .edges)) e fit-four, tt))))
+            done-four (first c') (second l') (third k') (fourth e') x y z u ex ey ez eu (fit-one, (fit-two, (fit-three, (fit-four, tt)))) (
+              hc ∙ sets-overlay (candidateWords (r .all)) c fit-one,
+              (
+                hl ∙ sets-overlay (listWords (r .lists)) l fit-two,
+                (hk ∙ sets-overlay (flat (r .constraints)) k fit-three, (he ∙ sets-overlay (flat (r .edges)) e fit-four, tt)),
+              ),
+            )
 
 -- "with all four lengths 0"
 pub nothing : (r : Candidates) (c l k e : List ℕ) → r ≡ noCandidates → Answer [] (candidateOutputs r c c l l k k e e) (documentedReply (DoneFour 0 0 0 0))

@@ -1,5 +1,4 @@
--- Laws of the reply and of both outputs: the tests in front, test 12, and the writing. Assumes nothing.
---   refused, passed                      a row of tests in front of others, that refused or passed
+-- Laws of both outputs: test 12, and the writing. Assumes nothing.
 --   short-vertices, short-facets, done   test 12, and a mesh written
 --   mesh-numbers, mesh-facets            a mesh as it came is the lists that it came in
 --   caps-few, many-few, own-least, fresh-room, fresh-stored, low-at   what the writing of a closed mesh asks
@@ -21,68 +20,33 @@ use Rattle.lists.proofs.Stores.{sets-append}
 use Rattle.words.specs.Overlay.{overlay}
 use Rattle.words.proofs.Overlay.{sets-overlay}
 use Rattle.geometry.specs.Triangles.{threes, flat}
-use Rattle.geometry.specs.Meshes.{Mesh, meshOf, pointsOf, coordinates, meshLengths}
+use Rattle.geometry.specs.Meshes.{Mesh, meshOf, pointsOf, coordinates}
 use Rattle.geometry.proofs.Threes.{length-flat, flat-append, flat-threes}
 use Rattle.geometry.proofs.Meshes.{coordinates-append, coordinates-pointsOf}
-use Rattle.refusals.specs.declared.refusal.Refusal.{Refusal}
 use Rattle.refusals.specs.declared.refusal.Refusal.the-variants.{NoRoom}
-use Rattle.refusals.specs.declared.refusal.Checked.the-variants.{Passed}
-use Rattle.refusals.specs.declared.refusal.Checked.the-variants as checked
-use Rattle.refusals.specs.declared.reply.MeshReply.{MeshReply}
-use Rattle.refusals.specs.declared.reply.MeshReply.the-variants.{Done, Refused}
-use Rattle.refusals.specs.Refusals.{documented, documentedMesh, Test, firstRefusal, replyTo, settle, Settled}
-use Rattle.refusals.proofs.Refusals.{untouched}
-use Rattle.refusals.proofs.Replies.{reply-refused, reply-passed, short-first, short-second, roomy}
+use Rattle.refusals.specs.declared.reply.Reply.the-variants.{DoneTwo, Refused}
+use Rattle.refusals.specs.Refusals.{documentedReply}
+use Rattle.refusals.specs.Answers.{output, meshOutputs, Answer}
+use Rattle.refusals.proofs.Answers.{short, done-two}
 use Rattle.candidate_pool.specs.Standing.{Stored}
 use Rattle.cap_closing.specs.Closing.{ownFacets}
 use Rattle.cap_closing.specs.Entering.{freshAt, leftAt, firstsAt, verticesAt, freshIn, facetIn, firstsIn}
-use Rattle.cap_outputs.specs.Written.{rooms, Answered, pointsIn, allCapWords, standing, Deliverable}
+use Rattle.cap_outputs.specs.Written.{pointsIn, allCapWords, standing, Deliverable}
 use Rattle.cap_outputs.proofs.Blocks.{fresh-long, own-long, caps-are}
-
--- ---- no output is touched
-
-same : {A : Type 0} (x : Refusal) (new old : List A) → Settled (documentedMesh (Refused x)) new old old
-unfolding documentedMesh
-same x new old = record { ends = sym (untouched x new old) }
-
-turned-down : (ts : List Test) (m : Mesh) (v : List Float) (f : List ℕ) (x : Refusal) → documented x ≡ replyTo ts (meshLengths m) → Answered ts m (Refused x) v v f f
-unfolding documentedMesh
-turned-down ts m v f x h = record { replied = h; vertices = same x (coordinates (m .points)) v; facets = same x (flat (m .facets)) f }
-
-pub refused : (ts us : List Test) (m : Mesh) (v : List Float) (f : List ℕ) (x : Refusal) → firstRefusal ts ≡ checked.Refused x → Answered (ts ++ us) m (Refused x) v v f f
-refused ts us m v f x h = turned-down (ts ++ us) m v f x (sym (reply-refused ts us (meshLengths m) x h))
-
-pub passed : (ts us : List Test) (m : Mesh) (x : MeshReply) (v v' : List Float) (f f' : List ℕ) → firstRefusal ts ≡ Passed → Answered us m x v v' f f' → Answered (ts ++ us) m x v v' f f'
-passed ts us m x v v' f f' h d = record { replied = d .replied ∙ sym (reply-passed ts us (meshLengths m) h); vertices = d .vertices; facets = d .facets }
 
 -- ---- test 12: a mesh of x coordinates and y numbers
 
 module _ (m : Mesh) (x y : ℕ) (ex : x ≡ length (coordinates (m .points))) (ey : y ≡ length (flat (m .facets))) (v : List Float) (f : List ℕ) where
-  abbrev nx : ℕ
-  nx = length (coordinates (m .points))
+  pub short-vertices : length v < x → Answer [] (meshOutputs m v v f f) (documentedReply (Refused (NoRoom x)))
+  short-vertices h = short [] (output (coordinates (m .points)) v v) (output (flat (m .facets)) f f ∷ []) x ex tt h (refl, (refl, tt))
 
-  abbrev ny : ℕ
-  ny = length (flat (m .facets))
-
-  pub short-vertices : length v < x → Answered (rooms m v f) m (Refused (NoRoom x)) v v f f
-  short-vertices h =
-      turned-down (rooms m v f) m v f (NoRoom x)
-      (ap (λ (z : ℕ). documented (NoRoom z)) ex ∙ sym (short-first nx ny (length v) (length f) (meshLengths m) (omega (arith, ex))))
-
-  pub short-facets : x ≤ length v → length f < y → Answered (rooms m v f) m (Refused (NoRoom y)) v v f f
-  short-facets h g =
-      turned-down (rooms m v f) m v f (NoRoom y)
-      (ap (λ (z : ℕ). documented (NoRoom z)) ey ∙ sym (short-second nx ny (length v) (length f) (meshLengths m) (omega (arith, ex)) (omega (arith, ey))))
+  pub short-facets : x ≤ length v → length f < y → Answer [] (meshOutputs m v v f f) (documentedReply (Refused (NoRoom y)))
+  short-facets h g = short (output (coordinates (m .points)) v v ∷ []) (output (flat (m .facets)) f f) [] y ey (omega (arith, ex, h), tt) g (refl, (refl, tt))
 
   pub done : x ≤ length v → y ≤ length f → (v' : List Float) (f' : List ℕ) → v' ≡ overlay (coordinates (m .points)) v → f' ≡ overlay (flat (m .facets)) f
-      → Answered (rooms m v f) m (Done x y) v v' f f'
-  unfolding documentedMesh settle
+      → Answer [] (meshOutputs m v v' f f') (documentedReply (DoneTwo x y))
   done h g v' f' a b =
-      record {
-        replied = (λ t. 0 ∷ ex t ∷ ey t ∷ []) ∙ sym (roomy nx ny (length v) (length f) (meshLengths m) (omega (arith, ex)) (omega (arith, ey)));
-        vertices = record { ends = a };
-        facets = record { ends = b };
-      }
+      done-two (output (coordinates (m .points)) v v') (output (flat (m .facets)) f f') x y ex ey (omega (arith, ex, h), (omega (arith, ey, g), tt)) (a, (b, tt))
 
 -- ---- the mesh as it came
 
@@ -128,7 +92,7 @@ module _ (vs : List Float) (fs : List ℕ) (n nc left caps : ℕ) (positive : Bo
     many-is = ap (λ (x : ℕ). getD w x 0) ev
 
     pub many-few : many ≤ 65536 + 1048576
-    many-few = let e = many-is in omega (arith, e, D .most, D .few-vertices, D .small)
+    many-few = let e = many-is in omega (arith, e, D .most, D .lists .few-vertices, D .small)
 
     pub own-least : nv ≤ many
     own-least = let e = many-is in omega (arith, e, D .own)
@@ -152,14 +116,14 @@ module _ (vs : List Float) (fs : List ℕ) (n nc left caps : ℕ) (positive : Bo
     vertices-are : (fa : ℕ) → fa ≡ freshAt n nf nc → coordinates (m .points) ≡ vs ++ newest fa
     vertices-are fa e =
         coordinates-append (pointsOf vs) (pointsIn w (freshIn n nf nc w nv))
-        ∙ (λ t. coordinates-pointsOf vs (D .whole-vertices) t ++ newest-is fa e t)
+        ∙ (λ t. coordinates-pointsOf vs (D .lists .whole-vertices) t ++ newest-is fa e t)
 
     pub vertices-long : 3 * many ≡ length (coordinates (m .points))
     vertices-long =
         let a = ap length (vertices-are (freshAt n nf nc) refl) ∙ length-append vs (newest (freshAt n nf nc)) in
         let b = fresh-long w (freshAt n nf nc) (many - nv) (fresh-room (freshAt n nf nc) refl) in
         let c = own-least in
-        omega (arith, a, b, c, D .whole-vertices)
+        omega (arith, a, b, c, D .lists .whole-vertices)
 
     pub vertices-laid : (fa : ℕ) → fa ≡ freshAt n nf nc → (v mid new : List Float) → 3 * many ≤ length v → mid ≡ overlay vs v → new ≡ sets mid (length vs) (newest fa)
         → new ≡ overlay (coordinates (m .points)) v
@@ -191,7 +155,7 @@ module _ (vs : List Float) (fs : List ℕ) (n nc left caps : ℕ) (positive : Bo
   pub facets-long : length fs + 3 * caps ≡ length (flat (m .facets))
   facets-long =
       let a = ap length (facets-are (leftAt n nf nc) (firstsAt n nf nc) refl refl) ∙ length-append own (firsts (leftAt n nf nc) (firstsAt n nf nc)) in
-      let b = own-long fs (D .whole-facets) positive in
+      let b = own-long fs (D .lists .whole-facets) positive in
       let c = firsts-long (leftAt n nf nc) (firstsAt n nf nc) refl refl in
       omega (arith, a, b, c)
 
@@ -200,5 +164,5 @@ module _ (vs : List Float) (fs : List ℕ) (n nc left caps : ℕ) (positive : Bo
   facets-laid la ra el er f mid new h a b =
       let l = facets-long in
       let c = ap length (facets-are la ra el er) in
-      two-parts f mid new own (firsts la ra) (length fs) (sym (own-long fs (D .whole-facets) positive)) a b (omega (arith, h, l, c))
+      two-parts f mid new own (firsts la ra) (length fs) (sym (own-long fs (D .lists .whole-facets) positive)) a b (omega (arith, h, l, c))
       ∙ ap (λ (x : List ℕ). overlay x f) (sym (facets-are la ra el er))

@@ -7,9 +7,11 @@ ghost use lib.Seq.{sets};
 ghost use Rattle.lists.specs.Regions.{view};
 ghost use Rattle.geometry.specs.Triangles.{reversed, threes, flat};
 ghost use Rattle.geometry.specs.Meshes.{coordinates, meshOf};
+ghost use Rattle.refusals.specs.Refusals.{documentedReply};
+ghost use Rattle.refusals.specs.Answers.{meshOutputs, Answer};
 ghost use Rattle.candidate_pool.specs.Standing.{Stored};
 ghost use Rattle.cap_closing.specs.Closing.{ownFacets};
-ghost use Rattle.cap_outputs.specs.Written.{rooms, Answered, pointsIn, capWords, allCapWords, standing, Deliverable};
+ghost use Rattle.cap_outputs.specs.Written.{pointsIn, capWords, allCapWords, standing, Deliverable};
 use candidate_pool::pool::point_of;
 use cap_closing::room::firsts_at;
 use cap_closing::room::fresh_at;
@@ -18,7 +20,7 @@ use cap_closing::room::vertices_at;
 use geometry::numbers::CandidateVertexId;
 use geometry::point::Point;
 use refusals::refusal::Refusal;
-use refusals::reply::MeshReply;
+use refusals::reply::Reply;
 use words::copy_doubles;
 use words::copy_numbers;
 
@@ -28,19 +30,19 @@ pub fn deliver_mesh(
     facets: &[u32],
     out_vertices: &mut [f64],
     out_facets: &mut [u32],
-) -> MeshReply
+) -> Reply
     requires { ⌜ (length (now vertices) % 3 ≡ 0) × (length (now facets) % 3 ≡ 0) ⌝ }
-    ensures { λ r. ⌜ Answered (rooms (meshOf (now (vertices .entry)) (now (facets .entry))) (now («out_vertices» .entry)) (now («out_facets» .entry))) (meshOf (now (vertices .entry)) (now (facets .entry))) r (now («out_vertices» .entry)) (now («out_vertices» .exit)) (now («out_facets» .entry)) (now («out_facets» .exit)) ⌝ }
+    ensures { λ r. ⌜ Answer [] (meshOutputs (meshOf (now (vertices .entry)) (now (facets .entry))) (now («out_vertices» .entry)) (now («out_vertices» .exit)) (now («out_facets» .entry)) (now («out_facets» .exit))) (documentedReply r) ⌝ }
 {
     if out_vertices.len() < vertices.len() {
-        return MeshReply::Refused(Refusal::NoRoom(vertices.len()));
+        return Reply::Refused(Refusal::NoRoom(vertices.len()));
     }
     if out_facets.len() < facets.len() {
-        return MeshReply::Refused(Refusal::NoRoom(facets.len()));
+        return Reply::Refused(Refusal::NoRoom(facets.len()));
     }
     copy_doubles(vertices, out_vertices);
     copy_numbers(facets, out_facets);
-    MeshReply::Done(vertices.len(), facets.len())
+    Reply::DoneTwo(vertices.len(), facets.len())
 }
 
 fn write_point(out: &mut [f64], at: usize, p: Point)
@@ -151,9 +153,9 @@ pub fn deliver_closed(
     caps: usize,
     out_vertices: &mut [f64],
     out_facets: &mut [u32],
-) -> MeshReply
+) -> Reply
     requires { ⌜ Deliverable (now vertices) (now facets) n nc left caps (now w) ⌝ }
-    ensures { λ r. ⌜ Answered (rooms (standing (now (vertices .entry)) (now (facets .entry)) n nc positive left (now (w .entry))) (now («out_vertices» .entry)) (now («out_facets» .entry))) (standing (now (vertices .entry)) (now (facets .entry)) n nc positive left (now (w .entry))) r (now («out_vertices» .entry)) (now («out_vertices» .exit)) (now («out_facets» .entry)) (now («out_facets» .exit)) ⌝ }
+    ensures { λ r. ⌜ Answer [] (meshOutputs (standing (now (vertices .entry)) (now (facets .entry)) n nc positive left (now (w .entry))) (now («out_vertices» .entry)) (now («out_vertices» .exit)) (now («out_facets» .entry)) (now («out_facets» .exit))) (documentedReply r) ⌝ }
 {
     let nf = facets.len() / 3;
     let nv = vertices.len() / 3;
@@ -161,10 +163,10 @@ pub fn deliver_closed(
     let v = 3 * count;
     let f = facets.len() + 3 * caps;
     if out_vertices.len() < v {
-        return MeshReply::Refused(Refusal::NoRoom(v));
+        return Reply::Refused(Refusal::NoRoom(v));
     }
     if out_facets.len() < f {
-        return MeshReply::Refused(Refusal::NoRoom(f));
+        return Reply::Refused(Refusal::NoRoom(f));
     }
     copy_doubles(vertices, out_vertices);
     write_fresh(
@@ -183,5 +185,5 @@ pub fn deliver_closed(
         out_facets,
         facets.len(),
     );
-    MeshReply::Done(v, f)
+    Reply::DoneTwo(v, f)
 }

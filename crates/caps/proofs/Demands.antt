@@ -11,18 +11,18 @@ use lib.Dec.{T, eqb}
 use lib.ListN.{length, getD, set}
 use lib.Ieee.{Float}
 use Rattle.geometry.specs.declared.point.Point.{Point}
-use Rattle.geometry.specs.declared.aabb.AABB.{AABB}
 use Rattle.geometry.specs.Triangles.{Triangle, flat}
-use Rattle.geometry.specs.Meshes.{Mesh, meshOf, coordinates, Named, enter}
-use Rattle.refusals.specs.declared.reply.MeshReply.{MeshReply}
-use Rattle.refusals.specs.declared.reply.MeshReply.the-variants.{Done, Refused}
-use Rattle.refusals.specs.Refusals.{documentedMesh, settle, Settled}
+use Rattle.geometry.specs.Meshes.{Mesh, meshOf, Named, enter}
+use Rattle.refusals.specs.Refusals.{Test}
+use Rattle.refusals.specs.Answers.{meshOutputs, Answer}
+use Rattle.refusals.proofs.Answers.{answer-done}
 use Rattle.candidate_pool.specs.Pool.{Pool, pointOf}
-use Rattle.cap_triangles.specs.Selection.{Cap, outwardCaps, selected, Selects}
+use Rattle.boundary_closure.specs.Asked.{Asked}
+use Rattle.cap_triangles.specs.Selection.{Cap, capsOf, outwardCaps, selected, Selects}
 use Rattle.cap_triangles.proofs.Selecting.{selected-selects, selects-unique}
 use Rattle.caps.specs.declared.mode.BoundaryClosure.{BoundaryClosure}
 use Rattle.cap_closing.specs.Closing.{taken, entered, capFacets, ownFacets, closed, DemandThree}
-use Rattle.caps.specs.Operation.{isPositive, unchanged, caps, surface, pool, capsResult, turnedDown, Closes}
+use Rattle.caps.specs.Operation.{isPositive, unchanged, surface, pool, capsResult, Closes}
 
 append-nil : {A : Type 0} (l : List A) → l ++ [] ≡ l
 append-nil [] = refl
@@ -79,23 +79,20 @@ module _ (vs : List Float) (fs capList : List ℕ) (q : Asked) (mode : BoundaryC
 
   abbrev Demand : Mesh → Type 0
   Demand out =
-      DemandThree (pool vs fs capList q mode) (surface vs fs capList q mode .edges) (caps vs fs capList q mode) (isPositive mode) (meshOf vs fs) out
+      DemandThree (pool vs fs q) (surface vs fs q .edges) (capsOf capList) (isPositive mode) (meshOf vs fs) out
 
   pub result-meets : unchanged vs fs capList q mode ≡ false → Demand result
   unfolding capsResult
   result-meets e =
-      let p = pool vs fs capList q mode in
-      let s = surface vs fs capList q mode .edges in
-      let c = caps vs fs capList q mode in
+      let p = pool vs fs q in
+      let s = surface vs fs q .edges in
+      let c = capsOf capList in
       subst (λ (b : Bool). Demand (cond b (meshOf vs fs) (closed p c (isPositive mode) (meshOf vs fs) (selected s (outwardCaps p c))))) (sym e)
       (closed-meets p s c (isPositive mode) (meshOf vs fs) (selected s (outwardCaps p c)) (selected-selects s (outwardCaps p c)))
 
-  -- what is settled in the outputs of a call that is not turned down is what demand 3 says
-  pub closes : (r : MeshReply) (v v' : List Float) (f f' : List ℕ) → Settled (documentedMesh r) (coordinates (result .points)) v v' → Settled (documentedMesh r) (flat (result .facets)) f f'
-      → turnedDown r ≡ false → unchanged vs fs capList q mode ≡ false → Closes vs fs capList q mode v v' f f'
-  unfolding documentedMesh settle
-  closes (Done a b) v v' f f' h g t e = record { out = result; demand = result-meets e; vertices = h .ends; facets = g .ends }
-  closes (Refused r) v v' f f' h g t e = absurd (true-false t)
-    where
-      true-false : true ≡ false → ⊥
-      true-false q = subst T q tt
+  -- what a call that is not turned down tells and leaves in its outputs is what demand 3 says
+  pub closes : (ts : List Test) (reply : List ℕ) (v v' : List Float) (f f' : List ℕ) → Answer ts (meshOutputs result v v' f f') reply → getD reply 0 0 ≡ 0
+      → unchanged vs fs capList q mode ≡ false → Closes vs fs capList q mode reply v v' f f'
+  closes ts reply v v' f f' a h e =
+      let d = answer-done ts (meshOutputs result v v' f f') reply a h in
+      record { out = result; demand = result-meets e; lengths = d .0; vertices = d .1 .0; facets = d .1 .1 .0 }

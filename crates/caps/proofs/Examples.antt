@@ -3,6 +3,7 @@
 use Prim.Native.Nat.{ℕ}
 use mathlib.Core.Path.{_≡_, refl}
 use mathlib.Core.List.{List, [], _∷_, _++_, flatMap}
+use lib.ListN.{replicate}
 use lib.Ieee.{Float, ofBits, ofInt, round, add, sub, mul, div, neg, lt, le, eq}
 use Rattle.lists.specs.Lists.{every, some, keep, place, insertBy, sortBy, distinctFrom, upFrom}
 use Rattle.root.specs.Doubles.{bits, magnitude, within, larger, clamped, before, one, units, 1e-10}
@@ -20,7 +21,7 @@ use Rattle.mesh_weld.specs.Cells.{keyOf, sameKey}
 use Rattle.mesh_filter.specs.Filters.{sameCorners}
 use Rattle.edges.specs.Edges.{samePair, pairBefore, openEdges}
 use Rattle.refusals.specs.Refusals.{documented, firstRefusal}
-use Rattle.refusals.specs.Front.{ragged, tooMany, badIndex, inRange, epsInRange, resolutionInRange, boxInRange, badBox, gridTooFine, workNeed, farKeys, roomTests}
+use Rattle.refusals.specs.Front.{ragged, tooMany, badIndex, inRange, epsInRange, resolutionInRange, boxInRange, badBox, gridTooFine, workNeed, farKeys}
 use Rattle.box_faces.specs.Faces.{project, onFace, facesOf}
 use Rattle.candidate_pool.specs.Pool.{byKey, renewed, listed, numberFor, insert}
 use Rattle.candidate_grids.specs.Grid.{gridPoint, skipped, gridAt, faceGrid, grid}
@@ -32,7 +33,9 @@ use Rattle.cap_triangles.specs.Listed.{badCap, badCapPlace, missingEdge, missin
 use Rattle.caps.specs.declared.mode.BoundaryClosure.{BoundaryClosure}
 use Rattle.caps.specs.declared.mode.BoundaryClosure.the-variants.{None, ClosePositive, CloseNegative}
 use Rattle.cap_closing.specs.Closing.{taken, entered, isLarge, capFacets, ownFacets, closed}
-use Rattle.caps.specs.Operation.{surface, capTests, capsResult, capsReply}
+use Rattle.boundary_closure.specs.Asked.{asked}
+use Rattle.refusals.specs.Answers.{meshOutputs, replyWith}
+use Rattle.caps.specs.Operation.{surface, capTests, capsTests, capsResult}
 
 abbrev +0 : Float
 +0 = bits 0x0000_0000_0000_0000
@@ -105,13 +108,15 @@ list15 = xMin ++ xMax ++ others
 
 -- far more room than any of them needs
 abbrev reply : List Float → List ℕ → List ℕ → AABB → Float → Float → BoundaryClosure → List ℕ
-reply vs fs caps box eps resolution mode = capsReply vs fs caps box eps resolution mode 1000000 (1000 ∷ 1000 ∷ [])
+reply vs fs caps box eps resolution mode =
+    let q = asked box eps resolution in
+    replyWith (capsTests vs fs caps q mode 1000000) (meshOutputs (capsResult vs fs caps q mode) (replicate 1000 +0) [] (replicate 1000 0) [])
 
 abbrev reply15 : List ℕ → BoundaryClosure → List ℕ
 reply15 caps mode = reply (square +1 1/2) squareFacets caps (boxTo +1 +1 +1) 1e-10 +1 mode
 
 abbrev mesh15 : List ℕ → BoundaryClosure → Mesh
-mesh15 caps mode = capsResult (square +1 1/2) squareFacets caps (boxTo +1 +1 +1) 1e-10 +1 mode
+mesh15 caps mode = capsResult (square +1 1/2) squareFacets caps (asked (boxTo +1 +1 +1) 1e-10 +1) mode
 
 -- the ten caps of the lower half
 abbrev lower : List ℕ
@@ -159,16 +164,16 @@ pub record Rules : Type 0 where
   dropped : reply (square 2^-20 2^-21) squareFacets list15 (boxTo 2^-20 2^-20 2^-20) 1e-10 2^-20 ClosePositive ≡ 0 ∷ 24 ∷ 6 ∷ []
   -- a closed mesh, which has no open edge, is not turned
   closed-mesh :
-      flat (capsResult (1/4 ∷ 1/4 ∷ 1/4 ∷ 1/2 ∷ 1/4 ∷ 1/4 ∷ 1/4 ∷ 1/2 ∷ 1/4 ∷ 1/4 ∷ 1/4 ∷ 1/2 ∷ []) (0 ∷ 2 ∷ 1 ∷ 0 ∷ 1 ∷ 3 ∷ 1 ∷ 2 ∷ 3 ∷ 0 ∷ 3 ∷ 2 ∷ []) (9 ∷ 9 ∷ 9 ∷ 9 ∷ []) (boxTo +1 +1 +1) 1e-10 +1 CloseNegative .facets)
+      flat (capsResult (1/4 ∷ 1/4 ∷ 1/4 ∷ 1/2 ∷ 1/4 ∷ 1/4 ∷ 1/4 ∷ 1/2 ∷ 1/4 ∷ 1/4 ∷ 1/4 ∷ 1/2 ∷ []) (0 ∷ 2 ∷ 1 ∷ 0 ∷ 1 ∷ 3 ∷ 1 ∷ 2 ∷ 3 ∷ 0 ∷ 3 ∷ 2 ∷ []) (9 ∷ 9 ∷ 9 ∷ 9 ∷ []) (asked (boxTo +1 +1 +1) 1e-10 +1) CloseNegative .facets)
       ≡ 0 ∷ 2 ∷ 1 ∷ 0 ∷ 1 ∷ 3 ∷ 1 ∷ 2 ∷ 3 ∷ 0 ∷ 3 ∷ 2 ∷ []
   -- a box thinner than eps: two candidates on each face, so that 11 does not apply; the facet is turned
-  few : flat (capsResult (+0 ∷ +0 ∷ +0 ∷ +0 ∷ +1 ∷ +0 ∷ +0 ∷ +0 ∷ 0·01 ∷ []) lone [] (boxTo 0·1 0·1 0·1) +1 +1 CloseNegative .facets) ≡ 0 ∷ 2 ∷ 1 ∷ []
+  few : flat (capsResult (+0 ∷ +0 ∷ +0 ∷ +0 ∷ +1 ∷ +0 ∷ +0 ∷ +0 ∷ 0·01 ∷ []) lone [] (asked (boxTo 0·1 0·1 0·1) +1 +1) CloseNegative .facets) ≡ 0 ∷ 2 ∷ 1 ∷ []
   few-reply : reply (+0 ∷ +0 ∷ +0 ∷ +0 ∷ +1 ∷ +0 ∷ +0 ∷ +0 ∷ 0·01 ∷ []) lone [] (boxTo 0·1 0·1 0·1) +1 +1 CloseNegative ≡ 0 ∷ 9 ∷ 3 ∷ []
 
 pub computed : WorkedBlocks
-unfolding every some keep place insertBy sortBy distinctFrom upFrom flatMap magnitude within larger clamped before one units root rootOfSquare wholeRoot halfUp rounded key beyond farKey ceil wholeUp rounding.segments along minus dot cross threes containsOrientedEdge sortedVertices enter segments gridLine gridSize linkTo components keyOf sameKey sameCorners samePair pairBefore openEdges documented firstRefusal ragged tooMany badIndex inRange epsInRange resolutionInRange boxInRange badBox gridTooFine workNeed farKeys roomTests project onFace facesOf byKey renewed listed numberFor insert gridPoint skipped gridAt faceGrid grid enterEdge edgeSurface cornerVertices meshPool candidates closureTests strayEdge edgeTests noTwoEnds capsOf signedArea outward isSeed isOpenPair shareEdge selected badCap badCapPlace missingEdge missingPlace taken entered isLarge capFacets ownFacets closed surface capTests capsResult capsReply ofBits ofInt round add sub mul div neg lt le eq
+unfolding every some keep place insertBy sortBy distinctFrom upFrom flatMap magnitude within larger clamped before one units root rootOfSquare wholeRoot halfUp rounded key beyond farKey ceil wholeUp rounding.segments along minus dot cross threes containsOrientedEdge sortedVertices enter segments gridLine gridSize linkTo components keyOf sameKey sameCorners samePair pairBefore openEdges documented firstRefusal ragged tooMany badIndex inRange epsInRange resolutionInRange boxInRange badBox gridTooFine workNeed farKeys project onFace facesOf byKey renewed listed numberFor insert gridPoint skipped gridAt faceGrid grid enterEdge edgeSurface cornerVertices meshPool candidates closureTests strayEdge edgeTests noTwoEnds capsOf signedArea outward isSeed isOpenPair shareEdge selected badCap badCapPlace missingEdge missingPlace taken entered isLarge capFacets ownFacets closed surface capTests capsResult ofBits ofInt round add sub mul div neg lt le eq
 computed = record { c10 = refl; c9 = refl; c13 = refl; c14-near = refl; c14-far = refl; c15-positive = refl; c15-points = refl; c15-negative = refl; c15-above = refl }
 
 pub rules : Rules
-unfolding every some keep place insertBy sortBy distinctFrom upFrom flatMap magnitude within larger clamped before one units root rootOfSquare wholeRoot halfUp rounded key beyond farKey ceil wholeUp rounding.segments along minus dot cross threes containsOrientedEdge sortedVertices enter segments gridLine gridSize linkTo components keyOf sameKey sameCorners samePair pairBefore openEdges documented firstRefusal ragged tooMany badIndex inRange epsInRange resolutionInRange boxInRange badBox gridTooFine workNeed farKeys roomTests project onFace facesOf byKey renewed listed numberFor insert gridPoint skipped gridAt faceGrid grid enterEdge edgeSurface cornerVertices meshPool candidates closureTests strayEdge edgeTests noTwoEnds capsOf signedArea outward isSeed isOpenPair shareEdge selected badCap badCapPlace missingEdge missingPlace taken entered isLarge capFacets ownFacets closed surface capTests capsResult capsReply ofBits ofInt round add sub mul div neg lt le eq
+unfolding every some keep place insertBy sortBy distinctFrom upFrom flatMap magnitude within larger clamped before one units root rootOfSquare wholeRoot halfUp rounded key beyond farKey ceil wholeUp rounding.segments along minus dot cross threes containsOrientedEdge sortedVertices enter segments gridLine gridSize linkTo components keyOf sameKey sameCorners samePair pairBefore openEdges documented firstRefusal ragged tooMany badIndex inRange epsInRange resolutionInRange boxInRange badBox gridTooFine workNeed farKeys project onFace facesOf byKey renewed listed numberFor insert gridPoint skipped gridAt faceGrid grid enterEdge edgeSurface cornerVertices meshPool candidates closureTests strayEdge edgeTests noTwoEnds capsOf signedArea outward isSeed isOpenPair shareEdge selected badCap badCapPlace missingEdge missingPlace taken entered isLarge capFacets ownFacets closed surface capTests capsResult ofBits ofInt round add sub mul div neg lt le eq
 rules = record { reply-positive = refl; reply-negative = refl; left-open = refl; left-ragged = refl; bad-place = refl; bad-repeat = refl; bad-order = refl; bad-face = refl; missing-second = refl; missing-third = refl; once = refl; dropped = refl; closed-mesh = refl; few = refl; few-reply = refl }

@@ -29,7 +29,8 @@ use Rattle.cap_triangles.specs.Room.{turnedAt, recordsAt, upAt, Above, Pooled, 
 use Rattle.cap_triangles.proofs.Fours.{caps-length}
 use Rattle.cap_triangles.proofs.Kept.{above-less, above-more, pool-kept, edges-kept, held-kept, ready-kept}
 use Rattle.cap_pairs.specs.Pairs.{Numbered, PairsKnown}
-use Rattle.caps.specs.Steps.{listTests, edgesIn, CapsChecked, Listable}
+use Rattle.caps.specs.Operation.{suppliedTests}
+use Rattle.caps.specs.Steps.{edgesIn, CapsChecked, Listable}
 
 pub pooled : (eps : Float) (n : ℕ) (w : List ℕ) → Holds eps n w → Pooled n w
 pooled eps n w H = record { size = H .size; few = H .table .few; stored = H .stored; masks = H .masks; tidy = H .tidy }
@@ -41,8 +42,8 @@ supplied eps vs fs capList n w w' small few L e H =
       pooled = pooled eps n w' H;
       small = omega arith;
       few = omega arith;
-      fours = L .fours;
-      caps = L .few;
+      fours = L .list .whole;
+      caps = L .list .few;
       size = let s = L .size in omega (arith, s, e);
     }
 
@@ -50,7 +51,7 @@ supplied eps vs fs capList n w w' small few L e H =
 refusal-passes : {A : Type 0} (r : Refusal) → Refused r ≡ Passed → A
 refusal-passes r e = absurd (let z : _≡_ {A = ℕ} 0 1 = cc in omega arith)
 
-turned-off : (n nf k : ℕ) (capList : List ℕ) (r : Refusal) (w w' : List ℕ) → Refused r ≡ firstRefusal (listTests (poolAt n w) (capsOf capList) (edgesIn n nf k w))
+turned-off : (n nf k : ℕ) (capList : List ℕ) (r : Refusal) (w w' : List ℕ) → Refused r ≡ firstRefusal (suppliedTests (poolAt n w) (capsOf capList) (edgesIn n nf k w))
     → CapsChecked n nf k capList (Refused r) w w'
 turned-off n nf k capList r w w' e = record { found = e; above = refusal-passes r; ready = refusal-passes r; known = refusal-passes r }
 
@@ -84,7 +85,7 @@ module _ (n nf k : ℕ) (capList w : List ℕ) (S : Supplied n nf capList w) (H 
         let c = caps-length capList in
         omega (arith, a, b, c, eb, g)
 
-    after-first : firstRefusal (listTests p l es) ≡ firstRefusal second
+    after-first : firstRefusal (suppliedTests p l es) ≡ firstRefusal second
     after-first =
         passes (ltb (badCapPlace p l) (length l)) (BadCap (badCapPlace p l)) second
         (le-ltb (badCapPlace p l) (length l) (let e = good-list in omega (arith, e)))

@@ -5,12 +5,12 @@ use Prim.Native.Nat.{ℕ, _+_, _*_, _/_, _≤_, _<_}
 use native.Mathlib.Omega.{arith}
 use mathlib.Core.Bool.{Bool}
 use mathlib.Core.Path.{_≡_, sym, ap, subst, _∙_}
-use mathlib.Core.List.{List, _++_}
+use mathlib.Core.List.{List, [], _++_}
 use lib.ListN.{length}
 use lib.Ieee.{Float}
 use Rattle.geometry.specs.Triangles.{Triangle, threes}
 use Rattle.geometry.specs.Meshes.{Mesh, meshOf}
-use Rattle.refusals.specs.declared.reply.MeshReply.{MeshReply}
+use Rattle.refusals.specs.Answers.{meshOutputs, Answer}
 use Rattle.candidate_pool.specs.Standing.{poolAt}
 use Rattle.cap_triangles.specs.Selection.{Cap, capsOf, outwardCaps, selected}
 use Rattle.cap_triangles.specs.Room.{labelsAt, closingAt, Pooled, TurnedReady}
@@ -18,7 +18,7 @@ use Rattle.cap_triangles.proofs.Kept.{pool-kept, pooled-kept, edges-kept, turne
 use Rattle.cap_selection.specs.Chosen.{chosenIn, Chosen}
 use Rattle.cap_closing.specs.Closing.{ownFacets, closed}
 use Rattle.cap_closing.specs.Entering.{MeshWords, Closed}
-use Rattle.cap_outputs.specs.Written.{rooms, Answered, standing, Deliverable}
+use Rattle.cap_outputs.specs.Written.{standing, Deliverable}
 use Rattle.caps.specs.Steps.{edgesIn, closedOf, closedMesh, Closable}
 use Rattle.caps.proofs.Numbering.{words-kept}
 
@@ -52,10 +52,7 @@ module _ (vs : List Float) (fs capList : List ℕ) (n k : ℕ) (positive : Bool)
     deliverable =
         let s = chosen-ready .supplied in
         record {
-          whole-vertices = D .whole-vertices;
-          whole-facets = D .whole-facets;
-          few-vertices = D .few-vertices;
-          few-facets = D .few-facets;
+          lists = D .lists;
           small = s .small;
           few-caps = s .caps;
           size = let z = s .size in let g = K .above .long in omega (arith, z, g);
@@ -75,6 +72,6 @@ module _ (vs : List Float) (fs capList : List ℕ) (n k : ℕ) (positive : Bool)
         (λ t. record { points = sym (K .points) t; facets = ownFacets positive (threes fs) ++ K .facets t })
         ∙ (λ t. closed (pool-is t) (capsOf capList) positive (meshOf vs fs) (chosen-is t))
 
-    pub answered : (v v' : List Float) (f f' : List ℕ) (x : MeshReply) → Answered (rooms (standing vs fs n nc positive left w₂) v f) (standing vs fs n nc positive left w₂) x v v' f f'
-        → Answered (rooms (closedMesh vs fs capList n k positive w) v f) (closedMesh vs fs capList n k positive w) x v v' f f'
-    answered v v' f f' x = subst (λ (m : Mesh). Answered (rooms m v f) m x v v' f f') standing-is
+    pub answered : (v v' : List Float) (f f' : List ℕ) (reply : List ℕ) → Answer [] (meshOutputs (standing vs fs n nc positive left w₂) v v' f f') reply
+        → Answer [] (meshOutputs (closedMesh vs fs capList n k positive w) v v' f f') reply
+    answered v v' f f' reply = subst (λ (m : Mesh). Answer [] (meshOutputs m v v' f f') reply) standing-is

@@ -28,7 +28,7 @@ use Rattle.candidate_pool.specs.Standing.{countAt, candidateAt, poolAt}
 use Rattle.candidate_edges.specs.Surface.{meshCandidate, edgeFaces, cornerVertices, edgeSurface, meshPool}
 use Rattle.candidate_edges.specs.Steps.{Sourced}
 use Rattle.candidate_grids.specs.Grid.{gridPoint, interior, skipped, gridAt, faceGrid, grid, segmentsOf}
-use Rattle.boundary_closure.specs.Operation.{setting}
+use Rattle.boundary_closure.specs.Asked.{Asked, setting}
 use Rattle.boundary_closure.specs.Steps.{fullPool}
 use Rattle.cap_triangles.specs.Room.{Above}
 use Rattle.cap_closing.specs.Entering.{MeshWords}

@@ -9,35 +9,35 @@
 use Prim.Native.Nat.{ℕ, _+_, _*_, _/_, _≤_}
 use native.Mathlib.Omega.{arith}
 use mathlib.Core.Bool.{Bool, true, false, cond, _||_}
-use mathlib.Core.List.{List, [], _∷_, _++_, append-assoc}
+use mathlib.Core.List.{List, [], _∷_, _++_}
 use mathlib.Core.Path.{_≡_, refl, sym, ap, subst, _∙_}
 use borrow.Author.Tests.{eq-eqb, ne-eqb}
 use lib.ListN.{length, replicate}
 use lib.Ieee.{Float}
 use Rattle.lists.proofs.Bools.{cond-true, cond-false, or-stop, or-next}
-use Rattle.geometry.specs.declared.aabb.AABB.{AABB}
 use Rattle.geometry.specs.Meshes.{Mesh, meshOf}
 use Rattle.refusals.specs.declared.refusal.Refusal.{Refusal}
-use Rattle.refusals.specs.declared.refusal.Checked.the-variants.{Passed}
 use Rattle.refusals.specs.declared.refusal.Checked.the-variants as checked
-use Rattle.refusals.specs.declared.reply.MeshReply.{MeshReply}
-use Rattle.refusals.specs.declared.reply.MeshReply.the-variants.{Refused}
-use Rattle.refusals.specs.Refusals.{Test, firstRefusal, unless}
+use Rattle.refusals.specs.declared.reply.Reply.{Reply}
+use Rattle.refusals.specs.declared.reply.Reply.the-variants.{Refused}
+use Rattle.refusals.specs.Refusals.{documentedReply, Test, firstRefusal, Passes, unless}
+use Rattle.refusals.specs.Answers.{meshOutputs, Answer}
 use Rattle.refusals.proofs.Refusals.{none-left, row-passed, row-refused}
+use Rattle.refusals.proofs.Answers.{refused, after, behind, answered}
+use Rattle.refusals.proofs.Reports.{reply-zero}
 use Rattle.candidate_pool.specs.Pool.{byKey}
 use Rattle.candidate_pool.specs.Standing.{poolAt}
 use Rattle.candidate_edges.specs.Surface.{edgeSurface}
+use Rattle.boundary_closure.specs.Asked.{Asked}
 use Rattle.boundary_closure.specs.Candidates.{candidates}
-use Rattle.boundary_closure.specs.Operation.{closureTests, edgeTests, noFacet, noTwoEnds}
+use Rattle.boundary_closure.specs.Operation.{edgeTests, noFacet, noTwoEnds}
 use Rattle.boundary_closure.specs.Steps.{Completed}
 use Rattle.cap_triangles.specs.Selection.{capsOf}
 use Rattle.cap_triangles.specs.Room.{turnedAt, Above, Pooled}
 use Rattle.cap_triangles.proofs.Kept.{pool-kept, edges-kept}
-use Rattle.cap_outputs.specs.Written.{rooms, Answered}
-use Rattle.cap_outputs.proofs.Delivery.{refused, passed}
 use Rattle.caps.specs.declared.mode.BoundaryClosure.{BoundaryClosure}
-use Rattle.caps.specs.Operation.{leavesOpen, isPositive, passedOver, unchanged, caps, surface, pool, capTests, capsResult, capsReply, Capped}
-use Rattle.caps.specs.Steps.{listTests, edgesIn, closedOf, closedMesh, surfaceMesh}
+use Rattle.caps.specs.Operation.{leavesOpen, isPositive, suppliedTests, surface, pool, capTests, passedOver, capsTests, capsResult, Capped}
+use Rattle.caps.specs.Steps.{edgesIn, closedOf, closedMesh, surfaceMesh}
 use Rattle.caps.proofs.Demands.{closes}
 
 module _ (vs : List Float) (fs capList : List ℕ) (q : Asked) (mode : BoundaryClosure) where
@@ -48,11 +48,11 @@ module _ (vs : List Float) (fs capList : List ℕ) (q : Asked) (mode : BoundaryC
   none = noTwoEnds vs fs q
 
   abbrev tests : List Test
-  tests = capTests vs fs capList q mode
+  tests = capTests vs fs q capList
 
   abbrev closing : Mesh
   closing =
-      closedOf (pool vs fs capList q mode) (caps vs fs capList q mode) (surface vs fs capList q mode .edges) (isPositive mode) mesh
+      closedOf (pool vs fs q) (capsOf capList) (surface vs fs q .edges) (isPositive mode) mesh
 
   abbrev made : Mesh
   made = surfaceMesh vs fs capList q mode
@@ -75,9 +75,9 @@ module _ (vs : List Float) (fs capList : List ℕ) (q : Asked) (mode : BoundaryC
     ends-left g = ne-eqb (length (edgeSurface (q .box) (q .eps) (byKey (q .eps)) mesh .edges)) 0 (λ e. g (el ∙ e))
 
   module _ (n k : ℕ) (w : List ℕ) (D : Completed vs fs q n k w) where
-    pub tests-are : listTests (poolAt n w) (capsOf capList) (edgesIn n (length fs / 3) k w) ≡ tests
+    pub tests-are : suppliedTests (poolAt n w) (capsOf capList) (edgesIn n (length fs / 3) k w) ≡ tests
     unfolding capTests surface candidates
-    tests-are = λ t. listTests (D .pool t) (capsOf capList) (D .edges t)
+    tests-are = λ t. suppliedTests (D .pool t) (capsOf capList) (D .edges t)
 
     -- once the tests have passed
     module _ (w' : List ℕ) (P : Pooled n w) (few : k ≤ 3 * (length fs / 3)) (A : Above (turnedAt n (length fs / 3)) w w') where
@@ -85,100 +85,96 @@ module _ (vs : List Float) (fs capList : List ℕ) (q : Asked) (mode : BoundaryC
       unfolding surface candidates
       closed-is positive e =
           let p = pool-kept (turnedAt n (length fs / 3)) w w' A n P (omega arith) ∙ D .pool in
-          let q = edges-kept (turnedAt n (length fs / 3)) w w' A (8 + 62 * n + 30 * (length fs / 3)) k (omega (arith, few)) ∙ D .edges in
-          λ t. closedOf (p t) (capsOf capList) (q t) (e t) mesh
+          let g = edges-kept (turnedAt n (length fs / 3)) w w' A (8 + 62 * n + 30 * (length fs / 3)) k (omega (arith, few)) ∙ D .edges in
+          λ t. closedOf (p t) (capsOf capList) (g t) (e t) mesh
 
-  module _ (v : List Float) (f : List ℕ) where
+  abbrev behind-nine : List Test
+  behind-nine = unless none tests
+
+  abbrev edges : List Test
+  edges = edgeTests vs fs q
+
+  module _ (v v' : List Float) (f f' : List ℕ) (x : Reply) where
+    abbrev Told : List Test → Mesh → Type 0
+    Told ts m = Answer ts (meshOutputs m v v' f f') (documentedReply x)
+
     -- ---- behind test 9
 
-    abbrev behind : List Test
-    behind = unless none tests
-
-    pub no-ends : none ≡ true → (x : MeshReply) (v' : List Float) (f' : List ℕ) → Answered (rooms mesh v f) mesh x v v' f f' → Answered (behind ++ rooms made v f) made x v v' f f'
-    no-ends h x v' f' d =
+    pub no-ends : none ≡ true → Told [] mesh → Told behind-nine made
+    no-ends h d =
         let e : made ≡ mesh = cond-true none mesh closing mesh h refl in
-        let t : behind ≡ [] = cond-true none [] tests [] h refl in
-        passed behind (rooms made v f) made x v v' f f' (ap firstRefusal t ∙ none-left) (subst (λ (m : Mesh). Answered (rooms m v f) m x v v' f f') (sym e) d)
+        let t : behind-nine ≡ [] = cond-true none [] tests [] h refl in
+        behind behind-nine (meshOutputs made v v' f f') (documentedReply x) (ap firstRefusal t ∙ none-left) (subst (Told []) (sym e) d)
 
-    module _ (h : none ≡ false) where
-      tests-asked : behind ≡ tests
-      tests-asked = cond-false none [] tests tests h refl
-
-      pub ends-refused : (x : Refusal) → firstRefusal tests ≡ checked.Refused x → Answered (behind ++ rooms made v f) made (Refused x) v v f f
-      ends-refused x e = refused behind (rooms made v f) made v f x (ap firstRefusal tests-asked ∙ e)
-
-      pub ends-closed : firstRefusal tests ≡ Passed → (m : Mesh) → m ≡ closing → (x : MeshReply) (v' : List Float) (f' : List ℕ) → Answered (rooms m v f) m x v v' f f'
-          → Answered (behind ++ rooms made v f) made x v v' f f'
-      ends-closed e m q x v' f' d =
-          passed behind (rooms made v f) made x v v' f f' (ap firstRefusal tests-asked ∙ e)
-          (subst (λ (m : Mesh). Answered (rooms m v f) m x v v' f f') (q ∙ sym (cond-false none mesh closing closing h refl)) d)
+    pub ends-closed : none ≡ false → Passes tests → (m : Mesh) → m ≡ closing → Told [] m → Told behind-nine made
+    ends-closed h e m g d =
+        behind behind-nine (meshOutputs made v v' f f') (documentedReply x) (ap firstRefusal (cond-false none [] tests tests h refl) ∙ e)
+        (subst (Told []) (g ∙ sym (cond-false none mesh closing closing h refl)) d)
 
     -- ---- tests 8 and 9
 
-    abbrev edges : List Test
-    edges = edgeTests vs fs q
-
-    pub edges-refused : (x : Refusal) → firstRefusal edges ≡ checked.Refused x → Answered (edges ++ behind ++ rooms made v f) made (Refused x) v v f f
-    edges-refused x e = refused (edges ++ behind) (rooms made v f) made v f x (row-refused edges behind x e)
-
-    pub edges-passed : firstRefusal edges ≡ Passed → (x : MeshReply) (v' : List Float) (f' : List ℕ) → Answered (behind ++ rooms made v f) made x v v' f f'
-        → Answered (edges ++ behind ++ rooms made v f) made x v v' f f'
-    edges-passed e x v' f' d =
-        subst (λ (ts : List Test). Answered ts made x v v' f f') (sym (append-assoc edges behind (rooms made v f)))
-        (passed edges (behind ++ rooms made v f) made x v v' f f' e d)
+    pub edges-passed : Passes edges → Told behind-nine made → Told (edges ++ behind-nine) made
+    edges-passed e d = after edges behind-nine (meshOutputs made v v' f f') (documentedReply x) e d
 
     -- ---- tests 1 to 7
 
-    module _ (front : List Test) where
+    module _ (front : List Test) (e : Passes front) where
       abbrev inner : List Test
-      inner = unless over (edges ++ behind)
+      inner = unless over (edges ++ behind-nine)
 
-      pub front-refused : (x : Refusal) → firstRefusal front ≡ checked.Refused x → Answered (front ++ inner ++ rooms result v f) result (Refused x) v v f f
-      front-refused x e = refused (front ++ inner) (rooms result v f) result v f x (row-refused front inner x e)
+      pub handed-back : over ≡ true → Told [] mesh → Told (front ++ inner) result
+      unfolding capsResult
+      handed-back h d =
+          let g : result ≡ mesh = cond-true (over || none) mesh closing mesh (or-stop over none h) refl in
+          let t : inner ≡ [] = cond-true over [] (edges ++ behind-nine) [] h refl in
+          behind (front ++ inner) (meshOutputs result v v' f f') (documentedReply x) (row-passed front inner e ∙ ap firstRefusal t ∙ none-left) (subst (Told []) (sym g) d)
 
-      module _ (e : firstRefusal front ≡ Passed) where
-        pub handed-back : over ≡ true → (x : MeshReply) (v' : List Float) (f' : List ℕ) → Answered (rooms mesh v f) mesh x v v' f f'
-            → Answered (front ++ inner ++ rooms result v f) result x v v' f f'
-        unfolding capsResult
-        handed-back h x v' f' d =
-            let q : result ≡ mesh = cond-true (over || none) mesh closing mesh (or-stop over none h) refl in
-            let t : inner ≡ [] = cond-true over [] (edges ++ behind) [] h refl in
-            passed (front ++ inner) (rooms result v f) result x v v' f f' (row-passed front inner e ∙ ap firstRefusal t ∙ none-left)
-            (subst (λ (m : Mesh). Answered (rooms m v f) m x v v' f f') (sym q) d)
+      pub gone-on : over ≡ false → Told (edges ++ behind-nine) made → Told (front ++ inner) result
+      unfolding capsResult
+      gone-on h d =
+          let g : result ≡ made = ap (λ (b : Bool). cond b mesh closing) (or-next over none none h refl) in
+          let t : inner ≡ edges ++ behind-nine = cond-false over [] (edges ++ behind-nine) (edges ++ behind-nine) h refl in
+          let a = after front (edges ++ behind-nine) (meshOutputs made v v' f f') (documentedReply x) e d in
+          let b = subst (λ (ts : List Test). Told (front ++ ts) made) (sym t) a in
+          subst (Told (front ++ inner)) (sym g) b
 
-        pub gone-on : over ≡ false → (x : MeshReply) (v' : List Float) (f' : List ℕ) → Answered (edges ++ behind ++ rooms made v f) made x v v' f f'
-            → Answered (front ++ inner ++ rooms result v f) result x v v' f f'
-        unfolding capsResult
-        gone-on h x v' f' d =
-            let q : result ≡ made = ap (λ (b : Bool). cond b mesh closing) (or-next over none none h refl) in
-            let t : inner ≡ edges ++ behind = cond-false over [] (edges ++ behind) (edges ++ behind) h refl in
-            let a = passed front (edges ++ behind ++ rooms made v f) made x v v' f f' e d in
-            let b = subst (λ (ts : List Test). Answered ts made x v v' f f') (sym (append-assoc front (edges ++ behind) (rooms made v f))) a in
-            let c = subst (λ (ts : List Test). Answered (front ++ ts ++ rooms made v f) made x v v' f f') (sym t) b in
-            subst (λ (m : Mesh). Answered (front ++ inner ++ rooms m v f) m x v v' f f') (sym q) c
+  -- ---- a test refuses, and no output is touched
+
+  module _ (v : List Float) (f : List ℕ) (x : Refusal) where
+    abbrev Down : List Test → Mesh → Type 0
+    Down ts m = Answer ts (meshOutputs m v v f f) (documentedReply (Refused x))
+
+    pub ends-refused : none ≡ false → firstRefusal tests ≡ checked.Refused x → Down behind-nine made
+    ends-refused h e =
+        refused behind-nine (meshOutputs made v v f f) x (ap firstRefusal (cond-false none [] tests tests h refl) ∙ e) (refl, (refl, tt))
+
+    pub edges-refused : firstRefusal edges ≡ checked.Refused x → Down (edges ++ behind-nine) made
+    edges-refused e = refused (edges ++ behind-nine) (meshOutputs made v v f f) x (row-refused edges behind-nine x e) (refl, (refl, tt))
+
+    pub front-refused : (front : List Test) → firstRefusal front ≡ checked.Refused x → Down (front ++ unless over (edges ++ behind-nine)) result
+    front-refused front e =
+        let inner = unless over (edges ++ behind-nine) in
+        refused (front ++ inner) (meshOutputs result v v f f) x (row-refused front inner x e) (refl, (refl, tt))
 
   -- ---- when the mesh comes back unchanged
 
   pub over-open : leavesOpen mode ≡ true → over ≡ true
-  over-open h = or-stop (leavesOpen mode) (noFacet vs fs q) h
+  over-open h = or-stop (leavesOpen mode) (noFacet fs) h
 
   pub over-none : leavesOpen mode ≡ false → length fs ≡ 0 → over ≡ true
-  over-none h e = or-next (leavesOpen mode) (noFacet vs fs q) true h (eq-eqb (length fs) 0 e)
+  over-none h e = or-next (leavesOpen mode) (noFacet fs) true h (eq-eqb (length fs) 0 e)
 
   pub over-neither : leavesOpen mode ≡ false → (length fs ≡ 0 → ⊥) → over ≡ false
-  over-neither h e = or-next (leavesOpen mode) (noFacet vs fs q) false h (ne-eqb (length fs) 0 e)
+  over-neither h e = or-next (leavesOpen mode) (noFacet fs) false h (ne-eqb (length fs) 0 e)
 
   -- ---- the work room cleared
 
-  pub capped : (x : MeshReply) (w u w' : List ℕ) (v v' : List Float) (f f' : List ℕ)
-      → Answered (closureTests vs fs q (length capList) (length w) ++ unless over (edgeTests vs fs q ++ unless none tests) ++ rooms result v f) result x v v' f f'
+  pub capped : (x : Reply) (w u w' : List ℕ) (v v' : List Float) (f f' : List ℕ)
+      → Answer (capsTests vs fs capList q mode (length w)) (meshOutputs result v v' f f') (documentedReply x)
       → length u ≡ length w → w' ≡ replicate (length u) 0 → Capped vs fs capList q mode x w w' v v' f f'
-  unfolding capsReply
   capped x w u w' v v' f f' d h z =
+      let ts = capsTests vs fs capList q mode (length w) in
       record {
-        replied = d .replied;
-        vertices = d .vertices;
-        facets = d .facets;
-        work = record { ends = z ∙ ap (λ (n : ℕ). replicate n 0) h };
-        rule = closes vs fs capList q mode x v v' f f' (d .vertices) (d .facets);
+        answered = answered ts (meshOutputs result v v' f f') w u w' (documentedReply x) d h z;
+        rule = λ t. closes vs fs capList q mode ts (documentedReply x) v v' f f' d (reply-zero x t);
       }

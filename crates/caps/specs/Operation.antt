@@ -1,13 +1,12 @@
--- The operation caps (document 01, the table of refusals, module 6 and "Agreement"; `cap_mesh_to_aabb` of boundary_closure.rs): its tests in the table's order, its reply, and what
--- it leaves in outputs and work room. Assumes nothing.
+-- The operation caps (document 01, the table of refusals, module 6 and "Agreement"; `cap_mesh_to_aabb` of boundary_closure.rs): its tests in the table's order, its result, and
+-- demand 3 of what it writes. Assumes nothing.
 --   leavesOpen, isPositive   of a mode
+--   suppliedTests  10 and 11
+--   surface, pool  the candidates, recomputed from the mesh           capTests   10 and 11, for these
 --   passedOver     "after test 7 if the mode is `None` or there is no facet"       unchanged   either of the two points at which the mesh comes back unchanged
---   surface, pool  the candidates, recomputed from the mesh
---   capTests       10 and 11
---   capsResult     the mesh written               capsReply   the reply as numbers, with 12
---   turnedDown     the reply is a refusal
+--   capsTests      1 to 11                        capsResult  the mesh written
 --   Closes         demand 3 of what was written, without its computing
---   Capped         what the operation promises: the result; and of a call that is not turned down, on a mesh that has an open edge with two ends, demand 3
+--   Capped         what the operation promises: the answer; and of a call that is not turned down, on a mesh that has an open edge with two ends, demand 3
 use Prim.Native.Nat.{ℕ}
 use mathlib.Core.Path.{_≡_}
 use mathlib.Core.Bool.{Bool, true, false, cond, _||_}
@@ -15,18 +14,17 @@ use mathlib.Core.List.{List, [], _∷_, _++_}
 use lib.Dec.{ltb}
 use lib.ListN.{length}
 use lib.Ieee.{Float}
-use Rattle.geometry.specs.declared.aabb.AABB.{AABB}
-use Rattle.geometry.specs.Triangles.{flat}
-use Rattle.geometry.specs.Meshes.{Mesh, meshOf, coordinates, meshLengths}
+use Rattle.geometry.specs.Triangles.{Triangle, flat}
+use Rattle.geometry.specs.Meshes.{Mesh, meshOf, coordinates}
 use Rattle.words.specs.Overlay.{overlay}
 use Rattle.refusals.specs.declared.refusal.Refusal.the-variants.{BadCap, MissingEdge}
-use Rattle.refusals.specs.declared.reply.MeshReply.{MeshReply}
-use Rattle.refusals.specs.declared.reply.MeshReply.the-variants.{Done, Refused}
-use Rattle.refusals.specs.Refusals.{documentedMesh, Test, unless, replyTo, Settled, Zeroed}
-use Rattle.refusals.specs.Front.{roomTests}
+use Rattle.refusals.specs.declared.reply.Reply.{Reply}
+use Rattle.refusals.specs.Refusals.{documentedReply, turnedDown, Test, unless}
+use Rattle.refusals.specs.Answers.{meshOutputs, Answered}
 use Rattle.candidate_pool.specs.Pool.{Pool}
+use Rattle.boundary_closure.specs.Asked.{Asked, setting}
 use Rattle.boundary_closure.specs.Candidates.{Candidates, candidates}
-use Rattle.boundary_closure.specs.Operation.{setting, closureTests, edgeTests, noFacet, noTwoEnds}
+use Rattle.boundary_closure.specs.Operation.{closureTests, edgeTests, noFacet, noTwoEnds}
 use Rattle.cap_triangles.specs.Selection.{Cap, capsOf, outwardCaps, selected}
 use Rattle.cap_triangles.specs.Listed.{badCapPlace, missingPlace}
 use Rattle.caps.specs.declared.mode.BoundaryClosure.{BoundaryClosure}
@@ -43,61 +41,51 @@ isPositive None = false
 isPositive ClosePositive = true
 isPositive CloseNegative = false
 
-module _ (vs : List Float) (fs capList : List ℕ) (q : Asked) (mode : BoundaryClosure) where
-  abbrev pub passedOver : Bool
-  passedOver = leavesOpen mode || noFacet vs fs q
+-- of a list of triangles, for these candidates and open edges
+abbrev pub suppliedTests : Pool → List Cap → List (Triangle ℕ) → List Test
+suppliedTests p caps edges =
+    (ltb (badCapPlace p caps) (length caps), BadCap (badCapPlace p caps)) ∷ (ltb (missingPlace p caps edges) (length edges), MissingEdge (missingPlace p caps edges)) ∷ []
 
-  -- "and after test 9 if no open edge keeps two ends"
-  abbrev pub unchanged : Bool
-  unchanged = passedOver || noTwoEnds vs fs q
-
-  abbrev pub caps : List Cap
-  caps = capsOf capList
-
-  -- "Caps recomputes the candidates from the mesh"
+-- "Caps recomputes the candidates from the mesh"
+module _ (vs : List Float) (fs : List ℕ) (q : Asked) where
   unfoldable pub surface : Candidates
   surface = candidates (setting q) (meshOf vs fs)
 
   abbrev pub pool : Pool
   pool = record { all = surface .all; lists = surface .lists }
 
-  unfoldable pub capTests : List Test
-  capTests =
-      let b = badCapPlace pool caps in
-      let m = missingPlace pool caps (surface .edges) in
-      (ltb b (length caps), BadCap b) ∷ (ltb m (length (surface .edges)), MissingEdge m) ∷ []
+  unfoldable pub capTests : List ℕ → List Test
+  capTests capList = suppliedTests pool (capsOf capList) (surface .edges)
+
+module _ (vs : List Float) (fs capList : List ℕ) (q : Asked) (mode : BoundaryClosure) where
+  abbrev pub passedOver : Bool
+  passedOver = leavesOpen mode || noFacet fs
+
+  -- "and after test 9 if no open edge keeps two ends"
+  abbrev pub unchanged : Bool
+  unchanged = passedOver || noTwoEnds vs fs q
+
+  -- for so many words of work room lent
+  abbrev pub capsTests : ℕ → List Test
+  capsTests lent =
+      closureTests vs fs q (length capList) lent
+      ++ unless passedOver (edgeTests vs fs q ++ unless (noTwoEnds vs fs q) (capTests vs fs q capList))
 
   unfoldable pub capsResult : Mesh
   capsResult =
+      let p = pool vs fs q in
       cond unchanged (meshOf vs fs)
-      (closed pool caps (isPositive mode) (meshOf vs fs) (selected (surface .edges) (outwardCaps pool caps)))
+      (closed p (capsOf capList) (isPositive mode) (meshOf vs fs) (selected (surface vs fs q .edges) (outwardCaps p (capsOf capList))))
 
-  -- for so many words of work room lent, and outputs of the lengths outs, vertices before facets
-  unfoldable pub capsReply : ℕ → List ℕ → List ℕ
-  capsReply lent outs =
-      let lengths = meshLengths capsResult in
-      replyTo
-      (closureTests vs fs q (length capList) lent
-      ++ unless passedOver (edgeTests vs fs q ++ unless (noTwoEnds vs fs q) capTests)
-      ++ roomTests lengths outs)
-      lengths
+  -- from outputs v and f to v' and f', with the reply as numbers: whatever list is supplied
+  pub record Closes (reply : List ℕ) (v v' : List Float) (f f' : List ℕ) : Type 0 where
+    pub out : Mesh
+    pub demand : DemandThree (pool vs fs q) (surface vs fs q .edges) (capsOf capList) (isPositive mode) (meshOf vs fs) out
+    pub lengths : reply ≡ 0 ∷ length (coordinates (out .points)) ∷ length (flat (out .facets)) ∷ []
+    pub vertices : v' ≡ overlay (coordinates (out .points)) v
+    pub facets : f' ≡ overlay (flat (out .facets)) f
 
-abbrev pub turnedDown : MeshReply → Bool
-turnedDown (Done a b) = false
-turnedDown (Refused r) = true
-
--- from outputs v and f to v' and f': whatever list is supplied
-pub record Closes (vs : List Float) (fs capList : List ℕ) (q : Asked) (mode : BoundaryClosure) (v v' : List Float) (f f' : List ℕ) : Type 0 where
-  pub out : Mesh
-  pub demand :
-      DemandThree (pool vs fs capList q mode) (surface vs fs capList q mode .edges) (caps vs fs capList q mode) (isPositive mode) (meshOf vs fs) out
-  pub vertices : v' ≡ overlay (coordinates (out .points)) v
-  pub facets : f' ≡ overlay (flat (out .facets)) f
-
--- from work room w and outputs v and f to w', v' and f', with the reply r
-pub record Capped (vs : List Float) (fs capList : List ℕ) (q : Asked) (mode : BoundaryClosure) (r : MeshReply) (w w' : List ℕ) (v v' : List Float) (f f' : List ℕ) : Type 0 where
-  pub replied : documentedMesh r ≡ capsReply vs fs capList q mode (length w) (length v ∷ length f ∷ [])
-  pub vertices : Settled (documentedMesh r) (coordinates (capsResult vs fs capList q mode .points)) v v'
-  pub facets : Settled (documentedMesh r) (flat (capsResult vs fs capList q mode .facets)) f f'
-  pub work : Zeroed w w'
-  pub rule : turnedDown r ≡ false → unchanged vs fs capList q mode ≡ false → Closes vs fs capList q mode v v' f f'
+  -- from work room w and outputs v and f to w', v' and f', with the reply r
+  pub record Capped (r : Reply) (w w' : List ℕ) (v v' : List Float) (f f' : List ℕ) : Type 0 where
+    pub answered : Answered (capsTests (length w)) (meshOutputs capsResult v v' f f') w w' (documentedReply r)
+    pub rule : turnedDown r ≡ false → unchanged ≡ false → Closes (documentedReply r) v v' f f'

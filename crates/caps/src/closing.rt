@@ -1,10 +1,12 @@
 // Tests 10 and 11, and the mesh closed by a list that passed them.
 ghost use mathlib.Core.Path.{_≡_};
+ghost use mathlib.Core.List.{[]};
 ghost use Prim.Native.Nat.{_+_, _*_, _/_, _≤_};
 ghost use lib.ListN.{length};
+ghost use Rattle.refusals.specs.Refusals.{documentedReply};
+ghost use Rattle.refusals.specs.Answers.{meshOutputs, Answer};
 ghost use Rattle.candidate_pool.specs.Standing.{poolAt, EdgesHeld};
 ghost use Rattle.cap_triangles.specs.Room.{Supplied};
-ghost use Rattle.cap_outputs.specs.Written.{rooms, Answered};
 ghost use Rattle.caps.specs.Steps.{edgesIn, CapsChecked, closedMesh, Closable};
 use cap_closing::closing::close_caps;
 use cap_outputs::outputs::deliver_closed;
@@ -16,7 +18,7 @@ use cap_triangles::listed::bad_cap_place;
 use cap_triangles::turning::turn_caps;
 use refusals::refusal::Checked;
 use refusals::refusal::Refusal;
-use refusals::reply::MeshReply;
+use refusals::reply::Reply;
 
 // For the k open edges, listed with `listed` faces in all. What the selection needs of the list is then in the room.
 pub fn check_caps(
@@ -57,9 +59,9 @@ pub fn close_mesh(
     positive: bool,
     out_vertices: &mut [f64],
     out_facets: &mut [u32],
-) -> MeshReply
+) -> Reply
     requires { ⌜ Closable (now vertices) (now facets) (now «cap_list») n k (now w) ⌝ }
-    ensures { λ r. ⌜ Answered (rooms (closedMesh (now (vertices .entry)) (now (facets .entry)) (now («cap_list» .entry)) n k positive (now (w .entry))) (now («out_vertices» .entry)) (now («out_facets» .entry))) (closedMesh (now (vertices .entry)) (now (facets .entry)) (now («cap_list» .entry)) n k positive (now (w .entry))) r (now («out_vertices» .entry)) (now («out_vertices» .exit)) (now («out_facets» .entry)) (now («out_facets» .exit)) ⌝ }
+    ensures { λ r. ⌜ Answer [] (meshOutputs (closedMesh (now (vertices .entry)) (now (facets .entry)) (now («cap_list» .entry)) n k positive (now (w .entry))) (now («out_vertices» .entry)) (now («out_vertices» .exit)) (now («out_facets» .entry)) (now («out_facets» .exit))) (documentedReply r) ⌝ }
 {
     let nf = facets.len() / 3;
     let nc = cap_list.len() / 4;

@@ -3,12 +3,13 @@ ghost use mathlib.Core.Path.{_≡_};
 ghost use mathlib.Core.List.{_++_};
 ghost use Prim.Native.Nat.{_+_, _*_, _/_, _%_, _≤_};
 ghost use lib.ListN.{length};
-ghost use Rattle.refusals.specs.Refusals.{unless};
+ghost use Rattle.refusals.specs.Refusals.{documentedReply, unless};
+ghost use Rattle.refusals.specs.Answers.{meshOutputs, Answer};
 ghost use Rattle.candidate_edges.specs.Steps.{MeshFits};
-ghost use Rattle.boundary_closure.specs.Operation.{closureTests, edgeTests, noTwoEnds};
+ghost use Rattle.boundary_closure.specs.Asked.{asked};
+ghost use Rattle.boundary_closure.specs.Operation.{edgeTests, noTwoEnds};
 ghost use Rattle.boundary_closure.specs.Steps.{Sound, most, Tabled};
-ghost use Rattle.cap_outputs.specs.Written.{rooms, Answered};
-ghost use Rattle.caps.specs.Operation.{passedOver, capTests, capsResult, Capped};
+ghost use Rattle.caps.specs.Operation.{capTests, capsTests, capsResult, Capped};
 ghost use Rattle.caps.specs.Steps.{Listable, surfaceMesh};
 use crate::closing::check_caps;
 use crate::closing::close_mesh;
@@ -24,7 +25,7 @@ use boundary_closure::tests::check_edges;
 use cap_outputs::outputs::deliver_mesh;
 use geometry::aabb::AABB;
 use refusals::refusal::Checked;
-use refusals::reply::MeshReply;
+use refusals::reply::Reply;
 use words::zero;
 
 // All that follows test 9, for a mesh with k open edges. "if no open edge keeps two ends", the mesh comes back as it is.
@@ -41,12 +42,12 @@ fn cap_edges(
     k: usize,
     out_vertices: &mut [f64],
     out_facets: &mut [u32],
-) -> MeshReply
+) -> Reply
     requires { ⌜ Sound (now vertices) (now facets) (asked extents eps resolution) ⌝ }
     requires { ⌜ MeshFits (now vertices) (now facets) n (now w) × (n ≡ most (now vertices) (asked extents eps resolution)) ⌝ }
     requires { ⌜ Listable (now vertices) (now facets) (now «cap_list») n (now w) ⌝ }
     requires { ⌜ Tabled (now facets) n k (now w) ⌝ }
-    ensures { λ r. ⌜ Answered (unless (noTwoEnds (now (vertices .entry)) (now (facets .entry)) (asked extents eps resolution)) (capTests (now (vertices .entry)) (now (facets .entry)) (now («cap_list» .entry)) (asked extents eps resolution) mode) ++ rooms (surfaceMesh (now (vertices .entry)) (now (facets .entry)) (now («cap_list» .entry)) (asked extents eps resolution) mode) (now («out_vertices» .entry)) (now («out_facets» .entry))) (surfaceMesh (now (vertices .entry)) (now (facets .entry)) (now («cap_list» .entry)) (asked extents eps resolution) mode) r (now («out_vertices» .entry)) (now («out_vertices» .exit)) (now («out_facets» .entry)) (now («out_facets» .exit)) ⌝ }
+    ensures { λ r. ⌜ Answer (unless (noTwoEnds (now (vertices .entry)) (now (facets .entry)) (asked extents eps resolution)) (capTests (now (vertices .entry)) (now (facets .entry)) (asked extents eps resolution) (now («cap_list» .entry)))) (meshOutputs (surfaceMesh (now (vertices .entry)) (now (facets .entry)) (now («cap_list» .entry)) (asked extents eps resolution) mode) (now («out_vertices» .entry)) (now («out_vertices» .exit)) (now («out_facets» .entry)) (now («out_facets» .exit))) (documentedReply r) ⌝ }
 {
     let listed = enter_surface(vertices, facets, extents, eps, w, n, k);
     if listed == 0 {
@@ -65,7 +66,7 @@ fn cap_edges(
             out_vertices,
             out_facets,
         ),
-        Checked::Refused(r) => MeshReply::Refused(r),
+        Checked::Refused(r) => Reply::Refused(r),
     }
 }
 
@@ -81,10 +82,10 @@ fn make_caps(
     w: &mut [u64],
     out_vertices: &mut [f64],
     out_facets: &mut [u32],
-) -> MeshReply
+) -> Reply
     requires { ⌜ Sound (now vertices) (now facets) (asked extents eps resolution) ⌝ }
     requires { ⌜ Listable (now vertices) (now facets) (now «cap_list») (most (now vertices) (asked extents eps resolution)) (now w) ⌝ }
-    ensures { λ r. ⌜ Answered (edgeTests (now (vertices .entry)) (now (facets .entry)) (asked extents eps resolution) ++ unless (noTwoEnds (now (vertices .entry)) (now (facets .entry)) (asked extents eps resolution)) (capTests (now (vertices .entry)) (now (facets .entry)) (now («cap_list» .entry)) (asked extents eps resolution) mode) ++ rooms (surfaceMesh (now (vertices .entry)) (now (facets .entry)) (now («cap_list» .entry)) (asked extents eps resolution) mode) (now («out_vertices» .entry)) (now («out_facets» .entry))) (surfaceMesh (now (vertices .entry)) (now (facets .entry)) (now («cap_list» .entry)) (asked extents eps resolution) mode) r (now («out_vertices» .entry)) (now («out_vertices» .exit)) (now («out_facets» .entry)) (now («out_facets» .exit)) ⌝ }
+    ensures { λ r. ⌜ Answer (edgeTests (now (vertices .entry)) (now (facets .entry)) (asked extents eps resolution) ++ unless (noTwoEnds (now (vertices .entry)) (now (facets .entry)) (asked extents eps resolution)) (capTests (now (vertices .entry)) (now (facets .entry)) (asked extents eps resolution) (now («cap_list» .entry)))) (meshOutputs (surfaceMesh (now (vertices .entry)) (now (facets .entry)) (now («cap_list» .entry)) (asked extents eps resolution) mode) (now («out_vertices» .entry)) (now («out_vertices» .exit)) (now («out_facets» .entry)) (now («out_facets» .exit))) (documentedReply r) ⌝ }
 {
     let n = most_candidates(vertices, extents, eps, resolution);
     let k = table_edges(facets, w, n);
@@ -103,7 +104,7 @@ fn make_caps(
             out_vertices,
             out_facets,
         ),
-        Checked::Refused(r) => MeshReply::Refused(r),
+        Checked::Refused(r) => Reply::Refused(r),
     }
 }
 
@@ -119,8 +120,8 @@ fn caps_lent(
     work: &mut [u64],
     out_vertices: &mut [f64],
     out_facets: &mut [u32],
-) -> MeshReply
-    ensures { λ r. ⌜ Answered (closureTests (now (vertices .entry)) (now (facets .entry)) (asked extents eps resolution) (length (now («cap_list» .entry))) (length (now (work .entry))) ++ unless (passedOver (now (vertices .entry)) (now (facets .entry)) (now («cap_list» .entry)) (asked extents eps resolution) mode) (edgeTests (now (vertices .entry)) (now (facets .entry)) (asked extents eps resolution) ++ unless (noTwoEnds (now (vertices .entry)) (now (facets .entry)) (asked extents eps resolution)) (capTests (now (vertices .entry)) (now (facets .entry)) (now («cap_list» .entry)) (asked extents eps resolution) mode)) ++ rooms (capsResult (now (vertices .entry)) (now (facets .entry)) (now («cap_list» .entry)) (asked extents eps resolution) mode) (now («out_vertices» .entry)) (now («out_facets» .entry))) (capsResult (now (vertices .entry)) (now (facets .entry)) (now («cap_list» .entry)) (asked extents eps resolution) mode) r (now («out_vertices» .entry)) (now («out_vertices» .exit)) (now («out_facets» .entry)) (now («out_facets» .exit)) ⌝ }
+) -> Reply
+    ensures { λ r. ⌜ Answer (capsTests (now (vertices .entry)) (now (facets .entry)) (now («cap_list» .entry)) (asked extents eps resolution) mode (length (now (work .entry)))) (meshOutputs (capsResult (now (vertices .entry)) (now (facets .entry)) (now («cap_list» .entry)) (asked extents eps resolution) mode) (now («out_vertices» .entry)) (now («out_vertices» .exit)) (now («out_facets» .entry)) (now («out_facets» .exit))) (documentedReply r) ⌝ }
 {
     match check_closure(
         vertices,
@@ -151,7 +152,7 @@ fn caps_lent(
                 out_facets,
             )
         }
-        Checked::Refused(r) => MeshReply::Refused(r),
+        Checked::Refused(r) => Reply::Refused(r),
     }
 }
 
@@ -167,7 +168,7 @@ pub fn cap_mesh_to_aabb(
     work: &mut [u64],
     out_vertices: &mut [f64],
     out_facets: &mut [u32],
-) -> MeshReply
+) -> Reply
     ensures { λ r. ⌜ Capped (now (vertices .entry)) (now (facets .entry)) (now («cap_list» .entry)) (asked extents eps resolution) mode r (now (work .entry)) (now (work .exit)) (now («out_vertices» .entry)) (now («out_vertices» .exit)) (now («out_facets» .entry)) (now («out_facets» .exit)) ⌝ }
 {
     let reply = caps_lent(

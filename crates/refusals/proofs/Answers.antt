@@ -2,6 +2,7 @@
 --   Same, Fits, Laid   no output changed; each has room for its result; each holds its result at its front
 --   refused            a test in front held                       after, behind   the tests in front passed, and the rest answered
 --   short              12: the first output that is too short     done-two, done-four   all fit, and were written
+--   answer-done        an answer whose number is 0
 --   answered, called   the work room cleared at the end; a reply reported to C
 use Prim.Native.Nat.{ℕ, _≤_, _<_}
 use mathlib.Core.Path.{_≡_, refl, sym, ap, _∙_, subst}
@@ -10,7 +11,7 @@ use mathlib.Core.List.{List, [], _∷_, _++_, map, append-assoc}
 use native.Mathlib.Omega.{arith}
 use borrow.Author.Tests.{lt-ltb, le-ltb}
 use lib.Dec.{ltb}
-use lib.ListN.{length, replicate}
+use lib.ListN.{length, getD, replicate}
 use Rattle.words.specs.Overlay.{overlay}
 use Rattle.refusals.specs.declared.refusal.Refusal.{Refusal}
 use Rattle.refusals.specs.declared.refusal.Refusal.the-variants.{NoRoom}
@@ -22,7 +23,7 @@ use Rattle.refusals.specs.Refusals.{documented, documentedReply, Test, f
 use Rattle.refusals.specs.Reports.{Reported}
 use Rattle.refusals.specs.Answers.{Output, resultLengths, roomChecks, AllSettled, replyWith, Answer, Answered, Called}
 use Rattle.refusals.proofs.Refusals.{holds, passes, none-left, row-passed, row-refused, untouched, laid-over}
-use Rattle.refusals.proofs.Replies.{reply-refused, reply-passed}
+use Rattle.refusals.proofs.Replies.{reply-refused, reply-passed, reply-done}
 
 abbrev pub Same : List Output → Type 0
 Same [] = Unit {0}
@@ -106,6 +107,17 @@ pub done-four : (o p q s : Output) (a b c d : ℕ) → a ≡ length (o .result) 
 unfolding documentedReply
 done-four o p q s a b c d ea eb ec ed f l =
     done (o ∷ p ∷ q ∷ s ∷ []) (a ∷ b ∷ c ∷ d ∷ []) (λ t. ea t ∷ eb t ∷ ec t ∷ ed t ∷ []) f l
+
+-- an answer whose number is 0 tells the lengths written, and the outputs hold the results
+pub answer-done : (ts : List Test) (outs : List Output) (reply : List ℕ) → Answer ts outs reply → getD reply 0 0 ≡ 0 → (reply ≡ 0 ∷ resultLengths outs) × Laid outs
+unfolding settle
+answer-done ts outs reply a h =
+    let e = a .replied ∙ reply-done (ts ++ roomChecks outs) (resultLengths outs) (ap (λ (l : List ℕ). getD l 0 0) (sym (a .replied)) ∙ h) in
+    (e, go outs (subst (λ (l : List ℕ). AllSettled l outs) e (a .settled)))
+  where
+    go : (os : List Output) → AllSettled (0 ∷ resultLengths outs) os → Laid os
+    go [] s = tt
+    go (o ∷ os) s = (s .0, go os (s .1))
 
 -- ---- the whole operation
 

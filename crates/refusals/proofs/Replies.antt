@@ -1,8 +1,9 @@
 -- Laws of an operation's whole reply: the row of tests in front, test 12 behind it, and what was done. Assumes nothing.
 --   reply-refused, reply-passed    a row of tests in front, that refused or passed
 --   short-first, short-second, roomy   test 12 of an operation with two outputs
+--   not-done, reply-done           a reply whose number is 0 is no refusal
 --   head-passed, tail-passed, row-front, row-rest   what is known once a row of tests has passed
---   listed                         the same of tests 1, 2 and 3
+--   listed, cap-listed             the same of tests 1, 2 and 3
 use Prim.Native.Nat.{ℕ, _/_, _%_, _≤_, _<_}
 use mathlib.Core.Path.{_≡_, refl, ap, _∙_}
 use mathlib.Core.Bool.{Bool, true, false, cond, _||_}
@@ -10,15 +11,28 @@ use mathlib.Core.List.{List, [], _∷_, _++_}
 use borrow.Author.Tests.{lt-ltb, le-ltb, ltb-false, eqb-true, not-false}
 use lib.Dec.{ltb, eqb}
 use native.Mathlib.Omega.{arith}
-use lib.ListN.{length}
+use lib.ListN.{length, getD}
 use lib.Ieee.{Float}
 use Rattle.lists.proofs.Bools.{or-none-left, or-none-right}
 use Rattle.refusals.specs.declared.refusal.Refusal.{Refusal}
-use Rattle.refusals.specs.declared.refusal.Refusal.the-variants.{Ragged, TooMany, BadIndex, NoRoom}
+use Rattle.refusals.specs.declared.refusal.Refusal.the-variants.{
+  Ragged,
+  TooMany,
+  BadIndex,
+  BadNumber,
+  BadBox,
+  GridTooFine,
+  NoWorkRoom,
+  KeyRange,
+  OpenEdge,
+  BadCap,
+  MissingEdge,
+  NoRoom,
+}
 use Rattle.refusals.specs.declared.refusal.Checked.{Checked}
 use Rattle.refusals.specs.declared.refusal.Checked.the-variants.{Passed, Refused}
 use Rattle.refusals.specs.Refusals.{documented, Test, firstRefusal, numbered, replyTo}
-use Rattle.refusals.specs.Front.{ragged, tooMany, capCeiling, badIndex, listTests, ListsPass, roomTests}
+use Rattle.refusals.specs.Front.{ragged, tooMany, capCeiling, badIndex, listTests, ListsPass, CapListPass, roomTests}
 use Rattle.refusals.proofs.Refusals.{holds, passes, none-left, row-passed, row-refused}
 
 module _ (ts us : List Test) (done : List ℕ) where
@@ -45,6 +59,31 @@ module _ (n m a b : ℕ) (done : List ℕ) where
   roomy h k =
       ap (λ (c : Checked). numbered c done)
       (passes (ltb a n) (NoRoom n) ((ltb b m, NoRoom m) ∷ []) (le-ltb a n h) ∙ passes (ltb b m) (NoRoom m) [] (le-ltb b m k) ∙ none-left)
+
+-- ---- a reply whose number is 0
+
+-- a refusal's number is another
+pub not-done : (q : Refusal) → getD (documented q) 0 0 ≡ 0 → ⊥
+unfolding documented
+not-done Ragged e = omega arith
+not-done TooMany e = omega arith
+not-done BadIndex e = omega arith
+not-done BadNumber e = omega arith
+not-done BadBox e = omega arith
+not-done GridTooFine e = omega arith
+not-done (NoWorkRoom need) e = omega arith
+not-done KeyRange e = omega arith
+not-done (OpenEdge a b) e = omega arith
+not-done (BadCap place) e = omega arith
+not-done (MissingEdge place) e = omega arith
+not-done (NoRoom need) e = omega arith
+
+pub reply-done : (ts : List Test) (done : List ℕ) → getD (replyTo ts done) 0 0 ≡ 0 → replyTo ts done ≡ 0 ∷ done
+reply-done ts done = go (firstRefusal ts)
+  where
+    go : (c : Checked) → getD (numbered c done) 0 0 ≡ 0 → numbered c done ≡ 0 ∷ done
+    go Passed e = refl
+    go (Refused q) e = absurd (not-done q e)
 
 -- ---- what is known once tests have passed
 module _ (b : Bool) (r : Refusal) (ts : List Test) where
@@ -88,4 +127,18 @@ module _ (most : ℕ) (vs : List Float) (fs : List ℕ) (caps : ℕ) where
         few-vertices = ltb-false most (length vs / 3) (or-none-left (tooMany most (length vs) 3) (tooMany most (length fs) 3 || tooMany capCeiling caps 4) r2);
         few-facets = ltb-false most (length fs / 3) (or-none-left (tooMany most (length fs) 3) (tooMany capCeiling caps 4) s2);
         below = head-passed (badIndex (length vs / 3) fs) BadIndex [] e3;
+      }
+
+  pub cap-listed : firstRefusal (listTests most vs fs caps) ≡ Passed → CapListPass caps
+  unfolding ragged tooMany
+  cap-listed e =
+      let anyRagged = ragged (length vs) 3 || (ragged (length fs) 3 || ragged caps 4) in
+      let anyMany = tooMany most (length vs) 3 || (tooMany most (length fs) 3 || tooMany capCeiling caps 4) in
+      let r1 = head-passed anyRagged Ragged second e in
+      let r2 = head-passed anyMany TooMany ((badIndex (length vs / 3) fs, BadIndex) ∷ []) (tail-passed anyRagged Ragged second e) in
+      let s1 = or-none-right (ragged (length vs) 3) (ragged (length fs) 3 || ragged caps 4) r1 in
+      let s2 = or-none-right (tooMany most (length vs) 3) (tooMany most (length fs) 3 || tooMany capCeiling caps 4) r2 in
+      record {
+        whole = eqb-true (caps % 4) 0 (not-false (eqb (caps % 4) 0) (or-none-right (ragged (length fs) 3) (ragged caps 4) s1));
+        few = ltb-false capCeiling (caps / 4) (or-none-right (tooMany most (length fs) 3) (tooMany capCeiling caps 4) s2);
       }

@@ -1,5 +1,8 @@
 -- Laws of reports: a report of one reply is a report of every reply equal to it.
-use mathlib.Core.Path.{_≡_, sym, ap, subst}
+use native.Mathlib.Omega.{arith}
+use mathlib.Core.Bool.{false}
+use mathlib.Core.Path.{_≡_, refl, sym, ap, subst}
+use lib.ListN.{getD}
 use mathlib.Core.List.{List, [], _∷_}
 use Prim.Native.Nat.{ℕ}
 use Rattle.refusals.specs.declared.refusal.Refusal.{Refusal}
@@ -8,7 +11,7 @@ use Rattle.refusals.specs.declared.reply.MeshReply.the-variants.{Done, R
 use Rattle.refusals.specs.declared.reply.Reply.{Reply}
 use Rattle.refusals.specs.declared.reply.Reply.the-variants.{DoneTwo, DoneFour}
 use Rattle.refusals.specs.declared.reply.Reply.the-variants as reply
-use Rattle.refusals.specs.Refusals.{documented, documentedMesh, documentedReply}
+use Rattle.refusals.specs.Refusals.{documented, documentedMesh, documentedReply, turnedDown}
 use Rattle.refusals.specs.Reports.{Reported}
 
 pub same-reply : (reply reply′ : List ℕ) (r : ℕ) (ws : List ℕ) → reply ≡ reply′ → Reported reply r ws → Reported reply′ r ws
@@ -36,3 +39,10 @@ reply-four x a b c d r ws e h = same-reply (0 ∷ a ∷ b ∷ c ∷ d ∷ []) (d
 pub reply-refused : (x : Reply) (refusal : Refusal) (r : ℕ) (ws : List ℕ) → x ≡ reply.Refused refusal → Reported (documented refusal) r ws → Reported (documentedReply x) r ws
 unfolding documentedReply
 reply-refused x refusal r ws e h = same-reply (documented refusal) (documentedReply x) r ws (ap documentedReply (sym e)) h
+
+-- a reply that is no refusal has the number 0
+pub reply-zero : (x : Reply) → turnedDown x ≡ false → getD (documentedReply x) 0 0 ≡ 0
+unfolding documentedReply
+reply-zero (DoneTwo a b) e = refl
+reply-zero (DoneFour a b c d) e = refl
+reply-zero (reply.Refused r) e = absurd (let z : _≡_ {A = ℕ} 0 1 = cc in omega arith)

@@ -1,5 +1,5 @@
 -- The table's conditions that several operations share (document 01, "What the service takes" and "Refusals"). Each is total: an earlier test may have failed. Assumes nothing.
---   listTests           1, 2 and 3, of vertices, facets and cap list        ListsPass   what they give of a mesh, once they have passed
+--   listTests           1, 2 and 3, of vertices, facets and cap list        ListsPass, CapListPass   what they give of a mesh and of a cap list, once they have passed
 --   inRange, epsInRange, resolutionInRange, boxInRange   the ranges of test 4
 --   badBox              5           gridTooFine   6
 --   workNeed, workTest  7           farKeys, boxFarKeys   8
@@ -56,6 +56,11 @@ pub record ListsPass (most : ℕ) (vs : List Float) (fs : List ℕ) : Type 0 whe
   pub few-vertices : length vs / 3 ≤ most
   pub few-facets : length fs / 3 ≤ most
   pub below : badIndex (length vs / 3) fs ≡ false
+
+-- and of a cap list of so many words
+pub record CapListPass (caps : ℕ) : Type 0 where
+  pub whole : caps % 4 ≡ 0
+  pub few : caps / 4 ≤ capCeiling
 
 -- ---- 4: a NaN fails every comparison, so it is in no range
 

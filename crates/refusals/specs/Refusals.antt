@@ -2,6 +2,7 @@
 --   documented        "this paper's number and values for each of its cases"
 --   documentedMesh    the same of a reply that writes a mesh: 0 and the two lengths, or the refusal's
 --   documentedReply   the same of an operation's reply: 0 and the lengths written, or the refusal's
+--   turnedDown        the reply is a refusal
 --   Test              a row of the table: when it refuses, and as what
 --   firstRefusal      the first test that holds        unless    tests that are passed over
 --   Passes            no test of a row holds
@@ -9,7 +10,7 @@
 --   settle            what an output ends as           Settled, Zeroed   the same as records, for contracts
 use Prim.Native.Nat.{ℕ, zero, suc}
 use mathlib.Core.Path.{_≡_}
-use mathlib.Core.Bool.{Bool, cond}
+use mathlib.Core.Bool.{Bool, true, false, cond}
 use mathlib.Core.List.{List, [], _∷_}
 use lib.ListN.{length, replicate}
 use Rattle.words.specs.Overlay.{overlay}
@@ -47,6 +48,11 @@ unfoldable pub documentedReply : Reply → List ℕ
 documentedReply (DoneTwo a b) = 0 ∷ a ∷ b ∷ []
 documentedReply (DoneFour a b c d) = 0 ∷ a ∷ b ∷ c ∷ d ∷ []
 documentedReply (reply.Refused r) = documented r
+
+abbrev pub turnedDown : Reply → Bool
+turnedDown (DoneTwo a b) = false
+turnedDown (DoneFour a b c d) = false
+turnedDown (reply.Refused r) = true
 
 abbrev pub Test : Type 0
 Test = Bool × Refusal

@@ -23,7 +23,7 @@ mul-f : tie.Need-mul-f
 mul-f c = let a = c .before .before .before .before .before .before .before .args in let q = caps-few (a .vertices .now) (a .facets .now) (a .n) (a .nc) (a .left) (a .caps) (a .positive) (a .w .now) (c .before .before .before .before .before .before .before .pre) in omega (arith, q)
 
 add-f : tie.Need-add-f
-add-f c = let a = c .before .before .before .before .before .before .before .args in let q = caps-few (a .vertices .now) (a .facets .now) (a .n) (a .nc) (a .left) (a .caps) (a .positive) (a .w .now) (c .before .before .before .before .before .before .before .pre) in omega (arith, q, c .before .before .before .before .before .before .before .pre .few-facets, c .before .before .before .before .before .before .before .pre .whole-facets)
+add-f c = let a = c .before .before .before .before .before .before .before .args in let q = caps-few (a .vertices .now) (a .facets .now) (a .n) (a .nc) (a .left) (a .caps) (a .positive) (a .w .now) (c .before .before .before .before .before .before .before .pre) in omega (arith, q, c .before .before .before .before .before .before .before .pre .lists .few-facets, c .before .before .before .before .before .before .before .pre .lists .whole-facets)
 
 returns : tie.Need-returns
 returns c = let a = c .before .before .before .before .before .before .before .before .args in short-vertices (standing (a .vertices .now) (a .facets .now) (a .n) (a .nc) (a .positive) (a .left) (a .w .now)) (3 * getD (a .w .now) (c .before .before .vertices-at .result) 0) (length (a .facets .now) + 3 * a .caps) (vertices-long (a .vertices .now) (a .facets .now) (a .n) (a .nc) (a .left) (a .caps) (a .positive) (a .w .now) (c .before .before .before .before .before .before .before .before .pre) (c .before .before .vertices-at .result) (c .before .before .vertices-at .ensures)) (facets-long (a .vertices .now) (a .facets .now) (a .n) (a .nc) (a .left) (a .caps) (a .positive) (a .w .now) (c .before .before .before .before .before .before .before .before .pre)) (a .out-vertices .now) (a .out-facets .now) (c .if1 .taken)
@@ -32,7 +32,7 @@ returns-2 : tie.Need-returns-2
 returns-2 c = let a = c .before .before .before .before .before .before .before .before .before .args in short-facets (standing (a .vertices .now) (a .facets .now) (a .n) (a .nc) (a .positive) (a .left) (a .w .now)) (3 * getD (a .w .now) (c .before .before .before .vertices-at .result) 0) (length (a .facets .now) + 3 * a .caps) (vertices-long (a .vertices .now) (a .facets .now) (a .n) (a .nc) (a .left) (a .caps) (a .positive) (a .w .now) (c .before .before .before .before .before .before .before .before .before .pre) (c .before .before .before .vertices-at .result) (c .before .before .before .vertices-at .ensures)) (facets-long (a .vertices .now) (a .facets .now) (a .n) (a .nc) (a .left) (a .caps) (a .positive) (a .w .now) (c .before .before .before .before .before .before .before .before .before .pre)) (a .out-vertices .now) (a .out-facets .now) (c .before .if1 .left) (c .if2 .taken)
 
 copy-doubles-requires : tie.Need-copy-doubles-requires
-copy-doubles-requires c κs = let a = c .before .before .before .before .before .before .before .before .before .before .args in let q = own-least (a .vertices .now) (a .facets .now) (a .n) (a .nc) (a .left) (a .caps) (a .positive) (a .w .now) (c .before .before .before .before .before .before .before .before .before .before .pre) (c .before .before .before .before .vertices-at .result) (c .before .before .before .before .vertices-at .ensures) in omega (arith, q, c .before .before .if1 .left, c .before .before .before .before .before .before .before .before .before .before .pre .whole-vertices)
+copy-doubles-requires c κs = let a = c .before .before .before .before .before .before .before .before .before .before .args in let q = own-least (a .vertices .now) (a .facets .now) (a .n) (a .nc) (a .left) (a .caps) (a .positive) (a .w .now) (c .before .before .before .before .before .before .before .before .before .before .pre) (c .before .before .before .before .vertices-at .result) (c .before .before .before .before .vertices-at .ensures) in omega (arith, q, c .before .before .if1 .left, c .before .before .before .before .before .before .before .before .before .before .pre .lists .whole-vertices)
 
 fresh-at-requires : tie.Need-fresh-at-requires
 fresh-at-requires c κs = search needs
@@ -41,7 +41,7 @@ sub-write-fresh : tie.Need-sub-write-fresh
 sub-write-fresh c = let a = c .before .before .before .before .before .before .before .before .before .before .before .before .before .before .args in own-least (a .vertices .now) (a .facets .now) (a .n) (a .nc) (a .left) (a .caps) (a .positive) (a .w .now) (c .before .before .before .before .before .before .before .before .before .before .before .before .before .before .pre) (c .before .before .before .before .before .before .before .before .vertices-at .result) (c .before .before .before .before .before .before .before .before .vertices-at .ensures)
 
 write-fresh-requires : tie.Need-write-fresh-requires
-write-fresh-requires c κs = let a = c .before .before .before .before .before .before .before .before .before .before .before .before .before .before .before .args in let q = own-least (a .vertices .now) (a .facets .now) (a .n) (a .nc) (a .left) (a .caps) (a .positive) (a .w .now) (c .before .before .before .before .before .before .before .before .before .before .before .before .before .before .before .pre) (c .before .before .before .before .before .before .before .before .before .vertices-at .result) (c .before .before .before .before .before .before .before .before .before .vertices-at .ensures) in ((fresh-room (a .vertices .now) (a .facets .now) (a .n) (a .nc) (a .left) (a .caps) (a .positive) (a .w .now) (c .before .before .before .before .before .before .before .before .before .before .before .before .before .before .before .pre) (c .before .before .before .before .before .before .before .before .before .vertices-at .result) (c .before .before .before .before .before .before .before .before .before .vertices-at .ensures) (c .before .fresh-at .result) (c .before .fresh-at .ensures), omega (arith, q, c .before .before .before .before .before .before .before .if1 .left, c .before .before .before .before .before .before .before .before .before .before .before .before .before .before .before .pre .whole-vertices, c .before .before .before .before .copy-doubles .kept .1 .0)), fresh-stored (a .vertices .now) (a .facets .now) (a .n) (a .nc) (a .left) (a .caps) (a .positive) (a .w .now) (c .before .before .before .before .before .before .before .before .before .before .before .before .before .before .before .pre) (c .before .before .before .before .before .before .before .before .before .vertices-at .result) (c .before .before .before .before .before .before .before .before .before .vertices-at .ensures) (c .before .fresh-at .result) (c .before .fresh-at .ensures))
+write-fresh-requires c κs = let a = c .before .before .before .before .before .before .before .before .before .before .before .before .before .before .before .args in let q = own-least (a .vertices .now) (a .facets .now) (a .n) (a .nc) (a .left) (a .caps) (a .positive) (a .w .now) (c .before .before .before .before .before .before .before .before .before .before .before .before .before .before .before .pre) (c .before .before .before .before .before .before .before .before .before .vertices-at .result) (c .before .before .before .before .before .before .before .before .before .vertices-at .ensures) in ((fresh-room (a .vertices .now) (a .facets .now) (a .n) (a .nc) (a .left) (a .caps) (a .positive) (a .w .now) (c .before .before .before .before .before .before .before .before .before .before .before .before .before .before .before .pre) (c .before .before .before .before .before .before .before .before .before .vertices-at .result) (c .before .before .before .before .before .before .before .before .before .vertices-at .ensures) (c .before .fresh-at .result) (c .before .fresh-at .ensures), omega (arith, q, c .before .before .before .before .before .before .before .if1 .left, c .before .before .before .before .before .before .before .before .before .before .before .before .before .before .before .pre .lists .whole-vertices, c .before .before .before .before .copy-doubles .kept .1 .0)), fresh-stored (a .vertices .now) (a .facets .now) (a .n) (a .nc) (a .left) (a .caps) (a .positive) (a .w .now) (c .before .before .before .before .before .before .before .before .before .before .before .before .before .before .before .pre) (c .before .before .before .before .before .before .before .before .before .vertices-at .result) (c .before .before .before .before .before .before .before .before .before .vertices-at .ensures) (c .before .fresh-at .result) (c .before .fresh-at .ensures))
 
 write-own-requires : tie.Need-write-own-requires
 write-own-requires c κs = search needs

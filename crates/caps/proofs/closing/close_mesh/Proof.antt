@@ -8,7 +8,7 @@ select-caps-requires : tie.Need-select-caps-requires
 select-caps-requires c κs = (c .before .before .before .before .before .before .before .pre .ready, (c .before .before .before .before .before .before .before .pre .known))
 
 close-caps-requires : tie.Need-close-caps-requires
-close-caps-requires c κs = let a = c .before .before .before .before .before .before .before .before .before .before .before .args in (chosen-ready (a .vertices .now) (a .facets .now) (a .cap-list .now) (a .n) (a .k) (a .positive) (a .w .now) (c .before .before .before .before .before .before .before .before .before .before .before .pre) (c .before .before .before .select-caps .last .0) (c .before .before .before .select-caps .ensures), ((c .before .before .before .before .before .before .before .before .before .before .before .pre .within, omega (arith, c .before .before .before .before .before .before .before .before .before .before .before .pre .few-vertices), chosen-words (a .vertices .now) (a .facets .now) (a .cap-list .now) (a .n) (a .k) (a .positive) (a .w .now) (c .before .before .before .before .before .before .before .before .before .before .before .pre) (c .before .before .before .select-caps .last .0) (c .before .before .before .select-caps .ensures)), (c .before .before .before .select-caps .ensures .low)))
+close-caps-requires c κs = let a = c .before .before .before .before .before .before .before .before .before .before .before .args in (chosen-ready (a .vertices .now) (a .facets .now) (a .cap-list .now) (a .n) (a .k) (a .positive) (a .w .now) (c .before .before .before .before .before .before .before .before .before .before .before .pre) (c .before .before .before .select-caps .last .0) (c .before .before .before .select-caps .ensures), ((c .before .before .before .before .before .before .before .before .before .before .before .pre .within, omega (arith, c .before .before .before .before .before .before .before .before .before .before .before .pre .lists .few-vertices), chosen-words (a .vertices .now) (a .facets .now) (a .cap-list .now) (a .n) (a .k) (a .positive) (a .w .now) (c .before .before .before .before .before .before .before .before .before .before .before .pre) (c .before .before .before .select-caps .last .0) (c .before .before .before .select-caps .ensures)), (c .before .before .before .select-caps .ensures .low)))
 
 deliver-closed-requires : tie.Need-deliver-closed-requires
 deliver-closed-requires c κs = let a = c .before .before .before .before .before .before .before .before .before .before .before .before .before .before .before .before .before .args in deliverable (a .vertices .now) (a .facets .now) (a .cap-list .now) (a .n) (a .k) (a .positive) (a .w .now) (c .before .before .before .before .before .before .before .before .before .before .before .before .before .before .before .before .before .pre) (c .before .before .before .before .before .before .before .before .before .select-caps .last .0) (c .before .before .before .before .before .before .before .before .before .select-caps .ensures) (c .before .before .before .before .before .close-caps .result .left) (c .before .before .before .before .before .close-caps .result .caps) (c .before .before .before .before .before .close-caps .last .0) (c .before .before .before .before .before .close-caps .ensures)
