@@ -1,28 +1,11 @@
-ghost use mathlib.Core.List.{[], _∷_};
 ghost use lib.ListN.{length};
-ghost use Rattle.refusals.specs.Reports.{Reported};
-ghost use Rattle.boundary_closure.specs.Operation.{documentedCandidates, candidatesReply, candidatesResult};
-ghost use Rattle.yongpham.specs.Calls.{CandidatesReported, boxOf};
+ghost use Rattle.refusals.specs.Answers.{Called};
+ghost use Rattle.boundary_closure.specs.Asked.{asked};
+ghost use Rattle.boundary_closure.specs.Operation.{candidatesTests, candidatesResult, candidateOutputs};
+ghost use Rattle.yongpham.specs.Calls.{boxOf};
 use boundary_closure::cap_candidates;
-use boundary_closure::reply::CandidatesReply;
 use geometry::aabb::AABB;
-use refusals::report::report_done;
-use refusals::report::report_refusal;
-
-fn report_candidates(values: &mut [u64; 4], reply: CandidatesReply) -> u32
-    ensures { λ r. ⌜ Reported (documentedCandidates reply) r (now (values .exit)) ⌝ }
-{
-    match reply {
-        CandidatesReply::Done(candidates, face_lists, constraints, open_edges) => report_done(
-            values,
-            candidates as u64,
-            face_lists as u64,
-            constraints as u64,
-            open_edges as u64,
-        ),
-        CandidatesReply::Refused(refusal) => report_refusal(values, refusal),
-    }
-}
+use refusals::report::report_reply;
 
 // `cap_candidates`: the four values get the lengths written.
 #[no_mangle]
@@ -44,7 +27,7 @@ pub extern "C" fn yongpham_candidates(
     open_edges: &mut [u64],
     values: &mut [u64; 4],
 ) -> u32
-    ensures { λ r. ⌜ CandidatesReported (candidatesReply (now (vertices .entry)) (now (facets .entry)) (boxOf «min_x» «min_y» «min_z» «max_x» «max_y» «max_z») eps resolution (length (now (work .entry))) (length (now (candidates .entry)) ∷ length (now («face_lists» .entry)) ∷ length (now (constraints .entry)) ∷ length (now («open_edges» .entry)) ∷ [])) (candidatesResult (now (vertices .entry)) (now (facets .entry)) (boxOf «min_x» «min_y» «min_z» «max_x» «max_y» «max_z») eps resolution) r (now (values .exit)) (now (work .entry)) (now (work .exit)) (now (candidates .entry)) (now (candidates .exit)) (now («face_lists» .entry)) (now («face_lists» .exit)) (now (constraints .entry)) (now (constraints .exit)) (now («open_edges» .entry)) (now («open_edges» .exit)) ⌝ }
+    ensures { λ r. ⌜ Called (candidatesTests (now (vertices .entry)) (now (facets .entry)) (asked (boxOf «min_x» «min_y» «min_z» «max_x» «max_y» «max_z») eps resolution) (length (now (work .entry)))) (candidateOutputs (candidatesResult (now (vertices .entry)) (now (facets .entry)) (asked (boxOf «min_x» «min_y» «min_z» «max_x» «max_y» «max_z») eps resolution)) (now (candidates .entry)) (now (candidates .exit)) (now («face_lists» .entry)) (now («face_lists» .exit)) (now (constraints .entry)) (now (constraints .exit)) (now («open_edges» .entry)) (now («open_edges» .exit))) (now (work .entry)) (now (work .exit)) r (now (values .exit)) ⌝ }
 {
     let extents = AABB {
         min_corner: [min_x, min_y, min_z],
@@ -62,5 +45,5 @@ pub extern "C" fn yongpham_candidates(
         constraints,
         open_edges,
     );
-    report_candidates(values, reply)
+    report_reply(values, reply)
 }

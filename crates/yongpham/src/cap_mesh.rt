@@ -1,14 +1,20 @@
 ghost use mathlib.Core.Path.{_≡_};
+ghost use mathlib.Core.Bool.{true};
+ghost use mathlib.Core.List.{[], _∷_, _++_};
 ghost use lib.ListN.{length};
+ghost use Rattle.refusals.specs.declared.refusal.Refusal.the-variants.{BadNumber};
+ghost use Rattle.refusals.specs.Refusals.{replyTo};
+ghost use Rattle.refusals.specs.Front.{ceiling, listTests};
 ghost use Rattle.refusals.specs.Reports.{Reported};
-ghost use Rattle.yongpham.specs.Calls.{boxOf, modeOf, noModeReply, CapsReported};
+ghost use Rattle.boundary_closure.specs.Asked.{asked};
+ghost use Rattle.yongpham.specs.Calls.{boxOf, modeOf, CapsCalled};
 use caps::cap_mesh_to_aabb;
 use caps::mode::BoundaryClosure;
 use geometry::aabb::AABB;
 use refusals::front::check_lists;
 use refusals::refusal::Checked;
 use refusals::refusal::Refusal;
-use refusals::report::report_mesh;
+use refusals::report::report_reply;
 use refusals::report::report_refusal;
 use words::zero;
 
@@ -26,7 +32,7 @@ fn mode_of(mode: u32) -> BoundaryClosure
 
 // Of a mode that is none: 4, after 1, 2 and 3.
 fn refuse_mode(vertices: &[f64], facets: &[u32], caps: usize, values: &mut [u64; 4]) -> u32
-    ensures { λ r. ⌜ Reported (noModeReply (now (vertices .entry)) (now (facets .entry)) caps) r (now (values .exit)) ⌝ }
+    ensures { λ r. ⌜ Reported (replyTo (listTests ceiling (now (vertices .entry)) (now (facets .entry)) caps ++ (true, BadNumber) ∷ []) []) r (now (values .exit)) ⌝ }
 {
     match check_lists(65536, vertices, facets, caps) {
         Checked::Passed => report_refusal(values, Refusal::BadNumber),
@@ -54,7 +60,7 @@ pub extern "C" fn yongpham_caps(
     out_facets: &mut [u32],
     values: &mut [u64; 4],
 ) -> u32
-    ensures { λ r. ⌜ CapsReported (now (vertices .entry)) (now (facets .entry)) (now («cap_list» .entry)) (boxOf «min_x» «min_y» «min_z» «max_x» «max_y» «max_z») eps resolution mode r (now (values .exit)) (now (work .entry)) (now (work .exit)) (now («out_vertices» .entry)) (now («out_vertices» .exit)) (now («out_facets» .entry)) (now («out_facets» .exit)) ⌝ }
+    ensures { λ r. ⌜ CapsCalled (now (vertices .entry)) (now (facets .entry)) (now («cap_list» .entry)) (asked (boxOf «min_x» «min_y» «min_z» «max_x» «max_y» «max_z») eps resolution) mode r (now (values .exit)) (now (work .entry)) (now (work .exit)) (now («out_vertices» .entry)) (now («out_vertices» .exit)) (now («out_facets» .entry)) (now («out_facets» .exit)) ⌝ }
 {
     if mode > 2 {
         zero(work);
@@ -76,5 +82,5 @@ pub extern "C" fn yongpham_caps(
         out_vertices,
         out_facets,
     );
-    report_mesh(values, reply)
+    report_reply(values, reply)
 }
