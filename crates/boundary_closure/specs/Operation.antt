@@ -4,7 +4,7 @@
 --   strayEdge              the first open edge that lies on no face           edgeTests   8 and 9
 --   noFacet, noTwoEnds     the two points at which candidates succeeds with nothing
 --   candidatesTests        1 to 9                        candidatesResult   what is written
---   candidateOutputs       the four outputs, for results of any candidates
+--   candidateLengths, candidateOutputs   the lengths of four results, and the four outputs that are for them
 use Prim.Native.Nat.{ℕ, _/_}
 use mathlib.Core.Bool.{Bool, cond, not, _&&_, _||_}
 use mathlib.Core.List.{List, [], _∷_, _++_}
@@ -62,6 +62,10 @@ module _ (vs : List Float) (fs : List ℕ) (q : Asked) where
   -- "succeeds at the same two points with all four lengths 0"
   unfoldable pub candidatesResult : Candidates
   candidatesResult = cond (noFacet fs || noTwoEnds) noCandidates (candidates (setting q) mesh)
+
+-- the lengths of the four results
+abbrev pub candidateLengths : Candidates → List ℕ
+candidateLengths r = length (candidateWords (r .all)) ∷ length (listWords (r .lists)) ∷ length (flat (r .constraints)) ∷ length (flat (r .edges)) ∷ []
 
 -- "candidates, face lists, constraints, open edges", from c, l, k and e to c', l', k' and e'
 abbrev pub candidateOutputs : Candidates → List ℕ → List ℕ → List ℕ → List ℕ → List ℕ → List ℕ → List ℕ → List ℕ → List Output

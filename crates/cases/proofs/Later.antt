@@ -19,6 +19,7 @@ use Rattle.lists.proofs.Sequences.{place-is, place-all}
 use Rattle.geometry.specs.declared.aabb.AABB.{AABB}
 use Rattle.refusals.specs.Refusals.{settle}
 use Rattle.boundary_closure.specs.Candidates.{candidateWords}
+use Rattle.boundary_closure.specs.Asked.{asked}
 use Rattle.boundary_closure.specs.Operation.{candidatesResult}
 use Rattle.cases.specs.Comparing.{standsAt, free, First, placeOf}
 use Rattle.cases.specs.Cleaning.{valuesOf}
@@ -70,20 +71,20 @@ module _ (ws : List ℕ) (a : ℕ) (f : First (standsAt ws earlier earlier earli
     pub later-alone : (r : Bool) → b < length ws / 5 → getD ws (5 * b + 3) 0 ≡ 2 → r ≡ every (free ws b) (upTo (length ws / 5)) → r ≡ isLater ws
     later-alone r k o e = sym (later-is ∙ and-next _ _ _ (lt-ltb b (length ws / 5) k) (and-next _ _ _ (eq-eqb _ _ o) (sym e)))
 
-module _ (vs : List Float) (fs : List ℕ) (eps resolution : Float) (lent n : ℕ) (b box : AABB) (m r : ℕ) (ws c' : List ℕ) (e : b ≡ box) (long : m ≡ lent) (h : Listing vs fs b eps resolution m r ws (replicate n 0) c') where
+module _ (vs : List Float) (fs : List ℕ) (eps resolution : Float) (lent n : ℕ) (b box : AABB) (m r : ℕ) (ws c' : List ℕ) (e : b ≡ box) (long : m ≡ lent) (h : Listing vs fs (asked b eps resolution) m r ws (replicate n 0) c') where
   zeros : length (replicate {A = ℕ} n 0) ≡ n
   zeros = length-replicate {A = ℕ} n 0
 
-  same : listReply vs fs b eps resolution m (length (replicate {A = ℕ} n 0)) ≡ listReply vs fs box eps resolution lent n
-  same = (λ t. listReply vs fs (e t) eps resolution (long t) (zeros t))
+  same : listReply vs fs (asked b eps resolution) m (length (replicate {A = ℕ} n 0)) ≡ listReply vs fs (asked box eps resolution) lent n
+  same = (λ t. listReply vs fs (asked (e t) eps resolution) (long t) (zeros t))
 
-  pub listed-number : r ≡ getD (listReply vs fs box eps resolution lent n) 0 0
+  pub listed-number : r ≡ getD (listReply vs fs (asked box eps resolution) lent n) 0 0
   listed-number = h .reported .number ∙ ap (λ (l : List ℕ). getD l 0 0) same
 
-  pub listed-value : getD ws 0 0 ≡ getD (valuesOf (listReply vs fs box eps resolution lent n)) 0 0
+  pub listed-value : getD ws 0 0 ≡ getD (valuesOf (listReply vs fs (asked box eps resolution) lent n)) 0 0
   listed-value = ap (λ (l : List ℕ). getD l 0 0) (h .reported .words) ∙ ap (λ (l : List ℕ). getD (valuesOf l) 0 0) same
 
-  pub listed-words : c' ≡ candidatesIn vs fs box eps resolution lent n
+  pub listed-words : c' ≡ candidatesIn vs fs (asked box eps resolution) lent n
   unfolding candidatesIn
   listed-words =
-      h .candidates .ends ∙ (λ t. settle (same t) (candidateWords (candidatesResult vs fs (e t) eps resolution .all)) (replicate n 0))
+      h .candidates ∙ (λ t. settle (same t) (candidateWords (candidatesResult vs fs (asked (e t) eps resolution) .all)) (replicate n 0))

@@ -22,11 +22,13 @@ use Rattle.lists.proofs.Bools.{and-next}
 use Rattle.lists.proofs.Places.{length-up, at-map-up}
 use Rattle.geometry.specs.declared.aabb.AABB.{AABB}
 use Rattle.geometry.specs.Triangles.{flat}
-use Rattle.geometry.specs.Meshes.{coordinates}
-use Rattle.refusals.specs.declared.reply.MeshReply.{MeshReply}
-use Rattle.refusals.specs.Refusals.{documentedMesh, settle}
+use Rattle.geometry.specs.Meshes.{coordinates, meshLengths}
+use Rattle.refusals.specs.declared.reply.Reply.{Reply}
+use Rattle.refusals.specs.Refusals.{documentedReply, settle}
+use Rattle.refusals.specs.Answers.{replyIn}
+use Rattle.boundary_closure.specs.Asked.{asked}
 use Rattle.caps.specs.declared.mode.BoundaryClosure.{BoundaryClosure}
-use Rattle.caps.specs.Operation.{capsReply, capsResult, Capped}
+use Rattle.caps.specs.Operation.{capsTests, capsResult, Capped}
 use Rattle.cases.specs.Closing.{boxTo}
 use Rattle.cases.specs.Comparing.{bitsOf, begins, sameBits, standsAt, First, placeOf}
 use Rattle.cases.specs.Halves.{points, corner, pointAt, candidateAt, capWord, capWords, isPoint, hasFacets, squareAtHalf, twoFacets, isHalf, capped, closesTo}
@@ -84,20 +86,24 @@ module _ (vs : List Float) (fs stated : List ℕ) (i : ℕ) (e : hasFacets vs fs
   unfolding hasFacets
   corner-end h = row-end states 36 i e h
 
-module _ (mode : BoundaryClosure) (l : List ℕ) (b : AABB) (reply : MeshReply) (w w' : List ℕ) (v' : List Float) (f' : List ℕ) (e : b ≡ boxTo oneF oneF oneF) (long : length w ≡ 8192) where
-  pub capped-to : Capped squareAtHalf twoFacets l b 1e-10 oneF mode reply w w' (replicate 24 zeroF) v' (replicate 36 0) f' → (stated : List ℕ)
-      → isHalf (documentedMesh reply) v' f' stated ≡ closesTo mode l stated
+module _ (mode : BoundaryClosure) (l : List ℕ) (b : AABB) (reply : Reply) (w w' : List ℕ) (v' : List Float) (f' : List ℕ) (e : b ≡ boxTo oneF oneF oneF) (long : length w ≡ 8192) where
+  pub capped-to : Capped squareAtHalf twoFacets l (asked b 1e-10 oneF) mode reply w w' (replicate 24 zeroF) v' (replicate 36 0) f' → (stated : List ℕ)
+      → isHalf (documentedReply reply) v' f' stated ≡ closesTo mode l stated
   unfolding closesTo
   capped-to h stated =
-      ap₂ (λ (x : List Float) (y : List ℕ). isHalf (documentedMesh reply) x y stated) (h .vertices .ends) (h .facets .ends)
+      ap₂ (λ (x : List Float) (y : List ℕ). isHalf (documentedReply reply) x y stated) (h .answered .answer .settled .0) (h .answered .answer .settled .1 .0)
       ∙ (λ t.
       isHalf (answer t)
-      (settle (answer t) (coordinates (capsResult squareAtHalf twoFacets l (e t) 1e-10 oneF mode .points)) (replicate 24 zeroF))
-      (settle (answer t) (flat (capsResult squareAtHalf twoFacets l (e t) 1e-10 oneF mode .facets)) (replicate 36 0))
+      (settle (answer t) (coordinates (capsResult squareAtHalf twoFacets l (asked (e t) 1e-10 oneF) mode .points)) (replicate 24 zeroF))
+      (settle (answer t) (flat (capsResult squareAtHalf twoFacets l (asked (e t) 1e-10 oneF) mode .facets)) (replicate 36 0))
       stated)
     where
-      answer : documentedMesh reply ≡ capped mode l
-      answer = h .replied ∙ (λ t. capsReply squareAtHalf twoFacets l (e t) 1e-10 oneF mode (long t) (24 ∷ 36 ∷ []))
+      answer : documentedReply reply ≡ capped mode l
+      answer =
+          h .answered .answer .replied
+          ∙ (λ t.
+          replyIn (capsTests squareAtHalf twoFacets l (asked (e t) 1e-10 oneF) mode (long t))
+          (meshLengths (capsResult squareAtHalf twoFacets l (asked (e t) 1e-10 oneF) mode)) (24 ∷ 36 ∷ []))
 
 pub point-goes : (vs q : List Float) (v p : ℕ) (r : Bool) → r ≡ begins sameBits nan (take (length vs - 3 * v) (drop (3 * v) vs)) q → q ≡ pointAt p
     → v < length vs / 3 → r ≡ isPoint vs v p

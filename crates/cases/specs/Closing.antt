@@ -15,11 +15,14 @@ use Rattle.root.specs.Doubles.{bits, zeroF, oneF, 1e-10}
 use Rattle.geometry.specs.declared.aabb.AABB.{AABB}
 use Rattle.geometry.specs.Axes.{segments}
 use Rattle.lists.specs.Lists.{every, upTo}
-use Rattle.refusals.specs.Refusals.{settle, Settled}
+use mathlib.Core.Path.{_≡_}
+use Rattle.refusals.specs.Refusals.{settle}
+use Rattle.refusals.specs.Answers.{replyIn}
 use Rattle.refusals.specs.Reports.{Reported}
 use Rattle.refusals.specs.Front.{byAxis}
 use Rattle.boundary_closure.specs.Candidates.{candidateWords}
-use Rattle.boundary_closure.specs.Operation.{candidatesReply, candidatesResult}
+use Rattle.boundary_closure.specs.Asked.{Asked, asked}
+use Rattle.boundary_closure.specs.Operation.{candidatesTests, candidatesResult, candidateLengths}
 use Rattle.cases.specs.Cleaning.{valuesOf}
 use Rattle.cases.specs.Comparing.{placeOf, free}
 
@@ -27,17 +30,16 @@ abbrev pub boxTo : Float → Float → Float → AABB
 boxTo x y z = record { «min_corner» = zeroF ∷ zeroF ∷ zeroF ∷ []; «max_corner» = x ∷ y ∷ z ∷ [] }
 
 -- for so many words of work room lent, and room for n words of candidates
-abbrev pub listReply : List Float → List ℕ → AABB → Float → Float → ℕ → ℕ → List ℕ
-listReply vs fs box eps resolution lent n = candidatesReply vs fs box eps resolution lent (n ∷ 8192 ∷ 8192 ∷ 8192 ∷ [])
+abbrev pub listReply : List Float → List ℕ → Asked → ℕ → ℕ → List ℕ
+listReply vs fs q lent n = replyIn (candidatesTests vs fs q lent) (candidateLengths (candidatesResult vs fs q)) (n ∷ 8192 ∷ 8192 ∷ 8192 ∷ [])
 
 pub record Listing (vs : List Float) (fs : List ℕ) (q : Asked) (lent r : ℕ) (values c c' : List ℕ) : Type 0 where
   pub reported : Reported (listReply vs fs q lent (length c)) r values
-  pub candidates : Settled (listReply vs fs q lent (length c)) (candidateWords (candidatesResult vs fs q .all)) c c'
+  pub candidates : c' ≡ settle (listReply vs fs q lent (length c)) (candidateWords (candidatesResult vs fs q .all)) c
 
 -- for room of n words, all zero
-unfoldable pub candidatesIn : List Float → List ℕ → AABB → Float → Float → ℕ → ℕ → List ℕ
-candidatesIn vs fs box eps resolution lent n =
-    settle (listReply vs fs box eps resolution lent n) (candidateWords (candidatesResult vs fs box eps resolution .all)) (replicate n 0)
+unfoldable pub candidatesIn : List Float → List ℕ → Asked → ℕ → ℕ → List ℕ
+candidatesIn vs fs q lent n = settle (listReply vs fs q lent n) (candidateWords (candidatesResult vs fs q .all)) (replicate n 0)
 
 -- the bits of -3/8192 and of 3/8192
 abbrev pub earlier : ℕ
@@ -54,9 +56,9 @@ isLater words =
     not (ltb (placeOf words earlier earlier earlier) n)
     && (ltb at n && (eqb (getD words (5 * at + 3) 0) 2 && every (free words at) (upTo n)))
 
-unfoldable pub facetReply : AABB → Float → Float → ℕ → List ℕ
-facetReply box eps resolution lent =
-    listReply (zeroF ∷ zeroF ∷ zeroF ∷ oneF ∷ zeroF ∷ zeroF ∷ zeroF ∷ oneF ∷ zeroF ∷ []) (0 ∷ 1 ∷ 2 ∷ []) box eps resolution lent 8192
+unfoldable pub facetReply : Asked → ℕ → List ℕ
+facetReply q lent =
+    listReply (zeroF ∷ zeroF ∷ zeroF ∷ oneF ∷ zeroF ∷ zeroF ∷ zeroF ∷ oneF ∷ zeroF ∷ []) (0 ∷ 1 ∷ 2 ∷ []) q lent 8192
 
 -- 2, 256 and 257
 abbrev pub two : Float
@@ -73,16 +75,16 @@ laterPoints = let x = bits later in neg x ∷ neg x ∷ neg x ∷ x ∷ x ∷ x 
 
 abbrev pub c3bHolds : Bool
 c3bHolds =
-    eqb (getD (listReply laterPoints (0 ∷ 1 ∷ 2 ∷ []) (boxTo oneF oneF oneF) (bits 4562146422526312448) oneF 8192 8192) 0 0) 0
-    && isLater (candidatesIn laterPoints (0 ∷ 1 ∷ 2 ∷ []) (boxTo oneF oneF oneF) (bits 4562146422526312448) oneF 8192 8192)
+    eqb (getD (listReply laterPoints (0 ∷ 1 ∷ 2 ∷ []) (asked (boxTo oneF oneF oneF) (bits 4562146422526312448) oneF) 8192 8192) 0 0) 0
+    && isLater (candidatesIn laterPoints (0 ∷ 1 ∷ 2 ∷ []) (asked (boxTo oneF oneF oneF) (bits 4562146422526312448) oneF) 8192 8192)
 
 abbrev pub c10Holds : Bool
-c10Holds = eqb (getD (facetReply (boxTo two two two) 1e-10 two 8192) 0 0) 0
+c10Holds = eqb (getD (facetReply (asked (boxTo two two two) 1e-10 two) 8192) 0 0) 0
 
 -- 257 places along the axis, four points at each, five words a point
 abbrev pub c13Holds : Bool
 c13Holds =
     eqb (min (segments (boxTo most oneF oneF) zeroF (byAxis (oneF ∷ oneF ∷ oneF ∷ [])) 0) 257) 256
-    && (eqb (getD (facetReply (boxTo most oneF oneF) zeroF oneF 265728) 0 0) 0
-    && (eqb (getD (valuesOf (facetReply (boxTo most oneF oneF) zeroF oneF 265728)) 0 0) 5140
-    && eqb (getD (facetReply (boxTo more oneF oneF) zeroF oneF 1024) 0 0) 6))
+    && (eqb (getD (facetReply (asked (boxTo most oneF oneF) zeroF oneF) 265728) 0 0) 0
+    && (eqb (getD (valuesOf (facetReply (asked (boxTo most oneF oneF) zeroF oneF) 265728)) 0 0) 5140
+    && eqb (getD (facetReply (asked (boxTo more oneF oneF) zeroF oneF) 1024) 0 0) 6))

@@ -16,11 +16,13 @@ use lib.Ieee.{Float, nan}
 use Rattle.root.specs.Doubles.{bits, zeroF, oneF, 1e-10}
 use Rattle.lists.specs.Lists.{every, upTo}
 use Rattle.geometry.specs.Triangles.{flat}
-use Rattle.geometry.specs.Meshes.{Mesh, coordinates}
+use Rattle.geometry.specs.Meshes.{Mesh, coordinates, meshLengths}
 use Rattle.refusals.specs.Refusals.{settle}
 use Rattle.caps.specs.declared.mode.BoundaryClosure.{BoundaryClosure}
 use Rattle.caps.specs.declared.mode.BoundaryClosure.the-variants.{ClosePositive, CloseNegative}
-use Rattle.caps.specs.Operation.{capsReply, capsResult}
+use Rattle.refusals.specs.Answers.{replyIn}
+use Rattle.boundary_closure.specs.Asked.{asked}
+use Rattle.caps.specs.Operation.{capsTests, capsResult}
 use Rattle.cases.specs.Comparing.{bitsOf, begins, sameBits, placeOf}
 use Rattle.cases.specs.Cleaning.{valuesOf}
 use Rattle.cases.specs.Closing.{boxTo, listReply, candidatesIn}
@@ -77,10 +79,12 @@ twoFacets = 0 ∷ 1 ∷ 2 ∷ 0 ∷ 2 ∷ 3 ∷ []
 
 module _ (mode : BoundaryClosure) (capList : List ℕ) where
   abbrev pub capped : List ℕ
-  capped = capsReply squareAtHalf twoFacets capList (boxTo oneF oneF oneF) 1e-10 oneF mode 8192 (24 ∷ 36 ∷ [])
+  capped =
+      replyIn (capsTests squareAtHalf twoFacets capList (asked (boxTo oneF oneF oneF) 1e-10 oneF) mode 8192)
+      (meshLengths (capsResult squareAtHalf twoFacets capList (asked (boxTo oneF oneF oneF) 1e-10 oneF) mode)) (24 ∷ 36 ∷ [])
 
   abbrev pub cappedMesh : Mesh
-  cappedMesh = capsResult squareAtHalf twoFacets capList (boxTo oneF oneF oneF) 1e-10 oneF mode
+  cappedMesh = capsResult squareAtHalf twoFacets capList (asked (boxTo oneF oneF oneF) 1e-10 oneF) mode
 
   unfoldable pub closesTo : List ℕ → Bool
   closesTo stated =
@@ -107,10 +111,10 @@ unfoldable pub closesBoth : List ℕ → Bool
 closesBoth words = closesTo ClosePositive (capWords words) lowerHalf && closesTo CloseNegative (capWords words) upperHalf
 
 abbrev pub twelve : List ℕ
-twelve = listReply squareAtHalf twoFacets (boxTo oneF oneF oneF) 1e-10 oneF 8192 60
+twelve = listReply squareAtHalf twoFacets (asked (boxTo oneF oneF oneF) 1e-10 oneF) 8192 60
 
 abbrev pub c15Holds : Bool
 c15Holds =
     eqb (getD twelve 0 0) 0
     && (eqb (getD (valuesOf twelve) 0 0) 60
-    && closesBoth (candidatesIn squareAtHalf twoFacets (boxTo oneF oneF oneF) 1e-10 oneF 8192 60))
+    && closesBoth (candidatesIn squareAtHalf twoFacets (asked (boxTo oneF oneF oneF) 1e-10 oneF) 8192 60))

@@ -2,16 +2,14 @@
 ghost use mathlib.Core.Path.{_≡_};
 ghost use lib.ListN.{length};
 ghost use Rattle.refusals.specs.Reports.{Reported};
-ghost use Rattle.boundary_closure.specs.Operation.{documentedCandidates};
+ghost use Rattle.boundary_closure.specs.Asked.{asked};
 ghost use Rattle.cases.specs.Closing.{boxTo, Listing, facetReply, isLater, c3bHolds, c10Holds, c13Holds};
 use crate::listed::is_alone;
 use crate::listed::place_of;
 use boundary_closure::cap_candidates;
-use boundary_closure::reply::CandidatesReply;
 use geometry::aabb::AABB;
 use refusals::grid::segments_of;
-use refusals::report::report_done;
-use refusals::report::report_refusal;
+use refusals::report::report_reply;
 
 // 1/1024
 const EPS: f64 = 0.0009765625;
@@ -23,21 +21,6 @@ const LATER: u64 = 4555391023085256704;
 
 // Five words for each of the four points at each of 257 places along an axis.
 const WORDS_OF_257: u64 = 5140;
-
-fn report_candidates(values: &mut [u64; 4], reply: CandidatesReply) -> u32
-    ensures { λ r. ⌜ Reported (documentedCandidates reply) r (now (values .exit)) ⌝ }
-{
-    match reply {
-        CandidatesReply::Done(candidates, face_lists, constraints, open_edges) => report_done(
-            values,
-            candidates as u64,
-            face_lists as u64,
-            constraints as u64,
-            open_edges as u64,
-        ),
-        CandidatesReply::Refused(refusal) => report_refusal(values, refusal),
-    }
-}
 
 // The documented number and values. Of the outputs only the list of candidates is looked at.
 pub fn list_candidates(
@@ -67,7 +50,7 @@ pub fn list_candidates(
         &mut constraints,
         &mut open_edges,
     );
-    report_candidates(values, reply)
+    report_reply(values, reply)
 }
 
 fn box_to(x: f64, y: f64, z: f64) -> AABB

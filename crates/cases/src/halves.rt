@@ -2,7 +2,7 @@
 ghost use mathlib.Core.Path.{_≡_};
 ghost use Prim.Native.Nat.{_<_};
 ghost use Rattle.root.specs.Doubles.{oneF};
-ghost use Rattle.refusals.specs.Refusals.{documentedMesh};
+ghost use Rattle.refusals.specs.Refusals.{documentedReply};
 ghost use Rattle.cases.specs.Closing.{boxTo};
 ghost use Rattle.cases.specs.Halves.{pointAt, candidateAt, capWord, capWords, isPoint, hasFacets, isHalf, closesTo, closesBoth, c15Holds};
 use crate::bits::begins_with;
@@ -12,8 +12,8 @@ use crate::listed::place_of;
 use caps::cap_mesh_to_aabb;
 use caps::mode::BoundaryClosure;
 use geometry::aabb::AABB;
-use refusals::reply::MeshReply;
-use refusals::report::report_mesh;
+use refusals::reply::Reply;
+use refusals::report::report_reply;
 
 const EPS: f64 = 0.0000000001;
 
@@ -269,11 +269,11 @@ fn has_facets(vertices: &[f64], facets: &[u32; 36], stated: &[usize; 36]) -> boo
 }
 
 // The reply is eight vertices and twelve facets, the stated ones.
-fn is_half(reply: MeshReply, vertices: &[f64], facets: &[u32; 36], stated: &[usize; 36]) -> bool
-    ensures { λ r. ⌜ r ≡ isHalf (documentedMesh reply) (now (vertices .entry)) (now (facets .entry)) (now (stated .entry)) ⌝ }
+fn is_half(reply: Reply, vertices: &[f64], facets: &[u32; 36], stated: &[usize; 36]) -> bool
+    ensures { λ r. ⌜ r ≡ isHalf (documentedReply reply) (now (vertices .entry)) (now (facets .entry)) (now (stated .entry)) ⌝ }
 {
     let mut values = [0u64; 4];
-    if report_mesh(&mut values, reply) != 0 {
+    if report_reply(&mut values, reply) != 0 {
         return false;
     }
     if values[0] != 24 {

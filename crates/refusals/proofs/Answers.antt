@@ -20,8 +20,9 @@ use Rattle.refusals.specs.declared.refusal.Checked.the-variants.{Passed,
 use Rattle.refusals.specs.declared.reply.Reply.the-variants.{DoneTwo, DoneFour}
 use Rattle.refusals.specs.declared.reply.Reply.the-variants as reply
 use Rattle.refusals.specs.Refusals.{documented, documentedReply, Test, firstRefusal, Passes, numbered, replyTo, settle, Zeroed}
+use Rattle.refusals.specs.Front.{roomTests}
 use Rattle.refusals.specs.Reports.{Reported}
-use Rattle.refusals.specs.Answers.{Output, resultLengths, roomChecks, AllSettled, replyWith, Answer, Answered, Called}
+use Rattle.refusals.specs.Answers.{Output, resultLengths, outputLengths, AllSettled, Answer, Answered, Called}
 use Rattle.refusals.proofs.Refusals.{holds, passes, none-left, row-passed, row-refused, untouched, laid-over}
 use Rattle.refusals.proofs.Replies.{reply-refused, reply-passed, reply-done}
 
@@ -36,6 +37,10 @@ Fits (o ∷ outs) = (length (o .result) ≤ length (o .before)) × Fits outs
 abbrev pub Laid : List Output → Type 0
 Laid [] = Unit {0}
 Laid (o ∷ outs) = (o .after ≡ overlay (o .result) (o .before)) × Laid outs
+
+-- 12
+abbrev rooms : List Output → List Test
+rooms outs = roomTests (resultLengths outs) (outputLengths outs)
 
 -- ---- outputs
 
@@ -52,32 +57,34 @@ all-laid l (o ∷ outs) h = (h .0 ∙ sym (laid-over l (o .result) (o .before)),
 pub refused : (ts : List Test) (outs : List Output) (r : Refusal) → firstRefusal ts ≡ Refused r → Same outs → Answer ts outs (documentedReply (reply.Refused r))
 unfolding documentedReply
 refused ts outs r e h =
-    record { replied = sym (reply-refused ts (roomChecks outs) (resultLengths outs) r e); settled = all-untouched r outs h }
+    record { replied = sym (reply-refused ts (rooms outs) (resultLengths outs) r e); settled = all-untouched r outs h }
 
 pub after : (ts us : List Test) (outs : List Output) (reply : List ℕ) → Passes ts → Answer us outs reply → Answer (ts ++ us) outs reply
 after ts us outs reply e a =
     record {
-      replied = a .replied ∙ sym (reply-passed ts (us ++ roomChecks outs) (resultLengths outs) e)
-          ∙ ap (λ (l : List Test). replyTo l (resultLengths outs)) (sym (append-assoc ts us (roomChecks outs)));
+      replied = a .replied ∙ sym (reply-passed ts (us ++ rooms outs) (resultLengths outs) e)
+          ∙ ap (λ (l : List Test). replyTo l (resultLengths outs)) (sym (append-assoc ts us (rooms outs)));
       settled = a .settled;
     }
 
 -- where 12 alone is left
 pub behind : (ts : List Test) (outs : List Output) (reply : List ℕ) → Passes ts → Answer [] outs reply → Answer ts outs reply
-behind ts outs reply e a = record { replied = a .replied ∙ sym (reply-passed ts (roomChecks outs) (resultLengths outs) e); settled = a .settled }
+behind ts outs reply e a = record { replied = a .replied ∙ sym (reply-passed ts (rooms outs) (resultLengths outs) e); settled = a .settled }
 
 -- the first output without room is o: those before it, os, have it
 room-short : (os : List Output) (o : Output) (outs : List Output) → Fits os → length (o .before) < length (o .result)
-    → firstRefusal (roomChecks (os ++ o ∷ outs)) ≡ Refused (NoRoom (length (o .result)))
-room-short [] o outs f h = holds (ltb (length (o .before)) (length (o .result))) (NoRoom (length (o .result))) (roomChecks outs) (lt-ltb _ _ h)
+    → firstRefusal (rooms (os ++ o ∷ outs)) ≡ Refused (NoRoom (length (o .result)))
+unfolding roomTests
+room-short [] o outs f h = holds (ltb (length (o .before)) (length (o .result))) (NoRoom (length (o .result))) (rooms outs) (lt-ltb _ _ h)
 room-short (p ∷ os) o outs f h =
-    passes (ltb (length (p .before)) (length (p .result))) (NoRoom (length (p .result))) (roomChecks (os ++ o ∷ outs)) (le-ltb _ _ (f .0))
+    passes (ltb (length (p .before)) (length (p .result))) (NoRoom (length (p .result))) (rooms (os ++ o ∷ outs)) (le-ltb _ _ (f .0))
     ∙ room-short os o outs (f .1) h
 
-room-enough : (outs : List Output) → Fits outs → Passes (roomChecks outs)
+room-enough : (outs : List Output) → Fits outs → Passes (rooms outs)
+unfolding roomTests
 room-enough [] f = none-left
 room-enough (o ∷ outs) f =
-    passes (ltb (length (o .before)) (length (o .result))) (NoRoom (length (o .result))) (roomChecks outs) (le-ltb _ _ (f .0)) ∙ room-enough outs (f .1)
+    passes (ltb (length (o .before)) (length (o .result))) (NoRoom (length (o .result))) (rooms outs) (le-ltb _ _ (f .0)) ∙ room-enough outs (f .1)
 
 -- n is the length of its result, as it was computed
 pub short : (os : List Output) (o : Output) (outs : List Output) (n : ℕ) → n ≡ length (o .result) → Fits os → length (o .before) < n → Same (os ++ o ∷ outs)
@@ -112,7 +119,7 @@ done-four o p q s a b c d ea eb ec ed f l =
 pub answer-done : (ts : List Test) (outs : List Output) (reply : List ℕ) → Answer ts outs reply → getD reply 0 0 ≡ 0 → (reply ≡ 0 ∷ resultLengths outs) × Laid outs
 unfolding settle
 answer-done ts outs reply a h =
-    let e = a .replied ∙ reply-done (ts ++ roomChecks outs) (resultLengths outs) (ap (λ (l : List ℕ). getD l 0 0) (sym (a .replied)) ∙ h) in
+    let e = a .replied ∙ reply-done (ts ++ rooms outs) (resultLengths outs) (ap (λ (l : List ℕ). getD l 0 0) (sym (a .replied)) ∙ h) in
     (e, go outs (subst (λ (l : List ℕ). AllSettled l outs) e (a .settled)))
   where
     go : (os : List Output) → AllSettled (0 ∷ resultLengths outs) os → Laid os

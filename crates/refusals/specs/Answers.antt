@@ -1,22 +1,21 @@
 -- An operation's answer (document 01, "Refusals"): its reply, and what its outputs and the work room end as. One form for every operation. Assumes nothing.
 --   Output, output   the result that an output is for, what stood there before the call and what stands there after it; elements of any type
 --   meshOutputs      the two outputs of an operation that writes a mesh
---   resultLengths    the lengths of the results                roomChecks  12, of each output in turn
---   settle           what an output ends as                    AllSettled  each output ended so
---   replyWith        the reply as numbers to a row of tests, with 12 behind it
+--   resultLengths, outputLengths   the lengths of the results, and of the outputs as they are lent
+--   AllSettled       each output ended as `settle` says
+--   replyIn, replyWith   the reply as numbers to a row of tests, with 12 behind it
 --   Answer           that reply was given, and the outputs ended as it says
 --   Answered         the same of a whole operation: the work room ended zero too
 --   Called           the same of a function that C calls, whose reply is reported as a number and four words
 use Prim.Native.Nat.{ℕ}
 use mathlib.Core.Path.{_≡_}
 use mathlib.Core.List.{List, [], _∷_, _++_, map}
-use lib.Dec.{ltb}
 use lib.ListN.{length}
 use lib.Ieee.{Float}
 use Rattle.geometry.specs.Triangles.{flat}
 use Rattle.geometry.specs.Meshes.{Mesh, coordinates}
-use Rattle.refusals.specs.declared.refusal.Refusal.the-variants.{NoRoom}
 use Rattle.refusals.specs.Refusals.{Test, replyTo, settle, Zeroed}
+use Rattle.refusals.specs.Front.{roomTests}
 use Rattle.refusals.specs.Reports.{Reported}
 
 pub record Output : Type 1 where
@@ -36,16 +35,19 @@ meshOutputs m v v' f f' = output (coordinates (m .points)) v v' ∷ output (flat
 abbrev pub resultLengths : List Output → List ℕ
 resultLengths outs = map (λ o. length (o .result)) outs
 
--- "an output is shorter than the result; the first short one counts"
-abbrev pub roomChecks : List Output → List Test
-roomChecks outs = map (λ o. (ltb (length (o .before)) (length (o .result)), NoRoom (length (o .result)))) outs
+abbrev pub outputLengths : List Output → List ℕ
+outputLengths outs = map (λ o. length (o .before)) outs
 
 abbrev pub AllSettled : List ℕ → List Output → Type 0
 AllSettled reply [] = Unit {0}
 AllSettled reply (o ∷ outs) = (o .after ≡ settle reply (o .result) (o .before)) × AllSettled reply outs
 
+-- for results and outputs of these lengths
+abbrev pub replyIn : List Test → List ℕ → List ℕ → List ℕ
+replyIn tests results outs = replyTo (tests ++ roomTests results outs) results
+
 abbrev pub replyWith : List Test → List Output → List ℕ
-replyWith tests outs = replyTo (tests ++ roomChecks outs) (resultLengths outs)
+replyWith tests outs = replyIn tests (resultLengths outs) (outputLengths outs)
 
 pub record Answer (tests : List Test) (outs : List Output) (reply : List ℕ) : Type 0 where
   pub replied : reply ≡ replyWith tests outs

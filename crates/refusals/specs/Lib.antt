@@ -1,4 +1,4 @@
 pub mod Refusals
 pub mod Reports
-pub mod Answers
 pub mod Front
+pub mod Answers

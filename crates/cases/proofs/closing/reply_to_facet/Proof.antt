@@ -22,7 +22,7 @@ same-length : tie.Need-same-length
 same-length c = search needs
 
 returns : tie.Need-returns
-returns c = facet-listing _ _ _ _ _ _ _ (c .before .before .before .list-candidates .ensures)
+returns c = facet-listing _ _ _ _ _ (c .before .before .before .list-candidates .ensures)
 
 pub reply-to-facet-spec : {M : Type 1} → statement M
 reply-to-facet-spec =
