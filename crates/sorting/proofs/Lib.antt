@@ -4,3 +4,6 @@ pub mod Records
 pub mod Running
 pub mod Halves
 pub mod Sorting
+pub mod Stable
+pub mod Dealing
+pub mod ByColumns

@@ -1,2 +1,3 @@
 pub mod Sorting
 pub mod Buffer
+pub mod Digits
