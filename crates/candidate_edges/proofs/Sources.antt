@@ -7,6 +7,7 @@ use Prim.Native.Nat.{ℕ, zero, suc, _+_, _-_, _≤_, _<_}
 use mathlib.Core.Path.{_≡_, refl, sym, ap, _∙_, subst}
 use mathlib.Core.Bool.{Bool, true, false, cond, _&&_, true≢false}
 use mathlib.Core.List.{List, [], _∷_, _++_, map}
+use mathlib.Core.Option.{Option, none, some}
 use native.Mathlib.Omega.{arith}
 use native.Mathlib.Decide.{ℕ-discrete}
 use borrow.Author.Tests.{ne-eqb}
@@ -17,7 +18,7 @@ use Rattle.lists.proofs.Bools.{and-left, and-right}
 use Rattle.geometry.specs.declared.point.Point.{Point}
 use Rattle.geometry.specs.Meshes.{vertex}
 use Rattle.mesh_weld.specs.Cells.{Key, keyOf, same, sameKey}
-use Rattle.candidate_pool.specs.Pool.{Candidate, Pool, noCandidate, noPool, pointOf, renewed, enteredAs, byKey, linkFor, insert}
+use Rattle.candidate_pool.specs.Pool.{Candidate, Pool, noCandidate, noPool, pointOf, renewed, enteredAs, byKey, placeFor, insert}
 use Rattle.lists.proofs.Pigeonhole.{pigeonhole}
 use Rattle.lists.proofs.Sequences.{at-map}
 use Rattle.candidate_pool.proofs.Rule.{key-symmetric, key-lawful}
@@ -53,14 +54,14 @@ module _ (points : List Point) (eps : Float) (p : Pool) where
   point-map q c h = at-map (λ d. d .point) (p .all) c noCandidate q h
 
   module _ (e : Candidate) where
-    link-new : linkFor (byKey eps) p e ≡ 0 → (c : ℕ) → c < count → sameKey (keyOf eps (pointOf p c)) (keyOf eps (e .point)) ≡ false
+    link-new : placeFor (byKey eps) p e ≡ none → (c : ℕ) → c < count → sameKey (keyOf eps (pointOf p c)) (keyOf eps (e .point)) ≡ false
     unfolding byKey
     link-new z c h =
         key-symmetric (keyOf eps (pointOf p c)) (keyOf eps (e .point))
         ∙ ap (λ (q : Point). sameKey (keyOf eps (e .point)) (keyOf eps q)) (sym (point-map (e .point) c h))
         ∙ key-lawful eps .none (e .point) (map (λ d. d .point) (p .all)) z c (omega (arith, length-map (p .all) (λ d. d .point)))
 
-    link-old : (i : ℕ) → linkFor (byKey eps) p e ≡ suc i → keyOf eps (e .point) ≡ keyOf eps (pointOf p i)
+    link-old : (i : ℕ) → placeFor (byKey eps) p e ≡ some i → keyOf eps (e .point) ≡ keyOf eps (pointOf p i)
     unfolding byKey
     link-old i z =
         let low = found-low (byKey eps) p e (key-lawful eps) i z in
@@ -150,15 +151,15 @@ module _ (points : List Point) (eps : Float) (p : Pool) (v : ℕ) (on : List ℕ
   at-anew : (i : ℕ) → At (anew i)
   at-anew i = point-anew i ∙ at-new ∙ ap (λ (m : ℕ). vertex points (m - 1)) (sym (mesh-anew i))
 
-  one-more : (k : ℕ) → linkFor (byKey eps) p entered ≡ k → (ls : List (List ℕ)) → Sourced points eps (record { all = enteredAs (p .all) entered k; lists = ls })
-  one-more zero z ls =
+  one-more : (k : Option ℕ) → placeFor (byKey eps) p entered ≡ k → (ls : List (List ℕ)) → Sourced points eps (record { all = enteredAs (p .all) entered k; lists = ls })
+  one-more none z ls =
       record {
         some = snoc-all (λ k. 1 ≤ k .mesh) (p .all) entered (s .some) (omega arith);
         low = snoc-all (λ k. k .mesh ≤ length points) (p .all) entered (s .low) (omega arith);
         at = snoc-all At (p .all) entered (s .at) at-new;
         apart = new-apart (p .all) (s .apart) (link-new points eps p entered z);
       }
-  one-more (suc i) z ls =
+  one-more (some i) z ls =
       let key : keyAt (anew i) ≡ keyAt (getD (p .all) i noCandidate) = ap (keyOf eps) (point-anew i) ∙ link-old points eps p entered i z in
       let m = mesh-anew i in
       record {
@@ -174,7 +175,7 @@ module _ (points : List Point) (eps : Float) (p : Pool) (v : ℕ) (on : List ℕ
 
   pub sourced-kept : Sourced points eps (insert (byKey eps) p entered)
   unfolding insert
-  sourced-kept = one-more (linkFor (byKey eps) p entered) refl (insert (byKey eps) p entered .lists)
+  sourced-kept = one-more (placeFor (byKey eps) p entered) refl (insert (byKey eps) p entered .lists)
 
 -- ---- how many there can be
 
@@ -208,7 +209,7 @@ module _ (points : List Point) (eps : Float) (p : Pool) (s : Sourced points eps 
   pub sourced-few : length (p .all) ≤ length points
   sourced-few = omega (arith, numbers-long, pigeonhole (length points) numbers differ number-low)
 
-  module _ (v : ℕ) (on : List ℕ) (h : v < length points) (z : linkFor (byKey eps) p (record { point = vertex points v; mesh = v + 1; on = on }) ≡ 0) where
+  module _ (v : ℕ) (on : List ℕ) (h : v < length points) (z : placeFor (byKey eps) p (record { point = vertex points v; mesh = v + 1; on = on }) ≡ none) where
     abbrev new : Candidate
     new = record { point = vertex points v; mesh = v + 1; on = on }
 
