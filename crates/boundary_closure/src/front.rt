@@ -7,6 +7,7 @@ ghost use Rattle.refusals.specs.Refusals.{unless};
 ghost use Rattle.candidate_edges.specs.Steps.{MeshFits};
 ghost use Rattle.boundary_closure.specs.Operation.{closureTests, edgeTests, noFacet, candidatesResult, Delivered};
 ghost use Rattle.boundary_closure.specs.Steps.{Sound, most, Tabled, surfaceResult, rooms, Answered};
+ghost use Rattle.candidate_pool.specs.Offsets.{roomEnd};
 use crate::outputs::deliver;
 use crate::reply::CandidatesReply;
 use crate::surface::complete;
@@ -75,7 +76,7 @@ fn make_candidates(
     open_edges: &mut [u64],
 ) -> CandidatesReply
     requires { ⌜ Sound (now vertices) (now facets) extents eps resolution ⌝ }
-    requires { ⌜ 8 + 62 * most (now vertices) extents eps resolution + 66 * (length (now facets) / 3) ≤ length (now w) ⌝ }
+    requires { ⌜ roomEnd (most (now vertices) extents eps resolution) (length (now facets) / 3) ≤ length (now w) ⌝ }
     ensures { λ r. ⌜ Answered (edgeTests (now (vertices .entry)) (now (facets .entry)) extents eps resolution ++ rooms (surfaceResult (now (vertices .entry)) (now (facets .entry)) extents eps resolution) (now (candidates .entry)) (now («face_lists» .entry)) (now (constraints .entry)) (now («open_edges» .entry))) (surfaceResult (now (vertices .entry)) (now (facets .entry)) extents eps resolution) r (now (candidates .entry)) (now (candidates .exit)) (now («face_lists» .entry)) (now («face_lists» .exit)) (now (constraints .entry)) (now (constraints .exit)) (now («open_edges» .entry)) (now («open_edges» .exit)) ⌝ }
 {
     let n = most_candidates(vertices, extents, eps, resolution);

@@ -33,6 +33,7 @@ use Rattle.refusals.specs.declared.reply.MeshReply.the-variants.{Done, Refused}
 use Rattle.refusals.specs.Refusals.{documented, documentedMesh, Test, firstRefusal, replyTo, settle, Settled}
 use Rattle.refusals.proofs.Refusals.{untouched}
 use Rattle.refusals.proofs.Replies.{reply-refused, reply-passed, short-first, short-second, roomy}
+use Rattle.candidate_pool.specs.Offsets.{entryAt}
 use Rattle.candidate_pool.specs.Standing.{Stored}
 use Rattle.cap_closing.specs.Closing.{ownFacets}
 use Rattle.cap_closing.specs.Entering.{freshAt, leftAt, firstsAt, verticesAt, freshIn, facetIn, firstsIn}
@@ -142,7 +143,7 @@ module _ (vs : List Float) (fs : List ℕ) (n nc left caps : ℕ) (positive : Bo
     pub fresh-room : (fa : ℕ) → fa ≡ freshAt n nf nc → fa + (many - nv) ≤ length w
     fresh-room fa e = let a = many-is in omega (arith, e, a, D .size, D .most, D .own)
 
-    pub fresh-stored : (fa : ℕ) → fa ≡ freshAt n nf nc → (i : ℕ) → i < many - nv → Stored w (8 + 5 * getD w (fa + i) 0) × (8 + 5 * getD w (fa + i) 0 + 2 < length w)
+    pub fresh-stored : (fa : ℕ) → fa ≡ freshAt n nf nc → (i : ℕ) → i < many - nv → Stored w (entryAt (getD w (fa + i) 0)) × (entryAt (getD w (fa + i) 0) + 2 < length w)
     fresh-stored fa e i h =
         let a = many-is in
         let b : getD w (fa + i) 0 ≡ getD w (freshAt n nf nc + i) 0 = ap (λ (x : ℕ). getD w (x + i) 0) e in

@@ -20,6 +20,7 @@ use Rattle.geometry.specs.Meshes.{Mesh, pointsOf, coordinates, meshLengths}
 use Rattle.refusals.specs.declared.reply.MeshReply.{MeshReply}
 use Rattle.refusals.specs.Refusals.{documentedMesh, Test, replyTo, Settled}
 use Rattle.refusals.specs.Front.{roomTests}
+use Rattle.candidate_pool.specs.Offsets.{entryAt}
 use Rattle.candidate_pool.specs.Standing.{countAt, pointAt, Stored}
 use Rattle.cap_closing.specs.Closing.{ownFacets}
 use Rattle.cap_closing.specs.Entering.{freshAt, leftAt, verticesAt, freshIn, firstsIn}
@@ -35,7 +36,7 @@ pub record Answered (ts : List Test) (m : Mesh) (r : MeshReply) (v v' : List Flo
   pub facets : Settled (documentedMesh r) (flat (m .facets)) f f'
 
 abbrev pub pointsIn : List ℕ → List ℕ → List Point
-pointsIn w cs = map (λ c. pointAt w (8 + 5 * c)) cs
+pointsIn w cs = map (λ c. pointAt w (entryAt c)) cs
 
 abbrev pub capWords : List ℕ → ℕ → ℕ → List ℕ
 capWords w facet first = cond (eqb (getD w first 0) 1) (getD w facet 0 ∷ getD w (facet + 1) 0 ∷ getD w (facet + 2) 0 ∷ []) []
@@ -58,9 +59,9 @@ pub record Deliverable (vs : List Float) (fs : List ℕ) (n nc left caps : ℕ) 
   pub few-facets : length fs / 3 ≤ 65536
   pub small : n < 1048576
   pub few-caps : nc ≤ 1048576
-  pub size : 9 + 64 * n + 93 * (length fs / 3) + 47 * nc ≤ length w
+  pub size : verticesAt n (length fs / 3) nc < length w
   pub few : countAt w ≤ n
-  pub stored : (c : ℕ) → c < countAt w → Stored w (8 + 5 * c)
+  pub stored : (c : ℕ) → c < countAt w → Stored w (entryAt c)
   pub own : length vs / 3 ≤ getD w (verticesAt n (length fs / 3) nc) 0
   pub most : getD w (verticesAt n (length fs / 3) nc) 0 ≤ length vs / 3 + n
   pub fresh : (i : ℕ) → i < getD w (verticesAt n (length fs / 3) nc) 0 - length vs / 3 → getD w (freshAt n (length fs / 3) nc + i) 0 < countAt w

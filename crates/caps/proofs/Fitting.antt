@@ -22,6 +22,7 @@ use Rattle.refusals.specs.declared.refusal.Checked.the-variants.{Passed}
 use Rattle.refusals.specs.Refusals.{Test, firstRefusal}
 use Rattle.refusals.specs.Front.{ceiling, capCeiling, ragged, tooMany, badIndex, listTests, inRange, epsInRange, resolutionInRange, boxInRange, badBox, gridTooFine, workNeed, workTest}
 use Rattle.refusals.proofs.Replies.{head-passed, tail-passed, row-front}
+use Rattle.candidate_pool.specs.Offsets.{roomEnd}
 use Rattle.candidate_pool.specs.Pool.{Pool, byKey}
 use Rattle.candidate_edges.specs.Surface.{edgeSurface}
 use Rattle.candidate_edges.specs.Steps.{VerticesIn, Sourced}
@@ -78,7 +79,7 @@ module _ (vs : List Float) (fs capList : List ℕ) (box : AABB) (eps resolution 
 pub listable-same : (vs : List Float) (fs capList : List ℕ) (n m : ℕ) (w w' : List ℕ) → m ≡ n → length w' ≡ length w → Listable vs fs capList n w → Listable vs fs capList m w'
 listable-same vs fs capList n m w w' e l L = record { fours = L .fours; few = L .few; size = let s = L .size in omega (arith, e, l, s) }
 
-pub tabled-room : (vs : List Float) (fs capList : List ℕ) (n : ℕ) (w : List ℕ) → Listable vs fs capList n w → 8 + 62 * n + 66 * (length fs / 3) ≤ length w
+pub tabled-room : (vs : List Float) (fs capList : List ℕ) (n : ℕ) (w : List ℕ) → Listable vs fs capList n w → roomEnd n (length fs / 3) ≤ length w
 tabled-room vs fs capList n w L = let s = L .size in omega (arith, s)
 
 -- w₁ as the open edges left it, w as corner vertices and grids did, w' as the tests did

@@ -24,6 +24,7 @@ use Rattle.refusals.specs.declared.reply.MeshReply.{MeshReply}
 use Rattle.refusals.specs.declared.reply.MeshReply.the-variants.{Refused}
 use Rattle.refusals.specs.Refusals.{Test, firstRefusal, unless}
 use Rattle.refusals.proofs.Refusals.{none-left, row-passed, row-refused}
+use Rattle.candidate_pool.specs.Offsets.{openEdgesAt}
 use Rattle.candidate_pool.specs.Pool.{byKey}
 use Rattle.candidate_pool.specs.Standing.{poolAt}
 use Rattle.candidate_edges.specs.Surface.{edgeSurface}
@@ -85,7 +86,7 @@ module _ (vs : List Float) (fs capList : List ℕ) (box : AABB) (eps resolution 
       unfolding surface candidates
       closed-is positive e =
           let p = pool-kept (turnedAt n (length fs / 3)) w w' A n P (omega arith) ∙ D .pool in
-          let q = edges-kept (turnedAt n (length fs / 3)) w w' A (8 + 62 * n + 30 * (length fs / 3)) k (omega (arith, few)) ∙ D .edges in
+          let q = edges-kept (turnedAt n (length fs / 3)) w w' A (openEdgesAt n (length fs / 3)) k (omega (arith, few)) ∙ D .edges in
           λ t. closedOf (p t) (capsOf capList) (q t) (e t) mesh
 
   module _ (v : List Float) (f : List ℕ) where

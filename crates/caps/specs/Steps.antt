@@ -20,13 +20,14 @@ use Rattle.refusals.specs.declared.refusal.Refusal.the-variants.{BadCap, Missin
 use Rattle.refusals.specs.declared.refusal.Checked.{Checked}
 use Rattle.refusals.specs.declared.refusal.Checked.the-variants.{Passed}
 use Rattle.refusals.specs.Refusals.{Test, firstRefusal}
+use Rattle.candidate_pool.specs.Offsets.{openEdgesAt}
 use Rattle.candidate_pool.specs.Pool.{Pool}
 use Rattle.candidate_pool.specs.Standing.{poolAt, edgesAt}
 use Rattle.candidate_edges.specs.Steps.{VerticesIn}
 use Rattle.boundary_closure.specs.Operation.{noTwoEnds}
 use Rattle.cap_triangles.specs.Selection.{Cap, capsOf, outwardCaps, selected}
 use Rattle.cap_triangles.specs.Listed.{badCapPlace, missingPlace}
-use Rattle.cap_triangles.specs.Room.{turnedAt, Above, CapReady}
+use Rattle.cap_triangles.specs.Room.{turnedAt, capsEnd, Above, CapReady}
 use Rattle.cap_pairs.specs.Pairs.{PairsKnown}
 use Rattle.cap_closing.specs.Closing.{closed}
 use Rattle.cap_closing.specs.Entering.{MeshWords}
@@ -37,7 +38,7 @@ abbrev pub listTests : Pool → List Cap → List (Triangle ℕ) → List Test
 listTests p l es = (ltb (badCapPlace p l) (length l), BadCap (badCapPlace p l)) ∷ (ltb (missingPlace p l es) (length es), MissingEdge (missingPlace p l es)) ∷ []
 
 abbrev pub edgesIn : ℕ → ℕ → ℕ → List ℕ → List (Triangle ℕ)
-edgesIn n nf k w = edgesAt w (8 + 62 * n + 30 * nf) k
+edgesIn n nf k w = edgesAt w (openEdgesAt n nf) k
 
 -- from work room w to w', with the answer r
 pub record CapsChecked (n nf k : ℕ) (capList : List ℕ) (r : Checked) (w w' : List ℕ) : Type 0 where
@@ -66,7 +67,7 @@ pub record Closable (vs : List Float) (fs capList : List ℕ) (n k : ℕ) (w : L
 pub record Listable (vs : List Float) (fs capList : List ℕ) (n : ℕ) (w : List ℕ) : Type 0 where
   pub fours : length capList % 4 ≡ 0
   pub few : length capList / 4 ≤ 1048576
-  pub size : 9 + 64 * n + 93 * (length fs / 3) + 47 * (length capList / 4) ≤ length w
+  pub size : capsEnd n (length fs / 3) (length capList / 4) ≤ length w
 
 abbrev pub surfaceMesh : List Float → List ℕ → List ℕ → AABB → Float → Float → BoundaryClosure → Mesh
 surfaceMesh vs fs capList box eps resolution mode =

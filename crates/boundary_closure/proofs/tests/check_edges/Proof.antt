@@ -22,8 +22,8 @@ returns-2 c = let a = c .before .before .before .before .before .before .before 
 stray-edge-requires : tie.Need-stray-edge-requires
 stray-edge-requires c κs = (c .before .before .before .before .before .before .before .pre .0, (c .before .before .before .before .before .before .before .pre .1 .table))
 
-table-at-requires : tie.Need-table-at-requires
-table-at-requires c κs = search needs
+edge-table-at-requires : tie.Need-edge-table-at-requires
+edge-table-at-requires c κs = search needs
 
 mul-key : tie.Need-mul-key
 mul-key c = search needs
@@ -44,7 +44,7 @@ pair-second-requires : tie.Need-pair-second-requires
 pair-second-requires c κs = search needs
 
 returns-3 : tie.Need-returns-3
-returns-3 c = let a = c .before .before .before .before .before .before .before .before .before .before .before .before .before .args in let q = (ends-of (a .vertices .now) (a .facets .now) (a .n) (a .k) (a .w .now) (c .before .before .before .before .before .before .before .before .before .before .before .before .before .pre .0) (c .before .before .before .before .before .before .before .before .before .before .before .before .before .pre .1) _ (c .before .before .before .before .if3 .taken) _ (ap (λ (x : ℕ). getD (a .w .now) (x + 2 * c .before .before .before .before .before .stray-edge .result) 0) (c .before .before .before .table-at .ensures))) in edge-refused (a .vertices .now) (a .facets .now) (a .extents) (a .eps) (a .resolution) (or-next _ _ _ (sym (c .before .before .before .before .before .before .before .before .before .has-far-key .ensures) ∙ c .before .before .before .before .before .before .before .before .if1 .left) (sym (c .before .before .before .before .before .before .before .box-has-far-key .ensures) ∙ c .before .before .before .before .before .before .if2 .left)) _ (c .before .before .before .before .before .stray-edge .ensures) (a .k) (c .before .before .before .before .before .before .before .before .before .before .before .before .before .pre .1 .table .count) _ _ (c .before .pair-first .ensures ∙ q .smaller) (c .pair-second .ensures ∙ q .greater) (c .before .before .before .before .if3 .taken)
+returns-3 c = let a = c .before .before .before .before .before .before .before .before .before .before .before .before .before .args in let q = (ends-of (a .vertices .now) (a .facets .now) (a .n) (a .k) (a .w .now) (c .before .before .before .before .before .before .before .before .before .before .before .before .before .pre .0) (c .before .before .before .before .before .before .before .before .before .before .before .before .before .pre .1) _ (c .before .before .before .before .if3 .taken) _ (ap (λ (x : ℕ). getD (a .w .now) (x + 2 * c .before .before .before .before .before .stray-edge .result) 0) (c .before .before .before .edge-table-at .ensures))) in edge-refused (a .vertices .now) (a .facets .now) (a .extents) (a .eps) (a .resolution) (or-next _ _ _ (sym (c .before .before .before .before .before .before .before .before .before .has-far-key .ensures) ∙ c .before .before .before .before .before .before .before .before .if1 .left) (sym (c .before .before .before .before .before .before .before .box-has-far-key .ensures) ∙ c .before .before .before .before .before .before .if2 .left)) _ (c .before .before .before .before .before .stray-edge .ensures) (a .k) (c .before .before .before .before .before .before .before .before .before .before .before .before .before .pre .1 .table .count) _ _ (c .before .pair-first .ensures ∙ q .smaller) (c .pair-second .ensures ∙ q .greater) (c .before .before .before .before .if3 .taken)
 
 returns-4 : tie.Need-returns-4
 returns-4 c = let a = c .before .before .before .before .before .before .before .before .before .args in edges-passed (a .vertices .now) (a .facets .now) (a .extents) (a .eps) (a .resolution) (or-next _ _ _ (sym (c .before .before .before .before .before .has-far-key .ensures) ∙ c .before .before .before .before .if1 .left) (sym (c .before .before .before .box-has-far-key .ensures) ∙ c .before .before .if2 .left)) _ (c .before .stray-edge .ensures) (a .k) (c .before .before .before .before .before .before .before .before .before .pre .1 .table .count) (c .if3 .left)
@@ -58,7 +58,7 @@ check-edges-spec =
     box-has-far-key-requires
     returns-2
     stray-edge-requires
-    table-at-requires
+    edge-table-at-requires
     mul-key
     add-key
     mul-key-2
