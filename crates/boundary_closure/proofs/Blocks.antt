@@ -22,6 +22,7 @@ use Rattle.lists.proofs.Stores.{sets-append}
 use Rattle.lists.proofs.Sequences.{flat-map, flat-flat, flat-up, flat-below}
 use Rattle.geometry.proofs.Threes.{length-flat}
 use Rattle.box_faces.specs.Faces.{faceBits, hasBit}
+use Rattle.candidate_pool.specs.Offsets.{entryAt, listAt, poolEnd}
 use Rattle.candidate_pool.specs.Pool.{Candidate}
 use Rattle.candidate_pool.specs.Standing.{facesIn, countAt, candidateAt, poolAt, Stored, Holds, edgeAt, edgesAt}
 use Rattle.candidate_pool.proofs.Masking.{mask-back}
@@ -32,15 +33,15 @@ use Rattle.boundary_closure.specs.Steps.{faceWords}
 -- ---- "six counts, then the numbers"
 
 abbrev pub listBlock : ℕ → List ℕ → ℕ → List ℕ
-listBlock n w f = view w (8 + 11 * n + f * n) (getD w f 0)
+listBlock n w f = view w (listAt n f) (getD w f 0)
 
-module _ (n : ℕ) (w : List ℕ) (size : 8 + 17 * n ≤ length w) (short : (f : ℕ) → f < 6 → getD w f 0 ≤ n) where
+module _ (n : ℕ) (w : List ℕ) (size : poolEnd n ≤ length w) (short : (f : ℕ) → f < 6 → getD w f 0 ≤ n) where
   six : view w 0 6 ≡ getD w 0 0 ∷ getD w 1 0 ∷ getD w 2 0 ∷ getD w 3 0 ∷ getD w 4 0 ∷ getD w 5 0 ∷ []
   unfolding upFrom
   six = view-map w 0 6 (omega arith)
 
   long : (f : ℕ) → f < 6 → f * n ≤ 5 * n → length (listBlock n w f) ≡ getD w f 0
-  long f h k = view-length w (8 + 11 * n + f * n) (getD w f 0) (let s = short f h in omega arith)
+  long f h k = view-length w (listAt n f) (getD w f 0) (let s = short f h in omega arith)
 
   counts : map length (poolAt n w .lists) ≡ view w 0 6
   unfolding poolAt
@@ -64,7 +65,7 @@ module _ (n : ℕ) (w : List ℕ) (size : 8 + 17 * n ≤ length w) (short : (f :
       ∙ ap (λ (x : ℕ). x + length (flatMap (listBlock n w) (upTo 6))) (view-length w 0 6 (omega arith))
 
   -- the list of one face, and the room that it takes
-  pub block-long : (f : ℕ) → f < 6 → (length (listBlock n w f) ≡ getD w f 0) × (8 + 11 * n + f * n + getD w f 0 ≤ length w)
+  pub block-long : (f : ℕ) → f < 6 → (length (listBlock n w f) ≡ getD w f 0) × (listAt n f + getD w f 0 ≤ length w)
   block-long f h =
       let k = mul-le-mul-right n (five-least f h) in
       (long f h k, let s = short f h in omega (arith, k))
@@ -145,13 +146,13 @@ edges-are w at k = sym (flat-flat vertices (λ i. edgeAt w (at + 3 * i)) (upTo k
 
 abbrev five : List ℕ → ℕ → List ℕ
 five w c =
-    getD w (8 + 5 * c) 0 ∷ getD w (8 + 5 * c + 1) 0 ∷ getD w (8 + 5 * c + 2) 0 ∷ getD w (8 + 5 * c + 3) 0 ∷ getD w (8 + 5 * c + 4) 0 ∷ []
+    getD w (entryAt c) 0 ∷ getD w (entryAt c + 1) 0 ∷ getD w (entryAt c + 2) 0 ∷ getD w (entryAt c + 3) 0 ∷ getD w (entryAt c + 4) 0 ∷ []
 
 abbrev wordsOf : Candidate → List ℕ
 wordsOf c = toBits binary64 (c .point .x) ∷ toBits binary64 (c .point .y) ∷ toBits binary64 (c .point .z) ∷ c .mesh ∷ faceBits (c .on) ∷ []
 
-five-is : (w : List ℕ) (c : ℕ) → Stored w (8 + 5 * c) → getD w (8 + 5 * c + 4) 0 < 64 → wordsOf (candidateAt w c) ≡ five w c
-five-is w c s h = λ t. s .x t ∷ s .y t ∷ s .z t ∷ getD w (8 + 5 * c + 3) 0 ∷ mask-back (getD w (8 + 5 * c + 4) 0) h t ∷ []
+five-is : (w : List ℕ) (c : ℕ) → Stored w (entryAt c) → getD w (entryAt c + 4) 0 < 64 → wordsOf (candidateAt w c) ≡ five w c
+five-is w c s h = λ t. s .x t ∷ s .y t ∷ s .z t ∷ getD w (entryAt c + 3) 0 ∷ mask-back (getD w (entryAt c + 4) 0) h t ∷ []
 
 five-view : (w : List ℕ) (o : ℕ) → o + 5 ≤ length w → view w o 5 ≡ getD w o 0 ∷ getD w (o + 1) 0 ∷ getD w (o + 2) 0 ∷ getD w (o + 3) 0 ∷ getD w (o + 4) 0 ∷ []
 unfolding upFrom
@@ -159,14 +160,14 @@ five-view w o h =
     let e : o + 0 ≡ o = omega arith in
     view-map w o 5 h ∙ (λ t. getD w (e t) 0 ∷ getD w (o + 1) 0 ∷ getD w (o + 2) 0 ∷ getD w (o + 3) 0 ∷ getD w (o + 4) 0 ∷ [])
 
-fives : (w : List ℕ) (m : ℕ) → 8 + 5 * m ≤ length w → flatMap (five w) (upTo m) ≡ view w 8 (5 * m)
+fives : (w : List ℕ) (m : ℕ) → entryAt m ≤ length w → flatMap (five w) (upTo m) ≡ view w 8 (5 * m)
 unfolding flatMap upFrom
 fives w zero h = refl
 fives w (suc m) h =
     let q : suc m ≡ m + 1 = omega arith in
     let r : 5 * m + 5 ≡ 5 * suc m = omega arith in
     ap (λ (x : ℕ). flatMap (five w) (upTo x)) q ∙ flat-up (five w) m
-    ∙ (λ t. fives w m (omega arith) t ++ sym (ap (take 5) (drop-drop (5 * m) 8 w) ∙ five-view w (8 + 5 * m) (omega arith)) t)
+    ∙ (λ t. fives w m (omega arith) t ++ sym (ap (take 5) (drop-drop (5 * m) 8 w) ∙ five-view w (entryAt m) (omega arith)) t)
     ∙ sym (take-add (5 * m) 5 (drop 8 w)) ∙ ap (view w 8) r
 
 pub words-are : (eps : Float) (n : ℕ) (w : List ℕ) → Holds eps n w → candidateWords (poolAt n w .all) ≡ view w 8 (5 * countAt w)

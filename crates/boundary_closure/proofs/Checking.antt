@@ -37,6 +37,7 @@ use Rattle.candidate_edges.specs.Steps.{MeshFits}
 use Rattle.boundary_closure.specs.Asked.{Asked, oneResolution}
 use Rattle.boundary_closure.specs.Operation.{mesh, closureTests, strayEdge, edgeTests}
 use Rattle.boundary_closure.specs.Steps.{Sound, Tabled}
+use Rattle.candidate_pool.specs.Offsets.{edgeTableAt}
 
 -- ---- no count wraps
 
@@ -211,7 +212,7 @@ module _ (vs : List Float) (fs : List ℕ) (n k : ℕ) (w : List ℕ) (M : MeshF
   end = getD (openEdges (threes fs)) s (0, 0)
 
   abbrev number : ℕ
-  number = getD w (8 + 62 * n + 54 * (length fs / 3) + 2 * s + 1) 0
+  number = getD w (edgeTableAt n (length fs / 3) + 2 * s + 1) 0
 
   end-is : end ≡ (getD fs number 0, getD fs (nextSide number) 0)
   end-is = sym (B .table .side s h) ∙ side-at fs number (M .threes) (B .table .number s h)
@@ -228,7 +229,7 @@ module _ (vs : List Float) (fs : List ℕ) (n k : ℕ) (w : List ℕ) (M : MeshF
     pub smaller : pairFirst key ≡ sortedPair end .0
     pub greater : pairSecond key ≡ sortedPair end .1
 
-  pub ends-of : (key : ℕ) → key ≡ getD w (8 + 62 * n + 54 * (length fs / 3) + 2 * s) 0 → Ends key
+  pub ends-of : (key : ℕ) → key ≡ getD w (edgeTableAt n (length fs / 3) + 2 * s) 0 → Ends key
   ends-of key e =
       let q : key ≡ pair (min (end .0) (end .1)) (max (end .0) (end .1)) = e ∙ B .key s h in
       record {

@@ -13,6 +13,7 @@ use Rattle.lists.specs.Lists.{has}
 use Rattle.root.specs.Doubles.{_⊗_, 1e-9}
 use Rattle.geometry.specs.declared.aabb.AABB.{AABB}
 use Rattle.geometry.specs.Meshes.{meshOf}
+use Rattle.candidate_pool.specs.Offsets.{openEdgesAt, edgeTableAt}
 use Rattle.candidate_pool.specs.Pool.{Pool, faceList, byKey, insert}
 use Rattle.candidate_pool.specs.Standing.{poolAt, Cleared, edgesAt, EdgesHeld}
 use Rattle.candidate_pool.proofs.Edges.{edges-same, held-kept}
@@ -38,10 +39,10 @@ fits-same vs fs n w w' e M =
 
 module _ (vs : List Float) (fs : List ℕ) (box : AABB) (eps : Float) (n k : ℕ) where
   abbrev edgesFrom : ℕ
-  edgesFrom = 8 + 62 * n + 30 * (length fs / 3)
+  edgesFrom = openEdgesAt n (length fs / 3)
 
-  pub table-left : (w w' : List ℕ) → Cleared eps n w w' → Tabled fs n k w → TableAt fs w' (8 + 62 * n + 54 * (length fs / 3)) k
-  table-left w w' C B = table-kept fs w w' (8 + 62 * n + 54 * (length fs / 3)) k (λ x h. C .rest x (omega arith)) (B .table)
+  pub table-left : (w w' : List ℕ) → Cleared eps n w w' → Tabled fs n k w → TableAt fs w' (edgeTableAt n (length fs / 3)) k
+  table-left w w' C B = table-kept fs w w' (edgeTableAt n (length fs / 3)) k (λ x h. C .rest x (omega arith)) (B .table)
 
   pub surfaced : (r : ℕ) (w w' : List ℕ) → EdgesEntered vs fs box eps n k r w w' → Surfaced vs fs box eps n k w'
   surfaced r w w' E = record { pool = E .pool; edges = E .edges; holds = E .holds; held = E .held; sourced = E .sourced }

@@ -22,6 +22,7 @@ use Rattle.geometry.specs.Axes.{gridSize}
 use Rattle.geometry.proofs.Meshes.{vertex-at}
 use Rattle.refusals.specs.Front.{badIndex, inRange, resolutionInRange, byAxis}
 use Rattle.refusals.proofs.Ranges.{in-range-within}
+use Rattle.candidate_pool.specs.Offsets.{roomEnd}
 use Rattle.candidate_pool.specs.Standing.{PointIn}
 use Rattle.candidate_edges.specs.Steps.{VerticesIn, MeshFits}
 use Rattle.boundary_closure.specs.Asked.{Asked, oneResolution}
@@ -83,7 +84,7 @@ module _ (vs : List Float) (fs : List ℕ) (q : Asked) (S : Sound vs fs q) where
       ltb-true (getD fs i 0) (length vs / 3)
       (not-false (ltb (getD fs i 0) (length vs / 3)) (none-at (λ k. not (ltb k (length vs / 3))) fs i 0 (S .lists .below) h))
 
-  pub mesh-fits : (n : ℕ) (w : List ℕ) → n ≡ most vs q → 8 + 62 * most vs q + 66 * (length fs / 3) ≤ length w → MeshFits vs fs n w
+  pub mesh-fits : (n : ℕ) (w : List ℕ) → n ≡ most vs q → roomEnd (most vs q) (length fs / 3) ≤ length w → MeshFits vs fs n w
   mesh-fits n w e h =
       record {
         threes = S .lists .whole-facets;
@@ -95,5 +96,5 @@ module _ (vs : List Float) (fs : List ℕ) (q : Asked) (S : Sound vs fs q) where
       }
 
   pub room-for : (caps lent : ℕ) → 128 * (length vs / 3 + length fs / 3 + caps + gridSize (q .box) (q .eps) (oneResolution (q .resolution))) + 1024 ≤ lent
-      → 8 + 62 * most vs q + 66 * (length fs / 3) ≤ lent
+      → roomEnd (most vs q) (length fs / 3) ≤ lent
   room-for caps lent h = omega arith

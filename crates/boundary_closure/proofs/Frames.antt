@@ -2,7 +2,7 @@
 --   put-at                  a lent part that came back          table-put  the table of open edges in such a part
 --   table-kept              the table of open edges
 --   all-grown               insertions take nothing out of a face's list
---   words-same              the words below 8 + 17 n
+--   words-same              the words below poolEnd
 use Prim.Native.Nat.{ℕ, _+_, _*_, _-_, _/_, _%_, _≤_, _<_}
 use native.Mathlib.Omega.{arith}
 use mathlib.Core.Bool.{true}
@@ -20,6 +20,7 @@ use Rattle.geometry.specs.Triangles.{threes}
 use Rattle.edges.specs.Edges.{sides, openEdges}
 use Rattle.edges.specs.Table.{OpenEdges}
 use Rattle.mesh_weld.specs.Joining.{Joining}
+use Rattle.candidate_pool.specs.Offsets.{poolEnd, edgeTableAt, roomEnd}
 use Rattle.candidate_pool.specs.Pool.{Candidate, Pool, faceList, insert}
 use Rattle.candidate_pool.specs.Standing.{countAt, poolAt, Holds}
 use Rattle.candidate_pool.proofs.Growing.{grows}
@@ -36,10 +37,10 @@ put-at w ys at m j h k =
     let l = length-take-le at w h in
     ap (λ (x : ℕ). getD (putMid at m w ys) (x + j) 0) (sym l) ∙ getD-append-add (take at w) (ys ++ drop m (drop at w)) j 0 ∙ List·getD-append ys (drop m (drop at w)) 0 j k
 
-module _ (fs w ys : List ℕ) (n m k : ℕ) (whole : length fs % 3 ≡ 0) (size : 8 + 62 * n + 66 * (length fs / 3) ≤ length w) (long : length ys ≡ 12 * (length fs / 3))
+module _ (fs w ys : List ℕ) (n m k : ℕ) (whole : length fs % 3 ≡ 0) (size : roomEnd n (length fs / 3) ≤ length w) (long : length ys ≡ 12 * (length fs / 3))
     (old : List ℕ) (O : OpenEdges fs old ys k) where
   abbrev at : ℕ
-  at = 8 + 62 * n + 54 * (length fs / 3)
+  at = edgeTableAt n (length fs / 3)
 
   key-word : (i : ℕ) → i < k → getD (putMid at m w ys) (at + 2 * i) 0 ≡ getD ys (2 * i) 0
   key-word i h = put-at w ys at m (2 * i) (omega arith) (let a = O .within in omega arith)
@@ -62,7 +63,7 @@ module _ (fs w ys : List ℕ) (n m k : ℕ) (whole : length fs % 3 ≡ 0) (size 
       }
 
 -- the part is lent from a place that is at, and is 12 words a facet long
-pub table-put : (fs w ys : List ℕ) (n k at : ℕ) → at ≡ 8 + 62 * n + 54 * (length fs / 3) → length fs % 3 ≡ 0 → 8 + 62 * n + 66 * (length fs / 3) ≤ length w
+pub table-put : (fs w ys : List ℕ) (n k at : ℕ) → at ≡ edgeTableAt n (length fs / 3) → length fs % 3 ≡ 0 → roomEnd n (length fs / 3) ≤ length w
     → OpenEdges fs (take (at + 12 * (length fs / 3) - at) (drop at w)) ys k → Tabled fs n k (putMid at (at + 12 * (length fs / 3) - at) w ys)
 table-put fs w ys n k at e whole size O =
     let m = at + 12 * (length fs / 3) - at in
@@ -88,7 +89,7 @@ module _ (rule : Joining Point) where
 
 -- ---- the pool
 
-module _ (eps : Float) (n : ℕ) (w w' : List ℕ) (H : Holds eps n w) (long : length w' ≡ length w) (same : (x : ℕ) → x < 8 + 17 * n → getD w' x 0 ≡ getD w x 0) where
+module _ (eps : Float) (n : ℕ) (w w' : List ℕ) (H : Holds eps n w) (long : length w' ≡ length w) (same : (x : ℕ) → x < poolEnd n → getD w' x 0 ≡ getD w x 0) where
   pub words-same : candidateWords (poolAt n w' .all) ≡ view w' 8 (5 * countAt w')
   words-same =
       let l = H .table .few in

@@ -15,6 +15,7 @@ use Rattle.lists.proofs.Sequences.{flat-up}
 use Rattle.geometry.specs.Triangles.{flat}
 use Rattle.geometry.proofs.Threes.{length-flat}
 use Rattle.box_faces.specs.Faces.{hasBit}
+use Rattle.candidate_pool.specs.Offsets.{poolEnd, constraintsAt, openEdgesAt}
 use Rattle.candidate_pool.specs.Standing.{countAt, poolAt, edgesAt}
 use Rattle.candidate_constraints.specs.Steps.{unpacked}
 use Rattle.boundary_closure.specs.Candidates.{candidateWords, listWords}
@@ -52,25 +53,25 @@ module _ (n nf k listed total : ℕ) (w : List ℕ) (R : Readable n nf k listed 
   pub candidates-long : 5 * countAt w ≡ length (candidateWords (poolAt n w .all))
   candidates-long = sym (ap length (R .words) ∙ view-length w 8 (5 * countAt w) (let a = R .size in let b = R .few in omega arith))
 
-  size : 8 + 17 * n ≤ length w
+  size : poolEnd n ≤ length w
   size = let a = R .size in omega arith
 
   pub all-lists-long : (s : ℕ) → s ≡ getD w 0 0 + (getD w 1 0 + (getD w 2 0 + (getD w 3 0 + (getD w 4 0 + getD w 5 0)))) → 6 + s ≡ length (listWords (poolAt n w .lists))
   all-lists-long s e = let a = lists-long n w size (R .short) in let b = numbers-long n w size (R .short) in omega (arith, a, b, e)
 
-  pub constraints-long : 3 * total ≡ length (flat (map unpacked (view w (8 + 38 * n + 12 * nf) total)))
+  pub constraints-long : 3 * total ≡ length (flat (map unpacked (view w (constraintsAt n nf) total)))
   constraints-long =
       sym
-      (length-flat (map unpacked (view w (8 + 38 * n + 12 * nf) total))
+      (length-flat (map unpacked (view w (constraintsAt n nf) total))
       ∙ ap (λ (x : ℕ). 3 * x)
-      (length-map (view w (8 + 38 * n + 12 * nf) total) unpacked ∙ view-length w (8 + 38 * n + 12 * nf) total (let a = R .size in let b = R .constraints in omega arith)))
+      (length-map (view w (constraintsAt n nf) total) unpacked ∙ view-length w (constraintsAt n nf) total (let a = R .size in let b = R .constraints in omega arith)))
 
-  pub edges-long : 3 * listed ≡ length (flat (edgesAt w (8 + 62 * n + 30 * nf) k))
-  edges-long = ap (λ (x : ℕ). 3 * x) (R .faces-listed) ∙ sym (length-flat (edgesAt w (8 + 62 * n + 30 * nf) k))
+  pub edges-long : 3 * listed ≡ length (flat (edgesAt w (openEdgesAt n nf) k))
+  edges-long = ap (λ (x : ℕ). 3 * x) (R .faces-listed) ∙ sym (length-flat (edgesAt w (openEdgesAt n nf) k))
 
   pub edges-few : 3 * listed ≤ 54 * nf
   edges-few =
-      let at = 8 + 62 * n + 30 * nf in
+      let at = openEdgesAt n nf in
       let a = blocks-few (edgeBlock w at) 18 k (few-words w at) in
       let b = ap length (edges-are w at k) in
       let c = R .edges in

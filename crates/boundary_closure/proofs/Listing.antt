@@ -12,6 +12,7 @@ use lib.Ieee.{Float}
 use Rattle.geometry.specs.declared.aabb.AABB.{AABB}
 use Rattle.geometry.specs.Boxes.{faces}
 use Rattle.geometry.specs.Meshes.{meshOf}
+use Rattle.candidate_pool.specs.Offsets.{openEdgesAt}
 use Rattle.candidate_pool.specs.Pool.{byKey}
 use Rattle.candidate_pool.specs.Standing.{edgesAt}
 use Rattle.candidate_pool.proofs.Frames.{pool-same}
@@ -41,7 +42,7 @@ module _ (vs : List Float) (fs : List ℕ) (q : Asked) (listed : ℕ) (el : list
     nf = length fs / 3
 
     abbrev from : ℕ
-    from = 8 + 62 * n + 30 * nf
+    from = openEdgesAt n nf
 
     edges-here : edgesAt w' from k ≡ edgeSurface (q .box) (q .eps) (byKey (q .eps)) (meshOf vs fs) .edges
     edges-here = edges-same w w' from k (λ x h l. K .high x h) ∙ D .edges

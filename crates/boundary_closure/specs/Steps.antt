@@ -25,6 +25,7 @@ use Rattle.edges.specs.Edges.{openEdges}
 use Rattle.edges.specs.Table.{keyOf}
 use Rattle.refusals.specs.Front.{ceiling, inRange, epsInRange, resolutionInRange, boxInRange, badBox, gridTooFine, ListsPass}
 use Rattle.box_faces.specs.Faces.{hasBit}
+use Rattle.candidate_pool.specs.Offsets.{constraintsAt, openEdgesAt, edgeTableAt, roomEnd}
 use Rattle.candidate_pool.specs.Pool.{Pool, byKey, insert}
 use Rattle.candidate_pool.specs.Setting.{Setting}
 use Rattle.candidate_pool.specs.Standing.{countAt, poolAt, Holds, edgesAt, EdgesHeld}
@@ -49,14 +50,14 @@ abbrev pub most : List Float → Asked → ℕ
 most vs q = length vs / 3 + gridSize (q .box) (q .eps) (oneResolution (q .resolution))
 
 pub record Tabled (fs : List ℕ) (n k : ℕ) (w : List ℕ) : Type 0 where
-  pub table : TableAt fs w (8 + 62 * n + 54 * (length fs / 3)) k
-  pub key : (i : ℕ) → i < k → getD w (8 + 62 * n + 54 * (length fs / 3) + 2 * i) 0 ≡ keyOf (getD (openEdges (threes fs)) i (0, 0))
+  pub table : TableAt fs w (edgeTableAt n (length fs / 3)) k
+  pub key : (i : ℕ) → i < k → getD w (edgeTableAt n (length fs / 3) + 2 * i) 0 ≡ keyOf (getD (openEdges (threes fs)) i (0, 0))
 
 pub record Surfaced (vs : List Float) (fs : List ℕ) (box : AABB) (eps : Float) (n k : ℕ) (w : List ℕ) : Type 0 where
   pub pool : poolAt n w ≡ edgeSurface box eps (byKey eps) (meshOf vs fs) .pool
-  pub edges : edgesAt w (8 + 62 * n + 30 * (length fs / 3)) k ≡ edgeSurface box eps (byKey eps) (meshOf vs fs) .edges
+  pub edges : edgesAt w (openEdgesAt n (length fs / 3)) k ≡ edgeSurface box eps (byKey eps) (meshOf vs fs) .edges
   pub holds : Holds eps n w
-  pub held : EdgesHeld (poolAt n w) w (8 + 62 * n + 30 * (length fs / 3)) k
+  pub held : EdgesHeld (poolAt n w) w (openEdgesAt n (length fs / 3)) k
   pub sourced : Sourced (pointsOf vs) eps (poolAt n w)
 
 abbrev pub fullPool : Setting → Mesh → Pool
@@ -66,9 +67,9 @@ fullPool s mesh =
 
 pub record Completed (vs : List Float) (fs : List ℕ) (q : Asked) (n k : ℕ) (w : List ℕ) : Type 0 where
   pub pool : poolAt n w ≡ fullPool (setting q) (meshOf vs fs)
-  pub edges : edgesAt w (8 + 62 * n + 30 * (length fs / 3)) k ≡ edgeSurface (q .box) (q .eps) (byKey (q .eps)) (meshOf vs fs) .edges
+  pub edges : edgesAt w (openEdgesAt n (length fs / 3)) k ≡ edgeSurface (q .box) (q .eps) (byKey (q .eps)) (meshOf vs fs) .edges
   pub holds : Holds (q .eps) n w
-  pub held : EdgesHeld (poolAt n w) w (8 + 62 * n + 30 * (length fs / 3)) k
+  pub held : EdgesHeld (poolAt n w) w (openEdgesAt n (length fs / 3)) k
 
 abbrev pub faceWords : ℕ → ℕ → ℕ → ℕ → List ℕ
 faceWords mask a b f = cond (hasBit mask f) (f ∷ a ∷ b ∷ []) []
@@ -79,20 +80,20 @@ standing n nf k total w =
     record {
       all = poolAt n w .all;
       lists = poolAt n w .lists;
-      constraints = map unpacked (view w (8 + 38 * n + 12 * nf) total);
-      edges = edgesAt w (8 + 62 * n + 30 * nf) k;
+      constraints = map unpacked (view w (constraintsAt n nf) total);
+      edges = edgesAt w (openEdgesAt n nf) k;
     }
 
 pub record Readable (n nf k listed total : ℕ) (w : List ℕ) : Type 0 where
   pub small : n < 268435456
   pub small-facets : nf < 268435456
-  pub size : 8 + 62 * n + 66 * nf ≤ length w
+  pub size : roomEnd n nf ≤ length w
   pub few : countAt w ≤ n
   pub words : candidateWords (poolAt n w .all) ≡ view w 8 (5 * countAt w)
   pub short : (f : ℕ) → f < 6 → getD w f 0 ≤ n
   pub constraints : total ≤ 24 * n + 18 * nf
   pub edges : k ≤ 3 * nf
-  pub faces-listed : listed ≡ length (edgesAt w (8 + 62 * n + 30 * nf) k)
+  pub faces-listed : listed ≡ length (edgesAt w (openEdgesAt n nf) k)
 
 abbrev pub surfaceResult : List Float → List ℕ → Asked → Candidates
 surfaceResult vs fs q = cond (noTwoEnds vs fs q) noCandidates (candidates (setting q) (meshOf vs fs))

@@ -6,6 +6,7 @@ ghost use lib.ListN.{length};
 ghost use Rattle.refusals.specs.Refusals.{documentedReply};
 ghost use Rattle.refusals.specs.Answers.{Answer, Answered};
 ghost use Rattle.candidate_edges.specs.Steps.{MeshFits};
+ghost use Rattle.candidate_pool.specs.Offsets.{roomEnd};
 ghost use Rattle.boundary_closure.specs.Asked.{asked};
 ghost use Rattle.boundary_closure.specs.Operation.{edgeTests, candidatesTests, candidatesResult, candidateOutputs};
 ghost use Rattle.boundary_closure.specs.Steps.{Sound, most, Tabled, surfaceResult};
@@ -77,7 +78,7 @@ fn make_candidates(
     open_edges: &mut [u64],
 ) -> Reply
     requires { ⌜ Sound (now vertices) (now facets) (asked extents eps resolution) ⌝ }
-    requires { ⌜ 8 + 62 * most (now vertices) (asked extents eps resolution) + 66 * (length (now facets) / 3) ≤ length (now w) ⌝ }
+    requires { ⌜ roomEnd (most (now vertices) (asked extents eps resolution)) (length (now facets) / 3) ≤ length (now w) ⌝ }
     ensures { λ r. ⌜ Answer (edgeTests (now (vertices .entry)) (now (facets .entry)) (asked extents eps resolution)) (candidateOutputs (surfaceResult (now (vertices .entry)) (now (facets .entry)) (asked extents eps resolution)) (now (candidates .entry)) (now (candidates .exit)) (now («face_lists» .entry)) (now («face_lists» .exit)) (now (constraints .entry)) (now (constraints .exit)) (now («open_edges» .entry)) (now («open_edges» .exit))) (documentedReply r) ⌝ }
 {
     let n = most_candidates(vertices, extents, eps, resolution);

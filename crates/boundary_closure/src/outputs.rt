@@ -7,6 +7,7 @@ ghost use lib.Seq.{sets};
 ghost use Rattle.lists.specs.Regions.{view};
 ghost use Rattle.geometry.specs.Boxes.{faces};
 ghost use Rattle.geometry.specs.Triangles.{flat};
+ghost use Rattle.candidate_pool.specs.Offsets.{poolEnd};
 ghost use Rattle.candidate_pool.specs.Standing.{edgeAt, edgesAt, poolAt};
 ghost use Rattle.candidate_constraints.specs.Steps.{unpacked};
 ghost use Rattle.boundary_closure.specs.Candidates.{listWords};
@@ -16,8 +17,8 @@ ghost use Rattle.boundary_closure.specs.Operation.{candidateOutputs};
 ghost use Rattle.boundary_closure.specs.Steps.{faceWords, standing, Readable};
 use box_faces::faces::has_face;
 use candidate_pool::room::constraints_at;
-use candidate_pool::room::edges_at;
 use candidate_pool::room::list_at;
+use candidate_pool::room::open_edges_at;
 use refusals::refusal::Refusal;
 use refusals::reply::Reply;
 use words::copy_words;
@@ -53,7 +54,7 @@ fn listed_numbers(w: &[u64], n: usize) -> usize
 
 // "six counts, then the numbers"
 fn write_face_lists(w: &[u64], n: usize, out: &mut [u64])
-    requires { ⌜ (n < 268435456) × (8 + 17 * n ≤ length (now w)) ⌝ }
+    requires { ⌜ (n < 268435456) × (poolEnd n ≤ length (now w)) ⌝ }
     requires { ⌜ ((f : ℕ) → f < 6 → getD (now w) f 0 ≤ n) ⌝ }
     requires { ⌜ length (listWords (poolAt n (now w) .lists)) ≤ length (now out) ⌝ }
     ensures { λ _. ⌜ now (out .exit) ≡ sets (now (out .entry)) 0 (listWords (poolAt n (now (w .entry)) .lists)) ⌝ }
@@ -168,6 +169,6 @@ pub fn deliver(
     write_words(w, 8, c, candidates, 0);
     write_face_lists(w, n, face_lists);
     write_constraints(w, constraints_at(n, nf), total, constraints);
-    write_edges(w, edges_at(n, nf), k, open_edges);
+    write_edges(w, open_edges_at(n, nf), k, open_edges);
     Reply::DoneFour(c, l, t, e)
 }

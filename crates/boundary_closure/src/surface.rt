@@ -5,6 +5,7 @@ ghost use Prim.Native.Nat.{_+_, _*_, _/_, _%_, _≤_, _<_};
 ghost use lib.ListN.{length};
 ghost use Rattle.geometry.specs.Meshes.{meshOf};
 ghost use Rattle.refusals.specs.Front.{gridTooFine};
+ghost use Rattle.candidate_pool.specs.Offsets.{roomEnd};
 ghost use Rattle.candidate_pool.specs.Pool.{byKey};
 ghost use Rattle.candidate_edges.specs.Surface.{edgeSurface};
 ghost use Rattle.candidate_edges.specs.Steps.{MeshFits, VerticesIn};
@@ -14,7 +15,7 @@ use candidate_edges::corners::enter_corners;
 use candidate_edges::open::enter_edges;
 use candidate_grids::grids::enter_grids;
 use candidate_pool::pool::clear_pool;
-use candidate_pool::room::table_at;
+use candidate_pool::room::edge_table_at;
 use geometry::aabb::AABB;
 use refusals::grid::grid_size;
 
@@ -30,11 +31,11 @@ pub fn most_candidates(vertices: &[f64], extents: AABB, eps: f64, resolution: f6
 pub fn table_edges(facets: &[u32], w: &mut [u64], n: usize) -> usize
     requires { ⌜ length (now facets) % 3 ≡ 0 ⌝ }
     requires { ⌜ (n < 268435456) × (length (now facets) / 3 < 268435456) ⌝ }
-    requires { ⌜ 8 + 62 * n + 66 * (length (now facets) / 3) ≤ length (now w) ⌝ }
+    requires { ⌜ roomEnd n (length (now facets) / 3) ≤ length (now w) ⌝ }
     ensures { λ k. ⌜ Tabled (now (facets .entry)) n k (now (w .exit)) ⌝ }
 {
     let nf = facets.len() / 3;
-    let table = table_at(n, nf);
+    let table = edge_table_at(n, nf);
     edges::open_edges(facets, &mut w[table..table + 12 * nf])
 }
 

@@ -9,7 +9,7 @@ ghost use Rattle.boundary_closure.specs.Asked.{asked};
 ghost use Rattle.boundary_closure.specs.Operation.{closureTests, edgeTests};
 ghost use Rattle.boundary_closure.specs.Steps.{Tabled};
 use candidate_edges::open::stray_edge;
-use candidate_pool::room::table_at;
+use candidate_pool::room::edge_table_at;
 use geometry::aabb::AABB;
 use refusals::boxes::box_in_range;
 use refusals::boxes::is_bad_box;
@@ -100,7 +100,7 @@ pub fn check_edges(
     }
     let stray = stray_edge(w, vertices, facets, n, k, extents, eps);
     if stray < k {
-        let table = table_at(n, facets.len() / 3);
+        let table = edge_table_at(n, facets.len() / 3);
         let key = w[table + 2 * stray];
         let smaller = pair_first(key);
         let greater = pair_second(key);

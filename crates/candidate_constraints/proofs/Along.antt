@@ -34,6 +34,7 @@ use Rattle.box_faces.specs.declared.uv.Side.{Side}
 use Rattle.box_faces.specs.declared.uv.Uv.{Uv}
 use Rattle.box_faces.specs.Faces.{project}
 use Rattle.box_faces.specs.Sides.{betweenEnds, alongSide, onSide}
+use Rattle.candidate_pool.specs.Offsets.{entryAt, listAt, sideAt}
 use Rattle.candidate_pool.specs.Pool.{Pool, pointOf, faceList}
 use Rattle.candidate_pool.specs.Standing.{countAt, pointAt, poolAt, Stored}
 use Rattle.candidate_pool.proofs.Reading.{pool-point, list-in, list-at, list-length}
@@ -131,44 +132,44 @@ module _ (eps : Float) (n f : ℕ) (s : Side) (w₀ : List ℕ) where
   pub record Collecting (w : List ℕ) (m i : ℕ) : Type 0 where
     pub within : i ≤ getD w₀ f 0
     pub few : m ≤ i
-    pub kept : Kept (8 + 18 * n) (8 + 20 * n) w₀ w
-    pub records : recordsAt w (8 + 18 * n) m ≡ map keyed (flatMap (stands eps (poolAt n w₀) f s) (upTo i))
+    pub kept : Kept (sideAt n) (sideAt n + 2 * n) w₀ w
+    pub records : recordsAt w (sideAt n) m ≡ map keyed (flatMap (stands eps (poolAt n w₀) f s) (upTo i))
 
   pub collecting-start : Collecting w₀ 0 0
   unfolding recordsAt flatMap upFrom
-  collecting-start = record { within = omega arith; few = omega arith; kept = kept-same (8 + 18 * n) (8 + 20 * n) w₀; records = refl }
+  collecting-start = record { within = omega arith; few = omega arith; kept = kept-same (sideAt n) (sideAt n + 2 * n) w₀; records = refl }
 
   module _ (o : Shown n w₀) (hf : f < 6) (w : List ℕ) (m i : ℕ) (c : Collecting w m i) where
-    pub collected-id : i < getD w₀ f 0 → getD w (8 + 11 * n + f * n + i) 0 ≡ getD w₀ (8 + 11 * n + f * n + i) 0
-    collected-id h = c .kept .low (8 + 11 * n + f * n + i) (omega (arith, o .lengths f hf, list-in n f hf))
+    pub collected-id : i < getD w₀ f 0 → getD w (listAt n f + i) 0 ≡ getD w₀ (listAt n f + i) 0
+    collected-id h = c .kept .low (listAt n f + i) (omega (arith, o .lengths f hf, list-in n f hf))
 
-    pub collected-low : i < getD w₀ f 0 → getD w (8 + 11 * n + f * n + i) 0 < countAt w₀
+    pub collected-low : i < getD w₀ f 0 → getD w (listAt n f + i) 0 < countAt w₀
     collected-low h = omega (arith, collected-id h, list-low n w₀ o f hf i h)
 
     -- the point that the loop reads is that of candidate i of the list
-    pub collected-point : i < getD w₀ f 0 → pointAt w (8 + 5 * getD w (8 + 11 * n + f * n + i) 0) ≡ pointOf (poolAt n w₀) (getD (faceList (poolAt n w₀) f) i 0)
+    pub collected-point : i < getD w₀ f 0 → pointAt w (entryAt (getD w (8 + 11 * n + f * n + i) 0)) ≡ pointOf (poolAt n w₀) (getD (faceList (poolAt n w₀) f) i 0)
     collected-point h =
-        let d = getD w (8 + 11 * n + f * n + i) 0 in
+        let d = getD w (listAt n f + i) 0 in
         let l = collected-low h in
         let k = o .few in
-        let e0 = c .kept .low (8 + 5 * d) (omega arith) in
-        let e1 = c .kept .low (8 + 5 * d + 1) (omega arith) in
-        let e2 = c .kept .low (8 + 5 * d + 2) (omega arith) in
+        let e0 = c .kept .low (entryAt d) (omega arith) in
+        let e1 = c .kept .low (entryAt d + 1) (omega arith) in
+        let e2 = c .kept .low (entryAt d + 2) (omega arith) in
         (λ t. record { x = ofBits binary64 (e0 t); y = ofBits binary64 (e1 t); z = ofBits binary64 (e2 t) })
         ∙ sym (pool-point n w₀ d l) ∙ ap (pointOf (poolAt n w₀)) (collected-id h ∙ sym (list-at n w₀ f i hf h))
 
     pub collecting-turn : (w' : List ℕ) (t : Fraction) (r : ℕ) → i < getD w₀ f 0
         → t ≡ onSide eps s (project f (pointOf (poolAt n w₀) (getD (faceList (poolAt n w₀) f) i 0)))
-        → Fractioned (8 + 18 * n + 2 * m) t i r w w' → Collecting w' (m + r) (i + 1)
+        → Fractioned (sideAt n + 2 * m) t i r w w' → Collecting w' (m + r) (i + 1)
     collecting-turn w' t r h e g =
         record {
           within = omega arith;
           few = omega (arith, g .few, c .few);
-          kept = kept-then (8 + 18 * n) (8 + 20 * n) w₀ w w' (c .kept)
-              (kept-wider (8 + 18 * n + 2 * m) (8 + 18 * n + 2 * m + 2) (8 + 18 * n) (8 + 20 * n) w w' (g .kept) (omega arith) (omega (arith, c .few, o .lengths f hf)));
+          kept = kept-then (sideAt n) (sideAt n + 2 * n) w₀ w w' (c .kept)
+              (kept-wider (sideAt n + 2 * m) (sideAt n + 2 * m + 2) (sideAt n) (sideAt n + 2 * n) w w' (g .kept) (omega arith) (omega (arith, c .few, o .lengths f hf)));
           records =
-              records-add w' (8 + 18 * n) m r
-              ∙ (λ u. records-kept (8 + 18 * n + 2 * m) (8 + 18 * n + 2 * m + 2) (8 + 18 * n) m w w' (g .kept) (omega arith) u ++ g .records u)
+              records-add w' (sideAt n) m r
+              ∙ (λ u. records-kept (sideAt n + 2 * m) (sideAt n + 2 * m + 2) (sideAt n) m w w' (g .kept) (omega arith) u ++ g .records u)
               ∙ (λ u. c .records u ++ map keyed (standing i (e u)))
               ∙ sym (ap (map keyed) (flat-up (stands eps (poolAt n w₀) f s) i)
               ∙ map-append keyed (flatMap (stands eps (poolAt n w₀) f s) (upTo i)) (stands eps (poolAt n w₀) f s i));
@@ -178,20 +179,20 @@ module _ (eps : Float) (n f : ℕ) (s : Side) (w₀ : List ℕ) where
     collected-shown = shown-same n w₀ w o (c .kept .long) (λ x h. c .kept .low x (omega arith))
 
     -- with the names that the code has for two places
-    module _ (list : ℕ) (a : list ≡ 8 + 11 * n + f * n) where
-      pub collected-stored : i < getD w₀ f 0 → Stored w (8 + 5 * getD w (list + i) 0) × (8 + 5 * getD w (list + i) 0 + 2 < length w)
+    module _ (list : ℕ) (a : list ≡ listAt n f) where
+      pub collected-stored : i < getD w₀ f 0 → Stored w (entryAt (getD w (list + i) 0)) × (entryAt (getD w (list + i) 0) + 2 < length w)
       collected-stored h =
-          let e : getD w (list + i) 0 ≡ getD w (8 + 11 * n + f * n + i) 0 = ap (λ (k : ℕ). getD w (k + i) 0) a in
+          let e : getD w (list + i) 0 ≡ getD w (listAt n f + i) 0 = ap (λ (k : ℕ). getD w (k + i) 0) a in
           let l = collected-low h in (
             collected-shown .stored (getD w (list + i) 0) (omega (arith, c .kept .low 6 (omega arith))),
             omega (arith, o .few, o .size, c .kept .long),
           )
 
-      pub collecting-named : (at : ℕ) (w' : List ℕ) (q : Point) (p : Uv) (t : Fraction) (r : ℕ) → at ≡ 8 + 18 * n → i < getD w₀ f 0 → q ≡ pointAt w (8 + 5 * getD w (list + i) 0)
+      pub collecting-named : (at : ℕ) (w' : List ℕ) (q : Point) (p : Uv) (t : Fraction) (r : ℕ) → at ≡ sideAt n → i < getD w₀ f 0 → q ≡ pointAt w (entryAt (getD w (list + i) 0))
           → p ≡ project f q → t ≡ onSide eps s p → Fractioned (at + 2 * m) t i r w w' → Collecting w' (m + r) (i + 1)
       collecting-named at w' q p t r b h eq ep et g =
           collecting-turn w' t r h
-          (et ∙ ap (onSide eps s) (ep ∙ ap (project f) (eq ∙ ap (λ (k : ℕ). pointAt w (8 + 5 * getD w (k + i) 0)) a ∙ collected-point h)))
+          (et ∙ ap (onSide eps s) (ep ∙ ap (project f) (eq ∙ ap (λ (k : ℕ). pointAt w (entryAt (getD w (k + i) 0))) a ∙ collected-point h)))
           (subst (λ (k : ℕ). Fractioned (k + 2 * m) t i r w w') b g)
 
     pub collecting-end : getD w₀ f 0 ≤ i → Collected eps n f s m w₀ w

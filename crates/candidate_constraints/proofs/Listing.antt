@@ -25,6 +25,7 @@ use Rattle.geometry.specs.declared.aabb.AABB.{AABB}
 use Rattle.geometry.specs.Triangles.{Triangle, tri}
 use Rattle.box_faces.specs.Sides.{faceSides}
 use Rattle.edges.specs.Edges.{sortedPair, samePair, pairBefore}
+use Rattle.candidate_pool.specs.Offsets.{poolEnd, placesAt, sideAt, pairsAt, constraintsAt, openEdgesAt, roomEnd}
 use Rattle.candidate_pool.specs.Pool.{Pool, faceList}
 use Rattle.candidate_pool.specs.Standing.{poolAt, edgesAt, EdgesHeld}
 use Rattle.candidate_pool.proofs.Reading.{list-length}
@@ -38,16 +39,16 @@ use Rattle.candidate_constraints.proofs.Siding.{places-low, sorted-reco
 use Rattle.candidate_constraints.proofs.Once.{Low, listed-once}
 
 -- ---- list_pairs
-module _ (box : AABB) (eps : Float) (n nf k f : ℕ) (w w1 : List ℕ) (o : Shown n w) (room : Roomy n nf w) (held : EdgesHeld (poolAt n w) w (8 + 62 * n + 30 * nf) k) (hf : f < 6) (hk : k ≤ 3 * nf)
-    (k1 : Kept (8 + 17 * n) (8 + 18 * n) w w1) (noted : Placed n f w1) where
+module _ (box : AABB) (eps : Float) (n nf k f : ℕ) (w w1 : List ℕ) (o : Shown n w) (room : Roomy n nf w) (held : EdgesHeld (poolAt n w) w (openEdgesAt n nf) k) (hf : f < 6) (hk : k ≤ 3 * nf)
+    (k1 : Kept (placesAt n) (sideAt n) w w1) (noted : Placed n f w1) where
   same1 : poolAt n w1 ≡ poolAt n w
   same1 = pool-same n w w1 o (k1 .long) (k1 .low)
 
   pub shown1 : Shown n w1
   shown1 = shown-same n w w1 o (k1 .long) (k1 .low)
 
-  module _ (w2 : List ℕ) (c : ℕ) (p : Pushed n f (8 + 18 * n) (4 * n) (sidePairs box eps (poolAt n w1) f) 0 c w1 w2) where
-    low2 : (x : ℕ) → x < 8 + 17 * n → getD w2 x 0 ≡ getD w1 x 0
+  module _ (w2 : List ℕ) (c : ℕ) (p : Pushed n f (sideAt n) (4 * n) (sidePairs box eps (poolAt n w1) f) 0 c w1 w2) where
+    low2 : (x : ℕ) → x < poolEnd n → getD w2 x 0 ≡ getD w1 x 0
     low2 x h = p .kept .low x (omega arith)
 
     same2 : poolAt n w2 ≡ poolAt n w1
@@ -62,31 +63,31 @@ module _ (box : AABB) (eps : Float) (n nf k f : ℕ) (w w1 : List ℕ) (o : Show
     pub placed2 : Placed n f w2
     placed2 = placed-same n f w1 shown1 hf w2 noted (p .kept .long) (p .kept .low)
 
-    high2 : (x : ℕ) → 8 + 62 * n + 30 * nf ≤ x → getD w2 x 0 ≡ getD w x 0
+    high2 : (x : ℕ) → openEdgesAt n nf ≤ x → getD w2 x 0 ≡ getD w x 0
     high2 x h = p .kept .high x (omega (arith, p .few)) ∙ k1 .high x (omega arith)
 
-    pub held2 : EdgesHeld (poolAt n w2) w2 (8 + 62 * n + 30 * nf) k
-    held2 = held-after w w2 (8 + 62 * n + 30 * nf) k high2 (poolAt n w) (poolAt n w2) (same2 ∙ same1) held
+    pub held2 : EdgesHeld (poolAt n w2) w2 (openEdgesAt n nf) k
+    held2 = held-after w w2 (openEdgesAt n nf) k high2 (poolAt n w) (poolAt n w2) (same2 ∙ same1) held
 
     pub few2 : c ≤ 4 * n
     few2 = omega (arith, p .few)
 
-    pub pairs-listed : (w3 : List ℕ) (r : ℕ) → Pushed n f (8 + 22 * n + 2 * c) k (edgePairs (poolAt n w2) f (edgesAt w2 (8 + 62 * n + 30 * nf) k)) c r w2 w3
-        → Pushed n f (8 + 17 * n) (4 * n + 3 * nf) (allPairs box eps (poolAt n w) f (edgesAt w (8 + 62 * n + 30 * nf) k)) 0 r w w3
+    pub pairs-listed : (w3 : List ℕ) (r : ℕ) → Pushed n f (pairsAt n + 2 * c) k (edgePairs (poolAt n w2) f (edgesAt w2 (openEdgesAt n nf) k)) c r w2 w3
+        → Pushed n f (placesAt n) (4 * n + 3 * nf) (allPairs box eps (poolAt n w) f (edgesAt w (openEdgesAt n nf) k)) 0 r w w3
     unfolding recordsAt
     pairs-listed w3 r q =
-        let E = 8 + 62 * n + 30 * nf in
+        let E = openEdgesAt n nf in
         let l = sidePairs box eps (poolAt n w1) f ++ edgePairs (poolAt n w2) f (edgesAt w2 E k) in
-        let t = pushed-then n f (8 + 18 * n) (8 + 22 * n + 2 * c) (4 * n) k (sidePairs box eps (poolAt n w1) f) (edgePairs (poolAt n w2) f (edgesAt w2 E k)) 0 c r w1 w2 w3 (omega arith) p q in
-        pushed-as n f (8 + 17 * n) (4 * n + k) (4 * n + 3 * nf) l (allPairs box eps (poolAt n w) f (edgesAt w E k)) 0 r w w3 (omega arith)
+        let t = pushed-then n f (sideAt n) (pairsAt n + 2 * c) (4 * n) k (sidePairs box eps (poolAt n w1) f) (edgePairs (poolAt n w2) f (edgesAt w2 E k)) 0 c r w1 w2 w3 (omega arith) p q in
+        pushed-as n f (placesAt n) (4 * n + k) (4 * n + 3 * nf) l (allPairs box eps (poolAt n w) f (edgesAt w E k)) 0 r w w3 (omega arith)
         (λ i. sidePairs box eps (same1 i) f ++ edgePairs ((same2 ∙ same1) i) f (edges-after w w2 E k high2 i))
         (record {
           few = t .few;
           records = t .records;
           kept =
-              kept-then (8 + 17 * n) (8 + 22 * n + 2 * r) w w1 w3
-              (kept-wider (8 + 17 * n) (8 + 18 * n) (8 + 17 * n) (8 + 22 * n + 2 * r) w w1 k1 (omega arith) (omega arith))
-              (kept-wider (8 + 18 * n) (8 + 22 * n + 2 * r) (8 + 17 * n) (8 + 22 * n + 2 * r) w1 w3 (t .kept) (omega arith) (omega arith));
+              kept-then (placesAt n) (pairsAt n + 2 * r) w w1 w3
+              (kept-wider (placesAt n) (sideAt n) (placesAt n) (pairsAt n + 2 * r) w w1 k1 (omega arith) (omega arith))
+              (kept-wider (sideAt n) (pairsAt n + 2 * r) (placesAt n) (pairsAt n + 2 * r) w1 w3 (t .kept) (omega arith) (omega arith));
         })
 
 -- ---- places of pairs
@@ -107,7 +108,7 @@ pairs-low box eps p f edges h =
 -- ---- face_constraints
 module _ (box : AABB) (eps : Float) (n nf k f total : ℕ) (w : List ℕ) (o : Shown n w) (room : Roomy n nf w) (hf : f < 6) (ht : total + (4 * n + 3 * nf) ≤ 24 * n + 18 * nf) where
   abbrev E : List (Triangle ℕ)
-  E = edgesAt w (8 + 62 * n + 30 * nf) k
+  E = edgesAt w (openEdgesAt n nf) k
 
   pub face-none : getD w f 0 < 3 → FaceListed box eps n nf k f total total w w
   unfolding faceConstraints
@@ -115,11 +116,11 @@ module _ (box : AABB) (eps : Float) (n nf k f total : ℕ) (w : List ℕ) (o : S
       record {
         few = omega arith;
         listed =
-            sym (ap (λ (b : Bool). map unpacked (view w (8 + 38 * n + 12 * nf) total)
+            sym (ap (λ (b : Bool). map unpacked (view w (constraintsAt n nf) total)
             ++ cond b [] (map (λ q. tri f (sortedPair q .0) (sortedPair q .1)) (distinct samePair (sortBy pairBefore
             (flatMap (λ s. neighbours (sideOrder box eps E (poolAt n w) f s)) (faceSides box f) ++ edgePlaces box eps E (poolAt n w) f)))))
-            (lt-ltb (length (faceList (poolAt n w) f)) 3 (omega (arith, list-length n w f (o .size) (o .lengths f hf) hf))) ∙ append-nil (map unpacked (view w (8 + 38 * n + 12 * nf) total)));
-        kept = kept-same (8 + 17 * n) (8 + 62 * n + 30 * nf) w;
+            (lt-ltb (length (faceList (poolAt n w) f)) 3 (omega (arith, list-length n w f (o .size) (o .lengths f hf) hf))) ∙ append-nil (map unpacked (view w (constraintsAt n nf) total)));
+        kept = kept-same (placesAt n) (openEdgesAt n nf) w;
       }
 
   as-defined : 3 ≤ getD w f 0 → map (λ q. tri f (sortedPair q .0) (sortedPair q .1)) (distinct samePair (sortBy pairBefore (allPairs box eps (poolAt n w) f E))) ≡ faceConstraints box eps E (poolAt n w) f
@@ -128,52 +129,52 @@ module _ (box : AABB) (eps : Float) (n nf k f total : ℕ) (w : List ℕ) (o : S
       ap (λ (b : Bool). cond b [] (map (λ q. tri f (sortedPair q .0) (sortedPair q .1)) (distinct samePair (sortBy pairBefore (allPairs box eps (poolAt n w) f E)))))
       (sym (le-ltb (length (faceList (poolAt n w) f)) 3 (omega (arith, list-length n w f (o .size) (o .lengths f hf) hf))))
 
-  module _ (w1 w2 w3 : List ℕ) (c r at : ℕ) (p : Pushed n f (8 + 17 * n) (4 * n + 3 * nf) (allPairs box eps (poolAt n w) f E) 0 c w w1) (ea : at ≡ 8 + 22 * n) (s : SortedPart w1 w2 at c) where
+  module _ (w1 w2 w3 : List ℕ) (c r at : ℕ) (p : Pushed n f (placesAt n) (4 * n + 3 * nf) (allPairs box eps (poolAt n w) f E) 0 c w w1) (ea : at ≡ pairsAt n) (s : SortedPart w1 w2 at c) where
     pub sorted-roomy : Roomy n nf w2
     sorted-roomy = record { small = room .small; facets = room .facets; room = omega (arith, room .room, p .kept .long, s .same) }
 
-    kept1 : Kept (8 + 17 * n) (8 + 38 * n + 12 * nf) w w2
+    kept1 : Kept (placesAt n) (constraintsAt n nf) w w2
     kept1 =
-        kept-then (8 + 17 * n) (8 + 38 * n + 12 * nf) w w1 w2
-        (kept-wider (8 + 17 * n) (8 + 22 * n + 2 * c) (8 + 17 * n) (8 + 38 * n + 12 * nf) w w1 (p .kept) (omega arith) (omega (arith, p .few)))
-        (kept-wider at (at + 4 * c) (8 + 17 * n) (8 + 38 * n + 12 * nf) w1 w2 (kept-sorted at c w1 w2 s) (omega arith) (omega (arith, p .few)))
+        kept-then (placesAt n) (constraintsAt n nf) w w1 w2
+        (kept-wider (placesAt n) (pairsAt n + 2 * c) (placesAt n) (constraintsAt n nf) w w1 (p .kept) (omega arith) (omega (arith, p .few)))
+        (kept-wider at (at + 4 * c) (placesAt n) (constraintsAt n nf) w1 w2 (kept-sorted at c w1 w2 s) (omega arith) (omega (arith, p .few)))
 
-    in-order : recordsAt w2 (8 + 22 * n) c ≡ sorted (map (pairRecord f) (allPairs box eps (poolAt n w) f E))
+    in-order : recordsAt w2 (pairsAt n) c ≡ sorted (map (pairRecord f) (allPairs box eps (poolAt n w) f E))
     unfolding recordsAt
-    in-order = sorted-records w1 w2 at (8 + 22 * n) c ea (omega (arith, p .few, p .kept .long, room .room)) s ∙ ap sorted (p .records)
+    in-order = sorted-records w1 w2 at (pairsAt n) c ea (omega (arith, p .few, p .kept .long, room .room)) s ∙ ap sorted (p .records)
 
     pub face-listed : 3 ≤ getD w f 0 → Distinct n nf c total r w2 w3 → FaceListed box eps n nf k f total r w w3
     face-listed h d =
-        let C = 8 + 38 * n + 12 * nf in
+        let C = constraintsAt n nf in
         record {
           few = omega (arith, d .few, p .few);
           listed =
-              ap (map unpacked) (d .listed ∙ (λ t. view-above (8 + 17 * n) C C total w w2 kept1 (omega arith) (omega (arith, room .room)) t ++ lasts (map (λ (x : ℕ × ℕ). x .0) (in-order t))))
+              ap (map unpacked) (d .listed ∙ (λ t. view-above (placesAt n) C C total w w2 kept1 (omega arith) (omega (arith, room .room)) t ++ lasts (map (λ (x : ℕ × ℕ). x .0) (in-order t))))
               ∙ map-append unpacked (view w C total) (lasts (map (λ (x : ℕ × ℕ). x .0) (sorted (map (pairRecord f) (allPairs box eps (poolAt n w) f E)))))
               ∙ ap (λ (l : List (Triangle ℕ)). map unpacked (view w C total) ++ l)
               (listed-once f (allPairs box eps (poolAt n w) f E) (pairs-low box eps (poolAt n w) f E (omega (arith, list-length n w f (o .size) (o .lengths f hf) hf, o .lengths f hf, room .small))) ∙ as-defined h);
           kept =
-              kept-then (8 + 17 * n) (8 + 62 * n + 30 * nf) w w2 w3
-              (kept-wider (8 + 17 * n) C (8 + 17 * n) (8 + 62 * n + 30 * nf) w w2 kept1 (omega arith) (omega arith))
-              (kept-wider C (8 + 62 * n + 30 * nf) (8 + 17 * n) (8 + 62 * n + 30 * nf) w2 w3 (d .kept) (omega arith) (omega arith));
+              kept-then (placesAt n) (openEdgesAt n nf) w w2 w3
+              (kept-wider (placesAt n) C (placesAt n) (openEdgesAt n nf) w w2 kept1 (omega arith) (omega arith))
+              (kept-wider C (openEdgesAt n nf) (placesAt n) (openEdgesAt n nf) w2 w3 (d .kept) (omega arith) (omega arith));
         }
 
 -- ---- all_constraints
 module _ (box : AABB) (eps : Float) (n nf k : ℕ) (w₀ : List ℕ) where
   abbrev pub ofFace : ℕ → List (Triangle ℕ)
-  ofFace f = faceConstraints box eps (edgesAt w₀ (8 + 62 * n + 30 * nf) k) (poolAt n w₀) f
+  ofFace f = faceConstraints box eps (edgesAt w₀ (openEdgesAt n nf) k) (poolAt n w₀) f
 
   pub record Faced (w : List ℕ) (total f : ℕ) : Type 0 where
     pub within : f ≤ 6
     pub few : total ≤ f * (4 * n + 3 * nf)
-    pub kept : Kept (8 + 17 * n) (8 + 62 * n + 30 * nf) w₀ w
-    pub listed : map unpacked (view w (8 + 38 * n + 12 * nf) total) ≡ flatMap ofFace (upTo f)
+    pub kept : Kept (placesAt n) (openEdgesAt n nf) w₀ w
+    pub listed : map unpacked (view w (constraintsAt n nf) total) ≡ flatMap ofFace (upTo f)
 
   pub faced-start : Faced w₀ 0 0
   unfolding flatMap upFrom
-  faced-start = record { within = omega arith; few = omega arith; kept = kept-same (8 + 17 * n) (8 + 62 * n + 30 * nf) w₀; listed = refl }
+  faced-start = record { within = omega arith; few = omega arith; kept = kept-same (placesAt n) (openEdgesAt n nf) w₀; listed = refl }
 
-  module _ (o : Shown n w₀) (held : EdgesHeld (poolAt n w₀) w₀ (8 + 62 * n + 30 * nf) k) (small : n < 2097152) (facets : nf < 268435456) (room : 8 + 62 * n + 66 * nf ≤ length w₀)
+  module _ (o : Shown n w₀) (held : EdgesHeld (poolAt n w₀) w₀ (openEdgesAt n nf) k) (small : n < 2097152) (facets : nf < 268435456) (room : roomEnd n nf ≤ length w₀)
       (w : List ℕ) (total f : ℕ) (g : Faced w total f) where
     same : poolAt n w ≡ poolAt n w₀
     same = pool-same n w₀ w o (g .kept .long) (g .kept .low)
@@ -184,8 +185,8 @@ module _ (box : AABB) (eps : Float) (n nf k : ℕ) (w₀ : List ℕ) where
     pub faced-roomy : Roomy n nf w
     faced-roomy = record { small = small; facets = facets; room = omega (arith, g .kept .long) }
 
-    pub faced-held : EdgesHeld (poolAt n w) w (8 + 62 * n + 30 * nf) k
-    faced-held = held-after w₀ w (8 + 62 * n + 30 * nf) k (g .kept .high) (poolAt n w₀) (poolAt n w) same held
+    pub faced-held : EdgesHeld (poolAt n w) w (openEdgesAt n nf) k
+    faced-held = held-after w₀ w (openEdgesAt n nf) k (g .kept .high) (poolAt n w₀) (poolAt n w) same held
 
     pub faced-few : f < 6 → total + (4 * n + 3 * nf) ≤ 24 * n + 18 * nf
     faced-few h =
@@ -197,9 +198,9 @@ module _ (box : AABB) (eps : Float) (n nf k : ℕ) (w₀ : List ℕ) where
         record {
           within = omega arith;
           few = omega (arith, g .few, a .few);
-          kept = kept-then (8 + 17 * n) (8 + 62 * n + 30 * nf) w₀ w w' (g .kept) (a .kept);
+          kept = kept-then (placesAt n) (openEdgesAt n nf) w₀ w w' (g .kept) (a .kept);
           listed =
-              a .listed ∙ (λ t. g .listed t ++ faceConstraints box eps (edges-after w₀ w (8 + 62 * n + 30 * nf) k (g .kept .high) t) (same t) f) ∙ sym (flat-up ofFace f);
+              a .listed ∙ (λ t. g .listed t ++ faceConstraints box eps (edges-after w₀ w (openEdgesAt n nf) k (g .kept .high) t) (same t) f) ∙ sym (flat-up ofFace f);
         }
 
     pub faced-end : 6 ≤ f → Constrained box eps n nf k total w₀ w

@@ -33,6 +33,7 @@ use Rattle.edges.proofs.Edges.{same-sorted, sorted-same}
 use Rattle.edges.proofs.Keys.{both-ways}
 use Rattle.candidate_constraints.specs.Steps.{Kept, Roomy, unpacked, pairKey, pairRecord, lasts, nextSame, Distinct}
 use Rattle.candidate_constraints.proofs.Frames.{kept-same, kept-set, kept-then}
+use Rattle.candidate_pool.specs.Offsets.{pairsAt, constraintsAt, openEdgesAt}
 
 abbrev keys : List ℕ → ℕ → ℕ → List ℕ
 keys w at m = map (λ x. x .0) (recordsAt w at m)
@@ -52,16 +53,16 @@ last-end w at c i h = (omega arith, sym (ap (λ (b : Bool). cond (b && eqb (getD
 -- ---- keep_distinct
 module _ (n nf c total : ℕ) (w₀ : List ℕ) where
   abbrev pub pairsFrom : ℕ
-  pairsFrom = 8 + 22 * n
+  pairsFrom = pairsAt n
 
   abbrev pub listFrom : ℕ
-  listFrom = 8 + 38 * n + 12 * nf
+  listFrom = constraintsAt n nf
 
   pub record Keeping (w : List ℕ) (t i : ℕ) : Type 0 where
     pub left : ℕ
     pub sum : i + left ≡ c
     pub few : t ≤ total + i
-    pub kept : Kept listFrom (8 + 62 * n + 30 * nf) w₀ w
+    pub kept : Kept listFrom (openEdgesAt n nf) w₀ w
     pub listed : view w listFrom t ++ lasts (keys w₀ (pairsFrom + 2 * i) left) ≡ view w₀ listFrom total ++ lasts (keys w₀ pairsFrom c)
 
   pub keeping-start : Keeping w₀ total 0
@@ -70,7 +71,7 @@ module _ (n nf c total : ℕ) (w₀ : List ℕ) where
         left = c;
         sum = omega arith;
         few = omega arith;
-        kept = kept-same listFrom (8 + 62 * n + 30 * nf) w₀;
+        kept = kept-same listFrom (openEdgesAt n nf) w₀;
         listed = ap (λ (k : ℕ). view w₀ listFrom total ++ lasts (keys w₀ k c)) (start pairsFrom);
       }
     where
@@ -124,7 +125,7 @@ module _ (n nf c total : ℕ) (w₀ : List ℕ) where
               left = left;
               sum = omega arith;
               few = omega (arith, o .few);
-              kept = kept-then listFrom (8 + 62 * n + 30 * nf) w₀ w w' (o .kept) (kept-set listFrom (8 + 62 * n + 30 * nf) (listFrom + t) key w (omega arith) (omega (arith, o .few)));
+              kept = kept-then listFrom (openEdgesAt n nf) w₀ w w' (o .kept) (kept-set listFrom (openEdgesAt n nf) (listFrom + t) key w (omega arith) (omega (arith, o .few)));
               listed =
                   ap (λ (k : ℕ). view w' listFrom (t + k) ++ lasts (keys w₀ (pairsFrom + 2 * (i + 1)) left)) e
                   ∙ turned (nextSame w pairsFrom c i) (lasts (keys w₀ (pairsFrom + 2 * (i + 1)) left)) (view w₀ listFrom total ++ lasts (keys w₀ pairsFrom c))

@@ -19,6 +19,7 @@ use Rattle.sorting.proofs.Records.{length-records-at, records-at-get, put-same}
 use Rattle.geometry.specs.Boxes.{faces}
 use Rattle.geometry.specs.Triangles.{Triangle, tri}
 use Rattle.box_faces.specs.Faces.{hasBit}
+use Rattle.candidate_pool.specs.Offsets.{placesAt, sideAt, pairsAt, openEdgesAt}
 use Rattle.candidate_pool.specs.Pool.{Pool, faceList}
 use Rattle.candidate_pool.specs.Standing.{facesIn, poolAt, edgeAt, edgesAt, EdgesHeld}
 use Rattle.candidate_pool.proofs.Edges.{held-fewer}
@@ -33,30 +34,30 @@ use Rattle.candidate_constraints.proofs.Along.{records-add}
 module _ (n f : ℕ) where
   pub pushed-none : (lo c : ℕ) (w : List ℕ) → Pushed n f lo 0 [] c c w w
   pushed-none lo c w =
-      record { few = omega arith; records = sym (append-nil (recordsAt w (8 + 22 * n) c)); kept = kept-same lo (8 + 22 * n + 2 * c) w }
+      record { few = omega arith; records = sym (append-nil (recordsAt w (pairsAt n) c)); kept = kept-same lo (pairsAt n + 2 * c) w }
 
-  pub pushed-one : (q : ℕ × ℕ) (c : ℕ) (w : List ℕ) → 8 + 22 * n + 2 * c + 1 < length w
-      → Pushed n f (8 + 22 * n + 2 * c) 1 (q ∷ []) c (c + 1) w (putRecord w (8 + 22 * n + 2 * c) (pairRecord f q))
+  pub pushed-one : (q : ℕ × ℕ) (c : ℕ) (w : List ℕ) → pairsAt n + 2 * c + 1 < length w
+      → Pushed n f (pairsAt n + 2 * c) 1 (q ∷ []) c (c + 1) w (putRecord w (pairsAt n + 2 * c) (pairRecord f q))
   unfolding recordsAt
   pushed-one q c w h =
       record {
         few = omega arith;
         records =
-            records-add w' (8 + 22 * n) c 1
-            ∙ (λ t. records-kept (8 + 22 * n + 2 * c) (8 + 22 * n + 2 * c + 2) (8 + 22 * n) c w w'
-            (kept-put (8 + 22 * n + 2 * c) (8 + 22 * n + 2 * c + 2) (8 + 22 * n + 2 * c) (pairRecord f q) w (omega arith) (omega arith)) (omega arith) t
-            ++ (put-same w (8 + 22 * n + 2 * c) (pairRecord f q) h t ∷ []));
-        kept = kept-put (8 + 22 * n + 2 * c) (8 + 22 * n + 2 * (c + 1)) (8 + 22 * n + 2 * c) (pairRecord f q) w (omega arith) (omega arith);
+            records-add w' (pairsAt n) c 1
+            ∙ (λ t. records-kept (pairsAt n + 2 * c) (pairsAt n + 2 * c + 2) (pairsAt n) c w w'
+            (kept-put (pairsAt n + 2 * c) (pairsAt n + 2 * c + 2) (pairsAt n + 2 * c) (pairRecord f q) w (omega arith) (omega arith)) (omega arith) t
+            ++ (put-same w (pairsAt n + 2 * c) (pairRecord f q) h t ∷ []));
+        kept = kept-put (pairsAt n + 2 * c) (pairsAt n + 2 * (c + 1)) (pairsAt n + 2 * c) (pairRecord f q) w (omega arith) (omega arith);
       }
     where
       w' : List ℕ
-      w' = putRecord w (8 + 22 * n + 2 * c) (pairRecord f q)
+      w' = putRecord w (pairsAt n + 2 * c) (pairRecord f q)
 
   pub pushed-grows : (lo most : ℕ) (l : List (ℕ × ℕ)) (c r : ℕ) (w w' : List ℕ) → Pushed n f lo most l c r w w' → c ≤ r
   pushed-grows lo most l c r w w' p =
       let e : r ≡ c + length (map (pairRecord f) l) =
-      sym (length-records-at w' (8 + 22 * n) r) ∙ ap length (p .records) ∙ length-append (recordsAt w (8 + 22 * n) c) (map (pairRecord f) l)
-      ∙ ap (λ (k : ℕ). k + length (map (pairRecord f) l)) (length-records-at w (8 + 22 * n) c) in
+      sym (length-records-at w' (pairsAt n) r) ∙ ap length (p .records) ∙ length-append (recordsAt w (pairsAt n) c) (map (pairRecord f) l)
+      ∙ ap (λ (k : ℕ). k + length (map (pairRecord f) l)) (length-records-at w (pairsAt n) c) in
       omega arith
 
   pub pushed-then : (lo lo' a b : ℕ) (l m : List (ℕ × ℕ)) (c r r' : ℕ) (w w' w'' : List ℕ) → lo ≤ lo'
@@ -66,18 +67,18 @@ module _ (n f : ℕ) where
         few = omega (arith, p .few, q .few);
         records =
             q .records ∙ ap (λ (s : List (ℕ × ℕ)). s ++ map (pairRecord f) m) (p .records)
-            ∙ append-assoc (recordsAt w (8 + 22 * n) c) (map (pairRecord f) l) (map (pairRecord f) m)
-            ∙ ap (λ (s : List (ℕ × ℕ)). recordsAt w (8 + 22 * n) c ++ s) (sym (map-append (pairRecord f) l m));
+            ∙ append-assoc (recordsAt w (pairsAt n) c) (map (pairRecord f) l) (map (pairRecord f) m)
+            ∙ ap (λ (s : List (ℕ × ℕ)). recordsAt w (pairsAt n) c ++ s) (sym (map-append (pairRecord f) l m));
         kept =
-            kept-then lo (8 + 22 * n + 2 * r') w w' w''
-            (kept-wider lo (8 + 22 * n + 2 * r) lo (8 + 22 * n + 2 * r') w w' (p .kept) (omega arith) (omega (arith, pushed-grows lo' b m r r' w' w'' q)))
-            (kept-wider lo' (8 + 22 * n + 2 * r') lo (8 + 22 * n + 2 * r') w' w'' (q .kept) h (omega arith));
+            kept-then lo (pairsAt n + 2 * r') w w' w''
+            (kept-wider lo (pairsAt n + 2 * r) lo (pairsAt n + 2 * r') w w' (p .kept) (omega arith) (omega (arith, pushed-grows lo' b m r r' w' w'' q)))
+            (kept-wider lo' (pairsAt n + 2 * r') lo (pairsAt n + 2 * r') w' w'' (q .kept) h (omega arith));
       }
 
   -- the same pairs by another name, or with a wider bound
   pub pushed-as : (lo a b : ℕ) (l m : List (ℕ × ℕ)) (c r : ℕ) (w w' : List ℕ) → a ≤ b → l ≡ m → Pushed n f lo a l c r w w' → Pushed n f lo b m c r w w'
   pushed-as lo a b l m c r w w' h e p =
-      record { few = omega (arith, p .few); records = p .records ∙ ap (λ (s : List (ℕ × ℕ)). recordsAt w (8 + 22 * n) c ++ map (pairRecord f) s) e; kept = p .kept }
+      record { few = omega (arith, p .few); records = p .records ∙ ap (λ (s : List (ℕ × ℕ)). recordsAt w (pairsAt n) c ++ map (pairRecord f) s) e; kept = p .kept }
 
 -- ---- push_neighbours
 pub neighbours-more : (l : List ℕ) (i : ℕ) → suc i < length l → neighbours (take (suc (suc i)) l) ≡ neighbours (take (suc i) l) ++ ((getD l i 0, getD l (suc i) 0) ∷ [])
@@ -95,44 +96,44 @@ neighbours-first (a ∷ l) = refl
 module _ (n f m count : ℕ) (w₀ : List ℕ) where
   -- the places along the side
   abbrev pub line : List ℕ
-  line = map (λ x. x .1) (recordsAt w₀ (8 + 18 * n) m)
+  line = map (λ x. x .1) (recordsAt w₀ (sideAt n) m)
 
   pub line-length : length line ≡ m
-  line-length = length-map (recordsAt w₀ (8 + 18 * n) m) (λ x. x .1) ∙ length-records-at w₀ (8 + 18 * n) m
+  line-length = length-map (recordsAt w₀ (sideAt n) m) (λ x. x .1) ∙ length-records-at w₀ (sideAt n) m
 
-  pub line-at : (i : ℕ) → i < m → getD line i 0 ≡ getD w₀ (8 + 18 * n + 2 * i + 1) 0
-  line-at i h = List·getD-map (λ (x : ℕ × ℕ). x .1) (recordsAt w₀ (8 + 18 * n) m) i (0, 0) ∙ ap (λ (x : ℕ × ℕ). x .1) (records-at-get w₀ (8 + 18 * n) m i h)
+  pub line-at : (i : ℕ) → i < m → getD line i 0 ≡ getD w₀ (sideAt n + 2 * i + 1) 0
+  line-at i h = List·getD-map (λ (x : ℕ × ℕ). x .1) (recordsAt w₀ (sideAt n) m) i (0, 0) ∙ ap (λ (x : ℕ × ℕ). x .1) (records-at-get w₀ (sideAt n) m i h)
 
   pub record Nearing (w : List ℕ) (c i : ℕ) : Type 0 where
     pub sum : c ≡ count + i
     pub within : i ≤ m
-    pub pushed : Pushed n f (8 + 22 * n + 2 * count) i (neighbours (take (suc i) line)) count c w₀ w
+    pub pushed : Pushed n f (pairsAt n + 2 * count) i (neighbours (take (suc i) line)) count c w₀ w
 
   pub nearing-start : Nearing w₀ count 0
   nearing-start =
       record {
         sum = omega arith;
         within = omega arith;
-        pushed = pushed-as n f (8 + 22 * n + 2 * count) 0 0 [] (neighbours (take 1 line)) count count w₀ w₀ (omega arith) (sym (neighbours-first line)) (pushed-none n f (8 + 22 * n + 2 * count) count w₀);
+        pushed = pushed-as n f (pairsAt n + 2 * count) 0 0 [] (neighbours (take 1 line)) count count w₀ w₀ (omega arith) (sym (neighbours-first line)) (pushed-none n f (pairsAt n + 2 * count) count w₀);
       }
 
-  module _ (room : 8 + 22 * n + 2 * (count + m) ≤ length w₀) (few : m ≤ n) (w : List ℕ) (c i : ℕ) (o : Nearing w c i) where
-    pub near-at : (j : ℕ) → j < m → getD w (8 + 18 * n + 2 * j + 1) 0 ≡ getD w₀ (8 + 18 * n + 2 * j + 1) 0
-    near-at j h = o .pushed .kept .low (8 + 18 * n + 2 * j + 1) (omega arith)
+  module _ (room : pairsAt n + 2 * (count + m) ≤ length w₀) (few : m ≤ n) (w : List ℕ) (c i : ℕ) (o : Nearing w c i) where
+    pub near-at : (j : ℕ) → j < m → getD w (sideAt n + 2 * j + 1) 0 ≡ getD w₀ (sideAt n + 2 * j + 1) 0
+    near-at j h = o .pushed .kept .low (sideAt n + 2 * j + 1) (omega arith)
 
-    pub nearing-turn : (a b : ℕ) → i + 1 < m → a ≡ getD w (8 + 18 * n + 2 * i + 1) 0 → b ≡ getD w (8 + 18 * n + 2 * i + 3) 0
-        → Nearing (putRecord w (8 + 22 * n + 2 * c) (pairRecord f (a, b))) (c + 1) (i + 1)
+    pub nearing-turn : (a b : ℕ) → i + 1 < m → a ≡ getD w (sideAt n + 2 * i + 1) 0 → b ≡ getD w (sideAt n + 2 * i + 3) 0
+        → Nearing (putRecord w (pairsAt n + 2 * c) (pairRecord f (a, b))) (c + 1) (i + 1)
     nearing-turn a b h p q =
         record {
           sum = omega (arith, o .sum);
           within = omega arith;
           pushed =
-              subst (λ (k : ℕ). Pushed n f (8 + 22 * n + 2 * count) k (neighbours (take (suc k) line)) count (c + 1) w₀ (putRecord w (8 + 22 * n + 2 * c) (pairRecord f (a, b)))) (one i)
-              (pushed-as n f (8 + 22 * n + 2 * count) (i + 1) (suc i) (neighbours (take (suc i) line) ++ ((a, b) ∷ [])) (neighbours (take (suc (suc i)) line)) count (c + 1) w₀
-              (putRecord w (8 + 22 * n + 2 * c) (pairRecord f (a, b))) (omega arith)
+              subst (λ (k : ℕ). Pushed n f (pairsAt n + 2 * count) k (neighbours (take (suc k) line)) count (c + 1) w₀ (putRecord w (pairsAt n + 2 * c) (pairRecord f (a, b)))) (one i)
+              (pushed-as n f (pairsAt n + 2 * count) (i + 1) (suc i) (neighbours (take (suc i) line) ++ ((a, b) ∷ [])) (neighbours (take (suc (suc i)) line)) count (c + 1) w₀
+              (putRecord w (pairsAt n + 2 * c) (pairRecord f (a, b))) (omega arith)
               ((λ t. neighbours (take (suc i) line) ++ ((first t, second t) ∷ [])) ∙ sym (neighbours-more line i (omega (arith, line-length))))
-              (pushed-then n f (8 + 22 * n + 2 * count) (8 + 22 * n + 2 * c) i 1 (neighbours (take (suc i) line)) ((a, b) ∷ []) count c (c + 1) w₀ w
-              (putRecord w (8 + 22 * n + 2 * c) (pairRecord f (a, b))) (omega (arith, o .sum)) (o .pushed)
+              (pushed-then n f (pairsAt n + 2 * count) (pairsAt n + 2 * c) i 1 (neighbours (take (suc i) line)) ((a, b) ∷ []) count c (c + 1) w₀ w
+              (putRecord w (pairsAt n + 2 * c) (pairRecord f (a, b))) (omega (arith, o .sum)) (o .pushed)
               (pushed-one n f (a, b) c w (omega (arith, o .sum, o .pushed .kept .long)))));
         }
       where
@@ -146,28 +147,28 @@ module _ (n f m count : ℕ) (w₀ : List ℕ) where
         three a i = omega arith
 
         second : b ≡ getD line (suc i) 0
-        second = q ∙ ap (λ (x : ℕ). getD w x 0) (three (8 + 18 * n) i) ∙ near-at (suc i) (omega arith) ∙ sym (line-at (suc i) (omega arith))
+        second = q ∙ ap (λ (x : ℕ). getD w x 0) (three (sideAt n) i) ∙ near-at (suc i) (omega arith) ∙ sym (line-at (suc i) (omega arith))
 
-    pub near-low : LowPlaces n m w₀ → (j : ℕ) → j < m → getD w (8 + 18 * n + 2 * j + 1) 0 < 2097152
+    pub near-low : LowPlaces n m w₀ → (j : ℕ) → j < m → getD w (sideAt n + 2 * j + 1) 0 < 2097152
     near-low l j h = omega (arith, near-at j h, l j h)
 
     -- with the names that the code has for two places
-    pub nearing-named : (at pairs : ℕ) (w' : List ℕ) → at ≡ 8 + 18 * n → pairs ≡ 8 + 22 * n → i + 1 < m
+    pub nearing-named : (at pairs : ℕ) (w' : List ℕ) → at ≡ sideAt n → pairs ≡ pairsAt n → i + 1 < m
         → w' ≡ putRecord w (pairs + 2 * c) (pairRecord f (getD w (at + 2 * i + 1) 0, getD w (at + 2 * i + 3) 0)) → Nearing w' (c + 1) (i + 1)
     nearing-named at pairs w' a b h e =
         subst (λ (u : List ℕ). Nearing u (c + 1) (i + 1))
         (sym (e ∙ (λ t. putRecord w (b t + 2 * c) (pairRecord f (getD w (a t + 2 * i + 1) 0, getD w (a t + 2 * i + 3) 0)))))
-        (nearing-turn (getD w (8 + 18 * n + 2 * i + 1) 0) (getD w (8 + 18 * n + 2 * i + 3) 0) h refl refl)
+        (nearing-turn (getD w (sideAt n + 2 * i + 1) 0) (getD w (sideAt n + 2 * i + 3) 0) h refl refl)
 
-    pub near-named : (at : ℕ) → at ≡ 8 + 18 * n → LowPlaces n m w₀ → i + 1 < m → (getD w (at + 2 * i + 1) 0 < 2097152) × (getD w (at + 2 * i + 3) 0 < 2097152)
+    pub near-named : (at : ℕ) → at ≡ sideAt n → LowPlaces n m w₀ → i + 1 < m → (getD w (at + 2 * i + 1) 0 < 2097152) × (getD w (at + 2 * i + 3) 0 < 2097152)
     near-named at a l h =
-        let x : getD w (at + 2 * i + 1) 0 ≡ getD w (8 + 18 * n + 2 * i + 1) 0 = ap (λ (k : ℕ). getD w (k + 2 * i + 1) 0) a in
-        let y : getD w (at + 2 * i + 3) 0 ≡ getD w (8 + 18 * n + 2 * (i + 1) + 1) 0 = ap (λ (k : ℕ). getD w k 0) (omega arith) in
+        let x : getD w (at + 2 * i + 1) 0 ≡ getD w (sideAt n + 2 * i + 1) 0 = ap (λ (k : ℕ). getD w (k + 2 * i + 1) 0) a in
+        let y : getD w (at + 2 * i + 3) 0 ≡ getD w (sideAt n + 2 * (i + 1) + 1) 0 = ap (λ (k : ℕ). getD w k 0) (omega arith) in
         (omega (arith, near-low l i (omega arith)), omega (arith, near-low l (i + 1) h))
 
-    pub nearing-end : m ≤ i + 1 → Pushed n f (8 + 22 * n + 2 * count) m (neighbours line) count c w₀ w
+    pub nearing-end : m ≤ i + 1 → Pushed n f (pairsAt n + 2 * count) m (neighbours line) count c w₀ w
     nearing-end h =
-        pushed-as n f (8 + 22 * n + 2 * count) i m (neighbours (take (suc i) line)) (neighbours line) count c w₀ w (o .within)
+        pushed-as n f (pairsAt n + 2 * count) i m (neighbours (take (suc i) line)) (neighbours line) count c w₀ w (o .within)
         (ap neighbours (take-all (suc i) line (omega (arith, line-length)))) (o .pushed)
 
 -- ---- push_open_edge
@@ -216,9 +217,9 @@ module _ (p : Pool) (f : ℕ) (hf : f < 6) (w : List ℕ) (at : ℕ) where
   pub edge-no : hasBit (getD w (at + 2) 0) f ≡ false → edgePairs p f (edgeAt w at) ≡ []
   edge-no e = edge-by false e
 
-module _ (n nf i f c : ℕ) (w : List ℕ) (s : Shown n w) (room : Roomy n nf w) (noted : Placed n f w) (held : EdgesHeld (poolAt n w) w (8 + 62 * n + 30 * nf) (i + 1)) (hf : f < 6)
-    (hi : i < 3 * nf) (hc : c < 4 * n + 3 * nf) (edges : ℕ) (ee : edges ≡ 8 + 62 * n + 30 * nf) (bit : hasBit (getD w (edges + 3 * i + 2) 0) f ≡ true) where
-  bit-there : hasBit (getD w (8 + 62 * n + 30 * nf + 3 * i + 2) 0) f ≡ true
+module _ (n nf i f c : ℕ) (w : List ℕ) (s : Shown n w) (room : Roomy n nf w) (noted : Placed n f w) (held : EdgesHeld (poolAt n w) w (openEdgesAt n nf) (i + 1)) (hf : f < 6)
+    (hi : i < 3 * nf) (hc : c < 4 * n + 3 * nf) (edges : ℕ) (ee : edges ≡ openEdgesAt n nf) (bit : hasBit (getD w (edges + 3 * i + 2) 0) f ≡ true) where
+  bit-there : hasBit (getD w (openEdgesAt n nf + 3 * i + 2) 0) f ≡ true
   bit-there = ap (λ (k : ℕ). hasBit (getD w (k + 3 * i + 2) 0) f) (sym ee) ∙ bit
 
   has-from : has (faceList (poolAt n w) f) (getD w (edges + 3 * i) 0) ≡ true
@@ -233,7 +234,7 @@ module _ (n nf i f c : ℕ) (w : List ℕ) (s : Shown n w) (room : Roomy n nf w)
   pub to-low : getD w (edges + 3 * i + 1) 0 < n
   to-low = member-low n f w s hf (getD w (edges + 3 * i + 1) 0) has-to
 
-  module _ (places : ℕ) (ep : places ≡ 8 + 17 * n) where
+  module _ (places : ℕ) (ep : places ≡ placesAt n) where
     from-noted : getD w (places + getD w (edges + 3 * i) 0) 0 ≡ place (eqb (getD w (edges + 3 * i) 0)) (faceList (poolAt n w) f)
     from-noted = ap (λ (k : ℕ). getD w (k + getD w (edges + 3 * i) 0) 0) ep ∙ noted (getD w (edges + 3 * i) 0) has-from
 
@@ -246,24 +247,24 @@ module _ (n nf i f c : ℕ) (w : List ℕ) (s : Shown n w) (room : Roomy n nf w)
     pub to-place-low : getD w (places + getD w (edges + 3 * i + 1) 0) 0 < n
     to-place-low = omega (arith, to-noted, place-low n f w s hf (getD w (edges + 3 * i + 1) 0) has-to)
 
-    pub edge-pushed : (pairs : ℕ) (w' : List ℕ) → pairs ≡ 8 + 22 * n
+    pub edge-pushed : (pairs : ℕ) (w' : List ℕ) → pairs ≡ pairsAt n
         → w' ≡ putRecord w (pairs + 2 * c) (pairRecord f (getD w (places + getD w (edges + 3 * i) 0) 0, getD w (places + getD w (edges + 3 * i + 1) 0) 0))
-        → Pushed n f (8 + 22 * n + 2 * c) 1 (edgePairs (poolAt n w) f (edgeAt w (8 + 62 * n + 30 * nf + 3 * i))) c (c + 1) w w'
+        → Pushed n f (pairsAt n + 2 * c) 1 (edgePairs (poolAt n w) f (edgeAt w (openEdgesAt n nf + 3 * i))) c (c + 1) w w'
     edge-pushed pairs w' eq e =
-        pushed-as n f (8 + 22 * n + 2 * c) 1 1 (q ∷ []) (edgePairs (poolAt n w) f (edgeAt w (8 + 62 * n + 30 * nf + 3 * i))) c (c + 1) w w' (omega arith)
+        pushed-as n f (pairsAt n + 2 * c) 1 1 (q ∷ []) (edgePairs (poolAt n w) f (edgeAt w (openEdgesAt n nf + 3 * i))) c (c + 1) w w' (omega arith)
         ((λ t. (from-noted t, to-noted t) ∷ []) ∙ sym (edge-yes (poolAt n w) f hf w (edges + 3 * i) bit)
         ∙ ap (λ (k : ℕ). edgePairs (poolAt n w) f (edgeAt w (k + 3 * i))) ee)
-        (subst (λ (u : List ℕ). Pushed n f (8 + 22 * n + 2 * c) 1 (q ∷ []) c (c + 1) w u) (sym (e ∙ ap (λ (k : ℕ). putRecord w (k + 2 * c) (pairRecord f q)) eq))
+        (subst (λ (u : List ℕ). Pushed n f (pairsAt n + 2 * c) 1 (q ∷ []) c (c + 1) w u) (sym (e ∙ ap (λ (k : ℕ). putRecord w (k + 2 * c) (pairRecord f q)) eq))
         (pushed-one n f q c w (omega (arith, room .room))))
       where
         q : ℕ × ℕ
         q = (getD w (places + getD w (edges + 3 * i) 0) 0, getD w (places + getD w (edges + 3 * i + 1) 0) 0)
 
-pub edge-skipped : (n nf i f c : ℕ) (w : List ℕ) → f < 6 → (edges : ℕ) → edges ≡ 8 + 62 * n + 30 * nf → hasBit (getD w (edges + 3 * i + 2) 0) f ≡ false
-    → Pushed n f (8 + 22 * n + 2 * c) 1 (edgePairs (poolAt n w) f (edgeAt w (8 + 62 * n + 30 * nf + 3 * i))) c c w w
+pub edge-skipped : (n nf i f c : ℕ) (w : List ℕ) → f < 6 → (edges : ℕ) → edges ≡ openEdgesAt n nf → hasBit (getD w (edges + 3 * i + 2) 0) f ≡ false
+    → Pushed n f (pairsAt n + 2 * c) 1 (edgePairs (poolAt n w) f (edgeAt w (openEdgesAt n nf + 3 * i))) c c w w
 edge-skipped n nf i f c w hf edges ee bit =
-    pushed-as n f (8 + 22 * n + 2 * c) 0 1 [] (edgePairs (poolAt n w) f (edgeAt w (8 + 62 * n + 30 * nf + 3 * i))) c c w w (omega arith)
-    (sym (edge-no (poolAt n w) f hf w (edges + 3 * i) bit) ∙ ap (λ (k : ℕ). edgePairs (poolAt n w) f (edgeAt w (k + 3 * i))) ee) (pushed-none n f (8 + 22 * n + 2 * c) c w)
+    pushed-as n f (pairsAt n + 2 * c) 0 1 [] (edgePairs (poolAt n w) f (edgeAt w (openEdgesAt n nf + 3 * i))) c c w w (omega arith)
+    (sym (edge-no (poolAt n w) f hf w (edges + 3 * i) bit) ∙ ap (λ (k : ℕ). edgePairs (poolAt n w) f (edgeAt w (k + 3 * i))) ee) (pushed-none n f (pairsAt n + 2 * c) c w)
 
 -- ---- push_open_edges
 pub edges-more : (p : Pool) (f : ℕ) (w : List ℕ) (at i : ℕ) → edgePairs p f (edgesAt w at (i + 1)) ≡ edgePairs p f (edgesAt w at i) ++ edgePairs p f (edgeAt w (at + 3 * i))
@@ -278,29 +279,29 @@ edges-more p f w at i =
 module _ (n f at count : ℕ) (w₀ : List ℕ) where
   pub record Edging (k : ℕ) (w : List ℕ) (c i : ℕ) : Type 0 where
     pub within : i ≤ k
-    pub pushed : Pushed n f (8 + 22 * n + 2 * count) i (edgePairs (poolAt n w₀) f (edgesAt w₀ at i)) count c w₀ w
+    pub pushed : Pushed n f (pairsAt n + 2 * count) i (edgePairs (poolAt n w₀) f (edgesAt w₀ at i)) count c w₀ w
 
   pub edging-start : (k : ℕ) → Edging k w₀ count 0
   unfolding edgesAt flatMap upFrom keep
-  edging-start k = record { within = omega arith; pushed = pushed-none n f (8 + 22 * n + 2 * count) count w₀ }
+  edging-start k = record { within = omega arith; pushed = pushed-none n f (pairsAt n + 2 * count) count w₀ }
 
   pub edging-turn : (k : ℕ) (w w' : List ℕ) (c r i : ℕ) → Edging k w c i → i < k → poolAt n w ≡ poolAt n w₀ → edgeAt w (at + 3 * i) ≡ edgeAt w₀ (at + 3 * i)
-      → Pushed n f (8 + 22 * n + 2 * c) 1 (edgePairs (poolAt n w) f (edgeAt w (at + 3 * i))) c r w w' → Edging k w' r (i + 1)
+      → Pushed n f (pairsAt n + 2 * c) 1 (edgePairs (poolAt n w) f (edgeAt w (at + 3 * i))) c r w w' → Edging k w' r (i + 1)
   edging-turn k w w' c r i o h e g p =
       record {
         within = omega arith;
         pushed =
-            pushed-as n f (8 + 22 * n + 2 * count) (i + 1) (i + 1)
+            pushed-as n f (pairsAt n + 2 * count) (i + 1) (i + 1)
             (edgePairs (poolAt n w₀) f (edgesAt w₀ at i) ++ edgePairs (poolAt n w) f (edgeAt w (at + 3 * i))) (edgePairs (poolAt n w₀) f (edgesAt w₀ at (i + 1))) count r w₀ w' (omega arith)
             ((λ t. edgePairs (poolAt n w₀) f (edgesAt w₀ at i) ++ edgePairs (e t) f (g t)) ∙ sym (edges-more (poolAt n w₀) f w₀ at i))
-            (pushed-then n f (8 + 22 * n + 2 * count) (8 + 22 * n + 2 * c) i 1 (edgePairs (poolAt n w₀) f (edgesAt w₀ at i)) (edgePairs (poolAt n w) f (edgeAt w (at + 3 * i)))
+            (pushed-then n f (pairsAt n + 2 * count) (pairsAt n + 2 * c) i 1 (edgePairs (poolAt n w₀) f (edgesAt w₀ at i)) (edgePairs (poolAt n w) f (edgeAt w (at + 3 * i)))
             count c r w₀ w w'
-            (omega (arith, pushed-grows n f (8 + 22 * n + 2 * count) i (edgePairs (poolAt n w₀) f (edgesAt w₀ at i)) count c w₀ w (o .pushed))) (o .pushed) p);
+            (omega (arith, pushed-grows n f (pairsAt n + 2 * count) i (edgePairs (poolAt n w₀) f (edgesAt w₀ at i)) count c w₀ w (o .pushed))) (o .pushed) p);
       }
 
-  module _ (nf k : ℕ) (o : Shown n w₀) (room : Roomy n nf w₀) (noted : Placed n f w₀) (held : EdgesHeld (poolAt n w₀) w₀ at k) (hf : f < 6) (far : 8 + 22 * n + 2 * (count + k) ≤ at)
+  module _ (nf k : ℕ) (o : Shown n w₀) (room : Roomy n nf w₀) (noted : Placed n f w₀) (held : EdgesHeld (poolAt n w₀) w₀ at k) (hf : f < 6) (far : pairsAt n + 2 * (count + k) ≤ at)
       (w : List ℕ) (c i : ℕ) (e : Edging k w c i) where
-    low : (x : ℕ) → x < 8 + 22 * n + 2 * count → getD w x 0 ≡ getD w₀ x 0
+    low : (x : ℕ) → x < pairsAt n + 2 * count → getD w x 0 ≡ getD w₀ x 0
     low = e .pushed .kept .low
 
     high : (x : ℕ) → at ≤ x → getD w x 0 ≡ getD w₀ x 0
@@ -321,16 +322,16 @@ module _ (n f at count : ℕ) (w₀ : List ℕ) where
     pub edging-held : i < k → EdgesHeld (poolAt n w) w at (i + 1)
     edging-held h = held-after w₀ w at (i + 1) high (poolAt n w₀) (poolAt n w) edging-same (held-fewer (poolAt n w₀) w₀ at k (i + 1) (omega arith) held)
 
-    pub edging-next : (w' : List ℕ) (r : ℕ) → i < k → Pushed n f (8 + 22 * n + 2 * c) 1 (edgePairs (poolAt n w) f (edgeAt w (at + 3 * i))) c r w w' → Edging k w' r (i + 1)
+    pub edging-next : (w' : List ℕ) (r : ℕ) → i < k → Pushed n f (pairsAt n + 2 * c) 1 (edgePairs (poolAt n w) f (edgeAt w (at + 3 * i))) c r w w' → Edging k w' r (i + 1)
     edging-next w' r h p =
         let e0 = high (at + 3 * i) (omega arith) in
         let e1 = high (at + 3 * i + 1) (omega arith) in
         let e2 = high (at + 3 * i + 2) (omega arith) in
         edging-turn k w w' c r i e h edging-same (λ t. map (λ g. tri g (e0 t) (e1 t)) (facesIn (e2 t))) p
 
-  pub edging-end : (k : ℕ) (w : List ℕ) (c i : ℕ) → Edging k w c i → k ≤ i → Pushed n f (8 + 22 * n + 2 * count) k (edgePairs (poolAt n w₀) f (edgesAt w₀ at k)) count c w₀ w
+  pub edging-end : (k : ℕ) (w : List ℕ) (c i : ℕ) → Edging k w c i → k ≤ i → Pushed n f (pairsAt n + 2 * count) k (edgePairs (poolAt n w₀) f (edgesAt w₀ at k)) count c w₀ w
   edging-end k w c i o h =
-      pushed-as n f (8 + 22 * n + 2 * count) i k (edgePairs (poolAt n w₀) f (edgesAt w₀ at i)) (edgePairs (poolAt n w₀) f (edgesAt w₀ at k)) count c w₀ w (o .within)
+      pushed-as n f (pairsAt n + 2 * count) i k (edgePairs (poolAt n w₀) f (edgesAt w₀ at i)) (edgePairs (poolAt n w₀) f (edgesAt w₀ at k)) count c w₀ w (o .within)
       (ap (λ (j : ℕ). edgePairs (poolAt n w₀) f (edgesAt w₀ at j)) (last i k (o .within) h)) (o .pushed)
     where
       last : (i k : ℕ) → i ≤ k → k ≤ i → i ≡ k

@@ -8,6 +8,7 @@ use mathlib.Core.Path.{_≡_, sym, subst}
 use native.Mathlib.Omega.{arith}
 use lib.ListN.{length, getD}
 use lib.Ieee.{Float}
+use Rattle.candidate_pool.specs.Offsets.{listAt, poolEnd}
 use Rattle.candidate_pool.specs.Pool.{Pool}
 use Rattle.candidate_pool.specs.Standing.{countAt, poolAt, Tidy, Holds, edgesAt, EdgesHeld}
 use Rattle.candidate_pool.proofs.Reading.{pool-count, list-at, list-length}
@@ -16,11 +17,11 @@ use Rattle.candidate_pool.proofs.Edges.{edges-same, held-same}
 use Rattle.candidate_constraints.specs.Steps.{Shown}
 
 -- ---- by the words
-pub list-low : (n : ℕ) (w : List ℕ) → Shown n w → (f : ℕ) → f < 6 → (i : ℕ) → i < getD w f 0 → getD w (8 + 11 * n + f * n + i) 0 < countAt w
+pub list-low : (n : ℕ) (w : List ℕ) → Shown n w → (f : ℕ) → f < 6 → (i : ℕ) → i < getD w f 0 → getD w (listAt n f + i) 0 < countAt w
 list-low n w s f hf i h = omega (arith, sym (list-at n w f i hf h), s .tidy .low f i hf (omega (arith, list-length n w f (s .size) (s .lengths f hf) hf)), pool-count n w)
 
 -- ---- after stores elsewhere
-module _ (n : ℕ) (w w' : List ℕ) (s : Shown n w) (long : length w' ≡ length w) (low : (x : ℕ) → x < 8 + 17 * n → getD w' x 0 ≡ getD w x 0) where
+module _ (n : ℕ) (w w' : List ℕ) (s : Shown n w) (long : length w' ≡ length w) (low : (x : ℕ) → x < poolEnd n → getD w' x 0 ≡ getD w x 0) where
   pub pool-same : poolAt n w' ≡ poolAt n w
   pool-same = pool-agrees n w w' long low (s .few) (s .tidy)
 

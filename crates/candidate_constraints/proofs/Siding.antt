@@ -24,6 +24,7 @@ use Rattle.geometry.specs.declared.fraction.Fraction.the-variants.{At, Nothing}
 use Rattle.box_faces.specs.declared.uv.Side.{Side}
 use Rattle.box_faces.specs.Faces.{project}
 use Rattle.box_faces.specs.Sides.{faceSides, onSide}
+use Rattle.candidate_pool.specs.Offsets.{sideAt, pairsAt}
 use Rattle.candidate_pool.specs.Pool.{Pool, pointOf, faceList}
 use Rattle.candidate_pool.specs.Standing.{poolAt}
 use Rattle.candidate_pool.proofs.Reading.{list-length}
@@ -61,45 +62,45 @@ sorted-records w w' at a m e room p =
     let q : SortedPart w w' a m = subst (λ (k : ℕ). SortedPart w w' k m) e p in
     sym (records-at-take w' a m (omega (arith, q .same))) ∙ q .result ∙ ap sorted (records-at-take w a m (omega arith))
 
-module _ (eps : Float) (n f : ℕ) (s : Side) (count m : ℕ) (w w1 w2 : List ℕ) (o : Shown n w) (hf : f < 6) (hn : n < 2097152) (hc : count ≤ 3 * n) (room : 8 + 38 * n ≤ length w)
-    (g : Collected eps n f s m w w1) (at : ℕ) (ea : at ≡ 8 + 18 * n) (p : SortedPart w1 w2 at m) where
+module _ (eps : Float) (n f : ℕ) (s : Side) (count m : ℕ) (w w1 w2 : List ℕ) (o : Shown n w) (hf : f < 6) (hn : n < 2097152) (hc : count ≤ 3 * n) (room : pairsAt n + 16 * n ≤ length w)
+    (g : Collected eps n f s m w w1) (at : ℕ) (ea : at ≡ sideAt n) (p : SortedPart w1 w2 at m) where
   pub side-few : m ≤ n
   side-few = omega (arith, g .few, o .lengths f hf)
 
-  in-order : recordsAt w2 (8 + 18 * n) m ≡ sorted (map keyed (onSideAll eps (poolAt n w) f s))
-  in-order = sorted-records w1 w2 at (8 + 18 * n) m ea (omega (arith, side-few, g .kept .long)) p ∙ ap sorted (g .records)
+  in-order : recordsAt w2 (sideAt n) m ≡ sorted (map keyed (onSideAll eps (poolAt n w) f s))
+  in-order = sorted-records w1 w2 at (sideAt n) m ea (omega (arith, side-few, g .kept .long)) p ∙ ap sorted (g .records)
 
   pub side-low : LowPlaces n m w2
   side-low i h =
-      let e = ap (λ (r : ℕ × ℕ). r .1) (records-at-get w2 (8 + 18 * n) m i h) in
-      let l = each-at (λ (r : ℕ × ℕ). r .1 < length (faceList (poolAt n w) f)) (0, 0) (recordsAt w2 (8 + 18 * n) m) i
+      let e = ap (λ (r : ℕ × ℕ). r .1) (records-at-get w2 (sideAt n) m i h) in
+      let l = each-at (λ (r : ℕ × ℕ). r .1 < length (faceList (poolAt n w) f)) (0, 0) (recordsAt w2 (sideAt n) m) i
       (subst (Each (λ (r : ℕ × ℕ). r .1 < length (faceList (poolAt n w) f))) (sym in-order)
       (each-sortBy recordBefore (λ (r : ℕ × ℕ). r .1 < length (faceList (poolAt n w) f)) (map keyed (onSideAll eps (poolAt n w) f s))
       (each-mapped (λ (r : ℕ × ℕ). r .1 < length (faceList (poolAt n w) f)) keyed (onSideAll eps (poolAt n w) f s) (all-low eps (poolAt n w) f s))))
-      (omega (arith, length-records-at w2 (8 + 18 * n) m)) in
+      (omega (arith, length-records-at w2 (sideAt n) m)) in
       omega (arith, e, l, list-length n w f (o .size) (o .lengths f hf) hf, o .lengths f hf)
 
-  kept-side : Kept (8 + 18 * n) (8 + 22 * n) w w2
+  kept-side : Kept (sideAt n) (pairsAt n) w w2
   kept-side =
-      kept-then (8 + 18 * n) (8 + 22 * n) w w1 w2 (kept-wider (8 + 18 * n) (8 + 20 * n) (8 + 18 * n) (8 + 22 * n) w w1 (g .kept) (omega arith) (omega arith))
-      (kept-wider at (at + 4 * m) (8 + 18 * n) (8 + 22 * n) w1 w2 (kept-sorted at m w1 w2 p) (omega arith) (omega (arith, side-few)))
+      kept-then (sideAt n) (pairsAt n) w w1 w2 (kept-wider (sideAt n) (sideAt n + 2 * n) (sideAt n) (pairsAt n) w w1 (g .kept) (omega arith) (omega arith))
+      (kept-wider at (at + 4 * m) (sideAt n) (pairsAt n) w1 w2 (kept-sorted at m w1 w2 p) (omega arith) (omega (arith, side-few)))
 
   pub side-long : length w2 ≡ length w
   side-long = kept-side .long
 
-  pub side-pushed : (w3 : List ℕ) (r : ℕ) → Pushed n f (8 + 22 * n + 2 * count) m (neighbours (map (λ x. x .1) (recordsAt w2 (8 + 18 * n) m))) count r w2 w3
-      → Pushed n f (8 + 18 * n) n (neighbours (sidePlaces eps (poolAt n w) f s)) count r w w3
+  pub side-pushed : (w3 : List ℕ) (r : ℕ) → Pushed n f (pairsAt n + 2 * count) m (neighbours (map (λ x. x .1) (recordsAt w2 (sideAt n) m))) count r w2 w3
+      → Pushed n f (sideAt n) n (neighbours (sidePlaces eps (poolAt n w) f s)) count r w w3
   side-pushed w3 r q =
-      let l = neighbours (map (λ (x : ℕ × ℕ). x .1) (recordsAt w2 (8 + 18 * n) m)) in
-      pushed-as n f (8 + 18 * n) m n l (neighbours (sidePlaces eps (poolAt n w) f s)) count r w w3 side-few
+      let l = neighbours (map (λ (x : ℕ × ℕ). x .1) (recordsAt w2 (sideAt n) m)) in
+      pushed-as n f (sideAt n) m n l (neighbours (sidePlaces eps (poolAt n w) f s)) count r w w3 side-few
       (ap neighbours (ap (map (λ (x : ℕ × ℕ). x .1)) in-order ∙ sorted-places eps (poolAt n w) f s))
       (record {
         few = q .few;
-        records = q .records ∙ ap (λ (x : List (ℕ × ℕ)). x ++ map (pairRecord f) l) (records-above (8 + 18 * n) (8 + 22 * n) (8 + 22 * n) count w w2 kept-side (omega arith));
+        records = q .records ∙ ap (λ (x : List (ℕ × ℕ)). x ++ map (pairRecord f) l) (records-above (sideAt n) (pairsAt n) (pairsAt n) count w w2 kept-side (omega arith));
         kept =
-            kept-then (8 + 18 * n) (8 + 22 * n + 2 * r) w w2 w3
-            (kept-wider (8 + 18 * n) (8 + 22 * n) (8 + 18 * n) (8 + 22 * n + 2 * r) w w2 kept-side (omega arith) (omega arith))
-            (kept-wider (8 + 22 * n + 2 * count) (8 + 22 * n + 2 * r) (8 + 18 * n) (8 + 22 * n + 2 * r) w2 w3 (q .kept) (omega arith) (omega arith));
+            kept-then (sideAt n) (pairsAt n + 2 * r) w w2 w3
+            (kept-wider (sideAt n) (pairsAt n) (sideAt n) (pairsAt n + 2 * r) w w2 kept-side (omega arith) (omega arith))
+            (kept-wider (pairsAt n + 2 * count) (pairsAt n + 2 * r) (sideAt n) (pairsAt n + 2 * r) w2 w3 (q .kept) (omega arith) (omega arith));
       })
 
 -- ---- push_sides
@@ -113,11 +114,11 @@ module _ (box : AABB) (eps : Float) (n f : ℕ) (w₀ : List ℕ) where
 
   pub record Siding (w : List ℕ) (c k : ℕ) : Type 0 where
     pub within : k ≤ 4
-    pub pushed : Pushed n f (8 + 18 * n) (k * n) (flatMap near (take k (faceSides box f))) 0 c w₀ w
+    pub pushed : Pushed n f (sideAt n) (k * n) (flatMap near (take k (faceSides box f))) 0 c w₀ w
 
   pub siding-start : Siding w₀ 0 0
   unfolding flatMap
-  siding-start = record { within = omega arith; pushed = pushed-as n f (8 + 18 * n) 0 (0 * n) [] [] 0 0 w₀ w₀ (omega arith) refl (pushed-none n f (8 + 18 * n) 0 w₀) }
+  siding-start = record { within = omega arith; pushed = pushed-as n f (sideAt n) 0 (0 * n) [] [] 0 0 w₀ w₀ (omega arith) refl (pushed-none n f (sideAt n) 0 w₀) }
 
   module _ (o : Shown n w₀) (w : List ℕ) (c k : ℕ) (g : Siding w c k) where
     pub siding-few : k < 4 → c ≤ 3 * n
@@ -132,25 +133,25 @@ module _ (box : AABB) (eps : Float) (n f : ℕ) (w₀ : List ℕ) where
     siding-shown = shown-same n w₀ w o (g .pushed .kept .long) (λ x h. g .pushed .kept .low x (omega arith))
 
     pub siding-turn : (d s : Side) (r : ℕ) (w' : List ℕ) → k < 4 → s ≡ getD (faceSides box f) k d
-        → Pushed n f (8 + 18 * n) n (neighbours (sidePlaces eps (poolAt n w) f s)) c r w w' → Siding w' r (k + 1)
+        → Pushed n f (sideAt n) n (neighbours (sidePlaces eps (poolAt n w) f s)) c r w w' → Siding w' r (k + 1)
     unfolding flatMap
     siding-turn d s r w' h e p =
         let S = faceSides box f in
         record {
           within = omega arith;
           pushed =
-              pushed-as n f (8 + 18 * n) (k * n + n) ((k + 1) * n) (flatMap near (take k S) ++ neighbours (sidePlaces eps (poolAt n w) f s)) (flatMap near (take (k + 1) S)) 0 r w₀ w'
+              pushed-as n f (sideAt n) (k * n + n) ((k + 1) * n) (flatMap near (take k S) ++ neighbours (sidePlaces eps (poolAt n w) f s)) (flatMap near (take (k + 1) S)) 0 r w₀ w'
               (omega arith)
               ((λ t. flatMap near (take k S) ++ neighbours (sidePlaces eps (same t) f (e t)))
               ∙ ap (λ (l : List (ℕ × ℕ)). flatMap near (take k S) ++ l) (sym (append-nil (near (getD S k d))))
               ∙ sym (flatMap-append near (take k S) (getD S k d ∷ [])) ∙ ap (flatMap near) (sym (take-suc S k d (omega (arith, four box f)))) ∙ ap (λ (j : ℕ). flatMap near (take j S)) (one k))
-              (pushed-then n f (8 + 18 * n) (8 + 18 * n) (k * n) n (flatMap near (take k S)) (neighbours (sidePlaces eps (poolAt n w) f s)) 0 c r w₀ w w' (omega arith) (g .pushed) p);
+              (pushed-then n f (sideAt n) (sideAt n) (k * n) n (flatMap near (take k S)) (neighbours (sidePlaces eps (poolAt n w) f s)) 0 c r w₀ w w' (omega arith) (g .pushed) p);
         }
       where
         one : (k : ℕ) → suc k ≡ k + 1
         one k = omega arith
 
-    pub siding-end : 4 ≤ k → Pushed n f (8 + 18 * n) (4 * n) (flatMap near (faceSides box f)) 0 c w₀ w
+    pub siding-end : 4 ≤ k → Pushed n f (sideAt n) (4 * n) (flatMap near (faceSides box f)) 0 c w₀ w
     siding-end h =
-        pushed-as n f (8 + 18 * n) (k * n) (4 * n) (flatMap near (take k (faceSides box f))) (flatMap near (faceSides box f)) 0 c w₀ w (mul-le-mul-right n (g .within))
+        pushed-as n f (sideAt n) (k * n) (4 * n) (flatMap near (take k (faceSides box f))) (flatMap near (faceSides box f)) 0 c w₀ w (mul-le-mul-right n (g .within))
         (ap (flatMap near) (take-all k (faceSides box f) (omega (arith, four box f)))) (g .pushed)

@@ -1,6 +1,6 @@
--- What `all_constraints` and the functions inside it leave in the work room, of which the outer contract does not speak. For n candidates and nf facets: from 8 + 17 n on the
--- places of a face's candidates, from 8 + 18 n on the records of those on a side, from 8 + 22 n on the records of pairs, from 8 + 38 n + 12 nf on the constraints, each
--- packed into a word, and from 8 + 62 n + 30 nf on the open edges. Assumes nothing.
+-- What `all_constraints` and the functions inside it leave in the work room, of which the outer contract does not speak. For n candidates and nf facets: from placesAt on
+-- the places of a face's candidates, from sideAt on the records of those on a side, from pairsAt on the records of pairs, from constraintsAt on the constraints, each packed
+-- into a word, and from openEdgesAt on the open edges. Assumes nothing.
 --   unpacked      a constraint's face and two places
 --   Constrained   what `all_constraints` leaves
 --   Kept          only words from lo up to, not including, hi differ
@@ -36,6 +36,7 @@ use Rattle.box_faces.specs.declared.uv.Side.{Side}
 use Rattle.box_faces.specs.Faces.{project}
 use Rattle.box_faces.specs.Sides.{faceSides, onSide}
 use Rattle.edges.specs.Edges.{sortedPair}
+use Rattle.candidate_pool.specs.Offsets.{entryAt, poolEnd, placesAt, sideAt, pairsAt, constraintsAt, openEdgesAt, roomEnd}
 use Rattle.candidate_pool.specs.Pool.{Pool, pointOf, faceList}
 use Rattle.candidate_pool.specs.Standing.{countAt, poolAt, edgesAt, Stored, Tidy}
 use Rattle.candidate_constraints.specs.Constraints.{neighbours, standing, faceConstraints}
@@ -44,11 +45,11 @@ abbrev pub unpacked : ℕ → Triangle ℕ
 unpacked key = tri (tripleFirst key) (tripleSecond key) (tripleThird key)
 
 pub record Constrained (box : AABB) (eps : Float) (n nf k r : ℕ) (w w' : List ℕ) : Type 0 where
-  pub listed : map unpacked (view w' (8 + 38 * n + 12 * nf) r) ≡ flatMap (faceConstraints box eps (edgesAt w (8 + 62 * n + 30 * nf) k) (poolAt n w)) faces
+  pub listed : map unpacked (view w' (constraintsAt n nf) r) ≡ flatMap (faceConstraints box eps (edgesAt w (openEdgesAt n nf) k) (poolAt n w)) faces
   pub few : r ≤ 24 * n + 18 * nf
   pub long : length w' ≡ length w
-  pub low : (x : ℕ) → x < 8 + 17 * n → getD w' x 0 ≡ getD w x 0
-  pub high : (x : ℕ) → 8 + 62 * n + 30 * nf ≤ x → getD w' x 0 ≡ getD w x 0
+  pub low : (x : ℕ) → x < poolEnd n → getD w' x 0 ≡ getD w x 0
+  pub high : (x : ℕ) → openEdgesAt n nf ≤ x → getD w' x 0 ≡ getD w x 0
 
 pub record Kept (lo hi : ℕ) (w w' : List ℕ) : Type 0 where
   pub long : length w' ≡ length w
@@ -56,19 +57,19 @@ pub record Kept (lo hi : ℕ) (w w' : List ℕ) : Type 0 where
   pub high : (x : ℕ) → hi ≤ x → getD w' x 0 ≡ getD w x 0
 
 pub record Shown (n : ℕ) (w : List ℕ) : Type 0 where
-  pub size : 8 + 17 * n ≤ length w
+  pub size : poolEnd n ≤ length w
   pub few : countAt w ≤ n
   pub lengths : (f : ℕ) → f < 6 → getD w f 0 ≤ n
-  pub stored : (c : ℕ) → c < countAt w → Stored w (8 + 5 * c)
+  pub stored : (c : ℕ) → c < countAt w → Stored w (entryAt c)
   pub tidy : Tidy (poolAt n w)
 
 pub record Roomy (n nf : ℕ) (w : List ℕ) : Type 0 where
   pub small : n < 2097152
   pub facets : nf < 268435456
-  pub room : 8 + 62 * n + 66 * nf ≤ length w
+  pub room : roomEnd n nf ≤ length w
 
 abbrev pub Placed : ℕ → ℕ → List ℕ → Type 0
-Placed n f w = (c : ℕ) → has (faceList (poolAt n w) f) c ≡ true → getD w (8 + 17 * n + c) 0 ≡ place (eqb c) (faceList (poolAt n w) f)
+Placed n f w = (c : ℕ) → has (faceList (poolAt n w) f) c ≡ true → getD w (placesAt n + c) 0 ≡ place (eqb c) (faceList (poolAt n w) f)
 
 -- ---- along a side
 abbrev pub stands : Float → Pool → ℕ → Side → ℕ → List (Float × ℕ)
@@ -97,12 +98,12 @@ pub record Fractioned (at : ℕ) (t : Fraction) (i r : ℕ) (w w' : List ℕ) : 
 
 pub record Collected (eps : Float) (n f : ℕ) (s : Side) (m : ℕ) (w w' : List ℕ) : Type 0 where
   pub few : m ≤ getD w f 0
-  pub records : recordsAt w' (8 + 18 * n) m ≡ map keyed (onSideAll eps (poolAt n w) f s)
-  pub kept : Kept (8 + 18 * n) (8 + 20 * n) w w'
+  pub records : recordsAt w' (sideAt n) m ≡ map keyed (onSideAll eps (poolAt n w) f s)
+  pub kept : Kept (sideAt n) (sideAt n + 2 * n) w w'
 
 -- the payloads of m records are places that a word holds two of, with a face
 abbrev pub LowPlaces : ℕ → ℕ → List ℕ → Type 0
-LowPlaces n m w = (i : ℕ) → i < m → getD w (8 + 18 * n + 2 * i + 1) 0 < 2097152
+LowPlaces n m w = (i : ℕ) → i < m → getD w (sideAt n + 2 * i + 1) 0 < 2097152
 
 -- ---- pairs
 abbrev pub pairKey : ℕ → ℕ × ℕ → ℕ
@@ -123,8 +124,8 @@ allPairs box eps p f edges = sidePairs box eps p f ++ edgePairs p f edges
 -- l more pairs behind c; only words from lo on differ
 pub record Pushed (n f lo most : ℕ) (l : List (ℕ × ℕ)) (c r : ℕ) (w w' : List ℕ) : Type 0 where
   pub few : r ≤ c + most
-  pub records : recordsAt w' (8 + 22 * n) r ≡ recordsAt w (8 + 22 * n) c ++ map (pairRecord f) l
-  pub kept : Kept lo (8 + 22 * n + 2 * r) w w'
+  pub records : recordsAt w' (pairsAt n) r ≡ recordsAt w (pairsAt n) c ++ map (pairRecord f) l
+  pub kept : Kept lo (pairsAt n + 2 * r) w w'
 
 -- ---- constraints
 unfoldable pub lasts : List ℕ → List ℕ
@@ -137,11 +138,11 @@ nextSame w at c i = ltb (i + 1) c && eqb (getD w (at + 2 * i) 0) (getD w (at + 2
 
 pub record Distinct (n nf c total r : ℕ) (w w' : List ℕ) : Type 0 where
   pub few : r ≤ total + c
-  pub listed : view w' (8 + 38 * n + 12 * nf) r ≡ view w (8 + 38 * n + 12 * nf) total ++ lasts (map (λ x. x .0) (recordsAt w (8 + 22 * n) c))
-  pub kept : Kept (8 + 38 * n + 12 * nf) (8 + 62 * n + 30 * nf) w w'
+  pub listed : view w' (constraintsAt n nf) r ≡ view w (constraintsAt n nf) total ++ lasts (map (λ x. x .0) (recordsAt w (pairsAt n) c))
+  pub kept : Kept (constraintsAt n nf) (openEdgesAt n nf) w w'
 
 pub record FaceListed (box : AABB) (eps : Float) (n nf k f total r : ℕ) (w w' : List ℕ) : Type 0 where
   pub few : r ≤ total + (4 * n + 3 * nf)
-  pub listed : map unpacked (view w' (8 + 38 * n + 12 * nf) r)
-      ≡ map unpacked (view w (8 + 38 * n + 12 * nf) total) ++ faceConstraints box eps (edgesAt w (8 + 62 * n + 30 * nf) k) (poolAt n w) f
-  pub kept : Kept (8 + 17 * n) (8 + 62 * n + 30 * nf) w w'
+  pub listed : map unpacked (view w' (constraintsAt n nf) r)
+      ≡ map unpacked (view w (constraintsAt n nf) total) ++ faceConstraints box eps (edgesAt w (openEdgesAt n nf) k) (poolAt n w) f
+  pub kept : Kept (placesAt n) (openEdgesAt n nf) w w'

@@ -1,6 +1,7 @@
 // boundary_closure.rs, `build_face_cdt` and `add_face_box_boundary_constraints`: pairs of places, one face after the other.
 ghost use Prim.Native.Nat.{_+_, _*_, _≤_, _<_};
 ghost use lib.ListN.{length};
+ghost use Rattle.candidate_pool.specs.Offsets.{placesAt, openEdgesAt, roomEnd};
 ghost use Rattle.candidate_pool.specs.Standing.{poolAt, edgesAt, Holds, EdgesHeld};
 ghost use Rattle.candidate_constraints.specs.Steps.{Constrained, Shown, Roomy, allPairs, Pushed, FaceListed};
 use crate::distinct::keep_distinct;
@@ -23,9 +24,9 @@ fn list_pairs(
 ) -> usize
     requires { ⌜ Shown n (now w) ⌝ }
     requires { ⌜ Roomy n nf (now w) ⌝ }
-    requires { ⌜ EdgesHeld (poolAt n (now w)) (now w) (8 + 62 * n + 30 * nf) k ⌝ }
+    requires { ⌜ EdgesHeld (poolAt n (now w)) (now w) (openEdgesAt n nf) k ⌝ }
     requires { ⌜ (face < 6) × (k ≤ 3 * nf) ⌝ }
-    ensures { λ r. ⌜ Pushed n face (8 + 17 * n) (4 * n + 3 * nf) (allPairs extents eps (poolAt n (now (w .entry))) face (edgesAt (now (w .entry)) (8 + 62 * n + 30 * nf) k)) 0 r (now (w .entry)) (now (w .exit)) ⌝ }
+    ensures { λ r. ⌜ Pushed n face (placesAt n) (4 * n + 3 * nf) (allPairs extents eps (poolAt n (now (w .entry))) face (edgesAt (now (w .entry)) (openEdgesAt n nf) k)) 0 r (now (w .entry)) (now (w .exit)) ⌝ }
 {
     note_places(w, n, face);
     let c = push_sides(w, n, face, extents, eps);
@@ -45,7 +46,7 @@ fn face_constraints(
 ) -> usize
     requires { ⌜ Shown n (now w) ⌝ }
     requires { ⌜ Roomy n nf (now w) ⌝ }
-    requires { ⌜ EdgesHeld (poolAt n (now w)) (now w) (8 + 62 * n + 30 * nf) k ⌝ }
+    requires { ⌜ EdgesHeld (poolAt n (now w)) (now w) (openEdgesAt n nf) k ⌝ }
     requires { ⌜ (face < 6) × (k ≤ 3 * nf) × (total + (4 * n + 3 * nf) ≤ 24 * n + 18 * nf) ⌝ }
     ensures { λ r. ⌜ FaceListed extents eps n nf k face total r (now (w .entry)) (now (w .exit)) ⌝ }
 {
@@ -68,8 +69,8 @@ pub fn all_constraints(
     eps: f64,
 ) -> usize
     requires { ⌜ Holds eps n (now w) ⌝ }
-    requires { ⌜ EdgesHeld (poolAt n (now w)) (now w) (8 + 62 * n + 30 * nf) k ⌝ }
-    requires { ⌜ (n < 2097152) × (nf < 268435456) × (k ≤ 3 * nf) × (8 + 62 * n + 66 * nf ≤ length (now w)) ⌝ }
+    requires { ⌜ EdgesHeld (poolAt n (now w)) (now w) (openEdgesAt n nf) k ⌝ }
+    requires { ⌜ (n < 2097152) × (nf < 268435456) × (k ≤ 3 * nf) × (roomEnd n nf ≤ length (now w)) ⌝ }
     ensures { λ r. ⌜ Constrained extents eps n nf k r (now (w .entry)) (now (w .exit)) ⌝ }
 {
     let mut total = 0;

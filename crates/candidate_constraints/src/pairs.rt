@@ -3,10 +3,11 @@ ghost use mathlib.Core.Path.{_≡_};
 ghost use Prim.Native.Nat.{_+_, _*_, _≤_, _<_};
 ghost use lib.ListN.{length};
 ghost use Rattle.sorting.specs.Buffer.{putRecord};
+ghost use Rattle.candidate_pool.specs.Offsets.{pairsAt, openEdgesAt};
 ghost use Rattle.candidate_pool.specs.Standing.{poolAt, edgeAt, edgesAt, EdgesHeld};
 ghost use Rattle.candidate_constraints.specs.Steps.{Shown, Roomy, Placed, pairKey, pairRecord, edgePairs, Pushed};
 use box_faces::faces::has_face;
-use candidate_pool::room::edges_at;
+use candidate_pool::room::open_edges_at;
 use candidate_pool::room::pairs_at;
 use candidate_pool::room::places_at;
 use geometry::numbers::FacePlace;
@@ -37,11 +38,11 @@ fn push_open_edge(w: &mut [u64], n: usize, nf: usize, i: usize, face: usize, c: 
     requires { ⌜ Shown n (now w) ⌝ }
     requires { ⌜ Roomy n nf (now w) ⌝ }
     requires { ⌜ Placed n face (now w) ⌝ }
-    requires { ⌜ EdgesHeld (poolAt n (now w)) (now w) (8 + 62 * n + 30 * nf) (i + 1) ⌝ }
+    requires { ⌜ EdgesHeld (poolAt n (now w)) (now w) (openEdgesAt n nf) (i + 1) ⌝ }
     requires { ⌜ (face < 6) × (i < 3 * nf) × (c < 4 * n + 3 * nf) ⌝ }
-    ensures { λ r. ⌜ Pushed n face (8 + 22 * n + 2 * c) 1 (edgePairs (poolAt n (now (w .entry))) face (edgeAt (now (w .entry)) (8 + 62 * n + 30 * nf + 3 * i))) c r (now (w .entry)) (now (w .exit)) ⌝ }
+    ensures { λ r. ⌜ Pushed n face (pairsAt n + 2 * c) 1 (edgePairs (poolAt n (now (w .entry))) face (edgeAt (now (w .entry)) (openEdgesAt n nf + 3 * i))) c r (now (w .entry)) (now (w .exit)) ⌝ }
 {
-    let at = edges_at(n, nf) + 3 * i;
+    let at = open_edges_at(n, nf) + 3 * i;
     let mask = w[at + 2];
     if has_face(mask, face) {
         let places = places_at(n);
@@ -68,9 +69,9 @@ pub fn push_open_edges(
     requires { ⌜ Shown n (now w) ⌝ }
     requires { ⌜ Roomy n nf (now w) ⌝ }
     requires { ⌜ Placed n face (now w) ⌝ }
-    requires { ⌜ EdgesHeld (poolAt n (now w)) (now w) (8 + 62 * n + 30 * nf) k ⌝ }
+    requires { ⌜ EdgesHeld (poolAt n (now w)) (now w) (openEdgesAt n nf) k ⌝ }
     requires { ⌜ (face < 6) × (k ≤ 3 * nf) × (count ≤ 4 * n) ⌝ }
-    ensures { λ r. ⌜ Pushed n face (8 + 22 * n + 2 * count) k (edgePairs (poolAt n (now (w .entry))) face (edgesAt (now (w .entry)) (8 + 62 * n + 30 * nf) k)) count r (now (w .entry)) (now (w .exit)) ⌝ }
+    ensures { λ r. ⌜ Pushed n face (pairsAt n + 2 * count) k (edgePairs (poolAt n (now (w .entry))) face (edgesAt (now (w .entry)) (openEdgesAt n nf) k)) count r (now (w .entry)) (now (w .exit)) ⌝ }
 {
     let mut c = count;
     let mut i = 0;

@@ -4,6 +4,7 @@ ghost use mathlib.Core.List.{map};
 ghost use Prim.Native.Nat.{_+_, _*_, _≤_, _<_};
 ghost use lib.ListN.{length};
 ghost use Rattle.sorting.specs.Buffer.{recordsAt};
+ghost use Rattle.candidate_pool.specs.Offsets.{sideAt, pairsAt};
 ghost use Rattle.candidate_pool.specs.Standing.{poolAt};
 ghost use Rattle.candidate_constraints.specs.Constraints.{neighbours};
 ghost use Rattle.candidate_constraints.specs.Steps.{Shown, sidePlaces, sidePairs, NoNan, LowPlaces, Fractioned, Collected, Pushed};
@@ -41,7 +42,7 @@ fn note_fraction(w: &mut [u64], at: usize, t: Fraction, place: FacePlace) -> usi
 // The records of a face's candidates along a side, in the order of its list; how many they are.
 fn collect_side(w: &mut [u64], n: usize, face: usize, side: Side, eps: f64) -> usize
     requires { ⌜ Shown n (now w) ⌝ }
-    requires { ⌜ (n < 2097152) × (face < 6) × (8 + 22 * n ≤ length (now w)) ⌝ }
+    requires { ⌜ (n < 2097152) × (face < 6) × (pairsAt n ≤ length (now w)) ⌝ }
     ensures { λ m. ⌜ Collected eps n face side m (now (w .entry)) (now (w .exit)) ⌝ }
 {
     let list = list_at(n, face);
@@ -60,9 +61,9 @@ fn collect_side(w: &mut [u64], n: usize, face: usize, side: Side, eps: f64) -> u
 
 // The neighbours among m sorted records, behind `count` pairs.
 fn push_neighbours(w: &mut [u64], n: usize, face: usize, m: usize, count: usize) -> usize
-    requires { ⌜ (n < 2097152) × (face < 6) × (8 + 22 * n + 2 * (count + m) ≤ length (now w)) × (m ≤ n) × (count < 1073741824) ⌝ }
+    requires { ⌜ (n < 2097152) × (face < 6) × (pairsAt n + 2 * (count + m) ≤ length (now w)) × (m ≤ n) × (count < 1073741824) ⌝ }
     requires { ⌜ LowPlaces n m (now w) ⌝ }
-    ensures { λ r. ⌜ Pushed n face (8 + 22 * n + 2 * count) m (neighbours (map (λ x. x .1) (recordsAt (now (w .entry)) (8 + 18 * n) m))) count r (now (w .entry)) (now (w .exit)) ⌝ }
+    ensures { λ r. ⌜ Pushed n face (pairsAt n + 2 * count) m (neighbours (map (λ x. x .1) (recordsAt (now (w .entry)) (sideAt n) m))) count r (now (w .entry)) (now (w .exit)) ⌝ }
 {
     let at = side_at(n);
     let pairs = pairs_at(n);
@@ -81,8 +82,8 @@ fn push_neighbours(w: &mut [u64], n: usize, face: usize, m: usize, count: usize)
 // By t, then by place: stable, since places ascend.
 fn push_side(w: &mut [u64], n: usize, face: usize, side: Side, eps: f64, count: usize) -> usize
     requires { ⌜ Shown n (now w) ⌝ }
-    requires { ⌜ (n < 2097152) × (face < 6) × (count ≤ 3 * n) × (8 + 38 * n ≤ length (now w)) ⌝ }
-    ensures { λ r. ⌜ Pushed n face (8 + 18 * n) n (neighbours (sidePlaces eps (poolAt n (now (w .entry))) face side)) count r (now (w .entry)) (now (w .exit)) ⌝ }
+    requires { ⌜ (n < 2097152) × (face < 6) × (count ≤ 3 * n) × (pairsAt n + 16 * n ≤ length (now w)) ⌝ }
+    ensures { λ r. ⌜ Pushed n face (sideAt n) n (neighbours (sidePlaces eps (poolAt n (now (w .entry))) face side)) count r (now (w .entry)) (now (w .exit)) ⌝ }
 {
     let m = collect_side(w, n, face, side, eps);
     let at = side_at(n);
@@ -93,8 +94,8 @@ fn push_side(w: &mut [u64], n: usize, face: usize, side: Side, eps: f64, count: 
 // The neighbours along all four sides; how many pairs they are.
 pub fn push_sides(w: &mut [u64], n: usize, face: usize, extents: AABB, eps: f64) -> usize
     requires { ⌜ Shown n (now w) ⌝ }
-    requires { ⌜ (n < 2097152) × (face < 6) × (8 + 38 * n ≤ length (now w)) ⌝ }
-    ensures { λ r. ⌜ Pushed n face (8 + 18 * n) (4 * n) (sidePairs extents eps (poolAt n (now (w .entry))) face) 0 r (now (w .entry)) (now (w .exit)) ⌝ }
+    requires { ⌜ (n < 2097152) × (face < 6) × (pairsAt n + 16 * n ≤ length (now w)) ⌝ }
+    ensures { λ r. ⌜ Pushed n face (sideAt n) (4 * n) (sidePairs extents eps (poolAt n (now (w .entry))) face) 0 r (now (w .entry)) (now (w .exit)) ⌝ }
 {
     let mut c = 0;
     let mut k = 0;

@@ -22,6 +22,7 @@ use Rattle.geometry.specs.Meshes.{vertex, pointsOf, meshOf}
 use Rattle.geometry.proofs.Meshes.{length-pointsOf}
 use Rattle.box_faces.specs.Faces.{faceBits, bitCount, facesOf}
 use Rattle.edges.specs.Edges.{openEdges}
+use Rattle.candidate_pool.specs.Offsets.{poolEnd, openEdgesAt, edgeTableAt}
 use Rattle.candidate_pool.specs.Pool.{Candidate, Pool, noPool, byKey, insert}
 use Rattle.candidate_pool.specs.Standing.{facesIn, poolAt, Holds, edgesAt, EdgesHeld}
 use Rattle.candidate_pool.proofs.Reading.{pool-count}
@@ -47,21 +48,21 @@ stray-test vs fs box eps mask e s side is =
 
 pub record EdgesGoing (vs : List Float) (fs : List ℕ) (box : AABB) (eps : Float) (n i listed : ℕ) (w₀ w : List ℕ) : Type 0 where
   pub low : i ≤ length (openEdges (threes fs))
-  pub surface : surfaceAt n w (8 + 62 * n + 30 * (length fs / 3)) i
+  pub surface : surfaceAt n w (openEdgesAt n (length fs / 3)) i
       ≡ foldl (enterEdge box eps (byKey eps) (meshOf vs fs)) (record { pool = noPool; edges = [] }) (take i (openEdges (threes fs)))
-  pub entries : listed ≡ length (edgesAt w (8 + 62 * n + 30 * (length fs / 3)) i)
+  pub entries : listed ≡ length (edgesAt w (openEdgesAt n (length fs / 3)) i)
   pub few : listed ≤ 6 * i
   pub entering : Entering vs fs eps n i w
   pub long : length w ≡ length w₀
 
 module _ (vs : List Float) (fs : List ℕ) (box : AABB) (eps : Float) (n : ℕ) where
   abbrev at : ℕ
-  at = 8 + 62 * n + 30 * (length fs / 3)
+  at = openEdgesAt n (length fs / 3)
 
   abbrev none : Surface
   none = record { pool = noPool; edges = [] }
 
-  pub edges-start : (k : ℕ) (w : List ℕ) → MeshFits vs fs n w → TableAt fs w (8 + 62 * n + 54 * (length fs / 3)) k → VerticesIn vs → Holds eps n w × (poolAt n w ≡ noPool)
+  pub edges-start : (k : ℕ) (w : List ℕ) → MeshFits vs fs n w → TableAt fs w (edgeTableAt n (length fs / 3)) k → VerticesIn vs → Holds eps n w × (poolAt n w ≡ noPool)
       → EdgesGoing vs fs box eps n 0 0 w w
   edges-start k w fits table within pool =
       record {
@@ -72,7 +73,7 @@ module _ (vs : List Float) (fs : List ℕ) (box : AABB) (eps : Float) (n : ℕ) 
         entering =
             record {
               fits = fits;
-              table = subst (TableAt fs w (8 + 62 * n + 54 * (length fs / 3))) (table .count) table;
+              table = subst (TableAt fs w (edgeTableAt n (length fs / 3))) (table .count) table;
               ready = record { holds = pool .0; vertices = fits .vertices; within = within; sourced = subst (Sourced (pointsOf vs) eps) (sym (pool .1)) (sourced-none (pointsOf vs) eps) };
               held = held-none (poolAt n w) w at;
             };
@@ -124,7 +125,7 @@ pub record CornersGoing (vs : List Float) (box : AABB) (eps : Float) (n v : ℕ)
   pub pool : poolAt n w ≡ foldl (insert (byKey eps)) (poolAt n w₀) (keep (twice vs box eps) (map (corner vs box eps) (upTo v)))
   pub ready : Ready vs eps n w
   pub long : length w ≡ length w₀
-  pub rest : (x : ℕ) → 8 + 17 * n ≤ x → getD w x 0 ≡ getD w₀ x 0
+  pub rest : (x : ℕ) → poolEnd n ≤ x → getD w x 0 ≡ getD w₀ x 0
 
 module _ (vs : List Float) (box : AABB) (eps : Float) (n : ℕ) where
   kept : (v : ℕ) (b : Bool) → twice vs box eps (corner vs box eps v) ≡ b → keep (twice vs box eps) (corner vs box eps v ∷ []) ≡ cond b (corner vs box eps v ∷ []) []

@@ -17,6 +17,7 @@ use Rattle.geometry.specs.Triangles.{Triangle, tri, threes}
 use Rattle.geometry.specs.Meshes.{vertex, pointsOf, meshOf}
 use Rattle.box_faces.specs.Faces.{faceBits, hasBit, bitCount}
 use Rattle.edges.specs.Edges.{sides, openEdges}
+use Rattle.candidate_pool.specs.Offsets.{poolEnd, openEdgesAt, edgeTableAt}
 use Rattle.candidate_pool.specs.Pool.{Pool, faceList, byKey, numberFor, insert}
 use Rattle.candidate_pool.specs.Standing.{facesIn, poolAt, edgeAt, edgesAt, EdgesHeld}
 use Rattle.candidate_pool.proofs.Growing.{grows, number-listed}
@@ -86,13 +87,13 @@ module _ (vs : List Float) (fs : List ℕ) (box : AABB) (eps : Float) (n i mask 
     (is : mask ≡ faceBits (edgeFaces box eps (meshOf vs fs) (getD (openEdges (threes fs)) i (0, 0))))
     (first : VertexEntered vs eps n (getD (openEdges (threes fs)) i (0, 0) .0) mask a w w1)
     (second : VertexEntered vs eps n (getD (openEdges (threes fs)) i (0, 0) .1) mask b w1 w2)
-    (stored : w3 ≡ set (set (set w2 (8 + 62 * n + 30 * (length fs / 3) + 3 * i) a) (8 + 62 * n + 30 * (length fs / 3) + 3 * i + 1) b) (8 + 62 * n + 30 * (length fs / 3) + 3 * i + 2) (cond (eqb a b) 0 mask))
+    (stored : w3 ≡ set (set (set w2 (openEdgesAt n (length fs / 3) + 3 * i) a) (openEdgesAt n (length fs / 3) + 3 * i + 1) b) (openEdgesAt n (length fs / 3) + 3 * i + 2) (cond (eqb a b) 0 mask))
     (result : r ≡ cond (eqb a b) 0 (bitCount mask)) where
   abbrev side : ℕ × ℕ
   side = getD (openEdges (threes fs)) i (0, 0)
 
   abbrev at : ℕ
-  at = 8 + 62 * n + 30 * (length fs / 3)
+  at = openEdgesAt n (length fs / 3)
 
   abbrev on : List ℕ
   on = edgeFaces box eps (meshOf vs fs) side
@@ -111,13 +112,13 @@ module _ (vs : List Float) (fs : List ℕ) (box : AABB) (eps : Float) (n i mask 
   word : (x : ℕ) → (x ≡ at + 3 * i → ⊥) → (x ≡ at + 3 * i + 1 → ⊥) → (x ≡ at + 3 * i + 2 → ⊥) → getD w3 x 0 ≡ getD w2 x 0
   word x f g k = ap (λ (l : List ℕ). getD l x 0) stored ∙ three-other w2 (at + 3 * i) a b (cond (eqb a b) 0 mask) room x f g k
 
-  same : (x : ℕ) → 8 + 17 * n ≤ x → (x ≡ at + 3 * i → ⊥) → (x ≡ at + 3 * i + 1 → ⊥) → (x ≡ at + 3 * i + 2 → ⊥) → getD w3 x 0 ≡ getD w x 0
+  same : (x : ℕ) → poolEnd n ≤ x → (x ≡ at + 3 * i → ⊥) → (x ≡ at + 3 * i + 1 → ⊥) → (x ≡ at + 3 * i + 2 → ⊥) → getD w3 x 0 ≡ getD w x 0
   same x l f g k = word x f g k ∙ second .inserted .rest x l ∙ first .inserted .rest x l
 
   same-edges : (x : ℕ) → at ≤ x → x < at + 3 * i → getD w3 x 0 ≡ getD w x 0
   same-edges x l k = same x (omega arith) (λ e. omega arith) (λ e. omega arith) (λ e. omega arith)
 
-  same-below : (x : ℕ) → x < 8 + 17 * n → getD w3 x 0 ≡ getD w2 x 0
+  same-below : (x : ℕ) → x < poolEnd n → getD w3 x 0 ≡ getD w2 x 0
   same-below x l = word x (λ e. omega arith) (λ e. omega arith) (λ e. omega arith)
 
   from-word : getD w3 (at + 3 * i) 0 ≡ a
@@ -199,13 +200,13 @@ module _ (vs : List Float) (fs : List ℕ) (box : AABB) (eps : Float) (n i mask 
         size = (let s = f .size in let l = long in omega arith);
       }
 
-  table-word : (j : ℕ) → getD w3 (8 + 62 * n + 54 * (length fs / 3) + 2 * j + 1) 0 ≡ getD w (8 + 62 * n + 54 * (length fs / 3) + 2 * j + 1) 0
+  table-word : (j : ℕ) → getD w3 (edgeTableAt n (length fs / 3) + 2 * j + 1) 0 ≡ getD w (edgeTableAt n (length fs / 3) + 2 * j + 1) 0
   table-word j =
       let t = entering .fits .threes in
       let k = entering .table .within in
-      same (8 + 62 * n + 54 * (length fs / 3) + 2 * j + 1) (omega arith) (λ e. omega arith) (λ e. omega arith) (λ e. omega arith)
+      same (edgeTableAt n (length fs / 3) + 2 * j + 1) (omega arith) (λ e. omega arith) (λ e. omega arith) (λ e. omega arith)
 
-  table : TableAt fs w3 (8 + 62 * n + 54 * (length fs / 3)) (length (openEdges (threes fs)))
+  table : TableAt fs w3 (edgeTableAt n (length fs / 3)) (length (openEdges (threes fs)))
   table =
       let t = entering .table in
       record {
@@ -267,7 +268,7 @@ pub edge-done : (vs : List Float) (fs : List ℕ) (box : AABB) (eps : Float) (n 
     → Entering vs fs eps n i w
     → i < length (openEdges (threes fs))
     → getD (sides (threes fs)) s (0, 0) ≡ getD (openEdges (threes fs)) i (0, 0)
-    → at ≡ 8 + 62 * n + 30 * (length fs / 3)
+    → at ≡ openEdgesAt n (length fs / 3)
     → mask ≡ faceBits (edgeFaces box eps (meshOf vs fs) (getD (sides (threes fs)) s (0, 0)))
     → v ≡ getD (sides (threes fs)) s (0, 0) .0
     → u ≡ getD (sides (threes fs)) s (0, 0) .1

@@ -1,5 +1,5 @@
 -- What the functions of open edges and corner vertices leave in the work room, of which the outer contract does not speak. For n candidates and nf facets: the open edges from
--- 8 + 62 n + 30 nf on, three words each, and the records of the edge table from 8 + 62 n + 54 nf on. Assumes nothing.
+-- openEdgesAt on, three words each, and the records of the edge table from edgeTableAt on. Assumes nothing.
 --   TableAt          the k records from `at` on are those of the open edges in order (crate edges)
 --   MeshFits         the mesh and the room that the functions ask for
 --   VerticesIn       every vertex is a point of no NaN and no infinity
@@ -23,6 +23,7 @@ use Rattle.geometry.specs.Triangles.{threes}
 use Rattle.geometry.specs.Meshes.{vertex, pointsOf, meshOf}
 use Rattle.mesh_weld.specs.Cells.{keyOf, sameKey}
 use Rattle.edges.specs.Edges.{sides, openEdges}
+use Rattle.candidate_pool.specs.Offsets.{poolEnd, openEdgesAt, edgeTableAt, roomEnd}
 use Rattle.candidate_pool.specs.Pool.{Pool, noCandidate, pointOf, byKey, numberFor, insert}
 use Rattle.candidate_pool.specs.Standing.{facesIn, countAt, poolAt, PointIn, Holds, Inserted, edgesAt, EdgesHeld}
 use Rattle.candidate_edges.specs.Surface.{Surface, edgeFaces, meshCandidate, enterEdge, edgeSurface, cornerVertices}
@@ -40,7 +41,7 @@ pub record MeshFits (vs : List Float) (fs : List ℕ) (n : ℕ) (w : List ℕ) :
   pub vertices : length vs / 3 ≤ n
   pub small : n < 268435456
   pub few : length fs / 3 < 268435456
-  pub size : 8 + 62 * n + 66 * (length fs / 3) ≤ length w
+  pub size : roomEnd n (length fs / 3) ≤ length w
 
 abbrev pub VerticesIn : List Float → Type 0
 VerticesIn vs = (v : ℕ) → v < length vs / 3 → PointIn (vertex (pointsOf vs) v)
@@ -67,23 +68,23 @@ surfaceAt n w at i = record { pool = poolAt n w; edges = edgesAt w at i }
 
 pub record Entering (vs : List Float) (fs : List ℕ) (eps : Float) (n i : ℕ) (w : List ℕ) : Type 0 where
   pub fits : MeshFits vs fs n w
-  pub table : TableAt fs w (8 + 62 * n + 54 * (length fs / 3)) (length (openEdges (threes fs)))
+  pub table : TableAt fs w (edgeTableAt n (length fs / 3)) (length (openEdges (threes fs)))
   pub ready : Ready vs eps n w
-  pub held : EdgesHeld (poolAt n w) w (8 + 62 * n + 30 * (length fs / 3)) i
+  pub held : EdgesHeld (poolAt n w) w (openEdgesAt n (length fs / 3)) i
 
 pub record EdgeEntered (vs : List Float) (fs : List ℕ) (box : AABB) (eps : Float) (n i r : ℕ) (w w' : List ℕ) : Type 0 where
-  pub surface : surfaceAt n w' (8 + 62 * n + 30 * (length fs / 3)) (i + 1) ≡ enterEdge box eps (byKey eps) (meshOf vs fs) (surfaceAt n w (8 + 62 * n + 30 * (length fs / 3)) i) (getD (openEdges (threes fs)) i (0, 0))
-  pub listed : length (edgesAt w' (8 + 62 * n + 30 * (length fs / 3)) (i + 1)) ≡ length (edgesAt w (8 + 62 * n + 30 * (length fs / 3)) i) + r
+  pub surface : surfaceAt n w' (openEdgesAt n (length fs / 3)) (i + 1) ≡ enterEdge box eps (byKey eps) (meshOf vs fs) (surfaceAt n w (openEdgesAt n (length fs / 3)) i) (getD (openEdges (threes fs)) i (0, 0))
+  pub listed : length (edgesAt w' (openEdgesAt n (length fs / 3)) (i + 1)) ≡ length (edgesAt w (openEdgesAt n (length fs / 3)) i) + r
   pub few : r ≤ 6
   pub entering : Entering vs fs eps n (i + 1) w'
   pub long : length w' ≡ length w
 
 pub record EdgesEntered (vs : List Float) (fs : List ℕ) (box : AABB) (eps : Float) (n k r : ℕ) (w w' : List ℕ) : Type 0 where
   pub pool : poolAt n w' ≡ edgeSurface box eps (byKey eps) (meshOf vs fs) .pool
-  pub edges : edgesAt w' (8 + 62 * n + 30 * (length fs / 3)) k ≡ edgeSurface box eps (byKey eps) (meshOf vs fs) .edges
+  pub edges : edgesAt w' (openEdgesAt n (length fs / 3)) k ≡ edgeSurface box eps (byKey eps) (meshOf vs fs) .edges
   pub listed : r ≡ length (edgeSurface box eps (byKey eps) (meshOf vs fs) .edges)
   pub holds : Holds eps n w'
-  pub held : EdgesHeld (poolAt n w') w' (8 + 62 * n + 30 * (length fs / 3)) k
+  pub held : EdgesHeld (poolAt n w') w' (openEdgesAt n (length fs / 3)) k
   pub sourced : Sourced (pointsOf vs) eps (poolAt n w')
   pub long : length w' ≡ length w
 
@@ -92,11 +93,11 @@ pub record CornerEntered (vs : List Float) (box : AABB) (eps : Float) (n v : ℕ
   pub pool : poolAt n w' ≡ foldl (insert (byKey eps)) (poolAt n w) (keep (λ c. leb 2 (length (c .on))) (meshCandidate (meshOf vs []) v (edgeFaces box eps (meshOf vs []) (v, v)) ∷ []))
   pub ready : Ready vs eps n w'
   pub long : length w' ≡ length w
-  pub rest : (x : ℕ) → 8 + 17 * n ≤ x → getD w' x 0 ≡ getD w x 0
+  pub rest : (x : ℕ) → poolEnd n ≤ x → getD w' x 0 ≡ getD w x 0
 
 pub record CornersEntered (vs : List Float) (box : AABB) (eps : Float) (n : ℕ) (w w' : List ℕ) : Type 0 where
   pub pool : poolAt n w' ≡ foldl (insert (byKey eps)) (poolAt n w) (cornerVertices box eps (meshOf vs []))
   pub holds : Holds eps n w'
   pub few : countAt w' ≤ length vs / 3
   pub long : length w' ≡ length w
-  pub rest : (x : ℕ) → 8 + 17 * n ≤ x → getD w' x 0 ≡ getD w x 0
+  pub rest : (x : ℕ) → poolEnd n ≤ x → getD w' x 0 ≡ getD w x 0

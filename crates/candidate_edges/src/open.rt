@@ -9,6 +9,7 @@ ghost use Rattle.geometry.specs.Triangles.{threes};
 ghost use Rattle.geometry.specs.Meshes.{vertex, pointsOf, meshOf};
 ghost use Rattle.box_faces.specs.Faces.{faceBits, bitCount};
 ghost use Rattle.edges.specs.Edges.{sides, openEdges};
+ghost use Rattle.candidate_pool.specs.Offsets.{edgeTableAt};
 ghost use Rattle.candidate_pool.specs.Pool.{noPool};
 ghost use Rattle.candidate_pool.specs.Standing.{poolAt, Holds};
 ghost use Rattle.candidate_edges.specs.Surface.{edgeFaces};
@@ -16,8 +17,8 @@ ghost use Rattle.candidate_edges.specs.Steps.{TableAt, VerticesIn, MeshF
 use box_faces::faces::aabb_face_mask;
 use box_faces::faces::count_faces;
 use candidate_pool::pool::insert_candidate;
-use candidate_pool::room::edges_at;
-use candidate_pool::room::table_at;
+use candidate_pool::room::edge_table_at;
+use candidate_pool::room::open_edges_at;
 use edges::edge_from;
 use edges::edge_to;
 use geometry::aabb::AABB;
@@ -58,10 +59,10 @@ pub fn stray_edge(
     eps: f64,
 ) -> usize
     requires { ⌜ MeshFits (now vertices) (now facets) n (now w) ⌝ }
-    requires { ⌜ TableAt (now facets) (now w) (8 + 62 * n + 54 * (length (now facets) / 3)) k ⌝ }
+    requires { ⌜ TableAt (now facets) (now w) (edgeTableAt n (length (now facets) / 3)) k ⌝ }
     ensures { λ r. ⌜ r ≡ place (λ e. eqb (length (edgeFaces extents eps (meshOf (now (vertices .entry)) (now (facets .entry))) e)) 0) (openEdges (threes (now (facets .entry)))) ⌝ }
 {
-    let table = table_at(n, facets.len() / 3);
+    let table = edge_table_at(n, facets.len() / 3);
     let mut i = 0;
     while i < k {
         let side = w[table + 2 * i + 1] as usize;
@@ -125,13 +126,13 @@ fn enter_edge(
     ensures { λ r. ⌜ EdgeEntered (now (vertices .entry)) (now (facets .entry)) extents eps n i r (now (w .entry)) (now (w .exit)) ⌝ }
 {
     let nf = facets.len() / 3;
-    let side = w[table_at(n, nf) + 2 * i + 1] as usize;
+    let side = w[edge_table_at(n, nf) + 2 * i + 1] as usize;
     let mask = side_mask(vertices, facets, side, extents, eps);
     let from = MeshVertexId(edge_from(facets, side) as usize);
     let to = MeshVertexId(edge_to(facets, side) as usize);
     let a = enter_vertex(w, vertices, n, from, mask, eps);
     let b = enter_vertex(w, vertices, n, to, mask, eps);
-    put_edge(w, edges_at(n, nf) + 3 * i, a, b, mask)
+    put_edge(w, open_edges_at(n, nf) + 3 * i, a, b, mask)
 }
 
 // The ends of all k open edges; how many entries the open-edge list has.
@@ -145,7 +146,7 @@ pub fn enter_edges(
     eps: f64,
 ) -> usize
     requires { ⌜ MeshFits (now vertices) (now facets) n (now w) ⌝ }
-    requires { ⌜ TableAt (now facets) (now w) (8 + 62 * n + 54 * (length (now facets) / 3)) k ⌝ }
+    requires { ⌜ TableAt (now facets) (now w) (edgeTableAt n (length (now facets) / 3)) k ⌝ }
     requires { ⌜ VerticesIn (now vertices) ⌝ }
     requires { ⌜ Holds eps n (now w) × (poolAt n (now w) ≡ noPool) ⌝ }
     ensures { λ r. ⌜ EdgesEntered (now (vertices .entry)) (now (facets .entry)) extents eps n k r (now (w .entry)) (now (w .exit)) ⌝ }

@@ -22,6 +22,7 @@ use Rattle.geometry.specs.Triangles.{Triangle, tri}
 use Rattle.box_faces.specs.declared.uv.Uv.{Uv}
 use Rattle.box_faces.specs.Faces.{project, hasBit}
 use Rattle.box_faces.specs.Segments.{onSegment}
+use Rattle.candidate_pool.specs.Offsets.{openEdgesAt, roomEnd}
 use Rattle.candidate_pool.specs.Pool.{Pool, pointOf, faceList}
 use Rattle.candidate_pool.specs.Setting.{Setting}
 use Rattle.candidate_pool.specs.Standing.{countAt, poolAt, Tidy, Holds, edgeAt, edgesAt, EdgesHeld}
@@ -93,11 +94,11 @@ held-low n w f c h t e =
     let k = pool-count n w in
     omega arith
 
-module _ (eps : Float) (n nf k f : ℕ) (w : List ℕ) (h : f < 6) (H : Holds eps n w) (D : EdgesHeld (poolAt n w) w (8 + 62 * n + 30 * nf) k) where
+module _ (eps : Float) (n nf k f : ℕ) (w : List ℕ) (h : f < 6) (H : Holds eps n w) (D : EdgesHeld (poolAt n w) w (openEdgesAt n nf) k) where
   abbrev E : ℕ
-  E = 8 + 62 * n + 30 * nf
+  E = openEdgesAt n nf
 
-  pub edges-ready : (tolerance : Float) → 8 + 62 * n + 66 * nf ≤ length w → nf < 268435456 → k ≤ 3 * nf → Within (2 ^ 48) tolerance → EdgesReady n nf k f tolerance w
+  pub edges-ready : (tolerance : Float) → roomEnd n nf ≤ length w → nf < 268435456 → k ≤ 3 * nf → Within (2 ^ 48) tolerance → EdgesReady n nf k f tolerance w
   edges-ready tolerance size small edges tol =
       record {
         size = size;

@@ -34,6 +34,7 @@ use Rattle.refusals.proofs.Grids.{not-too-fine, cut-is}
 use Rattle.box_faces.specs.declared.uv.Uv.{Uv}
 use Rattle.box_faces.specs.Faces.{uAxis, vAxis, project}
 use Rattle.box_faces.specs.Lines.{lineAt, pointOnFace}
+use Rattle.candidate_pool.specs.Offsets.{poolEnd, openEdgesAt, segmentsAt, roomEnd}
 use Rattle.candidate_pool.specs.Pool.{Pool, pointOf, faceList, byKey, insert}
 use Rattle.candidate_pool.specs.Standing.{candidate, countAt, poolAt, Holds, edgesAt}
 use Rattle.candidate_pool.proofs.Frames.{pool-same, holds-same}
@@ -138,7 +139,7 @@ module _ (box : AABB) (eps : Float) (resolution skip : List Float) where
 
 -- ---- rows
 
-pub near-ready : (n nf k f : ℕ) (tolerance : Float) (w v : List ℕ) (count at : ℕ) (t : Float) → Gathered n nf k f tolerance w v count → at ≡ 8 + 62 * n + 39 * nf → k ≤ 3 * nf → 8 + 62 * n + 66 * nf ≤ length w
+pub near-ready : (n nf k f : ℕ) (tolerance : Float) (w v : List ℕ) (count at : ℕ) (t : Float) → Gathered n nf k f tolerance w v count → at ≡ segmentsAt n nf → k ≤ 3 * nf → roomEnd n nf ≤ length w
     → NearReady n (record { at = at; count = count; tolerance = t }) v
 near-ready n nf k f tolerance w v count at t G e edges size =
     record {
@@ -199,7 +200,7 @@ face-line-in box f parts e h a b = line-in box (axis f) parts (cond (isMin f) 0 
 -- ---- the face
 
 module _ (eps : Float) (n nf k f : ℕ) (tolerance : Float) (w v : List ℕ) (H : Holds eps n w) (count : ℕ) (G : Gathered n nf k f tolerance w v count) where
-  below : (x : ℕ) → x < 8 + 17 * n → getD v x 0 ≡ getD w x 0
+  below : (x : ℕ) → x < poolEnd n → getD v x 0 ≡ getD w x 0
   below x h = G .rest x (omega arith)
 
   pub gathered-pool : poolAt n v ≡ poolAt n w
@@ -220,14 +221,14 @@ module _ (eps : Float) (n nf k f : ℕ) (tolerance : Float) (w v : List ℕ) (H 
       }
 
 module _ (box : AABB) (eps : Float) (resolution skip : List Float) (n nf k f : ℕ) (w v u : List ℕ) (R : FaceReady box eps resolution skip n nf k f w) (count : ℕ) (G : Gathered n nf k f (byAxis skip (axis f)) w v count) where
-  segments-say : (place : ℕ) → place ≡ 8 + 62 * n + 39 * nf → (p : Uv)
-      → skipsAt v place count (byAxis skip (axis f)) p ≡ skipped (byAxes box eps resolution skip) (edgesAt w (8 + 62 * n + 30 * nf) k) (poolAt n w) f p
+  segments-say : (place : ℕ) → place ≡ segmentsAt n nf → (p : Uv)
+      → skipsAt v place count (byAxis skip (axis f)) p ≡ skipped (byAxes box eps resolution skip) (edgesAt w (openEdgesAt n nf) k) (poolAt n w) f p
   unfolding skipped
   segments-say place es p =
       ap (λ (x : ℕ). skipsAt v x count (byAxis skip (axis f)) p) es ∙ G .skips p
-      ∙ sym (edges-some (poolAt n w) w (8 + 62 * n + 30 * nf) k f (byAxis skip (axis f)) p (R .face-in))
+      ∙ sym (edges-some (poolAt n w) w (openEdgesAt n nf) k f (byAxis skip (axis f)) p (R .face-in))
 
-  pub face-end : (place : ℕ) (at : Float) (last last-v parts i : ℕ) → place ≡ 8 + 62 * n + 39 * nf → last ≡ segments box eps (byAxis resolution) (uAxis f) → last-v ≡ segments box eps (byAxis resolution) (vAxis f)
+  pub face-end : (place : ℕ) (at : Float) (last last-v parts i : ℕ) → place ≡ segmentsAt n nf → last ≡ segments box eps (byAxis resolution) (uAxis f) → last-v ≡ segments box eps (byAxis resolution) (vAxis f)
       → parts ≡ segments box eps (byAxis resolution) (axis f) → at ≡ faceLine box f parts → i ≡ last + 1
       → Entered eps n (flatMap (λ x. flatMap (rowCell (skipsNear v (record { at = place; count = count; tolerance = byAxis skip (axis f) })) box f (rowAt box f at last x) last-v) (upTo (last-v + 1))) (upTo i)) (i * (last-v + 1)) v u
       → FaceEntered box eps resolution skip n nf k f w u
@@ -236,8 +237,8 @@ module _ (box : AABB) (eps : Float) (resolution skip : List Float) (n nf k f : �
         pool =
             E .pool
             ∙ ap (λ (x : ℕ). foldl (insert (byKey eps)) (poolAt n v) (flatMap (λ y. flatMap (rowCell (skipsAt v place count (byAxis skip (axis f))) box f (rowAt box f at last y) last-v) (upTo (last-v + 1))) (upTo x))) ei
-            ∙ ap (foldl (insert (byKey eps)) (poolAt n v)) (face-is box eps resolution skip (edgesAt w (8 + 62 * n + 30 * nf) k) (poolAt n w) f (R .face-in) (skipsAt v place count (byAxis skip (axis f))) (segments-say place es) at last last-v parts eu ev ep ea)
-            ∙ ap (λ (p : Pool). foldl (insert (byKey eps)) p (faceGrid (byAxes box eps resolution skip) (edgesAt w (8 + 62 * n + 30 * nf) k) (poolAt n w) f)) (gathered-pool eps n nf k f (byAxis skip (axis f)) w v (R .holds) count G);
+            ∙ ap (foldl (insert (byKey eps)) (poolAt n v)) (face-is box eps resolution skip (edgesAt w (openEdgesAt n nf) k) (poolAt n w) f (R .face-in) (skipsAt v place count (byAxis skip (axis f))) (segments-say place es) at last last-v parts eu ev ep ea)
+            ∙ ap (λ (p : Pool). foldl (insert (byKey eps)) p (faceGrid (byAxes box eps resolution skip) (edgesAt w (openEdgesAt n nf) k) (poolAt n w) f)) (gathered-pool eps n nf k f (byAxis skip (axis f)) w v (R .holds) count G);
         holds = E .holds;
         few =
             let a = E .few in

@@ -17,6 +17,7 @@ use Rattle.lists.proofs.Sequences.{some-up}
 use Rattle.box_faces.specs.declared.uv.Uv.{Uv}
 use Rattle.box_faces.specs.Faces.{project, hasBit}
 use Rattle.box_faces.specs.Segments.{onSegment}
+use Rattle.candidate_pool.specs.Offsets.{entryAt, openEdgesAt, segmentsAt}
 use Rattle.candidate_pool.specs.Pool.{pointOf}
 use Rattle.candidate_pool.specs.Standing.{countAt, pointAt, poolAt, Stored}
 use Rattle.candidate_pool.proofs.Placing.{point-same, stored-same}
@@ -27,17 +28,17 @@ use Rattle.candidate_grids.proofs.Frames.{segment-same, skips-same}
 pub record Gathering (n nf k face : ℕ) (tolerance : Float) (w v : List ℕ) (count i : ℕ) : Type 0 where
   pub few : count ≤ i
   pub most : i ≤ k
-  pub segments : (j : ℕ) → j < count → SegmentAt v (8 + 62 * n + 39 * nf + 5 * j)
-  pub skips : (p : Uv) → skipsAt v (8 + 62 * n + 39 * nf) count tolerance p ≡ some (edgeHit (poolAt n w) w (8 + 62 * n + 30 * nf) face tolerance p) (upTo i)
+  pub segments : (j : ℕ) → j < count → SegmentAt v (segmentsAt n nf + 5 * j)
+  pub skips : (p : Uv) → skipsAt v (segmentsAt n nf) count tolerance p ≡ some (edgeHit (poolAt n w) w (openEdgesAt n nf) face tolerance p) (upTo i)
   pub long : length v ≡ length w
-  pub rest : (x : ℕ) → x < 8 + 62 * n + 39 * nf → getD v x 0 ≡ getD w x 0
+  pub rest : (x : ℕ) → x < segmentsAt n nf → getD v x 0 ≡ getD w x 0
 
 module _ (n nf k face : ℕ) (tolerance : Float) (w : List ℕ) where
   abbrev E : ℕ
-  E = 8 + 62 * n + 30 * nf
+  E = openEdgesAt n nf
 
   abbrev S : ℕ
-  S = 8 + 62 * n + 39 * nf
+  S = segmentsAt n nf
 
   pub gather-start : Gathering n nf k face tolerance w w 0 0
   unfolding skipsAt some upFrom
@@ -78,14 +79,14 @@ module _ (n nf k face : ℕ) (tolerance : Float) (w : List ℕ) where
       to-in : getD w (E + 3 * i + 1) 0 < countAt w
       to-in = R .to i lt (bit b e ∙ t)
 
-      same-at : (c : ℕ) → c < countAt w → (x : ℕ) → x < 5 → getD v (8 + 5 * c + x) 0 ≡ getD w (8 + 5 * c + x) 0
-      same-at c h x l = G .rest (8 + 5 * c + x) (let f = R .few in omega arith)
+      same-at : (c : ℕ) → c < countAt w → (x : ℕ) → x < 5 → getD v (entryAt c + x) 0 ≡ getD w (entryAt c + x) 0
+      same-at c h x l = G .rest (entryAt c + x) (let f = R .few in omega arith)
 
-      stored : (c d : ℕ) → d ≡ c → c < countAt w → Stored v (8 + 5 * d)
+      stored : (c d : ℕ) → d ≡ c → c < countAt w → Stored v (entryAt d)
       stored c d q h =
-          subst (λ (x : ℕ). Stored v (8 + 5 * x)) (sym q) (stored-same w v (8 + 5 * c) (λ x l. same-at c h x (omega arith)) (R .stored c h))
+          subst (λ (x : ℕ). Stored v (entryAt x)) (sym q) (stored-same w v (entryAt c) (λ x l. same-at c h x (omega arith)) (R .stored c h))
 
-      in-room : (c d : ℕ) → d ≡ c → c < countAt w → 8 + 5 * d + 2 < length v
+      in-room : (c d : ℕ) → d ≡ c → c < countAt w → entryAt d + 2 < length v
       in-room c d q h = let f = R .few in let s = R .size in let l = G .long in omega arith
 
       pub edge-ready : EdgeReady (S + 5 * count) (E + 3 * i) tolerance v
@@ -100,10 +101,10 @@ module _ (n nf k face : ℕ) (tolerance : Float) (w : List ℕ) where
             tolerance-in = R .tolerance-in;
           }
 
-      point : (c d : ℕ) → d ≡ c → c < countAt w → project face (pointAt v (8 + 5 * d)) ≡ project face (pointOf (poolAt n w) c)
+      point : (c d : ℕ) → d ≡ c → c < countAt w → project face (pointAt v (entryAt d)) ≡ project face (pointOf (poolAt n w) c)
       point c d q h =
           ap (project face)
-          (ap (λ (x : ℕ). pointAt v (8 + 5 * x)) q ∙ point-same w v (8 + 5 * c) (λ x l. same-at c h x (omega arith)) ∙ sym (pool-point n w c h))
+          (ap (λ (x : ℕ). pointAt v (entryAt x)) q ∙ point-same w v (entryAt c) (λ x l. same-at c h x (omega arith)) ∙ sym (pool-point n w c h))
 
       pub gather-one : (u : List ℕ) → SegmentGathered (S + 5 * count) (E + 3 * i) face tolerance v u → Gathering n nf k face tolerance w u (count + 1) (i + 1)
       unfolding edgeHit skipsAt
@@ -133,7 +134,7 @@ module _ (n nf k face : ℕ) (tolerance : Float) (w : List ℕ) where
           hit : (p : Uv) → hitAt u (S + 5 * count) tolerance p ≡ edgeHit (poolAt n w) w E face tolerance p i
           hit p =
               g .hits p
-              ∙ ap (λ (x : Uv). onSegment tolerance p x (project face (pointAt v (8 + 5 * getD v (E + 3 * i + 1) 0)))) (point (getD w (E + 3 * i) 0) (getD v (E + 3 * i) 0) first from-in)
+              ∙ ap (λ (x : Uv). onSegment tolerance p x (project face (pointAt v (entryAt (getD v (E + 3 * i + 1) 0))))) (point (getD w (E + 3 * i) 0) (getD v (E + 3 * i) 0) first from-in)
               ∙ ap (λ (x : Uv). onSegment tolerance p (project face (pointOf (poolAt n w) (getD w (E + 3 * i) 0))) x) (point (getD w (E + 3 * i + 1) 0) (getD v (E + 3 * i + 1) 0) (word 1 (omega arith)) to-in)
               ∙ sym (and-next (hasBit (getD w (E + 3 * i + 2) 0) face) _ _ (bit b e ∙ t) refl)
 

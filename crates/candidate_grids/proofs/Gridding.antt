@@ -19,6 +19,7 @@ use Rattle.geometry.specs.Axes.{segments, gridSize}
 use Rattle.refusals.specs.Front.{byAxis}
 use Rattle.box_faces.specs.declared.uv.Uv.{Uv}
 use Rattle.box_faces.specs.Faces.{uAxis, vAxis, project}
+use Rattle.candidate_pool.specs.Offsets.{poolEnd, openEdgesAt, segmentsAt}
 use Rattle.candidate_pool.specs.Pool.{Pool, byKey, insert}
 use Rattle.candidate_pool.specs.Setting.{Setting}
 use Rattle.candidate_pool.specs.Standing.{candidate, countAt, poolAt, Holds, edgesAt, EdgesHeld}
@@ -64,16 +65,16 @@ grid-same s l m p q f same =
 
 pub record Gridding (box : AABB) (eps : Float) (resolution skip : List Float) (n nf k : ℕ) (w v : List ℕ) (face : ℕ) : Type 0 where
   pub most : face ≤ 6
-  pub pool : poolAt n v ≡ foldl (insert (byKey eps)) (poolAt n w) (flatMap (faceGrid (byAxes box eps resolution skip) (edgesAt w (8 + 62 * n + 30 * nf) k) (poolAt n w)) (upTo face))
+  pub pool : poolAt n v ≡ foldl (insert (byKey eps)) (poolAt n w) (flatMap (faceGrid (byAxes box eps resolution skip) (edgesAt w (openEdgesAt n nf) k) (poolAt n w)) (upTo face))
   pub holds : Holds eps n v
   pub few : countAt v ≤ countAt w + sizeTo box eps resolution face
   pub grown : Grown n w v
   pub long : length v ≡ length w
-  pub rest : (x : ℕ) → 8 + 17 * n ≤ x → x < 8 + 62 * n + 39 * nf → getD v x 0 ≡ getD w x 0
+  pub rest : (x : ℕ) → poolEnd n ≤ x → x < segmentsAt n nf → getD v x 0 ≡ getD w x 0
 
 module _ (box : AABB) (eps : Float) (resolution skip : List Float) (n nf k : ℕ) (w : List ℕ) (R : GridReady box eps resolution skip n nf k w) where
   abbrev E : ℕ
-  E = 8 + 62 * n + 30 * nf
+  E = openEdgesAt n nf
 
   abbrev s : Setting
   s = byAxes box eps resolution skip

@@ -25,6 +25,7 @@ use Rattle.geometry.specs.Points.{along}
 use Rattle.box_faces.specs.declared.uv.Uv.{Uv}
 use Rattle.box_faces.specs.Faces.{uv, uAxis, vAxis, project}
 use Rattle.box_faces.specs.Segments.{segmentLength, segmentLengthIs, minus, segmentBound, onSegmentBy, onSegment}
+use Rattle.candidate_pool.specs.Offsets.{entryAt}
 use Rattle.candidate_pool.specs.Standing.{pointAt, PointIn, Stored}
 use Rattle.candidate_grids.specs.Steps.{double, SegmentIn, startAt, endAt, hitAt, SegmentPut, SegmentGathered}
 
@@ -141,7 +142,7 @@ module _ (a b : Uv) (ha : UvIn a) (hb : UvIn b) where
 pub segment-in : (a b : Uv) (bound : Float) → UvIn a → UvIn b → T (finite bound) → SegmentIn a b bound
 segment-in a b bound ha hb h = record { au = ha .u .is-finite; av = ha .v .is-finite; bu = hb .u .is-finite; bv = hb .v .is-finite; bound-in = h }
 
-pub gathered : (at edge face : ℕ) (tolerance : Float) (w v : List ℕ) (p q : Point) (a b : Uv) (bound : Float) → p ≡ pointAt w (8 + 5 * getD w edge 0) → q ≡ pointAt w (8 + 5 * getD w (edge + 1) 0)
+pub gathered : (at edge face : ℕ) (tolerance : Float) (w v : List ℕ) (p q : Point) (a b : Uv) (bound : Float) → p ≡ pointAt w (entryAt (getD w edge 0)) → q ≡ pointAt w (entryAt (getD w (edge + 1) 0))
     → a ≡ project face p → b ≡ project face q → bound ≡ segmentBound tolerance a b → SegmentIn a b bound → SegmentPut at a b bound w v → SegmentGathered at edge face tolerance w v
 unfolding hitAt onSegment
 gathered at edge face tolerance w v p q a b bound ep eq ea eb e inn put =
@@ -155,8 +156,8 @@ gathered at edge face tolerance w v p q a b bound ep eq ea eb e inn put =
     }
   where
     hits : (z : Uv) → onSegmentBy (double v (at + 4)) tolerance z (startAt v at) (endAt v at)
-        ≡ onSegmentBy (segmentBound tolerance (project face (pointAt w (8 + 5 * getD w edge 0))) (project face (pointAt w (8 + 5 * getD w (edge + 1) 0)))) tolerance z
-        (project face (pointAt w (8 + 5 * getD w edge 0))) (project face (pointAt w (8 + 5 * getD w (edge + 1) 0)))
+        ≡ onSegmentBy (segmentBound tolerance (project face (pointAt w (entryAt (getD w edge 0)))) (project face (pointAt w (entryAt (getD w (edge + 1) 0))))) tolerance z
+        (project face (pointAt w (entryAt (getD w edge 0)))) (project face (pointAt w (entryAt (getD w (edge + 1) 0))))
     hits z =
         let s = put .start in
         let t = put .end in

@@ -1,5 +1,5 @@
--- What the functions of face grids keep in the work room, of which the outer contract does not speak. For n candidates and nf facets: the open edges from 8 + 62 n + 30 nf on, and
--- segments of the face worked on from 8 + 62 n + 39 nf on, five words each: the ends' coordinates, and the bound. Assumes nothing.
+-- What the functions of face grids keep in the work room, of which the outer contract does not speak. For n candidates and nf facets: the open edges from openEdgesAt on, and
+-- segments of the face worked on from segmentsAt on, five words each: the ends' coordinates, and the bound. Assumes nothing.
 --   byAxes        what the functions are handed stands for
 --   GridReady     what they ask: room for every grid point, a box and axes that passed the tests, skip tolerances of no NaN
 --   Gridded       what `enter_grids` leaves
@@ -37,6 +37,7 @@ use Rattle.box_faces.specs.declared.uv.Uv.{Uv}
 use Rattle.box_faces.specs.Faces.{uv, uAxis, vAxis, project, hasBit}
 use Rattle.box_faces.specs.Lines.{lineAt, pointOnFace}
 use Rattle.box_faces.specs.Segments.{onSegmentBy, onSegment}
+use Rattle.candidate_pool.specs.Offsets.{entryAt, poolEnd, openEdgesAt, segmentsAt, roomEnd}
 use Rattle.candidate_pool.specs.Pool.{Candidate, Pool, pointOf, faceList, byKey, insert}
 use Rattle.candidate_pool.specs.Setting.{Setting}
 use Rattle.candidate_pool.specs.Standing.{candidate, countAt, pointAt, poolAt, PointIn, Stored, Holds, edgesAt, EdgesHeld}
@@ -50,9 +51,9 @@ byAxes box eps resolution skip =
 
 pub record GridReady (box : AABB) (eps : Float) (resolution skip : List Float) (n nf k : ℕ) (w : List ℕ) : Type 0 where
   pub holds : Holds eps n w
-  pub held : EdgesHeld (poolAt n w) w (8 + 62 * n + 30 * nf) k
+  pub held : EdgesHeld (poolAt n w) w (openEdgesAt n nf) k
   pub few : countAt w + gridSize box eps (byAxis resolution) ≤ n
-  pub size : 8 + 62 * n + 66 * nf ≤ length w
+  pub size : roomEnd n nf ≤ length w
   pub small : nf < 268435456
   pub edges : k ≤ 3 * nf
   pub box-in : boxInRange box ≡ true
@@ -61,11 +62,11 @@ pub record GridReady (box : AABB) (eps : Float) (resolution skip : List Float) (
   pub skips : (a : ℕ) → a < 3 → Within (2 ^ 48) (byAxis skip a)
 
 pub record Gridded (box : AABB) (eps : Float) (resolution skip : List Float) (n nf k : ℕ) (w w' : List ℕ) : Type 0 where
-  pub pool : poolAt n w' ≡ foldl (insert (byKey eps)) (poolAt n w) (grid (byAxes box eps resolution skip) (edgesAt w (8 + 62 * n + 30 * nf) k) (poolAt n w))
+  pub pool : poolAt n w' ≡ foldl (insert (byKey eps)) (poolAt n w) (grid (byAxes box eps resolution skip) (edgesAt w (openEdgesAt n nf) k) (poolAt n w))
   pub holds : Holds eps n w'
-  pub held : EdgesHeld (poolAt n w') w' (8 + 62 * n + 30 * nf) k
+  pub held : EdgesHeld (poolAt n w') w' (openEdgesAt n nf) k
   pub long : length w' ≡ length w
-  pub rest : (x : ℕ) → 8 + 17 * n ≤ x → x < 8 + 62 * n + 39 * nf → getD w' x 0 ≡ getD w x 0
+  pub rest : (x : ℕ) → poolEnd n ≤ x → x < segmentsAt n nf → getD w' x 0 ≡ getD w x 0
 
 -- ---- segments
 
@@ -105,15 +106,15 @@ pub record SegmentPut (at : ℕ) (a b : Uv) (bound : Float) (w w' : List ℕ) : 
 pub record EdgeReady (at edge : ℕ) (tolerance : Float) (w : List ℕ) : Type 0 where
   pub size : at + 5 ≤ length w
   pub before : edge + 1 < at
-  pub from : Stored w (8 + 5 * getD w edge 0)
-  pub from-in : 8 + 5 * getD w edge 0 + 2 < length w
-  pub to : Stored w (8 + 5 * getD w (edge + 1) 0)
-  pub to-in : 8 + 5 * getD w (edge + 1) 0 + 2 < length w
+  pub from : Stored w (entryAt (getD w edge 0))
+  pub from-in : entryAt (getD w edge 0) + 2 < length w
+  pub to : Stored w (entryAt (getD w (edge + 1) 0))
+  pub to-in : entryAt (getD w (edge + 1) 0) + 2 < length w
   pub tolerance-in : Within (2 ^ 48) tolerance
 
 pub record SegmentGathered (at edge face : ℕ) (tolerance : Float) (w w' : List ℕ) : Type 0 where
   pub segment : SegmentAt w' at
-  pub hits : (p : Uv) → hitAt w' at tolerance p ≡ onSegment tolerance p (project face (pointAt w (8 + 5 * getD w edge 0))) (project face (pointAt w (8 + 5 * getD w (edge + 1) 0)))
+  pub hits : (p : Uv) → hitAt w' at tolerance p ≡ onSegment tolerance p (project face (pointAt w (entryAt (getD w edge 0)))) (project face (pointAt w (entryAt (getD w (edge + 1) 0))))
   pub long : length w' ≡ length w
   pub rest : (x : ℕ) → Outside x at 5 → getD w' x 0 ≡ getD w x 0
 
@@ -125,26 +126,26 @@ edgeHit pool w edges f tolerance p i =
     && onSegment tolerance p (project f (pointOf pool (getD w (edges + 3 * i) 0))) (project f (pointOf pool (getD w (edges + 3 * i + 1) 0)))
 
 pub record EdgesReady (n nf k face : ℕ) (tolerance : Float) (w : List ℕ) : Type 0 where
-  pub size : 8 + 62 * n + 66 * nf ≤ length w
+  pub size : roomEnd n nf ≤ length w
   pub small-n : n < 268435456
   pub small : nf < 268435456
   pub edges : k ≤ 3 * nf
   pub face-in : face < 6
   pub few : countAt w ≤ n
-  pub stored : (c : ℕ) → c < countAt w → Stored w (8 + 5 * c)
-  pub from : (i : ℕ) → i < k → hasBit (getD w (8 + 62 * n + 30 * nf + 3 * i + 2) 0) face ≡ true → getD w (8 + 62 * n + 30 * nf + 3 * i) 0 < countAt w
-  pub to : (i : ℕ) → i < k → hasBit (getD w (8 + 62 * n + 30 * nf + 3 * i + 2) 0) face ≡ true → getD w (8 + 62 * n + 30 * nf + 3 * i + 1) 0 < countAt w
+  pub stored : (c : ℕ) → c < countAt w → Stored w (entryAt c)
+  pub from : (i : ℕ) → i < k → hasBit (getD w (openEdgesAt n nf + 3 * i + 2) 0) face ≡ true → getD w (openEdgesAt n nf + 3 * i) 0 < countAt w
+  pub to : (i : ℕ) → i < k → hasBit (getD w (openEdgesAt n nf + 3 * i + 2) 0) face ≡ true → getD w (openEdgesAt n nf + 3 * i + 1) 0 < countAt w
   pub tolerance-in : Within (2 ^ 48) tolerance
 
 pub record Gathered (n nf k face : ℕ) (tolerance : Float) (w w' : List ℕ) (count : ℕ) : Type 0 where
   pub few : count ≤ k
-  pub segments : (i : ℕ) → i < count → SegmentAt w' (8 + 62 * n + 39 * nf + 5 * i)
-  pub skips : (p : Uv) → skipsAt w' (8 + 62 * n + 39 * nf) count tolerance p ≡ some (edgeHit (poolAt n w) w (8 + 62 * n + 30 * nf) face tolerance p) (upTo k)
+  pub segments : (i : ℕ) → i < count → SegmentAt w' (segmentsAt n nf + 5 * i)
+  pub skips : (p : Uv) → skipsAt w' (segmentsAt n nf) count tolerance p ≡ some (edgeHit (poolAt n w) w (openEdgesAt n nf) face tolerance p) (upTo k)
   pub long : length w' ≡ length w
-  pub rest : (x : ℕ) → x < 8 + 62 * n + 39 * nf → getD w' x 0 ≡ getD w x 0
+  pub rest : (x : ℕ) → x < segmentsAt n nf → getD w' x 0 ≡ getD w x 0
 
 pub record NearReady (n : ℕ) (near : Near) (w : List ℕ) : Type 0 where
-  pub above : 8 + 17 * n ≤ near .at
+  pub above : poolEnd n ≤ near .at
   pub size : near .at + 5 * near .count ≤ length w
   pub segments : (i : ℕ) → i < near .count → SegmentAt w (near .at + 5 * i)
 
@@ -182,14 +183,14 @@ pub record Grown (n : ℕ) (w w' : List ℕ) : Type 0 where
   pub points : (c : ℕ) → c < countAt w → pointOf (poolAt n w') c ≡ pointOf (poolAt n w) c
   pub lists : (f c : ℕ) → f < 6 → has (faceList (poolAt n w) f) c ≡ true → has (faceList (poolAt n w') f) c ≡ true
 
--- the words from 8 + 17 n on are as they were
+-- the words behind the pool are as they were
 pub record Entered (eps : Float) (n : ℕ) (l : List Candidate) (most : ℕ) (w w' : List ℕ) : Type 0 where
   pub pool : poolAt n w' ≡ foldl (insert (byKey eps)) (poolAt n w) l
   pub holds : Holds eps n w'
   pub few : countAt w' ≤ countAt w + most
   pub grown : Grown n w w'
   pub long : length w' ≡ length w
-  pub rest : (x : ℕ) → 8 + 17 * n ≤ x → getD w' x 0 ≡ getD w x 0
+  pub rest : (x : ℕ) → poolEnd n ≤ x → getD w' x 0 ≡ getD w x 0
 
 pub record RowReady (eps : Float) (n : ℕ) (near : Near) (face : ℕ) (row : Row) (box : AABB) (last : ℕ) (w : List ℕ) : Type 0 where
   pub holds : Holds eps n w
@@ -207,9 +208,9 @@ faceSize box eps resolution f = (segments box eps (byAxis resolution) (uAxis f) 
 
 pub record FaceReady (box : AABB) (eps : Float) (resolution skip : List Float) (n nf k face : ℕ) (w : List ℕ) : Type 0 where
   pub holds : Holds eps n w
-  pub held : EdgesHeld (poolAt n w) w (8 + 62 * n + 30 * nf) k
+  pub held : EdgesHeld (poolAt n w) w (openEdgesAt n nf) k
   pub few : countAt w + faceSize box eps resolution face ≤ n
-  pub size : 8 + 62 * n + 66 * nf ≤ length w
+  pub size : roomEnd n nf ≤ length w
   pub small : nf < 268435456
   pub edges : k ≤ 3 * nf
   pub face-in : face < 6
@@ -218,9 +219,9 @@ pub record FaceReady (box : AABB) (eps : Float) (resolution skip : List Float) (
   pub skips : (a : ℕ) → a < 3 → Within (2 ^ 48) (byAxis skip a)
 
 pub record FaceEntered (box : AABB) (eps : Float) (resolution skip : List Float) (n nf k face : ℕ) (w w' : List ℕ) : Type 0 where
-  pub pool : poolAt n w' ≡ foldl (insert (byKey eps)) (poolAt n w) (faceGrid (byAxes box eps resolution skip) (edgesAt w (8 + 62 * n + 30 * nf) k) (poolAt n w) face)
+  pub pool : poolAt n w' ≡ foldl (insert (byKey eps)) (poolAt n w) (faceGrid (byAxes box eps resolution skip) (edgesAt w (openEdgesAt n nf) k) (poolAt n w) face)
   pub holds : Holds eps n w'
   pub few : countAt w' ≤ countAt w + faceSize box eps resolution face
   pub grown : Grown n w w'
   pub long : length w' ≡ length w
-  pub rest : (x : ℕ) → 8 + 17 * n ≤ x → x < 8 + 62 * n + 39 * nf → getD w' x 0 ≡ getD w x 0
+  pub rest : (x : ℕ) → poolEnd n ≤ x → x < segmentsAt n nf → getD w' x 0 ≡ getD w x 0

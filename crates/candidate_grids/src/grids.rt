@@ -19,7 +19,7 @@ use box_faces::segments::segment_bound;
 use box_faces::uv::Uv;
 use candidate_pool::pool::insert_grid_point;
 use candidate_pool::pool::point_of;
-use candidate_pool::room::edges_at;
+use candidate_pool::room::open_edges_at;
 use candidate_pool::room::segments_at;
 use geometry::aabb::AABB;
 use geometry::numbers::CandidateVertexId;
@@ -74,7 +74,7 @@ fn gather_segments(
     requires { ⌜ EdgesReady n nf k face tolerance (now w) ⌝ }
     ensures { λ r. ⌜ Gathered n nf k face tolerance (now (w .entry)) (now (w .exit)) r ⌝ }
 {
-    let edges = edges_at(n, nf);
+    let edges = open_edges_at(n, nf);
     let segments = segments_at(n, nf);
     let mut count = 0;
     let mut i = 0;

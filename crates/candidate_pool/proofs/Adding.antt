@@ -19,6 +19,7 @@ use Rattle.geometry.specs.Points.{origin}
 use Rattle.geometry.specs.Boxes.{faces}
 use Rattle.box_faces.specs.Faces.{hasBit}
 use Rattle.mesh_weld.specs.Joining.{Joining}
+use Rattle.candidate_pool.specs.Offsets.{entryAt, listAt, poolEnd}
 use Rattle.candidate_pool.specs.Pool.{Candidate, Pool, noCandidate, byKey, renewed, listed, numberFor, insert}
 use Rattle.candidate_pool.specs.Standing.{facesIn, candidate, countAt, pointAt, candidateAt, poolAt, Holds, Inserted, FaceAdded}
 use Rattle.candidate_pool.specs.Steps.{withFaces, FacesAdded}
@@ -33,15 +34,15 @@ pub record Adding (eps : Float) (n id mask k : ℕ) (w v : List ℕ) : Type 0 wh
   pub pool : poolAt n v ≡ withFaces (poolAt n w) id (keep (hasBit mask) (upTo k))
   pub holds : Holds eps n v
   pub long : length v ≡ length w
-  pub rest : (x : ℕ) → 8 + 17 * n ≤ x → getD v x 0 ≡ getD w x 0
+  pub rest : (x : ℕ) → poolEnd n ≤ x → getD v x 0 ≡ getD w x 0
 
 -- adding no face changes nothing, since a candidate's faces are in face order
 with-none : (n : ℕ) (w : List ℕ) (id : ℕ) → id < countAt w → poolAt n w ≡ withFaces (poolAt n w) id []
 unfolding renewed listed some poolAt
-with-none n w id low = λ i. record { all = all i; lists = map (λ f. view w (8 + 11 * n + f * n) (getD w f 0)) faces }
+with-none n w id low = λ i. record { all = all i; lists = map (λ f. view w (listAt n f) (getD w f 0)) faces }
   where
     again : renewed (candidateAt w id) (candidate origin 0 []) ≡ candidateAt w id
-    again = λ i. record { point = pointAt w (8 + 5 * id); mesh = getD w (8 + 5 * id + 3) 0; on = kept-none (hasBit (getD w (8 + 5 * id + 4) 0)) i }
+    again = λ i. record { point = pointAt w (entryAt id); mesh = getD w (entryAt id + 3) 0; on = kept-none (hasBit (getD w (entryAt id + 4) 0)) i }
 
     same : renewed (getD (poolAt n w .all) id noCandidate) (candidate origin 0 []) ≡ getD (poolAt n w .all) id noCandidate
     same = ap (λ (x : Candidate). renewed x (candidate origin 0 [])) (pool-at n w id low) ∙ again ∙ sym (pool-at n w id low)

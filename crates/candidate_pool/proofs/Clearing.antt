@@ -8,18 +8,19 @@ use lib.ListN.{getD, length}
 use lib.Ieee.{Float}
 use Rattle.lists.specs.Regions.{view, Zeroed}
 use Rattle.chains.proofs.Entering.{linked-none}
+use Rattle.candidate_pool.specs.Offsets.{keysAt, chainAt, listAt, poolEnd}
 use Rattle.candidate_pool.specs.Pool.{noPool}
 use Rattle.candidate_pool.specs.Room.{keyAt, keyBucket, KeyTable}
 use Rattle.candidate_pool.specs.Standing.{countAt, poolAt, Tidy, Cleared}
 use Rattle.candidate_pool.proofs.Tidying.{tidy-none}
 use Rattle.candidate_pool.proofs.Reading.{pool-is}
 
-module _ (eps : Float) (n : ℕ) (w u v : List ℕ) (at : ℕ) (at-is : at ≡ 8 + 8 * n) (small : n < 268435456) (size : 8 + 17 * n ≤ length w)
+module _ (eps : Float) (n : ℕ) (w u v : List ℕ) (at : ℕ) (at-is : at ≡ chainAt n) (small : n < 268435456) (size : poolEnd n ≤ length w)
     (counts : Zeroed w u 0 8) (chains : Zeroed u v at (2 * n)) where
   count-zero : (f : ℕ) → f < 8 → getD v f 0 ≡ 0
   count-zero f h = chains .rest f (λ i r e. omega arith) ∙ ap (λ (x : ℕ). getD u x 0) (omega arith) ∙ counts .zero f h
 
-  chain-zero : (i : ℕ) → i < n + n → getD v (8 + 8 * n + i) 0 ≡ 0
+  chain-zero : (i : ℕ) → i < n + n → getD v (chainAt n + i) 0 ≡ 0
   chain-zero i h = ap (λ (x : ℕ). getD v (x + i) 0) (sym at-is) ∙ chains .zero i (omega arith)
 
   long : length v ≡ length w
@@ -31,7 +32,7 @@ module _ (eps : Float) (n : ℕ) (w u v : List ℕ) (at : ℕ) (at-is : at ≡ 8
   pool : poolAt n v ≡ noPool
   pool =
       pool-is n v [] (λ f. []) (sym (count-zero 6 (omega arith))) (λ c h. absurd (none c h))
-      (λ f h. ap (λ (k : ℕ). view v (8 + 11 * n + f * n) k) (count-zero f (omega arith)))
+      (λ f h. ap (λ (k : ℕ). view v (listAt n f) k) (count-zero f (omega arith)))
 
   table : KeyTable v n (countAt v)
   table =
@@ -40,7 +41,7 @@ module _ (eps : Float) (n : ℕ) (w u v : List ℕ) (at : ℕ) (at-is : at ≡ 8
         small = small;
         room = omega (arith, long);
         few = omega arith;
-        linked = linked-none (λ i. keyBucket n (keyAt v (8 + 5 * n + 3 * i))) v (8 + 8 * n) n (omega (arith, long)) chain-zero;
+        linked = linked-none (λ i. keyBucket n (keyAt v (keysAt n + 3 * i))) v (chainAt n) n (omega (arith, long)) chain-zero;
       })
 
   pub cleared : Cleared eps n w v

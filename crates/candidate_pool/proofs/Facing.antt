@@ -23,6 +23,7 @@ use Rattle.geometry.specs.Boxes.{faces}
 use Rattle.geometry.specs.declared.point.Point.{Point}
 use Rattle.box_faces.specs.Faces.{hasBit}
 use Rattle.mesh_weld.specs.Cells.{keyOf}
+use Rattle.candidate_pool.specs.Offsets.{entryAt, keysAt, listsAt, listAt, poolEnd}
 use Rattle.candidate_pool.specs.Pool.{Candidate, Pool, noCandidate, faceList, renewed, added, listed}
 use Rattle.candidate_pool.specs.Room.{keyWords, keyAt}
 use Rattle.candidate_pool.specs.Standing.{facesIn, candidate, countAt, pointAt, candidateAt, poolAt, Stored, Tidy, Holds, withFace, FaceAdded}
@@ -34,12 +35,12 @@ use Rattle.candidate_pool.proofs.Placing.{table-kept, point-same, store
 use Rattle.candidate_pool.proofs.Masking.{mask-more, mask-low}
 
 -- a store to a candidate's word of faces leaves the lengths of the lists
-pub count-marked : (w : List ℕ) (id f : ℕ) → f < 6 → (x : ℕ) → getD (set w (8 + 5 * id + 4) x) f 0 ≡ getD w f 0
-count-marked w id f h x = getD-set-other w (8 + 5 * id + 4) f x 0 (λ e. omega arith)
+pub count-marked : (w : List ℕ) (id f : ℕ) → f < 6 → (x : ℕ) → getD (set w (entryAt id + 4) x) f 0 ≡ getD w f 0
+count-marked w id f h x = getD-set-other w (entryAt id + 4) f x 0 (λ e. omega arith)
 
 module _ (eps : Float) (n : ℕ) (w : List ℕ) (h : Holds eps n w) (id f : ℕ) (id-low : id < countAt w) (k : f < 6) where
   abbrev mask : ℕ
-  mask = getD w (8 + 5 * id + 4) 0
+  mask = getD w (entryAt id + 4) 0
 
   abbrev pool : Pool
   pool = poolAt n w
@@ -66,7 +67,7 @@ module _ (eps : Float) (n : ℕ) (w : List ℕ) (h : Holds eps n w) (id f : ℕ)
   -- a room that differs so has the pool with the face
   pool-with : (v : List ℕ) → countAt v ≡ countAt w → candidateAt v id ≡ renewed (candidateAt w id) (candidate origin 0 (f ∷ []))
       → ((c : ℕ) → c < countAt w → (c ≡ id → ⊥) → candidateAt v c ≡ candidateAt w c)
-      → ((g : ℕ) → g < 6 → view v (8 + 11 * n + g * n) (getD v g 0) ≡ cond (has (f ∷ []) g) (added (faceList pool g) id) (faceList pool g))
+      → ((g : ℕ) → g < 6 → view v (listAt n g) (getD v g 0) ≡ cond (has (f ∷ []) g) (added (faceList pool g) id) (faceList pool g))
       → poolAt n v ≡ withFace pool id f
   unfolding listed
   pool-with v count own others lists =
@@ -100,12 +101,12 @@ module _ (eps : Float) (n : ℕ) (w : List ℕ) (h : Holds eps n w) (id f : ℕ)
       again : candidateAt w id ≡ renewed (candidateAt w id) (candidate origin 0 (f ∷ []))
       again =
           λ i. record {
-            point = pointAt w (8 + 5 * id);
-            mesh = getD w (8 + 5 * id + 3) 0;
+            point = pointAt w (entryAt id);
+            mesh = getD w (entryAt id + 3) 0;
             on = on-with (hasBit mask) (λ g r. with-it g (eqb g f) refl) i;
           }
 
-      lists : (g : ℕ) → g < 6 → Dec (g ≡ f) → view w (8 + 11 * n + g * n) (getD w g 0) ≡ cond (has (f ∷ []) g) (added (faceList pool g) id) (faceList pool g)
+      lists : (g : ℕ) → g < 6 → Dec (g ≡ f) → view w (listAt n g) (getD w g 0) ≡ cond (has (f ∷ []) g) (added (faceList pool g) id) (faceList pool g)
       lists g r (yes e) =
           sym (pool-list n w g r)
           ∙ subst (λ (x : ℕ). faceList pool x ≡ cond (has (f ∷ []) x) (added (faceList pool x) id) (faceList pool x)) (sym e) (own-list (faceList pool f) true (is-listed ∙ t))
@@ -128,9 +129,9 @@ module _ (eps : Float) (n : ℕ) (w : List ℕ) (h : Holds eps n w) (id f : ℕ)
         long : length (faceList (withFace pool id f) f) ≡ getD w f 0 + 1
         long = ap (length {A = ℕ}) longer ∙ length-append (faceList pool f) (id ∷ []) ∙ ap (λ (x : ℕ). x + 1) (list-long eps n w f h k)
 
-    module _ (bit o : ℕ) (bit-is : bit ≡ 2 ^ f) (o-is : o ≡ 8 + 11 * n + f * n) where
+    module _ (bit o : ℕ) (bit-is : bit ≡ 2 ^ f) (o-is : o ≡ listAt n f) where
       abbrev pub marked : List ℕ
-      marked = set w (8 + 5 * id + 4) (mask + bit)
+      marked = set w (entryAt id + 4) (mask + bit)
 
       count-kept : getD marked f 0 ≡ getD w f 0
       count-kept = count-marked w id f k (mask + bit)
@@ -139,23 +140,23 @@ module _ (eps : Float) (n : ℕ) (w : List ℕ) (h : Holds eps n w) (id f : ℕ)
       facePut = set (set marked (o + getD marked f 0) id) f (getD marked f 0 + 1)
 
       -- where the candidate's number goes
-      end-in : o + getD marked f 0 < 8 + 17 * n
+      end-in : o + getD marked f 0 < poolEnd n
       end-in = omega (arith, list-in n f k, list-room, count-kept)
 
-      end-low : 8 + 11 * n ≤ o + getD marked f 0
+      end-low : listsAt n ≤ o + getD marked f 0
       end-low = omega arith
 
-      room-at : 8 + 5 * id + 4 < length w
+      room-at : entryAt id + 4 < length w
       room-at = omega (arith, h .size, h .table .few)
 
       put-long : length facePut ≡ length w
       put-long = simp length-set
 
-      put-rest : (x : ℕ) → (x ≡ 8 + 5 * id + 4 → ⊥) → (x ≡ o + getD marked f 0 → ⊥) → (x ≡ f → ⊥) → getD facePut x 0 ≡ getD w x 0
+      put-rest : (x : ℕ) → (x ≡ entryAt id + 4 → ⊥) → (x ≡ o + getD marked f 0 → ⊥) → (x ≡ f → ⊥) → getD facePut x 0 ≡ getD w x 0
       put-rest x a b c =
           getD-set-other (set marked (o + getD marked f 0) id) f x (getD marked f 0 + 1) 0 c
           ∙ getD-set-other marked (o + getD marked f 0) x id 0 b
-          ∙ getD-set-other w (8 + 5 * id + 4) x (mask + bit) 0 a
+          ∙ getD-set-other w (entryAt id + 4) x (mask + bit) 0 a
 
       put-count : getD facePut f 0 ≡ getD w f 0 + 1
       put-count =
@@ -167,11 +168,11 @@ module _ (eps : Float) (n : ℕ) (w : List ℕ) (h : Holds eps n w) (id f : ℕ)
           getD-set-other (set marked (o + getD marked f 0) id) f (o + getD marked f 0) (getD marked f 0 + 1) 0 (λ e. omega (arith, end-low))
           ∙ getD-set-same marked (o + getD marked f 0) id 0 (simp length-set (omega (arith, h .size, end-in)))
 
-      put-mask : getD facePut (8 + 5 * id + 4) 0 ≡ mask + 2 ^ f
+      put-mask : getD facePut (entryAt id + 4) 0 ≡ mask + 2 ^ f
       put-mask =
-          getD-set-other (set marked (o + getD marked f 0) id) f (8 + 5 * id + 4) (getD marked f 0 + 1) 0 (λ e. omega arith)
-          ∙ getD-set-other marked (o + getD marked f 0) (8 + 5 * id + 4) id 0 (λ e. omega (arith, end-low, h .table .few))
-          ∙ getD-set-same w (8 + 5 * id + 4) (mask + bit) 0 room-at
+          getD-set-other (set marked (o + getD marked f 0) id) f (entryAt id + 4) (getD marked f 0 + 1) 0 (λ e. omega arith)
+          ∙ getD-set-other marked (o + getD marked f 0) (entryAt id + 4) id 0 (λ e. omega (arith, end-low, h .table .few))
+          ∙ getD-set-same w (entryAt id + 4) (mask + bit) 0 room-at
           ∙ ap (λ (x : ℕ). mask + x) bit-is
 
       six-kept : countAt facePut ≡ countAt w
@@ -180,18 +181,18 @@ module _ (eps : Float) (n : ℕ) (w : List ℕ) (h : Holds eps n w) (id f : ℕ)
       front-kept : (g : ℕ) → g < 6 → (g ≡ f → ⊥) → getD facePut g 0 ≡ getD w g 0
       front-kept g r d = put-rest g (λ e. omega arith) (λ e. omega (arith, end-low)) d
 
-      table-words : (x : ℕ) → 8 + 5 * n ≤ x → x < 8 + 11 * n → getD facePut x 0 ≡ getD w x 0
+      table-words : (x : ℕ) → keysAt n ≤ x → x < listsAt n → getD facePut x 0 ≡ getD w x 0
       table-words x r s = put-rest x (λ e. omega (arith, h .table .few)) (λ e. omega (arith, end-low)) (λ e. omega arith)
 
-      point-word : (c i : ℕ) → c < countAt w → i < 4 → getD facePut (8 + 5 * c + i) 0 ≡ getD w (8 + 5 * c + i) 0
-      point-word c i r s = put-rest (8 + 5 * c + i) (λ e. omega arith) (λ e. omega (arith, end-low, h .table .few)) (λ e. omega arith)
+      point-word : (c i : ℕ) → c < countAt w → i < 4 → getD facePut (entryAt c + i) 0 ≡ getD w (entryAt c + i) 0
+      point-word c i r s = put-rest (entryAt c + i) (λ e. omega arith) (λ e. omega (arith, end-low, h .table .few)) (λ e. omega arith)
 
-      mask-kept : (c : ℕ) → c < countAt w → (c ≡ id → ⊥) → getD facePut (8 + 5 * c + 4) 0 ≡ getD w (8 + 5 * c + 4) 0
-      mask-kept c r d = put-rest (8 + 5 * c + 4) (λ e. d (omega arith)) (λ e. omega (arith, end-low, h .table .few)) (λ e. omega arith)
+      mask-kept : (c : ℕ) → c < countAt w → (c ≡ id → ⊥) → getD facePut (entryAt c + 4) 0 ≡ getD w (entryAt c + 4) 0
+      mask-kept c r d = put-rest (entryAt c + 4) (λ e. d (omega arith)) (λ e. omega (arith, end-low, h .table .few)) (λ e. omega arith)
 
-      list-word : (g i : ℕ) → g < 6 → i < n → (g ≡ f → ⊥) → getD facePut (8 + 11 * n + g * n + i) 0 ≡ getD w (8 + 11 * n + g * n + i) 0
+      list-word : (g i : ℕ) → g < 6 → i < n → (g ≡ f → ⊥) → getD facePut (listAt n g + i) 0 ≡ getD w (listAt n g + i) 0
       list-word g i r s d =
-          put-rest (8 + 11 * n + g * n + i) (λ e. omega (arith, h .table .few))
+          put-rest (listAt n g + i) (λ e. omega (arith, h .table .few))
           (λ e. apart (omega (arith, list-room, count-kept))) (λ e. omega arith)
         where
           apart : g * n + i ≡ f * n + getD w f 0 → ⊥
@@ -201,10 +202,10 @@ module _ (eps : Float) (n : ℕ) (w : List ℕ) (h : Holds eps n w) (id f : ℕ)
               go (yes q) = omega (arith, list-apart n g f q)
               go (no q) = omega (arith, list-apart n f g (omega arith), list-room)
 
-      own-word : (i : ℕ) → i < getD w f 0 → getD facePut (8 + 11 * n + f * n + i) 0 ≡ getD w (8 + 11 * n + f * n + i) 0
-      own-word i r = put-rest (8 + 11 * n + f * n + i) (λ e. omega (arith, h .table .few)) (λ e. omega (arith, count-kept)) (λ e. omega arith)
+      own-word : (i : ℕ) → i < getD w f 0 → getD facePut (listAt n f + i) 0 ≡ getD w (listAt n f + i) 0
+      own-word i r = put-rest (listAt n f + i) (λ e. omega (arith, h .table .few)) (λ e. omega (arith, count-kept)) (λ e. omega arith)
 
-      word-kept : (c : ℕ) → c < countAt w → (c ≡ id → ⊥) → (i : ℕ) → i < 5 → Dec (i ≡ 4) → getD facePut (8 + 5 * c + i) 0 ≡ getD w (8 + 5 * c + i) 0
+      word-kept : (c : ℕ) → c < countAt w → (c ≡ id → ⊥) → (i : ℕ) → i < 5 → Dec (i ≡ 4) → getD facePut (entryAt c + i) 0 ≡ getD w (entryAt c + i) 0
       word-kept c r d i s (yes e) = rw e (mask-kept c r d)
       word-kept c r d i s (no q) = point-word c i r (omega arith)
 
@@ -212,25 +213,25 @@ module _ (eps : Float) (n : ℕ) (w : List ℕ) (h : Holds eps n w) (id f : ℕ)
       unfolding renewed
       marked-candidate =
           λ i. record {
-            point = point-same w facePut (8 + 5 * id) (λ j s. point-word id j id-low (omega arith)) i;
+            point = point-same w facePut (entryAt id) (λ j s. point-word id j id-low (omega arith)) i;
             mesh = point-word id 3 id-low (omega arith) i;
             on = (ap facesIn put-mask ∙ on-with (hasBit (mask + 2 ^ f)) (mask-more mask f (h .masks id id-low) k off)) i;
           }
 
-      face-lists : (g : ℕ) → g < 6 → Dec (g ≡ f) → view facePut (8 + 11 * n + g * n) (getD facePut g 0) ≡ cond (has (f ∷ []) g) (added (faceList pool g) id) (faceList pool g)
+      face-lists : (g : ℕ) → g < 6 → Dec (g ≡ f) → view facePut (listAt n g) (getD facePut g 0) ≡ cond (has (f ∷ []) g) (added (faceList pool g) id) (faceList pool g)
       face-lists g r (yes e) =
-          subst (λ (x : ℕ). view facePut (8 + 11 * n + x * n) (getD facePut x 0) ≡ cond (has (f ∷ []) x) (added (faceList pool x) id) (faceList pool x)) (sym e)
-          (ap (λ (x : ℕ). view facePut (8 + 11 * n + f * n) x) put-count
-          ∙ view-more w facePut (8 + 11 * n + f * n) (getD w f 0) id (omega (arith, h .size, list-in n f k, list-room)) put-long own-word
+          subst (λ (x : ℕ). view facePut (listAt n x) (getD facePut x 0) ≡ cond (has (f ∷ []) x) (added (faceList pool x) id) (faceList pool x)) (sym e)
+          (ap (λ (x : ℕ). view facePut (listAt n f) x) put-count
+          ∙ view-more w facePut (listAt n f) (getD w f 0) id (omega (arith, h .size, list-in n f k, list-room)) put-long own-word
           (ap (λ (x : ℕ). getD facePut x 0) end-is ∙ put-end)
           ∙ ap (λ (l : List ℕ). l ++ (id ∷ [])) (sym (pool-list n w f k))
           ∙ own-list (faceList pool f) false (is-listed ∙ off))
         where
-          end-is : 8 + 11 * n + f * n + getD w f 0 ≡ o + getD marked f 0
+          end-is : listAt n f + getD w f 0 ≡ o + getD marked f 0
           end-is = omega (arith, count-kept)
       face-lists g r (no d) =
-          ap (λ (x : ℕ). view facePut (8 + 11 * n + g * n) x) (front-kept g r d)
-          ∙ view-same w facePut (8 + 11 * n + g * n) (getD w g 0) (omega (arith, h .size, list-in n g r, h .lengths g r)) put-long
+          ap (λ (x : ℕ). view facePut (listAt n g) x) (front-kept g r d)
+          ∙ view-same w facePut (listAt n g) (getD w g 0) (omega (arith, h .size, list-in n g r, h .lengths g r)) put-long
           (λ i s. list-word g i r (omega (arith, h .lengths g r)) d)
           ∙ sym (pool-list n w g r)
           ∙ other-list g (faceList pool g) d
@@ -252,16 +253,16 @@ module _ (eps : Float) (n : ℕ) (w : List ℕ) (h : Holds eps n w) (id f : ℕ)
             tidy = subst Tidy (sym face-pool) (tidy-faces pool id (f ∷ []) id-in (h .tidy));
           }
         where
-          keys : (c : ℕ) → c < countAt w → keyAt facePut (8 + 5 * n + 3 * c) ≡ keyWords (keyOf eps (pointAt facePut (8 + 5 * c)))
+          keys : (c : ℕ) → c < countAt w → keyAt facePut (keysAt n + 3 * c) ≡ keyWords (keyOf eps (pointAt facePut (entryAt c)))
           keys c r =
-              key-same w facePut (8 + 5 * n + 3 * c) (λ i s. table-words (8 + 5 * n + 3 * c + i) (omega arith) (omega (arith, h .table .few)))
+              key-same w facePut (keysAt n + 3 * c) (λ i s. table-words (keysAt n + 3 * c + i) (omega arith) (omega (arith, h .table .few)))
               ∙ h .keys c r
-              ∙ ap (λ (q : Point). keyWords (keyOf eps q)) (sym (point-same w facePut (8 + 5 * c) (λ i s. point-word c i r (omega arith))))
+              ∙ ap (λ (q : Point). keyWords (keyOf eps q)) (sym (point-same w facePut (entryAt c) (λ i s. point-word c i r (omega arith))))
 
-          stored : (c : ℕ) → c < countAt w → Stored facePut (8 + 5 * c)
-          stored c r = stored-same w facePut (8 + 5 * c) (λ i s. point-word c i r (omega arith)) (h .stored c r)
+          stored : (c : ℕ) → c < countAt w → Stored facePut (entryAt c)
+          stored c r = stored-same w facePut (entryAt c) (λ i s. point-word c i r (omega arith)) (h .stored c r)
 
-          masks : (c : ℕ) → c < countAt w → Dec (c ≡ id) → getD facePut (8 + 5 * c + 4) 0 < 64
+          masks : (c : ℕ) → c < countAt w → Dec (c ≡ id) → getD facePut (entryAt c + 4) 0 < 64
           masks c r (yes e) = rw e (omega (arith, put-mask, mask-low mask f (h .masks id id-low) k off))
           masks c r (no d) = omega (arith, mask-kept c r d, h .masks c r)
 

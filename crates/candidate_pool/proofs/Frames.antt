@@ -15,6 +15,7 @@ use Rattle.lists.specs.Regions.{view}
 use Rattle.lists.proofs.Regions.{view-at}
 use Rattle.geometry.specs.declared.point.Point.{Point}
 use Rattle.mesh_weld.specs.Cells.{keyOf}
+use Rattle.candidate_pool.specs.Offsets.{entryAt, keysAt, listAt, poolEnd}
 use Rattle.candidate_pool.specs.Room.{keyWords}
 use Rattle.candidate_pool.specs.Standing.{countAt, pointAt, candidateAt, poolAt, Stored, Tidy, Holds}
 use Rattle.candidate_pool.proofs.Reading.{pool-count, pool-at, pool-list, pool-is, candidate-same, list-in, list-few}
@@ -35,32 +36,32 @@ view-kept u w o n m long few same =
     within : length (view u o n) ≤ n
     within = let c = cut u in omega arith
 
-module _ (n : ℕ) (w w' : List ℕ) (long : length w' ≡ length w) (same : (x : ℕ) → x < 8 + 17 * n → getD w' x 0 ≡ getD w x 0) where
+module _ (n : ℕ) (w w' : List ℕ) (long : length w' ≡ length w) (same : (x : ℕ) → x < poolEnd n → getD w' x 0 ≡ getD w x 0) where
   pub count-same : countAt w' ≡ countAt w
   count-same = same 6 (omega arith)
 
   module _ (few : countAt w ≤ n) where
-    pub point-kept : (c : ℕ) → c < countAt w → pointAt w' (8 + 5 * c) ≡ pointAt w (8 + 5 * c)
-    point-kept c h = point-same w w' (8 + 5 * c) (λ i k. same (8 + 5 * c + i) (omega arith))
+    pub point-kept : (c : ℕ) → c < countAt w → pointAt w' (entryAt c) ≡ pointAt w (entryAt c)
+    point-kept c h = point-same w w' (entryAt c) (λ i k. same (entryAt c + i) (omega arith))
 
     pub candidate-kept : (c : ℕ) → c < countAt w → candidateAt w' c ≡ candidateAt w c
-    candidate-kept c h = candidate-same w w' c (λ i k. same (8 + 5 * c + i) (omega arith))
+    candidate-kept c h = candidate-same w w' c (λ i k. same (entryAt c + i) (omega arith))
 
-    pub stored-kept : (c : ℕ) → c < countAt w → Stored w (8 + 5 * c) → Stored w' (8 + 5 * c)
-    stored-kept c h = stored-same w w' (8 + 5 * c) (λ i k. same (8 + 5 * c + i) (omega arith))
+    pub stored-kept : (c : ℕ) → c < countAt w → Stored w (entryAt c) → Stored w' (entryAt c)
+    stored-kept c h = stored-same w w' (entryAt c) (λ i k. same (entryAt c + i) (omega arith))
 
     pub pool-agrees : Tidy (poolAt n w) → poolAt n w' ≡ poolAt n w
     unfolding poolAt
     pool-agrees tidy =
-        pool-is n w' (map (candidateAt w) (upTo (countAt w))) (λ f. view w (8 + 11 * n + f * n) (getD w f 0))
+        pool-is n w' (map (candidateAt w) (upTo (countAt w))) (λ f. view w (listAt n f) (getD w f 0))
         (pool-count n w ∙ sym count-same)
         (λ c h. let k : c < countAt w = omega (arith, count-same) in candidate-kept c k ∙ sym (pool-at n w c k))
         (λ f h.
-        ap (λ (k : ℕ). view w' (8 + 11 * n + f * n) k) (same f (omega arith))
-        ∙ view-kept w w' (8 + 11 * n + f * n) (getD w f 0) n long (subst (λ (l : List ℕ). length l ≤ n) (pool-list n w f h) (list-few n w few tidy f h))
-        (λ i k. same (8 + 11 * n + f * n + i) (omega (arith, list-in n f h))))
+        ap (λ (k : ℕ). view w' (listAt n f) k) (same f (omega arith))
+        ∙ view-kept w w' (listAt n f) (getD w f 0) n long (subst (λ (l : List ℕ). length l ≤ n) (pool-list n w f h) (list-few n w few tidy f h))
+        (λ i k. same (listAt n f + i) (omega (arith, list-in n f h))))
 
-module _ (eps : Float) (n : ℕ) (w w' : List ℕ) (H : Holds eps n w) (long : length w' ≡ length w) (same : (x : ℕ) → x < 8 + 17 * n → getD w' x 0 ≡ getD w x 0) where
+module _ (eps : Float) (n : ℕ) (w w' : List ℕ) (H : Holds eps n w) (long : length w' ≡ length w) (same : (x : ℕ) → x < poolEnd n → getD w' x 0 ≡ getD w x 0) where
   few : countAt w ≤ n
   few = H .table .few
 
@@ -76,10 +77,10 @@ module _ (eps : Float) (n : ℕ) (w w' : List ℕ) (H : Holds eps n w) (long : l
         size = omega (arith, H .size);
         table = table-kept n w w' (H .table) (count-same n w w' long same) long (λ x a b. same x (omega arith));
         keys = λ c h.
-            key-same w w' (8 + 5 * n + 3 * c) (λ i k. same (8 + 5 * n + 3 * c + i) (omega (arith, few, low c h)))
+            key-same w w' (keysAt n + 3 * c) (λ i k. same (keysAt n + 3 * c + i) (omega (arith, few, low c h)))
             ∙ H .keys c (low c h) ∙ ap (λ (p : Point). keyWords (keyOf eps p)) (sym (point-kept n w w' long same few c (low c h)));
         stored = λ c h. stored-kept n w w' long same few c (low c h) (H .stored c (low c h));
-        masks = λ c h. omega (arith, H .masks c (low c h), same (8 + 5 * c + 4) (omega (arith, few, low c h)));
+        masks = λ c h. omega (arith, H .masks c (low c h), same (entryAt c + 4) (omega (arith, few, low c h)));
         lengths = λ f h. omega (arith, H .lengths f h, same f (omega arith));
         tidy = subst Tidy (sym pool-same) (H .tidy);
       }

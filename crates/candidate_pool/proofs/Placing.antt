@@ -29,6 +29,7 @@ use Rattle.chains.specs.Links.{linkOf, linkTo}
 use Rattle.chains.proofs.Firsts.{link-none, link-some}
 use Rattle.chains.proofs.Entering.{linked-cong, linked-same}
 use Rattle.mesh_weld.specs.Cells.{keyOf}
+use Rattle.candidate_pool.specs.Offsets.{entryAt, keysAt, chainAt, listsAt, listAt}
 use Rattle.candidate_pool.specs.declared.keys.KeyWords.{KeyWords}
 use Rattle.candidate_pool.specs.Pool.{Candidate, Pool, noCandidate, byKey, renewed, enteredAs, listed, placeFor, numberFor, insert}
 use Rattle.candidate_pool.specs.Room.{keyWords, keyAt, sameWords, keyBucket, KeyTable}
@@ -46,7 +47,7 @@ use Rattle.candidate_pool.proofs.Masking.{no-faces}
 -- ---- what stays
 
 pub table-kept : (n : ℕ) (u w : List ℕ) → KeyTable u n (countAt u) → countAt w ≡ countAt u → length w ≡ length u
-    → ((x : ℕ) → 8 + 5 * n ≤ x → x < 8 + 11 * n → getD w x 0 ≡ getD u x 0) → KeyTable w n (countAt w)
+    → ((x : ℕ) → keysAt n ≤ x → x < listsAt n → getD w x 0 ≡ getD u x 0) → KeyTable w n (countAt w)
 table-kept n u w t count long same =
     subst (λ (k : ℕ). KeyTable w n k) (sym count)
     (record {
@@ -54,10 +55,10 @@ table-kept n u w t count long same =
       room = omega (arith, t .room);
       few = t .few;
       linked =
-          linked-cong (λ i. keyBucket n (keyAt u (8 + 5 * n + 3 * i))) (λ i. keyBucket n (keyAt w (8 + 5 * n + 3 * i))) w (8 + 8 * n) n (countAt u)
-          (λ i h. ap (keyBucket n) (sym (key-same u w (8 + 5 * n + 3 * i) (λ j r. same (8 + 5 * n + 3 * i + j) (omega arith) (omega (arith, t .few))))))
-          (linked-same (λ i. keyBucket n (keyAt u (8 + 5 * n + 3 * i))) u w (8 + 8 * n) n (countAt u) long
-          (λ i h. same (8 + 8 * n + i) (omega arith) (omega (arith, t .few))) (t .linked));
+          linked-cong (λ i. keyBucket n (keyAt u (keysAt n + 3 * i))) (λ i. keyBucket n (keyAt w (keysAt n + 3 * i))) w (chainAt n) n (countAt u)
+          (λ i h. ap (keyBucket n) (sym (key-same u w (keysAt n + 3 * i) (λ j r. same (keysAt n + 3 * i + j) (omega arith) (omega (arith, t .few))))))
+          (linked-same (λ i. keyBucket n (keyAt u (keysAt n + 3 * i))) u w (chainAt n) n (countAt u) long
+          (λ i h. same (chainAt n + i) (omega arith) (omega (arith, t .few))) (t .linked));
     })
 
 point-at : (w : List ℕ) (at : ℕ) (p : Point) → BitsOf p → getD w at 0 ≡ toBits binary64 (p .x) → getD w (at + 1) 0 ≡ toBits binary64 (p .y)
@@ -108,28 +109,28 @@ module _ (eps : Float) (n : ℕ) (w : List ℕ) (h : Holds eps n w) (p : Point) 
   new = candidatePut w n id p m key b
 
   put : Pushed n id p m key w new
-  put = pushed w n id p m key (h .size) less b b-low (tail-room w n id p m key (h .size) less (λ i. keyBucket n (keyAt w (8 + 5 * n + 3 * i))) b b-low (h .table .linked))
+  put = pushed w n id p m key (h .size) less b b-low (tail-room w n id p m key (h .size) less (λ i. keyBucket n (keyAt w (keysAt n + 3 * i))) b b-low (h .table .linked))
 
-  old-word : (c i : ℕ) → c < id → i < 5 → getD new (8 + 5 * c + i) 0 ≡ getD w (8 + 5 * c + i) 0
-  old-word c i k r = put .rest (8 + 5 * c + i) (λ e. omega arith) (λ j s e. omega arith) (λ j s e. omega arith) (λ j s e. omega arith)
+  old-word : (c i : ℕ) → c < id → i < 5 → getD new (entryAt c + i) 0 ≡ getD w (entryAt c + i) 0
+  old-word c i k r = put .rest (entryAt c + i) (λ e. omega arith) (λ j s e. omega arith) (λ j s e. omega arith) (λ j s e. omega arith)
 
-  old-key : (c : ℕ) → c < id → keyAt new (8 + 5 * n + 3 * c) ≡ keyAt w (8 + 5 * n + 3 * c)
+  old-key : (c : ℕ) → c < id → keyAt new (keysAt n + 3 * c) ≡ keyAt w (keysAt n + 3 * c)
   old-key c k =
-      key-same w new (8 + 5 * n + 3 * c)
-      (λ i r. put .rest (8 + 5 * n + 3 * c + i) (λ e. omega arith) (λ j s e. omega arith) (λ j s e. omega arith) (λ j s e. omega arith))
+      key-same w new (keysAt n + 3 * c)
+      (λ i r. put .rest (keysAt n + 3 * c + i) (λ e. omega arith) (λ j s e. omega arith) (λ j s e. omega arith) (λ j s e. omega arith))
 
   counts : (f : ℕ) → f < 6 → getD new f 0 ≡ getD w f 0
   counts f k = put .rest f (λ e. omega arith) (λ j s e. omega arith) (λ j s e. omega arith) (λ j s e. omega arith)
 
-  new-point : pointAt new (8 + 5 * id) ≡ p
-  new-point = point-at new (8 + 5 * id) p bits (put .x) (put .y) (put .z)
+  new-point : pointAt new (entryAt id) ≡ p
+  new-point = point-at new (entryAt id) p bits (put .x) (put .y) (put .z)
 
   new-candidate : candidateAt new id ≡ candidate p m []
   new-candidate = λ i. record { point = new-point i; mesh = put .mesh i; on = (ap facesIn (put .mask) ∙ no-faces) i }
 
-  appended : poolAt n new ≡ record { all = poolAt n w .all ++ (candidate p m [] ∷ []); lists = map (λ f. view w (8 + 11 * n + f * n) (getD w f 0)) faces }
+  appended : poolAt n new ≡ record { all = poolAt n w .all ++ (candidate p m [] ∷ []); lists = map (λ f. view w (listAt n f) (getD w f 0)) faces }
   appended =
-      pool-is n new (poolAt n w .all ++ (candidate p m [] ∷ [])) (λ f. view w (8 + 11 * n + f * n) (getD w f 0))
+      pool-is n new (poolAt n w .all ++ (candidate p m [] ∷ [])) (λ f. view w (listAt n f) (getD w f 0))
       (length-append (poolAt n w .all) (candidate p m [] ∷ []) ∙ ap (λ (k : ℕ). k + 1) (pool-count n w) ∙ sym (put .count))
       (λ c k. at c (omega (arith, put .count)) (ℕ-discrete c id))
       (lists-same eps n w new h (put .long) counts
@@ -148,7 +149,7 @@ module _ (eps : Float) (n : ℕ) (w : List ℕ) (h : Holds eps n w) (p : Point) 
   unfolding insert listed some poolAt
   push-pool q =
       appended
-      ∙ sym (λ i. record { all = enteredAs (poolAt n w .all) (candidate p m []) (q i); lists = map (λ f. view w (8 + 11 * n + f * n) (getD w f 0)) faces })
+      ∙ sym (λ i. record { all = enteredAs (poolAt n w .all) (candidate p m []) (q i); lists = map (λ f. view w (listAt n f) (getD w f 0)) faces })
 
   push-holds : placeFor (byKey eps) (poolAt n w) (candidate p m []) ≡ none → Holds eps n new
   push-holds q =
@@ -158,9 +159,9 @@ module _ (eps : Float) (n : ℕ) (w : List ℕ) (h : Holds eps n w) (p : Point) 
           small = h .table .small;
           room = omega (arith, h .table .room, put .long);
           few = omega arith;
-          linked = pushed-linked w n id p m key (h .size) less b b-low (tail-room w n id p m key (h .size) less (λ i. keyBucket n (keyAt w (8 + 5 * n + 3 * i))) b b-low (h .table .linked))
-              (λ i. keyBucket n (keyAt new (8 + 5 * n + 3 * i))) (b-is ∙ ap (keyBucket n) (sym (put .key)))
-              (linked-cong (λ i. keyBucket n (keyAt w (8 + 5 * n + 3 * i))) (λ i. keyBucket n (keyAt new (8 + 5 * n + 3 * i))) w (8 + 8 * n) n id (λ i k. ap (keyBucket n) (sym (old-key i k))) (h .table .linked));
+          linked = pushed-linked w n id p m key (h .size) less b b-low (tail-room w n id p m key (h .size) less (λ i. keyBucket n (keyAt w (keysAt n + 3 * i))) b b-low (h .table .linked))
+              (λ i. keyBucket n (keyAt new (keysAt n + 3 * i))) (b-is ∙ ap (keyBucket n) (sym (put .key)))
+              (linked-cong (λ i. keyBucket n (keyAt w (keysAt n + 3 * i))) (λ i. keyBucket n (keyAt new (keysAt n + 3 * i))) w (chainAt n) n id (λ i k. ap (keyBucket n) (sym (old-key i k))) (h .table .linked));
         });
         keys = λ c k. keys c (omega (arith, put .count)) (ℕ-discrete c id);
         stored = λ c k. stored c (omega (arith, put .count)) (ℕ-discrete c id);
@@ -169,17 +170,17 @@ module _ (eps : Float) (n : ℕ) (w : List ℕ) (h : Holds eps n w) (p : Point) 
         tidy = subst Tidy (sym (push-pool q)) (tidy-insert (byKey eps) (poolAt n w) (candidate p m []) (key-lawful eps) (h .tidy));
       }
     where
-      keys : (c : ℕ) → c < id + 1 → Dec (c ≡ id) → keyAt new (8 + 5 * n + 3 * c) ≡ keyWords (keyOf eps (pointAt new (8 + 5 * c)))
+      keys : (c : ℕ) → c < id + 1 → Dec (c ≡ id) → keyAt new (keysAt n + 3 * c) ≡ keyWords (keyOf eps (pointAt new (entryAt c)))
       keys c k (yes e) = rw e (put .key ∙ ap (λ (q : Point). keyWords (keyOf eps q)) (sym new-point))
       keys c k (no d) =
           let r : c < id = omega arith in
-          old-key c r ∙ h .keys c r ∙ ap (λ (q : Point). keyWords (keyOf eps q)) (sym (point-same w new (8 + 5 * c) (λ i s. old-word c i r (omega arith))))
+          old-key c r ∙ h .keys c r ∙ ap (λ (q : Point). keyWords (keyOf eps q)) (sym (point-same w new (entryAt c) (λ i s. old-word c i r (omega arith))))
 
-      stored : (c : ℕ) → c < id + 1 → Dec (c ≡ id) → Stored new (8 + 5 * c)
-      stored c k (yes e) = rw e (stored-at new (8 + 5 * id) p bits within (put .x) (put .y) (put .z))
-      stored c k (no d) = let r : c < id = omega arith in stored-same w new (8 + 5 * c) (λ i s. old-word c i r (omega arith)) (h .stored c r)
+      stored : (c : ℕ) → c < id + 1 → Dec (c ≡ id) → Stored new (entryAt c)
+      stored c k (yes e) = rw e (stored-at new (entryAt id) p bits within (put .x) (put .y) (put .z))
+      stored c k (no d) = let r : c < id = omega arith in stored-same w new (entryAt c) (λ i s. old-word c i r (omega arith)) (h .stored c r)
 
-      masks : (c : ℕ) → c < id + 1 → Dec (c ≡ id) → getD new (8 + 5 * c + 4) 0 < 64
+      masks : (c : ℕ) → c < id + 1 → Dec (c ≡ id) → getD new (entryAt c + 4) 0 < 64
       masks c k (yes e) = rw e (omega (arith, put .mask))
       masks c k (no d) = let r : c < id = omega arith in omega (arith, old-word c 4 r (omega arith), h .masks c r)
 
@@ -204,13 +205,13 @@ module _ (eps : Float) (n : ℕ) (w : List ℕ) (h : Holds eps n w) (p : Point) 
   renewedPool =
       record {
         all = set (poolAt n w .all) id (renewed (getD (poolAt n w .all) id noCandidate) (candidate p m []));
-        lists = map (λ f. view w (8 + 11 * n + f * n) (getD w f 0)) faces;
+        lists = map (λ f. view w (listAt n f) (getD w f 0)) faces;
       }
 
   renewed-pool : renewedPool ≡ insert (byKey eps) (poolAt n w) (candidate p m [])
   unfolding insert listed some poolAt
   renewed-pool =
-      sym (λ i. record { all = enteredAs (poolAt n w .all) (candidate p m []) (found i); lists = map (λ f. view w (8 + 11 * n + f * n) (getD w f 0)) faces })
+      sym (λ i. record { all = enteredAs (poolAt n w .all) (candidate p m []) (found i); lists = map (λ f. view w (listAt n f) (getD w f 0)) faces })
 
   id-low : id < countAt w
   id-low = link-low eps n w h (candidate p m []) id found
@@ -229,9 +230,9 @@ module _ (eps : Float) (n : ℕ) (w : List ℕ) (h : Holds eps n w) (p : Point) 
       again : renewed (candidateAt w id) (candidate p m []) ≡ candidateAt w id
       again =
           λ i. record {
-            point = ap (λ (b : Bool). cond b (pointAt w (8 + 5 * id)) p) (eq-eqb m 0 z) i;
-            mesh = ap (λ (b : Bool). cond b (getD w (8 + 5 * id + 3) 0) m) (eq-eqb m 0 z) i;
-            on = kept-none (hasBit (getD w (8 + 5 * id + 4) 0)) i;
+            point = ap (λ (b : Bool). cond b (pointAt w (entryAt id)) p) (eq-eqb m 0 z) i;
+            mesh = ap (λ (b : Bool). cond b (getD w (entryAt id + 3) 0) m) (eq-eqb m 0 z) i;
+            on = kept-none (hasBit (getD w (entryAt id + 4) 0)) i;
           }
 
       same : renewed (getD (poolAt n w .all) id noCandidate) (candidate p m []) ≡ getD (poolAt n w .all) id noCandidate
@@ -241,7 +242,7 @@ module _ (eps : Float) (n : ℕ) (w : List ℕ) (h : Holds eps n w) (p : Point) 
       unchanged =
           λ i. record {
             all = (sym (ap (λ (x : Candidate). set (poolAt n w .all) id x) same ∙ set-getD (poolAt n w .all) id noCandidate)) i;
-            lists = map (λ f. view w (8 + 11 * n + f * n) (getD w f 0)) faces;
+            lists = map (λ f. view w (listAt n f) (getD w f 0)) faces;
           }
 
   module _ (within : PointIn p) (bits : BitsOf p) (vertex : m ≡ 0 → ⊥) where
@@ -249,25 +250,25 @@ module _ (eps : Float) (n : ℕ) (w : List ℕ) (h : Holds eps n w) (p : Point) 
     moved = pointPut w id p m
 
     moved-long : length moved ≡ length w
-    moved-long = four-long w (8 + 5 * id) (toBits binary64 (p .x)) (toBits binary64 (p .y)) (toBits binary64 (p .z)) m
+    moved-long = four-long w (entryAt id) (toBits binary64 (p .x)) (toBits binary64 (p .y)) (toBits binary64 (p .z)) m
 
-    moved-rest : (x : ℕ) → Outside x (8 + 5 * id) 4 → getD moved x 0 ≡ getD w x 0
-    moved-rest x out = four-rest w (8 + 5 * id) (toBits binary64 (p .x)) (toBits binary64 (p .y)) (toBits binary64 (p .z)) m x out
+    moved-rest : (x : ℕ) → Outside x (entryAt id) 4 → getD moved x 0 ≡ getD w x 0
+    moved-rest x out = four-rest w (entryAt id) (toBits binary64 (p .x)) (toBits binary64 (p .y)) (toBits binary64 (p .z)) m x out
 
-    room : 8 + 5 * id + 3 < length w
+    room : entryAt id + 3 < length w
     room = omega (arith, id-low, h .table .few, h .size)
 
-    at-x : getD moved (8 + 5 * id) 0 ≡ toBits binary64 (p .x)
-    at-x = four-at0 w (8 + 5 * id) (toBits binary64 (p .x)) (toBits binary64 (p .y)) (toBits binary64 (p .z)) m room
+    at-x : getD moved (entryAt id) 0 ≡ toBits binary64 (p .x)
+    at-x = four-at0 w (entryAt id) (toBits binary64 (p .x)) (toBits binary64 (p .y)) (toBits binary64 (p .z)) m room
 
-    at-y : getD moved (8 + 5 * id + 1) 0 ≡ toBits binary64 (p .y)
-    at-y = four-at1 w (8 + 5 * id) (toBits binary64 (p .x)) (toBits binary64 (p .y)) (toBits binary64 (p .z)) m room
+    at-y : getD moved (entryAt id + 1) 0 ≡ toBits binary64 (p .y)
+    at-y = four-at1 w (entryAt id) (toBits binary64 (p .x)) (toBits binary64 (p .y)) (toBits binary64 (p .z)) m room
 
-    at-z : getD moved (8 + 5 * id + 2) 0 ≡ toBits binary64 (p .z)
-    at-z = four-at2 w (8 + 5 * id) (toBits binary64 (p .x)) (toBits binary64 (p .y)) (toBits binary64 (p .z)) m room
+    at-z : getD moved (entryAt id + 2) 0 ≡ toBits binary64 (p .z)
+    at-z = four-at2 w (entryAt id) (toBits binary64 (p .x)) (toBits binary64 (p .y)) (toBits binary64 (p .z)) m room
 
-    at-mesh : getD moved (8 + 5 * id + 3) 0 ≡ m
-    at-mesh = four-at3 w (8 + 5 * id) (toBits binary64 (p .x)) (toBits binary64 (p .y)) (toBits binary64 (p .z)) m room
+    at-mesh : getD moved (entryAt id + 3) 0 ≡ m
+    at-mesh = four-at3 w (entryAt id) (toBits binary64 (p .x)) (toBits binary64 (p .y)) (toBits binary64 (p .z)) m room
 
     count-same : countAt moved ≡ countAt w
     count-same = moved-rest 6 (λ j s e. omega arith)
@@ -275,30 +276,30 @@ module _ (eps : Float) (n : ℕ) (w : List ℕ) (h : Holds eps n w) (p : Point) 
     front-same : (f : ℕ) → f < 6 → getD moved f 0 ≡ getD w f 0
     front-same f k = moved-rest f (λ j s e. omega arith)
 
-    back-same : (x : ℕ) → 8 + 5 * n ≤ x → getD moved x 0 ≡ getD w x 0
+    back-same : (x : ℕ) → keysAt n ≤ x → getD moved x 0 ≡ getD w x 0
     back-same x k = moved-rest x (λ j s e. omega (arith, id-low, h .table .few))
 
-    other-word : (c i : ℕ) → (c ≡ id → ⊥) → i < 5 → getD moved (8 + 5 * c + i) 0 ≡ getD w (8 + 5 * c + i) 0
-    other-word c i d k = moved-rest (8 + 5 * c + i) (λ j s e. omega arith)
+    other-word : (c i : ℕ) → (c ≡ id → ⊥) → i < 5 → getD moved (entryAt c + i) 0 ≡ getD w (entryAt c + i) 0
+    other-word c i d k = moved-rest (entryAt c + i) (λ j s e. omega arith)
 
-    mask-same : (c : ℕ) → getD moved (8 + 5 * c + 4) 0 ≡ getD w (8 + 5 * c + 4) 0
-    mask-same c = moved-rest (8 + 5 * c + 4) (λ j s e. omega arith)
+    mask-same : (c : ℕ) → getD moved (entryAt c + 4) 0 ≡ getD w (entryAt c + 4) 0
+    mask-same c = moved-rest (entryAt c + 4) (λ j s e. omega arith)
 
-    point-is : pointAt moved (8 + 5 * id) ≡ p
-    point-is = point-at moved (8 + 5 * id) p bits at-x at-y at-z
+    point-is : pointAt moved (entryAt id) ≡ p
+    point-is = point-at moved (entryAt id) p bits at-x at-y at-z
 
     candidate-is : candidateAt moved id ≡ renewed (candidateAt w id) (candidate p m [])
     unfolding renewed
     candidate-is =
         λ i. record {
-          point = (point-is ∙ sym (ap (λ (b : Bool). cond b (pointAt w (8 + 5 * id)) p) (ne-eqb m 0 vertex))) i;
-          mesh = (at-mesh ∙ sym (ap (λ (b : Bool). cond b (getD w (8 + 5 * id + 3) 0) m) (ne-eqb m 0 vertex))) i;
-          on = (ap facesIn (mask-same id) ∙ sym (kept-none (hasBit (getD w (8 + 5 * id + 4) 0)))) i;
+          point = (point-is ∙ sym (ap (λ (b : Bool). cond b (pointAt w (entryAt id)) p) (ne-eqb m 0 vertex))) i;
+          mesh = (at-mesh ∙ sym (ap (λ (b : Bool). cond b (getD w (entryAt id + 3) 0) m) (ne-eqb m 0 vertex))) i;
+          on = (ap facesIn (mask-same id) ∙ sym (kept-none (hasBit (getD w (entryAt id + 4) 0)))) i;
         }
 
     moved-pool : poolAt n moved ≡ insert (byKey eps) (poolAt n w) (candidate p m [])
     moved-pool =
-        pool-is n moved (set (poolAt n w .all) id (renewed (getD (poolAt n w .all) id noCandidate) (candidate p m []))) (λ f. view w (8 + 11 * n + f * n) (getD w f 0))
+        pool-is n moved (set (poolAt n w .all) id (renewed (getD (poolAt n w .all) id noCandidate) (candidate p m []))) (λ f. view w (listAt n f) (getD w f 0))
         (length-set (poolAt n w .all) id (renewed (getD (poolAt n w .all) id noCandidate) (candidate p m [])) ∙ pool-count n w ∙ sym count-same)
         (λ c k. at c (omega (arith, count-same)) (ℕ-discrete c id))
         (lists-same eps n w moved h moved-long front-same (λ x k r. back-same x (omega arith)))
@@ -326,16 +327,16 @@ module _ (eps : Float) (n : ℕ) (w : List ℕ) (h : Holds eps n w) (p : Point) 
           tidy = subst Tidy (sym moved-pool) (tidy-insert (byKey eps) (poolAt n w) (candidate p m []) (key-lawful eps) (h .tidy));
         }
       where
-        key-kept : (c : ℕ) → keyAt moved (8 + 5 * n + 3 * c) ≡ keyAt w (8 + 5 * n + 3 * c)
-        key-kept c = key-same w moved (8 + 5 * n + 3 * c) (λ i s. back-same (8 + 5 * n + 3 * c + i) (omega arith))
+        key-kept : (c : ℕ) → keyAt moved (keysAt n + 3 * c) ≡ keyAt w (keysAt n + 3 * c)
+        key-kept c = key-same w moved (keysAt n + 3 * c) (λ i s. back-same (keysAt n + 3 * c + i) (omega arith))
 
-        keys : (c : ℕ) → c < countAt w → Dec (c ≡ id) → keyAt moved (8 + 5 * n + 3 * c) ≡ keyWords (keyOf eps (pointAt moved (8 + 5 * c)))
+        keys : (c : ℕ) → c < countAt w → Dec (c ≡ id) → keyAt moved (keysAt n + 3 * c) ≡ keyWords (keyOf eps (pointAt moved (entryAt c)))
         keys c k (yes e) = rw e (key-kept id ∙ link-key eps n w h (candidate p m []) id found ∙ ap (λ (q : Point). keyWords (keyOf eps q)) (sym point-is))
-        keys c k (no d) = key-kept c ∙ h .keys c k ∙ ap (λ (q : Point). keyWords (keyOf eps q)) (sym (point-same w moved (8 + 5 * c) (λ i s. other-word c i d (omega arith))))
+        keys c k (no d) = key-kept c ∙ h .keys c k ∙ ap (λ (q : Point). keyWords (keyOf eps q)) (sym (point-same w moved (entryAt c) (λ i s. other-word c i d (omega arith))))
 
-        stored : (c : ℕ) → c < countAt w → Dec (c ≡ id) → Stored moved (8 + 5 * c)
-        stored c k (yes e) = rw e (stored-at moved (8 + 5 * id) p bits within at-x at-y at-z)
-        stored c k (no d) = stored-same w moved (8 + 5 * c) (λ i s. other-word c i d (omega arith)) (h .stored c k)
+        stored : (c : ℕ) → c < countAt w → Dec (c ≡ id) → Stored moved (entryAt c)
+        stored c k (yes e) = rw e (stored-at moved (entryAt id) p bits within at-x at-y at-z)
+        stored c k (no d) = stored-same w moved (entryAt c) (λ i s. other-word c i d (omega arith)) (h .stored c k)
 
     pub put-inserted : Inserted eps n (candidate p m []) w moved
     put-inserted = record { pool = moved-pool; holds = moved-holds; long = moved-long; rest = λ x k. back-same x (omega arith) }
@@ -344,7 +345,7 @@ module _ (eps : Float) (n : ℕ) (w : List ℕ) (h : Holds eps n w) (p : Point) 
 
 module _ (eps : Float) (n : ℕ) (w : List ℕ) (h : Holds eps n w) (p : Point) (m : ℕ) (k : KeyWords) (b link : ℕ)
     (key-is : k ≡ keyWords (keyOf eps p)) (in-bucket : InBucket (mixed (k .x) (k .y) (k .z)) n b)
-    (searched : link ≡ linkTo (λ i. sameWords (keyAt w (8 + 5 * n + 3 * i)) k) (upTo (countAt w))) where
+    (searched : link ≡ linkTo (λ i. sameWords (keyAt w (keysAt n + 3 * i)) k) (upTo (countAt w))) where
   linked : link ≡ linkOf (placeFor (byKey eps) (poolAt n w) (candidate p m []))
   linked = searched ∙ ap (λ (q : KeyWords). linkTo (keyIs w n q) (upTo (countAt w))) key-is ∙ link-is eps n w h (candidate p m [])
 
@@ -357,7 +358,7 @@ module _ (eps : Float) (n : ℕ) (w : List ℕ) (h : Holds eps n w) (p : Point) 
   pub miss-room : link ≡ 0 → RoomFor eps n w (candidate p m []) → countAt w < n
   miss-room z room = room (miss z)
 
-  pub hit-room : (link ≡ 0 → ⊥) → 8 + 5 * (link - 1) + 3 < length w
+  pub hit-room : (link ≡ 0 → ⊥) → entryAt (link - 1) + 3 < length w
   hit-room some = omega (arith, link-low eps n w h (candidate p m []) (link - 1) (hit some), h .table .few, h .size)
 
   pub placed-new : (v : List ℕ) → link ≡ 0 → RoomFor eps n w (candidate p m []) → PointIn p → BitsOf p → v ≡ candidatePut w n (countAt w) p m k b

@@ -16,6 +16,7 @@ use Rattle.lists.specs.Regions.{Outside}
 use Rattle.geometry.specs.declared.point.Point.{Point}
 use Rattle.chains.specs.Chains.{Linked, entered}
 use Rattle.chains.proofs.Entering.{linked-same, linked-more, tail-le, entered-length, entered-rest}
+use Rattle.candidate_pool.specs.Offsets.{entryAt, keysAt, chainAt, poolEnd}
 use Rattle.candidate_pool.specs.declared.keys.KeyWords.{KeyWords}
 use Rattle.candidate_pool.specs.Room.{keyAt}
 use Rattle.candidate_pool.specs.Standing.{countAt}
@@ -87,15 +88,15 @@ key-same u w at same =
 pub record Pushed (n id : ℕ) (p : Point) (m : ℕ) (k : KeyWords) (w w' : List ℕ) : Type 0 where
   pub long : length w' ≡ length w
   pub count : countAt w' ≡ id + 1
-  pub x : getD w' (8 + 5 * id) 0 ≡ toBits binary64 (p .x)
-  pub y : getD w' (8 + 5 * id + 1) 0 ≡ toBits binary64 (p .y)
-  pub z : getD w' (8 + 5 * id + 2) 0 ≡ toBits binary64 (p .z)
-  pub mesh : getD w' (8 + 5 * id + 3) 0 ≡ m
-  pub mask : getD w' (8 + 5 * id + 4) 0 ≡ 0
-  pub key : keyAt w' (8 + 5 * n + 3 * id) ≡ k
-  pub rest : (x : ℕ) → (x ≡ 6 → ⊥) → Outside x (8 + 5 * id) 5 → Outside x (8 + 5 * n + 3 * id) 3 → Outside x (8 + 8 * n) (n + n + (id + 1)) → getD w' x 0 ≡ getD w x 0
+  pub x : getD w' (entryAt id) 0 ≡ toBits binary64 (p .x)
+  pub y : getD w' (entryAt id + 1) 0 ≡ toBits binary64 (p .y)
+  pub z : getD w' (entryAt id + 2) 0 ≡ toBits binary64 (p .z)
+  pub mesh : getD w' (entryAt id + 3) 0 ≡ m
+  pub mask : getD w' (entryAt id + 4) 0 ≡ 0
+  pub key : keyAt w' (keysAt n + 3 * id) ≡ k
+  pub rest : (x : ℕ) → (x ≡ 6 → ⊥) → Outside x (entryAt id) 5 → Outside x (keysAt n + 3 * id) 3 → Outside x (chainAt n) (n + n + (id + 1)) → getD w' x 0 ≡ getD w x 0
 
-module _ (w : List ℕ) (n id : ℕ) (p : Point) (m : ℕ) (k : KeyWords) (size : 8 + 17 * n ≤ length w) (less : id < n) where
+module _ (w : List ℕ) (n id : ℕ) (p : Point) (m : ℕ) (k : KeyWords) (size : poolEnd n ≤ length w) (less : id < n) where
   abbrev w1 : List ℕ
   w1 = set w 6 (id + 1)
 
@@ -103,54 +104,54 @@ module _ (w : List ℕ) (n id : ℕ) (p : Point) (m : ℕ) (k : KeyWords) (size 
   w2 = pointPut w1 id p m
 
   abbrev w3 : List ℕ
-  w3 = set w2 (8 + 5 * id + 4) 0
+  w3 = set w2 (entryAt id + 4) 0
 
   abbrev w4 : List ℕ
-  w4 = keyPut w3 (8 + 5 * n + 3 * id) k
+  w4 = keyPut w3 (keysAt n + 3 * id) k
 
   long1 : length w1 ≡ length w
   long1 = length-set w 6 (id + 1)
 
   long2 : length w2 ≡ length w
-  long2 = four-long w1 (8 + 5 * id) (toBits binary64 (p .x)) (toBits binary64 (p .y)) (toBits binary64 (p .z)) m ∙ long1
+  long2 = four-long w1 (entryAt id) (toBits binary64 (p .x)) (toBits binary64 (p .y)) (toBits binary64 (p .z)) m ∙ long1
 
   long3 : length w3 ≡ length w
-  long3 = length-set w2 (8 + 5 * id + 4) 0 ∙ long2
+  long3 = length-set w2 (entryAt id + 4) 0 ∙ long2
 
   long4 : length w4 ≡ length w
-  long4 = three-long w3 (8 + 5 * n + 3 * id) k ∙ long3
+  long4 = three-long w3 (keysAt n + 3 * id) k ∙ long3
 
-  rest2 : (x : ℕ) → Outside x (8 + 5 * id) 4 → getD w2 x 0 ≡ getD w1 x 0
-  rest2 x out = four-rest w1 (8 + 5 * id) (toBits binary64 (p .x)) (toBits binary64 (p .y)) (toBits binary64 (p .z)) m x out
+  rest2 : (x : ℕ) → Outside x (entryAt id) 4 → getD w2 x 0 ≡ getD w1 x 0
+  rest2 x out = four-rest w1 (entryAt id) (toBits binary64 (p .x)) (toBits binary64 (p .y)) (toBits binary64 (p .z)) m x out
 
-  rest3 : (x : ℕ) → (x ≡ 8 + 5 * id + 4 → ⊥) → getD w3 x 0 ≡ getD w2 x 0
-  rest3 x d = getD-set-other w2 (8 + 5 * id + 4) x 0 0 d
+  rest3 : (x : ℕ) → (x ≡ entryAt id + 4 → ⊥) → getD w3 x 0 ≡ getD w2 x 0
+  rest3 x d = getD-set-other w2 (entryAt id + 4) x 0 0 d
 
-  rest4 : (x : ℕ) → Outside x (8 + 5 * n + 3 * id) 3 → getD w4 x 0 ≡ getD w3 x 0
-  rest4 x out = three-rest w3 (8 + 5 * n + 3 * id) k x out
+  rest4 : (x : ℕ) → Outside x (keysAt n + 3 * id) 3 → getD w4 x 0 ≡ getD w3 x 0
+  rest4 x out = three-rest w3 (keysAt n + 3 * id) k x out
 
-  before : (x : ℕ) → (x ≡ 6 → ⊥) → Outside x (8 + 5 * id) 5 → Outside x (8 + 5 * n + 3 * id) 3 → getD w4 x 0 ≡ getD w x 0
+  before : (x : ℕ) → (x ≡ 6 → ⊥) → Outside x (entryAt id) 5 → Outside x (keysAt n + 3 * id) 3 → getD w4 x 0 ≡ getD w x 0
   before x six point key =
       rest4 x key ∙ rest3 x (λ e. point 4 (omega arith) e) ∙ rest2 x (λ i h e. point i (omega arith) e) ∙ getD-set-other w 6 x (id + 1) 0 six
 
-  chain-before : (x : ℕ) → 8 + 8 * n ≤ x → getD w4 x 0 ≡ getD w x 0
+  chain-before : (x : ℕ) → chainAt n ≤ x → getD w4 x 0 ≡ getD w x 0
   chain-before x h = before x (λ e. omega arith) (λ i r e. omega arith) (λ i r e. omega arith)
 
-  pub tail-room : (h : ℕ → ℕ) (b : ℕ) → b < n → Linked h w (8 + 8 * n) n id → getD w4 (8 + 8 * n + n + b) 0 ≤ id
-  tail-room h b q l = omega (arith, chain-before (8 + 8 * n + n + b) (omega arith), tail-le h w (8 + 8 * n) n id b l q)
+  pub tail-room : (h : ℕ → ℕ) (b : ℕ) → b < n → Linked h w (chainAt n) n id → getD w4 (chainAt n + n + b) 0 ≤ id
+  tail-room h b q l = omega (arith, chain-before (chainAt n + n + b) (omega arith), tail-le h w (chainAt n) n id b l q)
 
   -- the stores as the code makes them: u is the room with the point in it, and a and t are where keys and chains begin
-  module _ (u v : List ℕ) (a t b : ℕ) (u-is : u ≡ w2) (a-is : a ≡ 8 + 5 * n) (t-is : t ≡ 8 + 8 * n) where
+  module _ (u v : List ℕ) (a t b : ℕ) (u-is : u ≡ w2) (a-is : a ≡ keysAt n) (t-is : t ≡ chainAt n) where
     abbrev made : List ℕ
-    made = keyPut (set u (8 + 5 * id + 4) 0) (a + 3 * id) k
+    made = keyPut (set u (entryAt id + 4) 0) (a + 3 * id) k
 
     made-is : made ≡ w4
-    made-is = λ i. keyPut (set (u-is i) (8 + 5 * id + 4) 0) (a-is i + 3 * id) k
+    made-is = λ i. keyPut (set (u-is i) (entryAt id + 4) 0) (a-is i + 3 * id) k
 
     pub made-long : length u ≡ length w
     made-long = ap (length {A = ℕ}) u-is ∙ long2
 
-    pub enter-asks : (h : ℕ → ℕ) → b < n → Linked h w (8 + 8 * n) n id → (b < n) × ((t + n + n + id < length made) × (getD made (t + n + b) 0 ≤ id))
+    pub enter-asks : (h : ℕ → ℕ) → b < n → Linked h w (chainAt n) n id → (b < n) × ((t + n + n + id < length made) × (getD made (t + n + b) 0 ≤ id))
     enter-asks h q l =
         (q, (omega (arith, ap (length {A = ℕ}) made-is, long4), subst (λ (x : ℕ). x ≤ id) (sym (λ i. getD (made-is i) (t-is i + n + b) 0)) (tail-room h b q l)))
 
@@ -158,40 +159,40 @@ module _ (w : List ℕ) (n id : ℕ) (p : Point) (m : ℕ) (k : KeyWords) (size 
     put-all e = e ∙ (λ i. entered (made-is i) (t-is i) n id b)
 
     pub put-long : v ≡ entered made t n id b → length v ≡ length w
-    put-long e = ap (length {A = ℕ}) (put-all e) ∙ entered-length w4 (8 + 8 * n) n id b ∙ long4
+    put-long e = ap (length {A = ℕ}) (put-all e) ∙ entered-length w4 (chainAt n) n id b ∙ long4
 
-  module _ (b : ℕ) (q : b < n) (low : getD w4 (8 + 8 * n + n + b) 0 ≤ id) where
+  module _ (b : ℕ) (q : b < n) (low : getD w4 (chainAt n + n + b) 0 ≤ id) where
     abbrev w5 : List ℕ
     w5 = candidatePut w n id p m k b
 
-    rest5 : (x : ℕ) → Outside x (8 + 8 * n) (n + n + (id + 1)) → getD w5 x 0 ≡ getD w4 x 0
-    rest5 x out = entered-rest w4 (8 + 8 * n) n id b q low x out
+    rest5 : (x : ℕ) → Outside x (chainAt n) (n + n + (id + 1)) → getD w5 x 0 ≡ getD w4 x 0
+    rest5 x out = entered-rest w4 (chainAt n) n id b q low x out
 
-    front : (x : ℕ) → x < 8 + 8 * n → getD w5 x 0 ≡ getD w4 x 0
+    front : (x : ℕ) → x < chainAt n → getD w5 x 0 ≡ getD w4 x 0
     front x h = rest5 x (λ i r e. omega arith)
 
     -- candidate words that are not of the key
-    point5 : (i : ℕ) → i < 4 → getD w5 (8 + 5 * id + i) 0 ≡ getD w2 (8 + 5 * id + i) 0
-    point5 i h = front (8 + 5 * id + i) (omega arith) ∙ rest4 (8 + 5 * id + i) (λ j r e. omega arith) ∙ rest3 (8 + 5 * id + i) (λ e. omega arith)
+    point5 : (i : ℕ) → i < 4 → getD w5 (entryAt id + i) 0 ≡ getD w2 (entryAt id + i) 0
+    point5 i h = front (entryAt id + i) (omega arith) ∙ rest4 (entryAt id + i) (λ j r e. omega arith) ∙ rest3 (entryAt id + i) (λ e. omega arith)
 
     pub pushed : Pushed n id p m k w w5
     pushed =
         record {
-          long = entered-length w4 (8 + 8 * n) n id b ∙ long4;
+          long = entered-length w4 (chainAt n) n id b ∙ long4;
           count = front 6 (omega arith) ∙ rest4 6 (λ j r e. omega arith) ∙ rest3 6 (λ e. omega arith) ∙ rest2 6 (λ j r e. omega arith) ∙ getD-set-same w 6 (id + 1) 0 (omega arith);
-          x = ap (λ (x : ℕ). getD w5 x 0) (omega arith) ∙ point5 0 (omega arith) ∙ ap (λ (x : ℕ). getD w2 x 0) (omega arith) ∙ four-at0 w1 (8 + 5 * id) (toBits binary64 (p .x)) (toBits binary64 (p .y)) (toBits binary64 (p .z)) m room1;
-          y = point5 1 (omega arith) ∙ four-at1 w1 (8 + 5 * id) (toBits binary64 (p .x)) (toBits binary64 (p .y)) (toBits binary64 (p .z)) m room1;
-          z = point5 2 (omega arith) ∙ four-at2 w1 (8 + 5 * id) (toBits binary64 (p .x)) (toBits binary64 (p .y)) (toBits binary64 (p .z)) m room1;
-          mesh = point5 3 (omega arith) ∙ four-at3 w1 (8 + 5 * id) (toBits binary64 (p .x)) (toBits binary64 (p .y)) (toBits binary64 (p .z)) m room1;
-          mask = front (8 + 5 * id + 4) (omega arith) ∙ rest4 (8 + 5 * id + 4) (λ j r e. omega arith) ∙ getD-set-same w2 (8 + 5 * id + 4) 0 0 (omega (arith, long2));
-          key = key-same w4 w5 (8 + 5 * n + 3 * id) (λ i r. front (8 + 5 * n + 3 * id + i) (omega arith)) ∙ three-at w3 (8 + 5 * n + 3 * id) k (omega (arith, long3));
+          x = ap (λ (x : ℕ). getD w5 x 0) (omega arith) ∙ point5 0 (omega arith) ∙ ap (λ (x : ℕ). getD w2 x 0) (omega arith) ∙ four-at0 w1 (entryAt id) (toBits binary64 (p .x)) (toBits binary64 (p .y)) (toBits binary64 (p .z)) m room1;
+          y = point5 1 (omega arith) ∙ four-at1 w1 (entryAt id) (toBits binary64 (p .x)) (toBits binary64 (p .y)) (toBits binary64 (p .z)) m room1;
+          z = point5 2 (omega arith) ∙ four-at2 w1 (entryAt id) (toBits binary64 (p .x)) (toBits binary64 (p .y)) (toBits binary64 (p .z)) m room1;
+          mesh = point5 3 (omega arith) ∙ four-at3 w1 (entryAt id) (toBits binary64 (p .x)) (toBits binary64 (p .y)) (toBits binary64 (p .z)) m room1;
+          mask = front (entryAt id + 4) (omega arith) ∙ rest4 (entryAt id + 4) (λ j r e. omega arith) ∙ getD-set-same w2 (entryAt id + 4) 0 0 (omega (arith, long2));
+          key = key-same w4 w5 (keysAt n + 3 * id) (λ i r. front (keysAt n + 3 * id + i) (omega arith)) ∙ three-at w3 (keysAt n + 3 * id) k (omega (arith, long3));
           rest = λ x six point key chain. rest5 x chain ∙ before x six point key;
         }
       where
-        room1 : 8 + 5 * id + 3 < length w1
+        room1 : entryAt id + 3 < length w1
         room1 = omega (arith, long1)
 
-    pub pushed-linked : (h : ℕ → ℕ) → b ≡ h id → Linked h w (8 + 8 * n) n id → Linked h w5 (8 + 8 * n) n (id + 1)
+    pub pushed-linked : (h : ℕ → ℕ) → b ≡ h id → Linked h w (chainAt n) n id → Linked h w5 (chainAt n) n (id + 1)
     pushed-linked h e l =
-        linked-more h w4 (8 + 8 * n) n id b e q (omega (arith, long4))
-        (linked-same h w w4 (8 + 8 * n) n id long4 (λ i r. chain-before (8 + 8 * n + i) (omega arith)) l)
+        linked-more h w4 (chainAt n) n id b e q (omega (arith, long4))
+        (linked-same h w w4 (chainAt n) n id long4 (λ i r. chain-before (chainAt n + i) (omega arith)) l)

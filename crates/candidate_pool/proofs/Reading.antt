@@ -32,6 +32,7 @@ use Rattle.geometry.specs.Boxes.{faces}
 use Rattle.chains.specs.Links.{linkOf, linkTo}
 use Rattle.chains.proofs.Firsts.{places-link, link-found}
 use Rattle.mesh_weld.specs.Cells.{keyOf, sameKey}
+use Rattle.candidate_pool.specs.Offsets.{entryAt, keysAt, listsAt, listAt, poolEnd}
 use Rattle.candidate_pool.specs.Pool.{Candidate, noCandidate, faceList, byKey, placeFor, pointOf}
 use Rattle.candidate_pool.specs.Room.{keyWords, keyAt}
 use Rattle.candidate_pool.specs.Standing.{facesIn, countAt, pointAt, candidateAt, poolAt, Holds, RoomFor, Tidy}
@@ -50,12 +51,12 @@ pub pool-at : (n : ℕ) (w : List ℕ) (c : ℕ) → c < countAt w → getD (poo
 unfolding poolAt
 pool-at n w c h = at-map-up (candidateAt w) noCandidate 0 (countAt w) c h ∙ ap (candidateAt w) (omega arith)
 
-pub pool-point : (n : ℕ) (w : List ℕ) (c : ℕ) → c < countAt w → pointOf (poolAt n w) c ≡ pointAt w (8 + 5 * c)
+pub pool-point : (n : ℕ) (w : List ℕ) (c : ℕ) → c < countAt w → pointOf (poolAt n w) c ≡ pointAt w (entryAt c)
 pool-point n w c h = ap (λ (x : Candidate). x .point) (pool-at n w c h)
 
-pub pool-list : (n : ℕ) (w : List ℕ) (f : ℕ) → f < 6 → faceList (poolAt n w) f ≡ view w (8 + 11 * n + f * n) (getD w f 0)
+pub pool-list : (n : ℕ) (w : List ℕ) (f : ℕ) → f < 6 → faceList (poolAt n w) f ≡ view w (listAt n f) (getD w f 0)
 unfolding poolAt
-pool-list n w f h = at-faces (λ f. view w (8 + 11 * n + f * n) (getD w f 0)) [] f h
+pool-list n w f h = at-faces (λ f. view w (listAt n f) (getD w f 0)) [] f h
 
 pub all-is : (w : List ℕ) (l : List Candidate) → length l ≡ countAt w → ((c : ℕ) → c < countAt w → candidateAt w c ≡ getD l c noCandidate) → map (candidateAt w) (upTo (countAt w)) ≡ l
 all-is w l long same =
@@ -66,13 +67,13 @@ all-is w l long same =
     count = length-map (upTo (countAt w)) (candidateAt w) ∙ length-up 0 (countAt w)
 
 pub pool-is : (n : ℕ) (w : List ℕ) (l : List Candidate) (g : ℕ → List ℕ) → length l ≡ countAt w → ((c : ℕ) → c < countAt w → candidateAt w c ≡ getD l c noCandidate)
-    → ((f : ℕ) → f < 6 → view w (8 + 11 * n + f * n) (getD w f 0) ≡ g f)
+    → ((f : ℕ) → f < 6 → view w (listAt n f) (getD w f 0) ≡ g f)
     → poolAt n w ≡ record { all = l; lists = map g faces }
 unfolding poolAt
 pool-is n w l g long same lists =
-    λ i. record { all = all-is w l long same i; lists = faces-same (λ f. view w (8 + 11 * n + f * n) (getD w f 0)) g lists i }
+    λ i. record { all = all-is w l long same i; lists = faces-same (λ f. view w (listAt n f) (getD w f 0)) g lists i }
 
-pub candidate-same : (u w : List ℕ) (c : ℕ) → ((i : ℕ) → i < 5 → getD w (8 + 5 * c + i) 0 ≡ getD u (8 + 5 * c + i) 0) → candidateAt w c ≡ candidateAt u c
+pub candidate-same : (u w : List ℕ) (c : ℕ) → ((i : ℕ) → i < 5 → getD w (entryAt c + i) 0 ≡ getD u (entryAt c + i) 0) → candidateAt w c ≡ candidateAt u c
 candidate-same u w c same =
     λ i. record {
       point = pt (ofBits binary64 (first i)) (ofBits binary64 (same 1 (omega arith) i)) (ofBits binary64 (same 2 (omega arith) i));
@@ -80,7 +81,7 @@ candidate-same u w c same =
       on = facesIn (same 4 (omega arith) i);
     }
   where
-    first : getD w (8 + 5 * c) 0 ≡ getD u (8 + 5 * c) 0
+    first : getD w (entryAt c) 0 ≡ getD u (entryAt c) 0
     first = ap (λ (x : ℕ). getD w x 0) (omega arith) ∙ same 0 (omega arith) ∙ ap (λ (x : ℕ). getD u x 0) (omega arith)
 
 -- ---- the face lists
@@ -91,12 +92,12 @@ list-in n f h = let a : f * n ≤ 5 * n = mul-le-mul-right n (omega arith) in om
 pub list-apart : (n f g : ℕ) → f < g → f * n + n ≤ g * n
 list-apart n f g h = let a : suc f * n ≤ g * n = mul-le-mul-right n h in omega arith
 
-pub list-at : (n : ℕ) (w : List ℕ) (f i : ℕ) → f < 6 → i < getD w f 0 → getD (faceList (poolAt n w) f) i 0 ≡ getD w (8 + 11 * n + f * n + i) 0
-list-at n w f i k h = ap (λ (l : List ℕ). getD l i 0) (pool-list n w f k) ∙ view-at w (8 + 11 * n + f * n) (getD w f 0) i h
+pub list-at : (n : ℕ) (w : List ℕ) (f i : ℕ) → f < 6 → i < getD w f 0 → getD (faceList (poolAt n w) f) i 0 ≡ getD w (listAt n f + i) 0
+list-at n w f i k h = ap (λ (l : List ℕ). getD l i 0) (pool-list n w f k) ∙ view-at w (listAt n f) (getD w f 0) i h
 
-pub list-length : (n : ℕ) (w : List ℕ) (f : ℕ) → 8 + 17 * n ≤ length w → getD w f 0 ≤ n → f < 6 → length (faceList (poolAt n w) f) ≡ getD w f 0
+pub list-length : (n : ℕ) (w : List ℕ) (f : ℕ) → poolEnd n ≤ length w → getD w f 0 ≤ n → f < 6 → length (faceList (poolAt n w) f) ≡ getD w f 0
 list-length n w f size few k =
-    ap (length {A = ℕ}) (pool-list n w f k) ∙ view-length w (8 + 11 * n + f * n) (getD w f 0) (omega (arith, list-in n f k))
+    ap (length {A = ℕ}) (pool-list n w f k) ∙ view-length w (listAt n f) (getD w f 0) (omega (arith, list-in n f k))
 
 pub list-long : (eps : Float) (n : ℕ) (w : List ℕ) (f : ℕ) → Holds eps n w → f < 6 → length (faceList (poolAt n w) f) ≡ getD w f 0
 list-long eps n w f h k = list-length n w f (h .size) (h .lengths f k) k
@@ -107,12 +108,12 @@ list-few n w few tidy f k =
     pigeonhole n (faceList (poolAt n w) f) (λ i j. tidy .once f i j k) (λ i h. omega (arith, pool-count n w, tidy .low f i k h))
 
 pub lists-same : (eps : Float) (n : ℕ) (u w : List ℕ) → Holds eps n u → length w ≡ length u → ((f : ℕ) → f < 6 → getD w f 0 ≡ getD u f 0)
-    → ((x : ℕ) → 8 + 11 * n ≤ x → x < 8 + 17 * n → getD w x 0 ≡ getD u x 0) → (f : ℕ) → f < 6
-    → view w (8 + 11 * n + f * n) (getD w f 0) ≡ view u (8 + 11 * n + f * n) (getD u f 0)
+    → ((x : ℕ) → listsAt n ≤ x → x < poolEnd n → getD w x 0 ≡ getD u x 0) → (f : ℕ) → f < 6
+    → view w (listAt n f) (getD w f 0) ≡ view u (listAt n f) (getD u f 0)
 lists-same eps n u w h long counts same f k =
-    ap (λ (x : ℕ). view w (8 + 11 * n + f * n) x) (counts f k)
-    ∙ view-same u w (8 + 11 * n + f * n) (getD u f 0) (omega (arith, list-in n f k, h .size, h .lengths f k)) long
-    (λ i r. same (8 + 11 * n + f * n + i) (omega arith) (omega (arith, list-in n f k, h .lengths f k)))
+    ap (λ (x : ℕ). view w (listAt n f) x) (counts f k)
+    ∙ view-same u w (listAt n f) (getD u f 0) (omega (arith, list-in n f k, h .size, h .lengths f k)) long
+    (λ i r. same (listAt n f + i) (omega arith) (omega (arith, list-in n f k, h .lengths f k)))
 
 -- ---- the search
 
@@ -123,7 +124,7 @@ module _ (eps : Float) (n : ℕ) (w : List ℕ) (h : Holds eps n w) where
   points-long : length points ≡ countAt w
   points-long = length-map (poolAt n w .all) (λ c. c .point) ∙ pool-count n w
 
-  point-is : (c : ℕ) → c < countAt w → getD points c origin ≡ pointAt w (8 + 5 * c)
+  point-is : (c : ℕ) → c < countAt w → getD points c origin ≡ pointAt w (entryAt c)
   point-is c k = List·getD-map (λ c. c .point) (poolAt n w .all) c noCandidate ∙ ap (λ (x : Candidate). x .point) (pool-at n w c k)
 
   pub link-is : (e : Candidate) → linkTo (keyIs w n (keyWords (keyOf eps (e .point)))) (upTo (countAt w)) ≡ linkOf (placeFor (byKey eps) (poolAt n w) e)
@@ -135,13 +136,13 @@ module _ (eps : Float) (n : ℕ) (w : List ℕ) (h : Holds eps n w) where
   pub link-low : (e : Candidate) (i : ℕ) → placeFor (byKey eps) (poolAt n w) e ≡ some i → i < countAt w
   link-low e i q = omega (arith, key-lawful eps .found (e .point) points i q .0, points-long)
 
-  pub link-key : (e : Candidate) (i : ℕ) → placeFor (byKey eps) (poolAt n w) e ≡ some i → keyAt w (8 + 5 * n + 3 * i) ≡ keyWords (keyOf eps (e .point))
+  pub link-key : (e : Candidate) (i : ℕ) → placeFor (byKey eps) (poolAt n w) e ≡ some i → keyAt w (keysAt n + 3 * i) ≡ keyWords (keyOf eps (e .point))
   unfolding byKey
   link-key e i q =
       let t : Point → Bool = λ p. sameKey (keyOf eps p) (keyOf eps (e .point)) in
       h .keys i (link-low e i q)
-      ∙ words-same (keyWords (keyOf eps (pointAt w (8 + 5 * i)))) (keyWords (keyOf eps (e .point)))
-      (words-keys eps (pointAt w (8 + 5 * i)) (e .point)
+      ∙ words-same (keyWords (keyOf eps (pointAt w (entryAt i)))) (keyWords (keyOf eps (e .point)))
+      (words-keys eps (pointAt w (entryAt i)) (e .point)
       ∙ ap (λ (p : Point). sameKey (keyOf eps p) (keyOf eps (e .point))) (sym (point-is i (link-low e i q)))
       ∙ link-found t origin points i (places-link t origin points ∙ ap linkOf q) .1)
 

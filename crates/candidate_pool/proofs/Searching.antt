@@ -4,7 +4,7 @@
 --   words-same    keys that pass the test are equal
 --   key-filed     a candidate with the key is filed under the key's bucket
 use Prim.Native.Nat.{ℕ, _+_, _*_}
-use mathlib.Core.Path.{_≡_, refl}
+use mathlib.Core.Path.{_≡_, refl, sym, ap, _∙_}
 use mathlib.Core.Bool.{Bool, true, _&&_}
 use mathlib.Core.List.{List}
 use lib.Dec.{T, eqb}
@@ -12,11 +12,12 @@ use borrow.Author.Tests.{eqb-true}
 use Rattle.lists.proofs.Bools.{and-left, and-right}
 use Rattle.chains.specs.Chains.{Filed}
 use Rattle.chains.proofs.Walking.{filed-by-key}
+use Rattle.candidate_pool.specs.Offsets.{keysAt, chainAt}
 use Rattle.candidate_pool.specs.declared.keys.KeyWords.{KeyWords}
 use Rattle.candidate_pool.specs.Room.{keyAt, sameWords, keyBucket, KeyTable}
 
 abbrev pub keyIs : List ℕ → ℕ → KeyWords → ℕ → Bool
-keyIs w n key i = sameWords (keyAt w (8 + 5 * n + 3 * i)) key
+keyIs w n key i = sameWords (keyAt w (keysAt n + 3 * i)) key
 
 pub key-words-are : {a b c x y z : ℕ} → a ≡ x → b ≡ y → c ≡ z → _≡_ {A = KeyWords} (record { x = a; y = b; z = c }) (record { x = x; y = y; z = z })
 key-words-are e f g = λ i. record { x = e i; y = f i; z = g i }
@@ -34,7 +35,11 @@ words-same a b t =
     let z = eqb-true (a .z) (b .z) (and-right (eqb (a .y) (b .y)) (eqb (a .z) (b .z)) r) in
     λ i. record { x = x i; y = y i; z = z i }
 
-pub key-filed : (w : List ℕ) (n count : ℕ) (key : KeyWords) (b : ℕ) → KeyTable w n count → b ≡ keyBucket n key → Filed w (8 + 8 * n) n count b (keyIs w n key)
+pub key-filed : (w : List ℕ) (n count : ℕ) (key : KeyWords) (b : ℕ) → KeyTable w n count → b ≡ keyBucket n key → Filed w (chainAt n) n count b (keyIs w n key)
 key-filed w n count key b k e =
-    filed-by-key (keyBucket n) (λ i. keyAt w (8 + 5 * n + 3 * i)) w (8 + 8 * n) n count key b (keyIs w n key) (k .linked) e
-    (λ i h t. words-same (keyAt w (8 + 5 * n + 3 * i)) key (passed (keyIs w n key i) t))
+    filed-by-key (keyBucket n) (λ i. keyAt w (keysAt n + 3 * i)) w (chainAt n) n count key b (keyIs w n key) (k .linked) e
+    (λ i h t. words-same (keyAt w (keysAt n + 3 * i)) key (passed (keyIs w n key i) t))
+
+-- by where the keys stand
+pub key-told : (w : List ℕ) (n : ℕ) (key : KeyWords) (i at : ℕ) (r : Bool) → at ≡ keysAt n → r ≡ sameWords (keyAt w (at + 3 * i)) key → keyIs w n key i ≡ r
+key-told w n key i at r e h = ap (λ (k : ℕ). sameWords (keyAt w (k + 3 * i)) key) (sym e) ∙ sym h

@@ -1,5 +1,5 @@
--- What the functions of candidates keep in the work room, of which the outer contract does not speak. For at most n candidates: their keys from 8 + 5 n on, three words each, and
--- from 8 + 8 n on the bucket chains (crate chains), n heads, n tails and n nexts. Assumes nothing.
+-- What the functions of candidates keep in the work room, of which the outer contract does not speak. For at most n candidates: their keys from keysAt on, three words each, and
+-- from chainAt on the bucket chains (crate chains), n heads, n tails and n nexts. Assumes nothing.
 --   keyWords    a key as three words                 keyAt       three words of the room as a key
 --   sameWords   two keys are one                     keyBucket   the bucket of a key
 --   KeyTable    the room holds the table of the first `count` candidates by their keys
@@ -12,6 +12,7 @@ use Rattle.rounding.specs.Rounding.{keyWord}
 use Rattle.chains.specs.Hash.{bucketOf}
 use Rattle.chains.specs.Chains.{Linked}
 use Rattle.mesh_weld.specs.Cells.{Key}
+use Rattle.candidate_pool.specs.Offsets.{keysAt, chainAt, listsAt}
 use Rattle.candidate_pool.specs.declared.keys.KeyWords.{KeyWords}
 
 abbrev pub keyWords : Key → KeyWords
@@ -28,6 +29,6 @@ keyBucket n k = bucketOf (k .x) (k .y) (k .z) n
 
 pub record KeyTable (w : List ℕ) (n count : ℕ) : Type 0 where
   pub small : n < 268435456
-  pub room : 8 + 11 * n ≤ length w
+  pub room : listsAt n ≤ length w
   pub few : count ≤ n
-  pub linked : Linked (λ i. keyBucket n (keyAt w (8 + 5 * n + 3 * i))) w (8 + 8 * n) n count
+  pub linked : Linked (λ i. keyBucket n (keyAt w (keysAt n + 3 * i))) w (chainAt n) n count

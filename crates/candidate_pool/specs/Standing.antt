@@ -1,5 +1,5 @@
 -- Candidates as they stand in the work room, of which the outer contract does not speak. For at most n candidates: from 0 on the lengths of the six face lists and the number
--- of candidates; from 8 on the candidates, five words each; from 8 + 5 n on their table (Room.antt); from 8 + 11 n on the six face lists, n words each. Assumes nothing.
+-- of candidates; from 8 on the candidates, five words each; from keysAt on their table (Room.antt); from listsAt on the six face lists, n words each. Assumes nothing.
 --   facesIn        the faces whose bits a word has            candidate   from its parts
 --   countAt        how many candidates stand in the room
 --   pointAt        a point from three words of bits          candidateAt   candidate c
@@ -30,6 +30,7 @@ use Rattle.geometry.specs.Boxes.{faces}
 use Rattle.geometry.specs.Triangles.{Triangle, tri}
 use Rattle.mesh_weld.specs.Cells.{keyOf}
 use Rattle.box_faces.specs.Faces.{hasBit}
+use Rattle.candidate_pool.specs.Offsets.{entryAt, keysAt, listAt, poolEnd}
 use Rattle.candidate_pool.specs.Pool.{Candidate, Pool, noCandidate, noPool, faceList, renewed, listed, byKey, placeFor, insert}
 use Rattle.candidate_pool.specs.Room.{keyWords, keyAt, KeyTable}
 
@@ -46,10 +47,10 @@ abbrev pub pointAt : List ℕ → ℕ → Point
 pointAt w at = pt (ofBits binary64 (getD w at 0)) (ofBits binary64 (getD w (at + 1) 0)) (ofBits binary64 (getD w (at + 2) 0))
 
 abbrev pub candidateAt : List ℕ → ℕ → Candidate
-candidateAt w c = record { point = pointAt w (8 + 5 * c); mesh = getD w (8 + 5 * c + 3) 0; on = facesIn (getD w (8 + 5 * c + 4) 0) }
+candidateAt w c = record { point = pointAt w (entryAt c); mesh = getD w (entryAt c + 3) 0; on = facesIn (getD w (entryAt c + 4) 0) }
 
 unfoldable pub poolAt : ℕ → List ℕ → Pool
-poolAt n w = record { all = map (candidateAt w) (upTo (countAt w)); lists = map (λ f. view w (8 + 11 * n + f * n) (getD w f 0)) faces }
+poolAt n w = record { all = map (candidateAt w) (upTo (countAt w)); lists = map (λ f. view w (listAt n f) (getD w f 0)) faces }
 
 pub record PointIn (p : Point) : Type 0 where
   pub x : Within (2 ^ 48) (p .x)
@@ -68,23 +69,23 @@ pub record Tidy (p : Pool) : Type 0 where
   pub once : (f i j : ℕ) → f < 6 → i < j → j < length (faceList p f) → getD (faceList p f) i 0 ≡ getD (faceList p f) j 0 → ⊥
 
 pub record Holds (eps : Float) (n : ℕ) (w : List ℕ) : Type 0 where
-  pub size : 8 + 17 * n ≤ length w
+  pub size : poolEnd n ≤ length w
   pub table : KeyTable w n (countAt w)
-  pub keys : (c : ℕ) → c < countAt w → keyAt w (8 + 5 * n + 3 * c) ≡ keyWords (keyOf eps (pointAt w (8 + 5 * c)))
-  pub stored : (c : ℕ) → c < countAt w → Stored w (8 + 5 * c)
-  pub masks : (c : ℕ) → c < countAt w → getD w (8 + 5 * c + 4) 0 < 64
+  pub keys : (c : ℕ) → c < countAt w → keyAt w (keysAt n + 3 * c) ≡ keyWords (keyOf eps (pointAt w (entryAt c)))
+  pub stored : (c : ℕ) → c < countAt w → Stored w (entryAt c)
+  pub masks : (c : ℕ) → c < countAt w → getD w (entryAt c + 4) 0 < 64
   pub lengths : (f : ℕ) → f < 6 → getD w f 0 ≤ n
   pub tidy : Tidy (poolAt n w)
 
 abbrev pub RoomFor : Float → ℕ → List ℕ → Candidate → Type 0
 RoomFor eps n w e = placeFor (byKey eps) (poolAt n w) e ≡ none → countAt w < n
 
--- only the words below 8 + 17 n change
+-- only the words below poolEnd change
 pub record Inserted (eps : Float) (n : ℕ) (e : Candidate) (w w' : List ℕ) : Type 0 where
   pub pool : poolAt n w' ≡ insert (byKey eps) (poolAt n w) e
   pub holds : Holds eps n w'
   pub long : length w' ≡ length w
-  pub rest : (x : ℕ) → 8 + 17 * n ≤ x → getD w' x 0 ≡ getD w x 0
+  pub rest : (x : ℕ) → poolEnd n ≤ x → getD w' x 0 ≡ getD w x 0
 
 abbrev pub withFace : Pool → ℕ → ℕ → Pool
 withFace p c f =
@@ -97,13 +98,13 @@ pub record FaceAdded (eps : Float) (n c f : ℕ) (w w' : List ℕ) : Type 0 wher
   pub pool : poolAt n w' ≡ withFace (poolAt n w) c f
   pub holds : Holds eps n w'
   pub long : length w' ≡ length w
-  pub rest : (x : ℕ) → 8 + 17 * n ≤ x → getD w' x 0 ≡ getD w x 0
+  pub rest : (x : ℕ) → poolEnd n ≤ x → getD w' x 0 ≡ getD w x 0
 
 pub record Cleared (eps : Float) (n : ℕ) (w w' : List ℕ) : Type 0 where
   pub pool : poolAt n w' ≡ noPool
   pub holds : Holds eps n w'
   pub long : length w' ≡ length w
-  pub rest : (x : ℕ) → 8 + 17 * n ≤ x → getD w' x 0 ≡ getD w x 0
+  pub rest : (x : ℕ) → poolEnd n ≤ x → getD w' x 0 ≡ getD w x 0
 
 abbrev pub edgeAt : List ℕ → ℕ → List (Triangle ℕ)
 edgeAt w at = map (λ f. tri f (getD w at 0) (getD w (at + 1) 0)) (facesIn (getD w (at + 2) 0))

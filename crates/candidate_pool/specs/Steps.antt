@@ -12,6 +12,7 @@ use lib.Ieee.{Float, binary64, ofBits, toBits}
 use Rattle.geometry.specs.declared.point.Point.{Point}
 use Rattle.geometry.specs.Points.{origin}
 use Rattle.chains.specs.Chains.{entered}
+use Rattle.candidate_pool.specs.Offsets.{entryAt, keysAt, chainAt, poolEnd}
 use Rattle.candidate_pool.specs.declared.keys.KeyWords.{KeyWords}
 use Rattle.candidate_pool.specs.Pool.{Pool, noCandidate, renewed, listed}
 use Rattle.candidate_pool.specs.Standing.{candidate, facesIn, poolAt, Holds}
@@ -24,15 +25,15 @@ pub record BitsOf (p : Point) : Type 0 where
 abbrev pub pointPut : List ℕ → ℕ → Point → ℕ → List ℕ
 pointPut w id p mesh =
     set
-    (set (set (set w (8 + 5 * id) (toBits binary64 (p .x))) (8 + 5 * id + 1) (toBits binary64 (p .y))) (8 + 5 * id + 2) (toBits binary64 (p .z)))
-    (8 + 5 * id + 3) mesh
+    (set (set (set w (entryAt id) (toBits binary64 (p .x))) (entryAt id + 1) (toBits binary64 (p .y))) (entryAt id + 2) (toBits binary64 (p .z)))
+    (entryAt id + 3) mesh
 
 abbrev pub keyPut : List ℕ → ℕ → KeyWords → List ℕ
 keyPut w at key = set (set (set w at (key .x)) (at + 1) (key .y)) (at + 2) (key .z)
 
 abbrev pub candidatePut : List ℕ → ℕ → ℕ → Point → ℕ → KeyWords → ℕ → List ℕ
 candidatePut w n id p mesh key b =
-    entered (keyPut (set (pointPut (set w 6 (id + 1)) id p mesh) (8 + 5 * id + 4) 0) (8 + 5 * n + 3 * id) key) (8 + 8 * n) n id b
+    entered (keyPut (set (pointPut (set w 6 (id + 1)) id p mesh) (entryAt id + 4) 0) (keysAt n + 3 * id) key) (chainAt n) n id b
 
 abbrev pub withFaces : Pool → ℕ → List ℕ → Pool
 withFaces p c on =
@@ -42,4 +43,4 @@ pub record FacesAdded (eps : Float) (n c mask : ℕ) (w w' : List ℕ) : Type 0 
   pub pool : poolAt n w' ≡ withFaces (poolAt n w) c (facesIn mask)
   pub holds : Holds eps n w'
   pub long : length w' ≡ length w
-  pub rest : (x : ℕ) → 8 + 17 * n ≤ x → getD w' x 0 ≡ getD w x 0
+  pub rest : (x : ℕ) → poolEnd n ≤ x → getD w' x 0 ≡ getD w x 0

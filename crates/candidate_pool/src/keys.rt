@@ -1,12 +1,15 @@
-// Candidates by their keys (boundary_closure.rs, `quantized_point_key` and `point_to_candidate`). The room of n candidates stands in w: their keys from 8 + 5 n on, three
-// words each, and from 8 + 8 n on the bucket chains, n heads, n tails and n nexts.
+// Candidates by their keys (boundary_closure.rs, `quantized_point_key` and `point_to_candidate`). The room of n candidates stands in w: their keys, three words
+// each, and the bucket chains, n heads, n tails and n nexts (room.rt).
 ghost use mathlib.Core.Path.{_≡_};
 ghost use Prim.Native.Nat.{_+_, _*_, _<_};
 ghost use lib.ListN.{length};
 ghost use Rattle.lists.specs.Lists.{upTo};
 ghost use Rattle.chains.specs.Links.{linkTo};
 ghost use Rattle.mesh_weld.specs.Cells.{keyOf};
+ghost use Rattle.candidate_pool.specs.Offsets.{keysAt};
 ghost use Rattle.candidate_pool.specs.Room.{keyWords, keyAt, sameWords, keyBucket, KeyTable};
+use crate::room::chain_at;
+use crate::room::keys_at;
 use chains::first;
 use chains::next;
 use geometry::point::Point;
@@ -50,15 +53,15 @@ fn is_key_at(w: &[u64], at: usize, key: KeyWords) -> bool
 pub fn find_key(w: &[u64], n: usize, count: usize, key: KeyWords, b: usize) -> u64
     requires { ⌜ KeyTable (now w) n count ⌝ }
     requires { ⌜ (b ≡ keyBucket n key) × (b < n) ⌝ }
-    ensures { λ r. ⌜ r ≡ linkTo (λ i. sameWords (keyAt (now (w .entry)) (8 + 5 * n + 3 * i)) key) (upTo count) ⌝ }
+    ensures { λ r. ⌜ r ≡ linkTo (λ i. sameWords (keyAt (now (w .entry)) (keysAt n + 3 * i)) key) (upTo count) ⌝ }
 {
-    let mut link = first(w, 8 + 8 * n, b);
+    let mut link = first(w, chain_at(n), b);
     while link != 0 {
         let i = (link - 1) as usize;
-        if is_key_at(w, 8 + 5 * n + 3 * i, key) {
+        if is_key_at(w, keys_at(n) + 3 * i, key) {
             return link;
         }
-        link = next(w, 8 + 8 * n, n, i);
+        link = next(w, chain_at(n), n, i);
     }
     0
 }

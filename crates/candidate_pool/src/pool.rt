@@ -4,6 +4,7 @@ ghost use mathlib.Core.Path.{_≡_};
 ghost use mathlib.Core.List.{[], _∷_};
 ghost use Prim.Native.Nat.{_+_, _*_, _≤_, _<_};
 ghost use lib.ListN.{length};
+ghost use Rattle.candidate_pool.specs.Offsets.{entryAt, poolEnd};
 ghost use Rattle.candidate_pool.specs.Pool.{byKey, numberFor};
 ghost use Rattle.candidate_pool.specs.Room.{KeyTable};
 ghost use Rattle.candidate_pool.specs.Standing.{facesIn, countAt, pointAt, poolAt, candidate, PointIn, Stored, Holds, RoomFor, Inserted, FaceAdded, Cleared};
@@ -24,7 +25,7 @@ use words::zero_part;
 
 // The room of no candidate.
 pub fn clear_pool(w: &mut [u64], n: usize, eps: f64)
-    requires { ⌜ (n < 268435456) × (8 + 17 * n ≤ length (now w)) ⌝ }
+    requires { ⌜ (n < 268435456) × (poolEnd n ≤ length (now w)) ⌝ }
     ensures { λ _. ⌜ Cleared eps n (now (w .entry)) (now (w .exit)) ⌝ }
 {
     zero_part(w, 0, 8);
@@ -32,7 +33,7 @@ pub fn clear_pool(w: &mut [u64], n: usize, eps: f64)
 }
 
 fn put_point(w: &mut [u64], id: usize, p: Point, mesh: u64)
-    requires { ⌜ PointIn p × (8 + 5 * id + 3 < length (now w)) ⌝ }
+    requires { ⌜ PointIn p × (entryAt id + 3 < length (now w)) ⌝ }
     ensures { λ _. ⌜ (now (w .exit) ≡ pointPut (now (w .entry)) id p mesh) × BitsOf p ⌝ }
 {
     let at = 8 + 5 * id;
@@ -45,7 +46,7 @@ fn put_point(w: &mut [u64], id: usize, p: Point, mesh: u64)
 // A new candidate, on no face yet.
 fn push_candidate(w: &mut [u64], n: usize, p: Point, mesh: u64, key: KeyWords, b: usize) -> usize
     requires { ⌜ PointIn p × (countAt (now w) < n) × (b < n) ⌝ }
-    requires { ⌜ KeyTable (now w) n (countAt (now w)) × (8 + 17 * n ≤ length (now w)) ⌝ }
+    requires { ⌜ KeyTable (now w) n (countAt (now w)) × (poolEnd n ≤ length (now w)) ⌝ }
     ensures { λ r. ⌜ (r ≡ countAt (now (w .entry))) × (now (w .exit) ≡ candidatePut (now (w .entry)) n (countAt (now (w .entry))) p mesh key b) × BitsOf p ⌝ }
 {
     let id = w[6] as usize;
@@ -142,8 +143,8 @@ pub fn insert_grid_point(w: &mut [u64], n: usize, p: Point, face: usize, eps: f6
 }
 
 pub fn point_of(w: &[u64], id: CandidateVertexId) -> Point
-    requires { ⌜ Stored (now w) (8 + 5 * id .0) × (8 + 5 * id .0 + 2 < length (now w)) ⌝ }
-    ensures { λ r. ⌜ r ≡ pointAt (now (w .entry)) (8 + 5 * id .0) ⌝ }
+    requires { ⌜ Stored (now w) (entryAt (id .0)) × (entryAt (id .0) + 2 < length (now w)) ⌝ }
+    ensures { λ r. ⌜ r ≡ pointAt (now (w .entry)) (entryAt (id .0)) ⌝ }
 {
     let at = 8 + 5 * id.0;
     Point {

@@ -13,74 +13,82 @@
 //   8 + 62 n + 54 nf      12 nf     the edge table
 // In all 8 + 62 (vertices + G) + 66 facets, of the 128 (vertices + facets + G) + 1,024 that are lent.
 ghost use mathlib.Core.Path.{_≡_};
-ghost use Prim.Native.Nat.{_+_, _*_, _<_};
+ghost use Prim.Native.Nat.{_<_};
+ghost use Rattle.candidate_pool.specs.Offsets.{keysAt, chainAt, listAt, placesAt, sideAt, pairsAt, constraintsAt, openEdgesAt, segmentsAt, edgeTableAt, roomEnd};
 
 pub fn keys_at(n: usize) -> usize
     requires { ⌜ n < 268435456 ⌝ }
-    ensures { λ r. ⌜ r ≡ 8 + 5 * n ⌝ }
+    ensures { λ r. ⌜ r ≡ keysAt n ⌝ }
 {
     8 + 5 * n
 }
 
 pub fn chain_at(n: usize) -> usize
     requires { ⌜ n < 268435456 ⌝ }
-    ensures { λ r. ⌜ r ≡ 8 + 8 * n ⌝ }
+    ensures { λ r. ⌜ r ≡ chainAt n ⌝ }
 {
     8 + 8 * n
 }
 
 pub fn list_at(n: usize, face: usize) -> usize
     requires { ⌜ (n < 268435456) × (face < 6) ⌝ }
-    ensures { λ r. ⌜ r ≡ 8 + 11 * n + face * n ⌝ }
+    ensures { λ r. ⌜ r ≡ listAt n face ⌝ }
 {
     8 + 11 * n + face * n
 }
 
 pub fn places_at(n: usize) -> usize
     requires { ⌜ n < 268435456 ⌝ }
-    ensures { λ r. ⌜ r ≡ 8 + 17 * n ⌝ }
+    ensures { λ r. ⌜ r ≡ placesAt n ⌝ }
 {
     8 + 17 * n
 }
 
 pub fn side_at(n: usize) -> usize
     requires { ⌜ n < 268435456 ⌝ }
-    ensures { λ r. ⌜ r ≡ 8 + 18 * n ⌝ }
+    ensures { λ r. ⌜ r ≡ sideAt n ⌝ }
 {
     8 + 18 * n
 }
 
 pub fn pairs_at(n: usize) -> usize
     requires { ⌜ n < 268435456 ⌝ }
-    ensures { λ r. ⌜ r ≡ 8 + 22 * n ⌝ }
+    ensures { λ r. ⌜ r ≡ pairsAt n ⌝ }
 {
     8 + 22 * n
 }
 
 pub fn constraints_at(n: usize, nf: usize) -> usize
     requires { ⌜ (n < 268435456) × (nf < 268435456) ⌝ }
-    ensures { λ r. ⌜ r ≡ 8 + 38 * n + 12 * nf ⌝ }
+    ensures { λ r. ⌜ r ≡ constraintsAt n nf ⌝ }
 {
     8 + 38 * n + 12 * nf
 }
 
-pub fn edges_at(n: usize, nf: usize) -> usize
+pub fn open_edges_at(n: usize, nf: usize) -> usize
     requires { ⌜ (n < 268435456) × (nf < 268435456) ⌝ }
-    ensures { λ r. ⌜ r ≡ 8 + 62 * n + 30 * nf ⌝ }
+    ensures { λ r. ⌜ r ≡ openEdgesAt n nf ⌝ }
 {
     8 + 62 * n + 30 * nf
 }
 
 pub fn segments_at(n: usize, nf: usize) -> usize
     requires { ⌜ (n < 268435456) × (nf < 268435456) ⌝ }
-    ensures { λ r. ⌜ r ≡ 8 + 62 * n + 39 * nf ⌝ }
+    ensures { λ r. ⌜ r ≡ segmentsAt n nf ⌝ }
 {
     8 + 62 * n + 39 * nf
 }
 
-pub fn table_at(n: usize, nf: usize) -> usize
+pub fn edge_table_at(n: usize, nf: usize) -> usize
     requires { ⌜ (n < 268435456) × (nf < 268435456) ⌝ }
-    ensures { λ r. ⌜ r ≡ 8 + 62 * n + 54 * nf ⌝ }
+    ensures { λ r. ⌜ r ≡ edgeTableAt n nf ⌝ }
 {
     8 + 62 * n + 54 * nf
+}
+
+pub fn room_end(n: usize, nf: usize) -> usize
+    requires { ⌜ (n < 268435456) × (nf < 268435456) ⌝ }
+    ensures { λ r. ⌜ r ≡ roomEnd n nf ⌝ }
+{
+    8 + 62 * n + 66 * nf
 }

@@ -23,17 +23,18 @@ use Rattle.geometry.specs.Meshes.{vertex, pointsOf, Named, newNumber, enter}
 use Rattle.geometry.proofs.Meshes.{length-pointsOf}
 use Rattle.geometry.proofs.Points.{PointWithin, minus-within, cross-within, norm2-rootable}
 use Rattle.mesh_filter.specs.Room.{Below}
+use Rattle.candidate_pool.specs.Offsets.{entryAt, keysAt}
 use Rattle.candidate_pool.specs.Standing.{countAt, PointIn}
 use Rattle.cap_closing.specs.Steps.{pointIn, namedAt, Entering, Entered, Numbers, Shaped}
 use Rattle.cap_closing.proofs.Growth.{fold-cong}
 use Rattle.cap_closing.proofs.Numbering.{points-at, number-at}
 use Rattle.cap_closing.proofs.Upwards.{at-place}
 
-pub point-below : (b n : ℕ) (w w' : List ℕ) → 8 + 5 * n ≤ b → ((x : ℕ) → x < b → getD w' x 0 ≡ getD w x 0) → (c : ℕ) → c < n → pointIn w' c ≡ pointIn w c
+pub point-below : (b n : ℕ) (w w' : List ℕ) → keysAt n ≤ b → ((x : ℕ) → x < b → getD w' x 0 ≡ getD w x 0) → (c : ℕ) → c < n → pointIn w' c ≡ pointIn w c
 point-below b n w w' h same c l =
-    let x = same (8 + 5 * c) (omega arith) in
-    let y = same (8 + 5 * c + 1) (omega arith) in
-    let z = same (8 + 5 * c + 2) (omega arith) in
+    let x = same (entryAt c) (omega arith) in
+    let y = same (entryAt c + 1) (omega arith) in
+    let z = same (entryAt c + 2) (omega arith) in
     λ t. pt (ofBits binary64 (x t)) (ofBits binary64 (y t)) (ofBits binary64 (z t))
 
 pub entered-count : (b n nc nv : ℕ) (cs : List ℕ) (w w' : List ℕ) → Entered b n nc nv cs w w' → countAt w' ≡ countAt w

@@ -24,6 +24,7 @@ use Rattle.geometry.specs.declared.point.Point.{Point}
 use Rattle.geometry.specs.Points.{pt}
 use Rattle.geometry.specs.Meshes.{Named, enter}
 use Rattle.geometry.proofs.Meshes.{enter-new, enter-old}
+use Rattle.candidate_pool.specs.Offsets.{entryAt}
 use Rattle.candidate_pool.specs.Standing.{countAt}
 use Rattle.cap_closing.specs.Steps.{pointIn, namedAt, Entering, Entered}
 use Rattle.cap_closing.proofs.Growth.{named-of, Sound}
@@ -184,9 +185,9 @@ module _ (b n nc nv : ℕ) (w : List ℕ) (E : Entering b n nc nv w) (id : ℕ) 
     point-same c h =
         let p = E .pool in
         let l = E .count in
-        let x = kept (8 + 5 * c) (omega arith) in
-        let y = kept (8 + 5 * c + 1) (omega arith) in
-        let z = kept (8 + 5 * c + 2) (omega arith) in
+        let x = kept (entryAt c) (omega arith) in
+        let y = kept (entryAt c + 1) (omega arith) in
+        let z = kept (entryAt c + 2) (omega arith) in
         λ t. pt (ofBits binary64 (x t)) (ofBits binary64 (y t)) (ofBits binary64 (z t))
 
     -- a new vertex that there was

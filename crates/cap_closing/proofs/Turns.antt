@@ -21,6 +21,7 @@ use Rattle.geometry.specs.Triangles.{Triangle, tri, mapped, vertices, flat}
 use Rattle.geometry.specs.Meshes.{pointsOf, Named, newNumber, enter}
 use Rattle.geometry.proofs.Meshes.{length-pointsOf}
 use Rattle.mesh_filter.specs.Room.{Below}
+use Rattle.candidate_pool.specs.Offsets.{entryAt}
 use Rattle.candidate_pool.specs.Standing.{countAt, PointIn, Stored}
 use Rattle.cap_triangles.specs.Room.{turnedAt, componentsAt, seededAt, closingAt, Above}
 use Rattle.cap_closing.specs.Closing.{isLarge}
@@ -63,12 +64,12 @@ module _ (n nf nc : ℕ) (w w' : List ℕ) (A : Above (closingAt n nf nc) w w') 
   pub shaped-kept : (vs : List Float) → countAt w ≤ n → Shaped vs w → Shaped vs w'
   shaped-kept vs few S = record { vertices = S .vertices; stored = λ c h. stored c (let e = count-kept in omega arith) }
     where
-      stored : (c : ℕ) → c < countAt w → Stored w' (8 + 5 * c)
+      stored : (c : ℕ) → c < countAt w → Stored w' (entryAt c)
       stored c h =
           let s = S .stored c h in
-          let x = A .below (8 + 5 * c) (omega arith) in
-          let y = A .below (8 + 5 * c + 1) (omega arith) in
-          let z = A .below (8 + 5 * c + 2) (omega arith) in
+          let x = A .below (entryAt c) (omega arith) in
+          let y = A .below (entryAt c + 1) (omega arith) in
+          let z = A .below (entryAt c + 2) (omega arith) in
           record {
             x = subst (λ (k : ℕ). toBits binary64 (ofBits binary64 k) ≡ k) (sym x) (s .x);
             y = subst (λ (k : ℕ). toBits binary64 (ofBits binary64 k) ≡ k) (sym y) (s .y);

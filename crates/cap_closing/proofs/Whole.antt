@@ -18,6 +18,7 @@ use Rattle.geometry.specs.Meshes.{pointsOf, Named, newNumber, enter}
 use Rattle.mesh_filter.specs.Filters.{sameCorners}
 use Rattle.mesh_filter.specs.Room.{Below}
 use Rattle.mesh_filter.proofs.Keys.{same-key}
+use Rattle.candidate_pool.specs.Offsets.{keysAt}
 use Rattle.candidate_pool.specs.Pool.{Pool, pointOf}
 use Rattle.candidate_pool.specs.Standing.{countAt, poolAt}
 use Rattle.candidate_edges.specs.Steps.{VerticesIn}
@@ -80,7 +81,7 @@ module _ (n nf : ℕ) (capList : List ℕ) (w : List ℕ) (T : TurnedReady n nf 
 
     -- ---- the numbers given out
 
-    low-pool : 8 + 5 * n ≤ b
+    low-pool : keysAt n ≤ b
     low-pool = omega arith
 
     size : b + 2 * n + 8 * nc < length w

@@ -19,6 +19,7 @@ use Rattle.lists.specs.Lists.{keep, upTo}
 use Rattle.lists.specs.Regions.{view}
 use Rattle.geometry.specs.Triangles.{Triangle, tri}
 use Rattle.geometry.specs.Meshes.{pointsOf, Named}
+use Rattle.candidate_pool.specs.Offsets.{entryAt}
 use Rattle.candidate_pool.specs.Standing as standing
 use Rattle.candidate_pool.specs.Standing.{poolAt, pointAt}
 use Rattle.cap_triangles.specs.Selection.{capsOf, outwardCaps}
@@ -62,14 +63,14 @@ namedFor n nf capList positive vs w = entered (poolAt n w) (pointsOf vs) (takenI
 
 -- a candidate's word names one of nv mesh vertices, or none
 abbrev pub MeshWords : ℕ → List ℕ → Type 0
-MeshWords nv w = (c : ℕ) → c < standing.countAt w → getD w (8 + 5 * c + 3) 0 ≤ nv
+MeshWords nv w = (c : ℕ) → c < standing.countAt w → getD w (entryAt c + 3) 0 ≤ nv
 
 pub record Closed (vs : List Float) (n nf : ℕ) (capList : List ℕ) (positive : Bool) (left caps : ℕ) (w w' : List ℕ) : Type 0 where
   pub above : Above (closingAt n nf (length capList / 4)) w w'
   pub own : length vs / 3 ≤ getD w' (verticesAt n nf (length capList / 4)) 0
   pub most : getD w' (verticesAt n nf (length capList / 4)) 0 ≤ length vs / 3 + n
   pub fresh : (i : ℕ) → i < getD w' (verticesAt n nf (length capList / 4)) 0 - length vs / 3 → getD w' (freshAt n nf (length capList / 4) + i) 0 < standing.countAt w'
-  pub points : namedFor n nf capList positive vs w .points ≡ pointsOf vs ++ map (λ c. pointAt w' (8 + 5 * c)) (freshIn n nf (length capList / 4) w' (length vs / 3))
+  pub points : namedFor n nf capList positive vs w .points ≡ pointsOf vs ++ map (λ c. pointAt w' (entryAt c)) (freshIn n nf (length capList / 4) w' (length vs / 3))
   pub few : left ≤ length capList / 4
   pub low : (j : ℕ) → j < 3 * left → getD w' (leftAt n nf (length capList / 4) + j) 0 < 2097152
   pub facets : firstsIn n nf (length capList / 4) w' left ≡ capFacets (namedFor n nf capList positive vs w) (takenIn n nf capList positive w)

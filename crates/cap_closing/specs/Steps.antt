@@ -29,13 +29,14 @@ use Rattle.geometry.specs.declared.point.Point.{Point}
 use Rattle.geometry.specs.Triangles.{Triangle, tri, mapped, vertices, flat}
 use Rattle.geometry.specs.Meshes.{pointsOf, Named, newNumber, enter}
 use Rattle.mesh_filter.specs.Room.{cornersKey, Below}
+use Rattle.candidate_pool.specs.Offsets.{entryAt, keysAt}
 use Rattle.candidate_pool.specs.Standing.{countAt, pointAt, Stored}
 use Rattle.candidate_edges.specs.Steps.{VerticesIn}
 use Rattle.cap_triangles.specs.Room.{turnedAt, componentsAt, seededAt, Above}
 use Rattle.cap_closing.specs.Closing.{isLarge}
 
 abbrev pub pointIn : List ℕ → ℕ → Point
-pointIn w c = pointAt w (8 + 5 * c)
+pointIn w c = pointAt w (entryAt c)
 
 abbrev pub namedAt : ℕ → ℕ → ℕ → ℕ → List Point → List ℕ → Named
 namedAt b n nc nv points w =
@@ -45,7 +46,7 @@ namedAt b n nc nv points w =
     }
 
 pub record Entering (b n nc nv : ℕ) (w : List ℕ) : Type 0 where
-  pub pool : 8 + 5 * n ≤ b
+  pub pool : keysAt n ≤ b
   pub size : b + 2 * n + 8 * nc < length w
   pub count : countAt w ≤ n
   pub small : n < 1048576
@@ -72,7 +73,7 @@ pub record Numbers (at : ℕ) (w : List ℕ) (t r : Triangle ℕ) : Type 0 where
 
 pub record Shaped (vs : List Float) (w : List ℕ) : Type 0 where
   pub vertices : VerticesIn vs
-  pub stored : (c : ℕ) → c < countAt w → Stored w (8 + 5 * c)
+  pub stored : (c : ℕ) → c < countAt w → Stored w (entryAt c)
 
 abbrev pub facetAt : ℕ → ℕ → List ℕ → ℕ → Triangle ℕ
 facetAt b n w i = tri (getD w (b + 2 * n + 3 * i) 0) (getD w (b + 2 * n + 3 * i + 1) 0) (getD w (b + 2 * n + 3 * i + 2) 0)
@@ -140,7 +141,7 @@ bit x = cond x 1 0
 pub record Started (b n nc nv : ℕ) (w w' : List ℕ) : Type 0 where
   pub above : Above b w w'
   pub own : getD w' (b + 2 * n + 8 * nc) 0 ≡ nv
-  pub given : (c : ℕ) → c < countAt w → getD w' (b + c) 0 ≡ getD w (8 + 5 * c + 3) 0
+  pub given : (c : ℕ) → c < countAt w → getD w' (b + c) 0 ≡ getD w (entryAt c + 3) 0
 
 pub record Marked (records firsts left i r : ℕ) (w w' : List ℕ) : Type 0 where
   pub marks : (j : ℕ) → j < i → getD w' (firsts + placeIn w records j) 0 ≡ bit (isStart w records j)

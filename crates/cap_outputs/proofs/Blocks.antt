@@ -26,6 +26,7 @@ use Rattle.geometry.specs.Triangles.{Triangle, tri, vertices, reversed, threes,
 use Rattle.geometry.specs.Meshes.{coordinates}
 use Rattle.geometry.proofs.Threes.{length-threes, threes-at, length-flat, flat-threes}
 use Rattle.geometry.proofs.Meshes.{length-coordinates}
+use Rattle.candidate_pool.specs.Offsets.{entryAt}
 use Rattle.candidate_pool.specs.Standing.{pointAt}
 use Rattle.cap_closing.specs.Closing.{ownFacets}
 use Rattle.cap_outputs.specs.Written.{pointsIn, capWords, allCapWords}
@@ -36,20 +37,20 @@ abbrev pub three : Point → List Float
 three p = p .x ∷ p .y ∷ p .z ∷ []
 
 abbrev pub freshBlock : List ℕ → ℕ → ℕ → List Float
-freshBlock w fresh i = three (pointAt w (8 + 5 * getD w (fresh + i) 0))
+freshBlock w fresh i = three (pointAt w (entryAt (getD w (fresh + i) 0)))
 
 module _ (w : List ℕ) (fresh count : ℕ) (room : fresh + count ≤ length w) where
   pub fresh-are : flatMap (freshBlock w fresh) (upTo count) ≡ coordinates (pointsIn w (view w fresh count))
   fresh-are =
       sym
       (ap (λ (l : List ℕ). coordinates (pointsIn w l)) (view-map w fresh count room)
-      ∙ flat-map three (λ c. pointAt w (8 + 5 * c)) (map (λ i. getD w (fresh + i) 0) (upTo count))
-      ∙ flat-map (λ c. three (pointAt w (8 + 5 * c))) (λ i. getD w (fresh + i) 0) (upTo count))
+      ∙ flat-map three (λ c. pointAt w (entryAt c)) (map (λ i. getD w (fresh + i) 0) (upTo count))
+      ∙ flat-map (λ c. three (pointAt w (entryAt c))) (λ i. getD w (fresh + i) 0) (upTo count))
 
   pub fresh-long : length (coordinates (pointsIn w (view w fresh count))) ≡ 3 * count
   fresh-long =
       length-coordinates (pointsIn w (view w fresh count))
-      ∙ ap (λ (x : ℕ). 3 * x) (length-map (view w fresh count) (λ c. pointAt w (8 + 5 * c)) ∙ view-length w fresh count room)
+      ∙ ap (λ (x : ℕ). 3 * x) (length-map (view w fresh count) (λ c. pointAt w (entryAt c)) ∙ view-length w fresh count room)
 
 -- ---- facets
 

@@ -24,6 +24,7 @@ use Rattle.geometry.specs.Meshes.{Mesh, meshOf, pointsOf, coordinates}
 use Rattle.geometry.proofs.Threes.{length-flat, flat-append, flat-threes}
 use Rattle.geometry.proofs.Meshes.{coordinates-append, coordinates-pointsOf}
 use Rattle.refusals.specs.declared.refusal.Refusal.the-variants.{NoRoom}
+use Rattle.candidate_pool.specs.Offsets.{entryAt}
 use Rattle.refusals.specs.declared.reply.Reply.the-variants.{DoneTwo, Refused}
 use Rattle.refusals.specs.Refusals.{documentedReply}
 use Rattle.refusals.specs.Answers.{output, meshOutputs, Answer}
@@ -106,7 +107,7 @@ module _ (vs : List Float) (fs : List ℕ) (n nc left caps : ℕ) (positive : Bo
     pub fresh-room : (fa : ℕ) → fa ≡ freshAt n nf nc → fa + (many - nv) ≤ length w
     fresh-room fa e = let a = many-is in omega (arith, e, a, D .size, D .most, D .own)
 
-    pub fresh-stored : (fa : ℕ) → fa ≡ freshAt n nf nc → (i : ℕ) → i < many - nv → Stored w (8 + 5 * getD w (fa + i) 0) × (8 + 5 * getD w (fa + i) 0 + 2 < length w)
+    pub fresh-stored : (fa : ℕ) → fa ≡ freshAt n nf nc → (i : ℕ) → i < many - nv → Stored w (entryAt (getD w (fa + i) 0)) × (entryAt (getD w (fa + i) 0) + 2 < length w)
     fresh-stored fa e i h =
         let a = many-is in
         let b : getD w (fa + i) 0 ≡ getD w (freshAt n nf nc + i) 0 = ap (λ (x : ℕ). getD w (x + i) 0) e in

@@ -13,6 +13,7 @@ use lib.ListN.{length, getD}
 use lib.Ieee.{Float}
 use Rattle.lists.specs.Lists.{upTo}
 use Rattle.geometry.specs.declared.point.Point.{Point}
+use Rattle.candidate_pool.specs.Offsets.{entryAt}
 use Rattle.geometry.specs.Triangles.{threes}
 use Rattle.geometry.specs.Meshes.{Mesh, pointsOf}
 use Rattle.refusals.specs.Front.{ceiling, ListsPass}
@@ -21,7 +22,7 @@ use Rattle.cap_closing.specs.Closing.{ownFacets}
 use Rattle.cap_closing.specs.Entering.{freshAt, leftAt, verticesAt, freshIn, firstsIn}
 
 abbrev pub pointsIn : List ℕ → List ℕ → List Point
-pointsIn w cs = map (λ c. pointAt w (8 + 5 * c)) cs
+pointsIn w cs = map (λ c. pointAt w (entryAt c)) cs
 
 abbrev pub capWords : List ℕ → ℕ → ℕ → List ℕ
 capWords w facet first = cond (eqb (getD w first 0) 1) (getD w facet 0 ∷ getD w (facet + 1) 0 ∷ getD w (facet + 2) 0 ∷ []) []
@@ -41,9 +42,9 @@ pub record Deliverable (vs : List Float) (fs : List ℕ) (n nc left caps : ℕ) 
   pub lists : ListsPass ceiling vs fs
   pub small : n < 1048576
   pub few-caps : nc ≤ 1048576
-  pub size : 9 + 64 * n + 93 * (length fs / 3) + 47 * nc ≤ length w
+  pub size : verticesAt n (length fs / 3) nc < length w
   pub few : countAt w ≤ n
-  pub stored : (c : ℕ) → c < countAt w → Stored w (8 + 5 * c)
+  pub stored : (c : ℕ) → c < countAt w → Stored w (entryAt c)
   pub own : length vs / 3 ≤ getD w (verticesAt n (length fs / 3) nc) 0
   pub most : getD w (verticesAt n (length fs / 3) nc) 0 ≤ length vs / 3 + n
   pub fresh : (i : ℕ) → i < getD w (verticesAt n (length fs / 3) nc) 0 - length vs / 3 → getD w (freshAt n (length fs / 3) nc + i) 0 < countAt w

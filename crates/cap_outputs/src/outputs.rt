@@ -7,6 +7,7 @@ ghost use lib.Seq.{sets};
 ghost use Rattle.lists.specs.Regions.{view};
 ghost use Rattle.geometry.specs.Triangles.{reversed, threes, flat};
 ghost use Rattle.geometry.specs.Meshes.{coordinates, meshOf};
+ghost use Rattle.candidate_pool.specs.Offsets.{entryAt};
 ghost use Rattle.refusals.specs.Refusals.{documentedReply};
 ghost use Rattle.refusals.specs.Answers.{meshOutputs, Answer};
 ghost use Rattle.candidate_pool.specs.Standing.{Stored};
@@ -66,7 +67,7 @@ fn write_three(out: &mut [u32], at: usize, a: u32, b: u32, c: u32)
 // The points of the `count` candidates that became new vertices, from `at` on.
 fn write_fresh(w: &[u64], fresh: usize, count: usize, out: &mut [f64], at: usize)
     requires { ⌜ (fresh + count ≤ length (now w)) × (at + 3 * count ≤ length (now out)) ⌝ }
-    requires { ⌜ ((i : ℕ) → i < count → Stored (now w) (8 + 5 * getD (now w) (fresh + i) 0) × (8 + 5 * getD (now w) (fresh + i) 0 + 2 < length (now w))) ⌝ }
+    requires { ⌜ ((i : ℕ) → i < count → Stored (now w) (entryAt (getD (now w) (fresh + i) 0)) × (entryAt (getD (now w) (fresh + i) 0) + 2 < length (now w))) ⌝ }
     ensures { λ _. ⌜ now (out .exit) ≡ sets (now (out .entry)) at (coordinates (pointsIn (now (w .entry)) (view (now (w .entry)) fresh count))) ⌝ }
 {
     let mut i = 0;

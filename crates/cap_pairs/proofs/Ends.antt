@@ -25,6 +25,7 @@ use Rattle.box_faces.specs.Faces.{hasBit}
 use Rattle.edges.specs.Edges.{sides}
 use Rattle.edges.specs.Table.{nextSide}
 use Rattle.edges.proofs.Sides.{Small, next-in, side-at}
+use Rattle.candidate_pool.specs.Offsets.{openEdgesAt}
 use Rattle.candidate_pool.specs.Standing.{countAt, poolAt}
 use Rattle.candidate_pool.proofs.Masking.{word-bit}
 use Rattle.candidate_pool.proofs.Reading.{pool-count}
@@ -49,7 +50,7 @@ module _ (n nf k : ℕ) (capList w : List ℕ) where
   part = view w low (3 * nc)
 
   abbrev row : ℕ → ℕ
-  row q = 8 + 62 * n + 30 * nf + 3 * q
+  row q = openEdgesAt n nf + 3 * q
 
   pub pair-edge : (q : ℕ) → q < k → pairAt n nf k capList w q ≡ edgePair w (row q)
   unfolding pairAt
@@ -132,21 +133,21 @@ module _ (n nf k : ℕ) (capList w : List ℕ) (r : CapReady n nf k capList w) w
   pub word-small : (x : ℕ) → x < 3 * (length capList / 4) → getD w (turnedAt n nf + x) 0 < 4294967296
   word-small x h = low-end (getD w (turnedAt n nf + x) 0) (word-low x h)
 
-  pub edge-ends : (i : ℕ) → i < k → SmallEdge w (8 + 62 * n + 30 * nf + 3 * i)
+  pub edge-ends : (i : ℕ) → i < k → SmallEdge w (openEdgesAt n nf + 3 * i)
   edge-ends i h m =
-      let f = some-face (getD w (8 + 62 * n + 30 * nf + 3 * i + 2) 0) (r .held .masks i h) m in
+      let f = some-face (getD w (openEdgesAt n nf + 3 * i + 2) 0) (r .held .masks i h) m in
       let t = r .ready .supplied .pooled .tidy in
-      let a = has-low (poolAt n w) t (f .face) (getD w (8 + 62 * n + 30 * nf + 3 * i) 0) (f .is) (r .held .from i (f .face) h (f .is) (f .on)) in
-      let b = has-low (poolAt n w) t (f .face) (getD w (8 + 62 * n + 30 * nf + 3 * i + 1) 0) (f .is) (r .held .to i (f .face) h (f .is) (f .on)) in
+      let a = has-low (poolAt n w) t (f .face) (getD w (openEdgesAt n nf + 3 * i) 0) (f .is) (r .held .from i (f .face) h (f .is) (f .on)) in
+      let b = has-low (poolAt n w) t (f .face) (getD w (openEdgesAt n nf + 3 * i + 1) 0) (f .is) (r .held .to i (f .face) h (f .is) (f .on)) in
       let c = pool-count n w in
-      (low-end (getD w (8 + 62 * n + 30 * nf + 3 * i) 0) (omega (arith, a, c)), low-end (getD w (8 + 62 * n + 30 * nf + 3 * i + 1) 0) (omega (arith, b, c)))
+      (low-end (getD w (openEdgesAt n nf + 3 * i) 0) (omega (arith, a, c)), low-end (getD w (openEdgesAt n nf + 3 * i + 1) 0) (omega (arith, b, c)))
 
-  edge-pair-small : (i : ℕ) → i < k → Small (edgePair w (8 + 62 * n + 30 * nf + 3 * i))
-  edge-pair-small i h = go (eqb (getD w (8 + 62 * n + 30 * nf + 3 * i + 2) 0) 0) refl
+  edge-pair-small : (i : ℕ) → i < k → Small (edgePair w (openEdgesAt n nf + 3 * i))
+  edge-pair-small i h = go (eqb (getD w (openEdgesAt n nf + 3 * i + 2) 0) 0) refl
     where
-      go : (b : Bool) → eqb (getD w (8 + 62 * n + 30 * nf + 3 * i + 2) 0) 0 ≡ b → Small (cond b (0, 0) (getD w (8 + 62 * n + 30 * nf + 3 * i) 0, getD w (8 + 62 * n + 30 * nf + 3 * i + 1) 0))
+      go : (b : Bool) → eqb (getD w (openEdgesAt n nf + 3 * i + 2) 0) 0 ≡ b → Small (cond b (0, 0) (getD w (openEdgesAt n nf + 3 * i) 0, getD w (openEdgesAt n nf + 3 * i + 1) 0))
       go true e = (omega arith, omega arith)
-      go false e = edge-ends i h (eqb-false (getD w (8 + 62 * n + 30 * nf + 3 * i + 2) 0) 0 e)
+      go false e = edge-ends i h (eqb-false (getD w (openEdgesAt n nf + 3 * i + 2) 0) 0 e)
 
   pub pair-small : (q : ℕ) → q < pairCount n nf k capList → Small (pairAt n nf k capList w q)
   pair-small q h =

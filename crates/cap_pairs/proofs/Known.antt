@@ -27,6 +27,7 @@ use Rattle.edges.specs.Table.{nextSide}
 use Rattle.edges.proofs.Keys.{SameEnds, pair-same, both-ways}
 use Rattle.edges.proofs.Edges.{same-pair-sym, same-pair-as}
 use Rattle.edges.proofs.Sides.{next-wrap, next-on}
+use Rattle.candidate_pool.specs.Offsets.{openEdgesAt}
 use Rattle.candidate_pool.specs.Pool.{Pool}
 use Rattle.candidate_pool.specs.Standing.{facesIn, poolAt, edgeAt, edgesAt}
 use Rattle.candidate_pool.proofs.Listing.{has-kept}
@@ -174,7 +175,7 @@ module _ (n nf k : ℕ) (capList w : List ℕ) (ready : CapReady n nf k capList 
   Q = pairAt n nf k capList w q
 
   abbrev row : ℕ → ℕ
-  row j = 8 + 62 * n + 30 * nf + 3 * j
+  row j = openEdgesAt n nf + 3 * j
 
   abbrev from : ℕ → ℕ
   from j = getD w (row j) 0
@@ -193,7 +194,7 @@ module _ (n nf k : ℕ) (capList w : List ℕ) (ready : CapReady n nf k capList 
 
   pub edges-some : (W : ℕ → ℕ → Bool)
       → some (λ j. (W (from j) (to j) && eqb (num j) (num q)) && hasBit (mask j) f) (upTo k)
-      ≡ some (λ e. eqb (e .a) f && (samePair Q (e .b, e .c) && W (e .b) (e .c))) (edgesAt w (8 + 62 * n + 30 * nf) k)
+      ≡ some (λ e. eqb (e .a) f && (samePair Q (e .b, e .c) && W (e .b) (e .c))) (edgesAt w (openEdgesAt n nf) k)
   unfolding edgesAt
   edges-some W =
       sym (some-flat (λ e. eqb (e .a) f && (samePair Q (e .b, e .c) && W (e .b) (e .c))) (λ i. edgeAt w (row i)) (upTo k)
@@ -206,14 +207,14 @@ module _ (n nf k : ℕ) (capList w : List ℕ) (ready : CapReady n nf k capList 
   number-low j h = N .low j (omega arith)
 
   pub up-some : some (λ j. eqb (edgeTarget n nf nc w j) (upAt n nf nc + num q) && hasBit (edgeMask n nf nc w j) f) (upTo k)
-      ≡ some (λ e. eqb (e .a) f && (samePair Q (e .b, e .c) && ltb (e .b) (e .c))) (edgesAt w (8 + 62 * n + 30 * nf) k)
+      ≡ some (λ e. eqb (e .a) f && (samePair Q (e .b, e .c) && ltb (e .b) (e .c))) (edgesAt w (openEdgesAt n nf) k)
   up-some =
       some-below (λ j. eqb (edgeTarget n nf nc w j) (upAt n nf nc + num q) && hasBit (edgeMask n nf nc w j) f) (λ j. (ltb (from j) (to j) && eqb (num j) (num q)) && hasBit (mask j) f) k
       (λ j h. way-up (from j) (to j) (mask j) (upAt n nf nc) (downAt n nf nc) (num j) (num q) f (no-bit f hf) (λ e. let a = N .low q hq in omega (arith, ready .edges)))
       ∙ edges-some ltb
 
   pub down-some : some (λ j. eqb (edgeTarget n nf nc w j) (downAt n nf nc + num q) && hasBit (edgeMask n nf nc w j) f) (upTo k)
-      ≡ some (λ e. eqb (e .a) f && (samePair Q (e .b, e .c) && ltb (e .c) (e .b))) (edgesAt w (8 + 62 * n + 30 * nf) k)
+      ≡ some (λ e. eqb (e .a) f && (samePair Q (e .b, e .c) && ltb (e .c) (e .b))) (edgesAt w (openEdgesAt n nf) k)
   down-some =
       some-below (λ j. eqb (edgeTarget n nf nc w j) (downAt n nf nc + num q) && hasBit (edgeMask n nf nc w j) f) (λ j. (ltb (to j) (from j) && eqb (num j) (num q)) && hasBit (mask j) f) k
       (λ j h. way-down (from j) (to j) (mask j) (upAt n nf nc) (downAt n nf nc) (num j) (num q) f (no-bit f hf) (λ e. let a = number-low j h in omega (arith, ready .edges)))

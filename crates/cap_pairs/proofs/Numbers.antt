@@ -24,9 +24,10 @@ use Rattle.cap_pairs.specs.Pairs.{edgePair, pairAt, Numbered}
 use Rattle.cap_pairs.specs.Steps.{sideWords, Recorded, SortedPairs, FirstsPut, TablesFor}
 use Rattle.cap_pairs.proofs.Ends.{pair-edge, pair-side, pair-kept, pair-small, word-small, three}
 use Rattle.cap_pairs.proofs.Ordering as ordering
+use Rattle.candidate_pool.specs.Offsets.{openEdgesAt}
 
 module _ (n nf k : ℕ) (capList w w1 : List ℕ) (r : CapReady n nf k capList w)
-    (r1 : Recorded (λ i. edgePair w (8 + 62 * n + 30 * nf + 3 * i)) w w1 (recordsAt n nf (length capList / 4)) 0 k) where
+    (r1 : Recorded (λ i. edgePair w (openEdgesAt n nf + 3 * i)) w w1 (recordsAt n nf (length capList / 4)) 0 k) where
   abbrev nc : ℕ
   nc = length capList / 4
 

@@ -20,6 +20,7 @@ use Rattle.geometry.specs.Boxes.{faces}
 use Rattle.geometry.specs.Triangles.{Triangle, tri, edges}
 use Rattle.box_faces.specs.Faces.{hasBit, bitCount}
 use Rattle.edges.specs.Edges.{samePair}
+use Rattle.candidate_pool.specs.Offsets.{listsAt, listAt, poolEnd, openEdgesAt}
 use Rattle.candidate_pool.specs.Pool.{Pool, faceList}
 use Rattle.candidate_pool.specs.Standing.{facesIn, poolAt, edgeAt, edgesAt}
 use Rattle.candidate_pool.proofs.Reading.{pool-list, list-in, list-few}
@@ -32,15 +33,15 @@ use Rattle.cap_pairs.proofs.Sums.{some-map, place-stops, place-goes, pl
 use Rattle.cap_pairs.proofs.Ends.{face-low}
 use Rattle.cap_pairs.proofs.Known.{listed, turned-edges}
 
-pub list-long : (n : ℕ) (w : List ℕ) → Pooled n w → 9 + 64 * n ≤ length w → (f : ℕ) → f < 6 → length (faceList (poolAt n w) f) ≡ getD w f 0
+pub list-long : (n : ℕ) (w : List ℕ) → Pooled n w → poolEnd n < length w → (f : ℕ) → f < 6 → length (faceList (poolAt n w) f) ≡ getD w f 0
 list-long n w p size f h =
     let a = list-few n w (p .few) (p .tidy) f h in
-    let b : length (faceList (poolAt n w) f) ≡ min (getD w f 0) (length w - (8 + 11 * n + f * n)) =
-    ap length (pool-list n w f h) ∙ length-take (getD w f 0) (drop (8 + 11 * n + f * n) w) ∙ ap (min (getD w f 0)) (length-drop (8 + 11 * n + f * n) w) in
+    let b : length (faceList (poolAt n w) f) ≡ min (getD w f 0) (length w - (listAt n f)) =
+    ap length (pool-list n w f h) ∙ length-take (getD w f 0) (drop (listAt n f) w) ∙ ap (min (getD w f 0)) (length-drop (listAt n f) w) in
     let c : f * n ≤ 5 * n = omega (arith, list-in n f h) in
     whole (length (faceList (poolAt n w) f)) (getD w f 0) (length w) n (f * n) a b c size
   where
-    whole : (l v s n m : ℕ) → l ≤ n → l ≡ min v (s - (8 + 11 * n + m)) → m ≤ 5 * n → 9 + 64 * n ≤ s → l ≡ v
+    whole : (l v s n m : ℕ) → l ≤ n → l ≡ min v (s - (listsAt n + m)) → m ≤ 5 * n → poolEnd n < s → l ≡ v
     whole l v s n m a b c d = omega arith
 
 face-kept : (pool : Pool) (t : Cap) → outward pool t .face ≡ t .face
@@ -50,8 +51,8 @@ face-kept pool t = refl
 pub record RowWalk (n nf k : ℕ) (capList w : List ℕ) (found i : ℕ) : Type 0 where
   pub within : i ≤ k
   pub few : found ≤ 6 * i
-  pub so : missingPlace (poolAt n w) (capsOf capList) (edgesAt w (8 + 62 * n + 30 * nf) k)
-      ≡ found + place (missingEdge (poolAt n w) (capsOf capList)) (flatMap (λ j. edgeAt w (8 + 62 * n + 30 * nf + 3 * j)) (upFrom i (k - i)))
+  pub so : missingPlace (poolAt n w) (capsOf capList) (edgesAt w (openEdgesAt n nf) k)
+      ≡ found + place (missingEdge (poolAt n w) (capsOf capList)) (flatMap (λ j. edgeAt w (openEdgesAt n nf + 3 * j)) (upFrom i (k - i)))
 
 module _ (n nf k : ℕ) (capList w : List ℕ) (ready : CapReady n nf k capList w) (K : PairsKnown n nf k capList w) where
   abbrev nc : ℕ
@@ -64,7 +65,7 @@ module _ (n nf k : ℕ) (capList w : List ℕ) (ready : CapReady n nf k capList 
   caps = capsOf capList
 
   abbrev at : ℕ
-  at = 8 + 62 * n + 30 * nf
+  at = openEdgesAt n nf
 
   abbrev Q : Triangle ℕ → Bool
   Q = missingEdge pool caps

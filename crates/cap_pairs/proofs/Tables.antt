@@ -23,11 +23,12 @@ use Rattle.cap_pairs.specs.Pairs.{pairCount, numberIn, PairNumbers, Pair
 use Rattle.cap_pairs.specs.Steps.{Noted, edgeMask, edgeTarget, sideTarget, sideFace, TablesFor}
 use Rattle.cap_pairs.proofs.Targets.{target-low, edges-below, sides-below}
 use Rattle.cap_pairs.proofs.Known.{numbers-kept, up-some, down-some, sides-some}
+use Rattle.candidate_pool.specs.Offsets.{openEdgesAt}
 
 -- the word that an open edge's faces go to, and these, where nothing below the tables changed
 module _ (n nf nc k : ℕ) (w u : List ℕ) (above : Above (upAt n nf nc) w u) (few : k ≤ 3 * nf) (j : ℕ) (h : j < k) where
   abbrev row : ℕ
-  row = 8 + 62 * n + 30 * nf + 3 * j
+  row = openEdgesAt n nf + 3 * j
 
   from-same : getD u row 0 ≡ getD w row 0
   from-same = above .below row (omega arith)

@@ -16,19 +16,20 @@ use Rattle.box_faces.specs.Faces.{hasBit}
 use Rattle.cap_triangles.specs.Room.{numbersAt, upAt, downAt, heldAt}
 use Rattle.cap_pairs.specs.Steps.{Added, Noted, edgeMask, edgeTarget, sideTarget, sideFace, TablesFor}
 use Rattle.cap_pairs.proofs.Adding.{noted-turn}
+use Rattle.candidate_pool.specs.Offsets.{openEdgesAt}
 
 pub by-way : (P : ℕ → Type 0) (b : Bool) (u d : ℕ) → P u → P d → P (cond b u d)
 by-way P true u d x y = x
 by-way P false u d x y = y
 
 abbrev firstAt : ℕ → ℕ → ℕ → ℕ
-firstAt n nf j = 8 + 62 * n + 30 * nf + 3 * j
+firstAt n nf j = openEdgesAt n nf + 3 * j
 
 pub small-fits : (x : ℕ) → x * 8 < 18446744073709551616 → x < 18446744073709551616
 small-fits x h = omega arith
 
 -- where open edge i and its number stand, in numbers that fit a word
-module _ (n nf nc k : ℕ) (w₀ w : List ℕ) (tables : TablesFor n nf nc w₀ k) (long : length w ≡ length w₀) (edges numbers i : ℕ) (e : edges ≡ 8 + 62 * n + 30 * nf) (m : numbers ≡ numbersAt n nf nc)
+module _ (n nf nc k : ℕ) (w₀ w : List ℕ) (tables : TablesFor n nf nc w₀ k) (long : length w ≡ length w₀) (edges numbers i : ℕ) (e : edges ≡ openEdgesAt n nf) (m : numbers ≡ numbersAt n nf nc)
     (h : i < k) where
   pub three-fits : 3 * i < 18446744073709551616
   three-fits = omega (arith, tables .few, tables .edges)
@@ -76,7 +77,7 @@ module _ (n nf nc k : ℕ) (w₀ : List ℕ) (tables : TablesFor n nf nc w₀ k)
     pub edges-below : (x : ℕ) → x < upAt n nf nc → getD w x 0 ≡ getD w₀ x 0
     edges-below x h = inv .rest x (λ j l e. let t = target-high j in omega arith)
 
-    module _ (edges numbers up down : ℕ) (e : edges ≡ 8 + 62 * n + 30 * nf) (m : numbers ≡ numbersAt n nf nc) (u : up ≡ upAt n nf nc) (d : down ≡ downAt n nf nc) (h : i < k)
+    module _ (edges numbers up down : ℕ) (e : edges ≡ openEdgesAt n nf) (m : numbers ≡ numbersAt n nf nc) (u : up ≡ upAt n nf nc) (d : down ≡ downAt n nf nc) (h : i < k)
         (table pair : ℕ) (t : table ≡ cond (ltb (getD w (edges + 3 * i) 0) (getD w (edges + 3 * i + 1) 0)) up down) (p : pair ≡ getD w (numbers + i) 0) where
       from-is : getD w (edges + 3 * i) 0 ≡ getD w₀ (firstAt n nf i) 0
       from-is = ap (λ (x : ℕ). getD w (x + 3 * i) 0) e ∙ edges-below (firstAt n nf i) (omega (arith, tables .edges))

@@ -16,6 +16,7 @@ use Rattle.cap_triangles.specs.Room.{turnedAt, recordsAt, Above}
 use Rattle.cap_pairs.specs.Pairs.{edgePair}
 use Rattle.cap_pairs.specs.Steps.{SmallEdge, sideWords, Recorded, TablesFor}
 use Rattle.cap_pairs.proofs.Recording.{recording-turn}
+use Rattle.candidate_pool.specs.Offsets.{openEdgesAt}
 
 -- ---- an open edge's three words, where nothing below b changed
 module _ (w₀ w : List ℕ) (b at : ℕ) (above : Above b w₀ w) (end : at + 2 < b) where
@@ -34,9 +35,9 @@ module _ (w₀ w : List ℕ) (b at : ℕ) (above : Above b w₀ w) (end : at + 2
       let r = s (λ q. f (z ∙ q)) in
       (omega (arith, r .0), omega (arith, r .1))
 
-module _ (w₀ w : List ℕ) (n nf nc k edges records i : ℕ) (tables : TablesFor n nf nc w₀ k) (e : edges ≡ 8 + 62 * n + 30 * nf) (r : records ≡ recordsAt n nf nc)
+module _ (w₀ w : List ℕ) (n nf nc k edges records i : ℕ) (tables : TablesFor n nf nc w₀ k) (e : edges ≡ openEdgesAt n nf) (r : records ≡ recordsAt n nf nc)
     (inv : Recorded (λ j. edgePair w₀ (edges + 3 * j)) w₀ w records 0 i) where
-  pub edge-asks : i < k → ((j : ℕ) → j < k → SmallEdge w₀ (8 + 62 * n + 30 * nf + 3 * j)) → (edges + 3 * i + 2 < length w) × SmallEdge w (edges + 3 * i)
+  pub edge-asks : i < k → ((j : ℕ) → j < k → SmallEdge w₀ (openEdgesAt n nf + 3 * j)) → (edges + 3 * i + 2 < length w) × SmallEdge w (edges + 3 * i)
   edge-asks h s = (
     omega (arith, tables .edges, tables .size, inv .above .long),
     edge-small w₀ w records (edges + 3 * i) (inv .above) (omega (arith, tables .edges))
@@ -48,7 +49,7 @@ module _ (w₀ w : List ℕ) (n nf nc k edges records i : ℕ) (tables : TablesF
       recording-turn (λ j. edgePair w₀ (edges + 3 * j)) w₀ records 0 w i inv (omega (arith, tables .edges, tables .size)) key i
       (q ∙ ap keyOf (edge-same w₀ w records (edges + 3 * i) (inv .above) (omega (arith, tables .edges)))) (omega arith)
 
-  pub edge-end : i ≤ k → k ≤ i → Recorded (λ j. edgePair w₀ (8 + 62 * n + 30 * nf + 3 * j)) w₀ w (recordsAt n nf nc) 0 k
+  pub edge-end : i ≤ k → k ≤ i → Recorded (λ j. edgePair w₀ (openEdgesAt n nf + 3 * j)) w₀ w (recordsAt n nf nc) 0 k
   edge-end a b =
       subst (λ (x : ℕ). Recorded (λ j. edgePair w₀ (x + 3 * j)) w₀ w (recordsAt n nf nc) 0 k) e
       (subst (λ (x : ℕ). Recorded (λ j. edgePair w₀ (edges + 3 * j)) w₀ w x 0 k) r

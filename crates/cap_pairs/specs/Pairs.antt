@@ -14,6 +14,7 @@ use Rattle.lists.specs.Lists.{some}
 use Rattle.geometry.specs.Triangles.{edges}
 use Rattle.box_faces.specs.Faces.{hasBit}
 use Rattle.edges.specs.Edges.{sides, samePair}
+use Rattle.candidate_pool.specs.Offsets.{openEdgesAt}
 use Rattle.candidate_pool.specs.Standing.{poolAt, edgesAt}
 use Rattle.cap_triangles.specs.Selection.{capsOf, outwardCaps}
 use Rattle.cap_triangles.specs.Room.{recordsAt, numbersAt, upAt, downAt, heldAt, Above, turnedIn}
@@ -26,7 +27,7 @@ module _ (n nf k : ℕ) (capList : List ℕ) where
   pairCount = k + 3 * (length capList / 4)
 
   unfoldable pub pairAt : List ℕ → ℕ → ℕ × ℕ
-  pairAt w q = cond (ltb q k) (edgePair w (8 + 62 * n + 30 * nf + 3 * q)) (getD (sides (turnedIn n nf (length capList / 4) w)) (q - k) (0, 0))
+  pairAt w q = cond (ltb q k) (edgePair w (openEdgesAt n nf + 3 * q)) (getD (sides (turnedIn n nf (length capList / 4) w)) (q - k) (0, 0))
 
   abbrev pub numberIn : List ℕ → ℕ → ℕ
   numberIn w q = getD w (numbersAt n nf (length capList / 4) + q) 0
@@ -43,9 +44,9 @@ module _ (n nf k : ℕ) (capList : List ℕ) where
   pub record PairsKnown (w : List ℕ) : Type 0 where
     pub numbers : PairNumbers w
     pub up : (q f : ℕ) → q < pairCount → f < 6
-        → hasBit (getD w (upAt n nf (length capList / 4) + numberIn w q) 0) f ≡ some (λ e. eqb (e .a) f && (samePair (pairAt w q) (e .b, e .c) && ltb (e .b) (e .c))) (edgesAt w (8 + 62 * n + 30 * nf) k)
+        → hasBit (getD w (upAt n nf (length capList / 4) + numberIn w q) 0) f ≡ some (λ e. eqb (e .a) f && (samePair (pairAt w q) (e .b, e .c) && ltb (e .b) (e .c))) (edgesAt w (openEdgesAt n nf) k)
     pub down : (q f : ℕ) → q < pairCount → f < 6
-        → hasBit (getD w (downAt n nf (length capList / 4) + numberIn w q) 0) f ≡ some (λ e. eqb (e .a) f && (samePair (pairAt w q) (e .b, e .c) && ltb (e .c) (e .b))) (edgesAt w (8 + 62 * n + 30 * nf) k)
+        → hasBit (getD w (downAt n nf (length capList / 4) + numberIn w q) 0) f ≡ some (λ e. eqb (e .a) f && (samePair (pairAt w q) (e .b, e .c) && ltb (e .c) (e .b))) (edgesAt w (openEdgesAt n nf) k)
     pub held : (q f : ℕ) → q < pairCount → f < 6
         → hasBit (getD w (heldAt n nf (length capList / 4) + numberIn w q) 0) f ≡ some (λ t. eqb (t .face) f && some (samePair (pairAt w q)) (edges (t .corners))) (outwardCaps (poolAt n w) (capsOf capList))
     pub up-small : (q : ℕ) → q < pairCount → getD w (upAt n nf (length capList / 4) + numberIn w q) 0 < 64

@@ -22,7 +22,8 @@ use Rattle.lists.specs.Lists.{some, upTo}
 use Rattle.sorting.specs.Buffer.{recordOf}
 use Rattle.box_faces.specs.Faces.{hasBit}
 use Rattle.edges.specs.Table.{keyOf, nextSide}
-use Rattle.cap_triangles.specs.Room.{numbersAt, upAt, downAt, heldAt, Above}
+use Rattle.cap_triangles.specs.Room.{numbersAt, upAt, downAt, heldAt, capsEnd, Above}
+use Rattle.candidate_pool.specs.Offsets.{openEdgesAt}
 
 abbrev pub SmallEdge : List ℕ → ℕ → Type 0
 SmallEdge w at = (getD w (at + 2) 0 ≡ 0 → ⊥) → (getD w at 0 < 4294967296) × (getD w (at + 1) 0 < 4294967296)
@@ -69,12 +70,12 @@ pub record Noted (target : ℕ → ℕ) (bits : ℕ → ℕ → Bool) (w w' : Li
 module _ (n nf nc : ℕ) (w : List ℕ) where
   abbrev pub edgeMask : ℕ → ℕ
   edgeMask j =
-      cond (eqb (getD w (8 + 62 * n + 30 * nf + 3 * j) 0) (getD w (8 + 62 * n + 30 * nf + 3 * j + 1) 0)) 0
-      (getD w (8 + 62 * n + 30 * nf + 3 * j + 2) 0)
+      cond (eqb (getD w (openEdgesAt n nf + 3 * j) 0) (getD w (openEdgesAt n nf + 3 * j + 1) 0)) 0
+      (getD w (openEdgesAt n nf + 3 * j + 2) 0)
 
   abbrev pub edgeTarget : ℕ → ℕ
   edgeTarget j =
-      cond (ltb (getD w (8 + 62 * n + 30 * nf + 3 * j) 0) (getD w (8 + 62 * n + 30 * nf + 3 * j + 1) 0)) (upAt n nf nc) (downAt n nf nc)
+      cond (ltb (getD w (openEdgesAt n nf + 3 * j) 0) (getD w (openEdgesAt n nf + 3 * j + 1) 0)) (upAt n nf nc) (downAt n nf nc)
       + getD w (numbersAt n nf nc + j) 0
 
   abbrev pub sideTarget : ℕ → ℕ → ℕ
@@ -85,7 +86,7 @@ module _ (n nf nc : ℕ) (w : List ℕ) where
     pub few : nf < 268435456
     pub caps : nc < 268435456
     pub edges : k ≤ 3 * nf
-    pub size : 9 + 64 * n + 93 * nf + 47 * nc ≤ length w
+    pub size : capsEnd n nf nc ≤ length w
 
 abbrev pub sideFace : List ℕ → ℕ → ℕ
 sideFace capList s = getD capList (s / 3 * 4) 0

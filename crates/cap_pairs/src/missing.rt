@@ -3,6 +3,7 @@ ghost use mathlib.Core.Path.{_≡_};
 ghost use Prim.Native.Nat.{_+_, _*_, _≤_, _<_};
 ghost use lib.ListN.{length};
 ghost use Rattle.lists.specs.Lists.{place};
+ghost use Rattle.candidate_pool.specs.Offsets.{openEdgesAt};
 ghost use Rattle.candidate_pool.specs.Standing.{facesIn, poolAt, edgesAt};
 ghost use Rattle.cap_triangles.specs.Selection.{capsOf};
 ghost use Rattle.cap_triangles.specs.Listed.{missingPlace};
@@ -11,7 +12,7 @@ ghost use Rattle.cap_pairs.specs.Pairs.{PairsKnown};
 ghost use Rattle.cap_pairs.specs.Steps.{missingFace};
 use box_faces::faces::count_faces;
 use box_faces::faces::has_face;
-use candidate_pool::room::edges_at;
+use candidate_pool::room::open_edges_at;
 use cap_triangles::room::held_at;
 use cap_triangles::room::numbers_at;
 
@@ -49,10 +50,10 @@ fn held_before(w: &[u64], mask: u64, held: u64) -> usize
 pub fn missing_place(w: &[u64], n: usize, nf: usize, k: usize, cap_list: &[u64]) -> usize
     requires { ⌜ CapReady n nf k (now «cap_list») (now w) ⌝ }
     requires { ⌜ PairsKnown n nf k (now «cap_list») (now w) ⌝ }
-    ensures { λ r. ⌜ r ≡ missingPlace (poolAt n (now (w .entry))) (capsOf (now («cap_list» .entry))) (edgesAt (now (w .entry)) (8 + 62 * n + 30 * nf) k) ⌝ }
+    ensures { λ r. ⌜ r ≡ missingPlace (poolAt n (now (w .entry))) (capsOf (now («cap_list» .entry))) (edgesAt (now (w .entry)) (openEdgesAt n nf) k) ⌝ }
 {
     let nc = cap_list.len() / 4;
-    let edges = edges_at(n, nf);
+    let edges = open_edges_at(n, nf);
     let numbers = numbers_at(n, nf, nc);
     let held = held_at(n, nf, nc);
     let mut place = 0;

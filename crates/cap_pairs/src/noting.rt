@@ -9,7 +9,7 @@ ghost use Rattle.cap_triangles.specs.Room.{CapReady, Above, numbersAt, upAt, do
 ghost use Rattle.cap_pairs.specs.Pairs.{PairNumbers, PairsKnown};
 ghost use Rattle.cap_pairs.specs.Steps.{Added, Noted, edgeMask, edgeTarget, sideTarget, sideFace, TablesFor};
 use box_faces::faces::has_face;
-use candidate_pool::room::edges_at;
+use candidate_pool::room::open_edges_at;
 use cap_triangles::room::down_at;
 use cap_triangles::room::held_at;
 use cap_triangles::room::numbers_at;
@@ -63,7 +63,7 @@ fn note_edges(w: &mut [u64], n: usize, nf: usize, nc: usize, k: usize)
     requires { ⌜ ((r : ℕ) → r < k + 3 * nc → (getD (now w) (upAt n nf nc + r) 0 ≡ 0) × (getD (now w) (downAt n nf nc + r) 0 ≡ 0)) ⌝ }
     ensures { λ _. ⌜ Noted (edgeTarget n nf nc (now (w .entry))) (λ j. hasBit (edgeMask n nf nc (now (w .entry)) j)) (now (w .entry)) (now (w .exit)) k ⌝ }
 {
-    let edges = edges_at(n, nf);
+    let edges = open_edges_at(n, nf);
     let numbers = numbers_at(n, nf, nc);
     let up = up_at(n, nf, nc);
     let down = down_at(n, nf, nc);

@@ -9,7 +9,8 @@ ghost use Rattle.edges.specs.Table.{keyOf};
 ghost use Rattle.cap_triangles.specs.Room.{CapReady, turnedAt, recordsAt};
 ghost use Rattle.cap_pairs.specs.Pairs.{edgePair, Numbered};
 ghost use Rattle.cap_pairs.specs.Steps.{SmallEdge, sideWords, Recorded, keyIn, SortedPairs, FirstsPut, TablesFor};
-use candidate_pool::room::edges_at;
+ghost use Rattle.candidate_pool.specs.Offsets.{openEdgesAt};
+use candidate_pool::room::open_edges_at;
 use cap_triangles::room::numbers_at;
 use cap_triangles::room::records_at;
 use cap_triangles::room::turned_at;
@@ -31,10 +32,10 @@ fn edge_word(w: &[u64], at: usize) -> u64
 // Records of the k open edges.
 fn put_edges(w: &mut [u64], n: usize, nf: usize, nc: usize, k: usize)
     requires { ⌜ TablesFor n nf nc (now w) k ⌝ }
-    requires { ⌜ ((i : ℕ) → i < k → SmallEdge (now w) (8 + 62 * n + 30 * nf + 3 * i)) ⌝ }
-    ensures { λ _. ⌜ Recorded (λ i. edgePair (now (w .entry)) (8 + 62 * n + 30 * nf + 3 * i)) (now (w .entry)) (now (w .exit)) (recordsAt n nf nc) 0 k ⌝ }
+    requires { ⌜ ((i : ℕ) → i < k → SmallEdge (now w) (openEdgesAt n nf + 3 * i)) ⌝ }
+    ensures { λ _. ⌜ Recorded (λ i. edgePair (now (w .entry)) (openEdgesAt n nf + 3 * i)) (now (w .entry)) (now (w .exit)) (recordsAt n nf nc) 0 k ⌝ }
 {
-    let edges = edges_at(n, nf);
+    let edges = open_edges_at(n, nf);
     let records = records_at(n, nf, nc);
     let mut i = 0;
     while i < k {

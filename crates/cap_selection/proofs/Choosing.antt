@@ -19,6 +19,7 @@ use Rattle.components.specs.Joined.{Decides}
 use Rattle.components.specs.Components.{components, componentOf, ComponentNumbers}
 use Rattle.components.proofs.Once.{once-up, decides-same, decides-eqb}
 use Rattle.components.proofs.Numbers.{number-in, numbers-some}
+use Rattle.candidate_pool.specs.Offsets.{openEdgesAt}
 use Rattle.candidate_pool.specs.Standing.{poolAt, edgesAt}
 use Rattle.cap_triangles.specs.Selection.{Cap, capsOf, outwardCaps, isSeed, shareEdge, selected}
 use Rattle.cap_triangles.specs.Room.{labelsAt, componentsAt, seededAt, Above, CapReady}
@@ -42,7 +43,7 @@ module _ (n nf k : ℕ) (capList w u v : List ℕ) (ready : CapReady n nf k capL
   nc = length capList / 4
 
   abbrev boundary : List (Triangle ℕ)
-  boundary = edgesAt w (8 + 62 * n + 30 * nf) k
+  boundary = edgesAt w (openEdgesAt n nf) k
 
   abbrev caps : List Cap
   caps = turnedCaps n nf k capList w ready known
@@ -179,8 +180,8 @@ module _ (n nf k : ℕ) (capList w u v : List ℕ) (ready : CapReady n nf k capL
     pool-end : poolAt n z ≡ poolAt n w
     pool-end = pool-kept (labelsAt n nf nc) w z all-above n (ready .ready .supplied .pooled) (omega arith)
 
-    edges-end : edgesAt z (8 + 62 * n + 30 * nf) k ≡ boundary
-    edges-end = let e = ready .edges in edges-kept (labelsAt n nf nc) w z all-above (8 + 62 * n + 30 * nf) k (omega arith)
+    edges-end : edgesAt z (openEdgesAt n nf) k ≡ boundary
+    edges-end = let e = ready .edges in edges-kept (labelsAt n nf nc) w z all-above (openEdgesAt n nf) k (omega arith)
 
     pub chosen : Chosen n nf k capList w z
     chosen =

@@ -27,6 +27,7 @@ use Rattle.edges.specs.Edges.{sides, samePair}
 use Rattle.edges.specs.Table.{nextSide}
 use Rattle.edges.proofs.Keys.{same-pair, both-ways}
 use Rattle.edges.proofs.Sides.{side-at, next-in}
+use Rattle.candidate_pool.specs.Offsets.{openEdgesAt}
 use Rattle.candidate_pool.specs.Standing.{countAt, poolAt, facesIn, edgeAt, edgesAt}
 use Rattle.candidate_pool.proofs.Masking.{no-bit, word-bit}
 use Rattle.cap_triangles.specs.Selection.{Cap, capsOf, capAt, outward, outwardCaps, isOpenPair, isSeed}
@@ -53,7 +54,7 @@ module _ (n nf k : ℕ) (capList w : List ℕ) (ready : CapReady n nf k capList 
   nc = length capList / 4
 
   abbrev boundary : List (Triangle ℕ)
-  boundary = edgesAt w (8 + 62 * n + 30 * nf) k
+  boundary = edgesAt w (openEdgesAt n nf) k
 
   abbrev pub turnedCaps : List Cap
   turnedCaps = outwardCaps (poolAt n w) (capsOf capList)
@@ -229,7 +230,7 @@ module _ (n nf k : ℕ) (capList w : List ℕ) (ready : CapReady n nf k capList 
         let r = of-some (λ e. samePair (side s) (e .b, e .c)) boundary (test o) in
         let e = r .0 in
         let p = is-true _ (r .2) in
-        let l = entry-face w (8 + 62 * n + 30 * nf) k (r .1) in
+        let l = entry-face w (openEdgesAt n nf) k (r .1) in
         ⊎-elim
         (λ (q : ltb (e .b) (e .c) ≡ true). up-opens (not-zero up (e .a) l (up-known (e .a) l ∙ to-entry e (λ e. ltb (e .b) (e .c)) (r .1) p q)))
         (λ (q : ltb (e .b) (e .c) ≡ false).

@@ -8,6 +8,7 @@ use mathlib.Core.List.{List, map}
 use lib.Dec.{eqb}
 use lib.ListN.{length, getD}
 use Rattle.lists.specs.Lists.{upTo}
+use Rattle.candidate_pool.specs.Offsets.{openEdgesAt}
 use Rattle.candidate_pool.specs.Standing.{poolAt, edgesAt}
 use Rattle.cap_triangles.specs.Selection.{capsOf, outwardCaps, selected}
 use Rattle.cap_triangles.specs.Room.{labelsAt, componentsAt, seededAt, Above}
@@ -18,4 +19,4 @@ chosenIn n nf nc w = map (λ i. eqb (getD w (seededAt n nf nc + getD w (componen
 pub record Chosen (n nf k : ℕ) (capList w w' : List ℕ) : Type 0 where
   pub above : Above (labelsAt n nf (length capList / 4)) w w'
   pub low : (i : ℕ) → i < length capList / 4 → getD w' (componentsAt n nf (length capList / 4) + i) 0 < length capList / 4
-  pub chosen : chosenIn n nf (length capList / 4) w' ≡ selected (edgesAt w' (8 + 62 * n + 30 * nf) k) (outwardCaps (poolAt n w') (capsOf capList))
+  pub chosen : chosenIn n nf (length capList / 4) w' ≡ selected (edgesAt w' (openEdgesAt n nf) k) (outwardCaps (poolAt n w') (capsOf capList))

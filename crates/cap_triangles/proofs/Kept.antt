@@ -1,7 +1,7 @@
 -- What stands in the room stays as it is where nothing below its end changed. Assumes nothing.
 --   above-none, above-less, above-more   a room is above itself; a lesser bound; one change after another
 --   view-below        a part of the room that ends below the bound
---   pool-kept, pooled-kept               the candidates: they end at 8 + 17 n
+--   pool-kept, pooled-kept               the candidates: they end at poolEnd
 --   edges-kept, held-kept                k open edges: they end at their place + 3 k
 --   supplied-kept     with a list of triangles
 --   turnedIn-kept, turned-kept           the turned triangles: they end at recordsAt
@@ -13,6 +13,7 @@ use native.Mathlib.Omega.{arith}
 use lib.ListN.{length, getD, drop, length-take}
 use Rattle.lists.specs.Regions.{view}
 use Rattle.geometry.specs.Triangles.{threes}
+use Rattle.candidate_pool.specs.Offsets.{entryAt, poolEnd, openEdgesAt}
 use Rattle.candidate_pool.specs.Pool.{Pool}
 use Rattle.candidate_pool.specs.Standing.{countAt, poolAt, Tidy, edgesAt, EdgesHeld}
 use Rattle.candidate_pool.proofs.Frames.{view-kept, count-same, stored-kept, pool-agrees}
@@ -34,8 +35,8 @@ module _ (b : ℕ) (w w' : List ℕ) (above : Above b w w') where
   pub view-below : (o k m : ℕ) → length (view w o k) ≤ m → o + m ≤ b → view w' o k ≡ view w o k
   view-below o k m few end = view-kept w w' o k m (above .long) few (λ i h. above .below (o + i) (omega arith))
 
-  module _ (n : ℕ) (pooled : Pooled n w) (end : 8 + 17 * n ≤ b) where
-    words : (x : ℕ) → x < 8 + 17 * n → getD w' x 0 ≡ getD w x 0
+  module _ (n : ℕ) (pooled : Pooled n w) (end : poolEnd n ≤ b) where
+    words : (x : ℕ) → x < poolEnd n → getD w' x 0 ≡ getD w x 0
     words x h = above .below x (omega arith)
 
     pub pool-kept : poolAt n w' ≡ poolAt n w
@@ -51,7 +52,7 @@ module _ (b : ℕ) (w w' : List ℕ) (above : Above b w w') where
           size = omega arith;
           few = omega arith;
           stored = λ c h. let k : c < countAt w = omega arith in stored-kept n w w' (above .long) words (pooled .few) c k (pooled .stored c k);
-          masks = λ c h. let m = pooled .masks c (omega arith) in let s = above .below (8 + 5 * c + 4) (omega arith) in omega arith;
+          masks = λ c h. let m = pooled .masks c (omega arith) in let s = above .below (entryAt c + 4) (omega arith) in omega arith;
           tidy = subst Tidy (sym pool-kept) (pooled .tidy);
         }
 
@@ -69,7 +70,7 @@ module _ (b : ℕ) (w w' : List ℕ) (above : Above b w w') where
       few = let c = length-take (3 * nc) (drop (turnedAt n nf) w) in omega arith
 
   module _ (n nf : ℕ) (capList : List ℕ) where
-    pub supplied-kept : 8 + 17 * n ≤ b → Supplied n nf capList w → Supplied n nf capList w'
+    pub supplied-kept : poolEnd n ≤ b → Supplied n nf capList w → Supplied n nf capList w'
     supplied-kept end s =
         record {
           pooled = pooled-kept n (s .pooled) end;
@@ -95,6 +96,6 @@ module _ (b : ℕ) (w w' : List ℕ) (above : Above b w w') where
         let l = r .edges in
         record {
           ready = turned-kept end (r .ready);
-          held = held-kept (8 + 62 * n + 30 * nf) k (omega arith) (poolAt n w') (subst (λ (p : Pool). EdgesHeld p w (8 + 62 * n + 30 * nf) k) (sym e) (r .held));
+          held = held-kept (openEdgesAt n nf) k (omega arith) (poolAt n w') (subst (λ (p : Pool). EdgesHeld p w (openEdgesAt n nf) k) (sym e) (r .held));
           edges = r .edges;
         }

@@ -18,6 +18,7 @@ use Rattle.lists.proofs.Places.{length-up, at-up}
 use Rattle.lists.proofs.Sequences.{place-is, place-all}
 use Rattle.geometry.specs.Triangles.{tri, vertices, edges}
 use Rattle.box_faces.specs.Faces.{hasBit}
+use Rattle.candidate_pool.specs.Offsets.{entryAt}
 use Rattle.candidate_pool.specs.Pool.{Pool, Candidate, faceList}
 use Rattle.candidate_pool.specs.Standing.{countAt, poolAt}
 use Rattle.candidate_pool.proofs.Listing.{has-kept}
@@ -40,12 +41,12 @@ module _ (n : ℕ) (w : List ℕ) (pooled : Pooled n w) (f : ℕ) (h : f < 6) (c
       away true e l = absurd (let k = has-low (poolAt n w) (pooled .tidy) f c h e in let s = pool-count n w in omega arith)
       away false e l = refl
 
-      go : (b : Bool) → ltb c (countAt w) ≡ b → has (faceList (poolAt n w) f) c ≡ (b && hasBit (getD w (8 + 5 * c + 4) 0) f)
+      go : (b : Bool) → ltb c (countAt w) ≡ b → has (faceList (poolAt n w) f) c ≡ (b && hasBit (getD w (entryAt c + 4) 0) f)
       go true e =
           let l = ltb-true c (countAt w) e in
           pooled .tidy .on f c h (let s = pool-count n w in omega arith)
           ∙ ap (λ (k : Candidate). has (k .on) f) (pool-at n w c l)
-          ∙ has-kept (hasBit (getD w (8 + 5 * c + 4) 0)) f h
+          ∙ has-kept (hasBit (getD w (entryAt c + 4) 0)) f h
       go false e = away (has (faceList (poolAt n w) f) c) refl (ltb-false c (countAt w) e)
 
 -- ---- one triangle

@@ -21,6 +21,7 @@ use Rattle.geometry.specs.Triangles.{Triangle, tri, reversed}
 use Rattle.geometry.proofs.Threes.{length-threes, threes-at}
 use Rattle.box_faces.specs.declared.uv.Uv.{Uv}
 use Rattle.box_faces.specs.Faces.{project, ccwIsOutward}
+use Rattle.candidate_pool.specs.Offsets.{entryAt}
 use Rattle.candidate_pool.specs.Standing.{countAt, pointAt, poolAt}
 use Rattle.candidate_pool.proofs.Reading.{pool-point}
 use Rattle.cap_triangles.specs.Selection.{Cap, cap, capAt, capsOf, signedArea, outward, outwardCaps}
@@ -33,8 +34,8 @@ use Rattle.cap_triangles.proofs.Good.{GoodCap, good-cap}
 
 -- ---- one triangle, by what the calls gave
 
-module _ (w : List ℕ) (f : ℕ) (t : Triangle ℕ) (x y z : Point) (p q r : Uv) (area : Float) (out : Bool) (xe : x ≡ pointAt w (8 + 5 * t .a)) (ye : y ≡ pointAt w (8 + 5 * t .b))
-    (ze : z ≡ pointAt w (8 + 5 * t .c)) (pe : p ≡ project f x) (qe : q ≡ project f y) (re : r ≡ project f z) (ae : area ≡ areaOf (tri p q r)) (oe : out ≡ ccwIsOutward f) where
+module _ (w : List ℕ) (f : ℕ) (t : Triangle ℕ) (x y z : Point) (p q r : Uv) (area : Float) (out : Bool) (xe : x ≡ pointAt w (entryAt (t .a))) (ye : y ≡ pointAt w (entryAt (t .b)))
+    (ze : z ≡ pointAt w (entryAt (t .c))) (pe : p ≡ project f x) (qe : q ≡ project f y) (re : r ≡ project f z) (ae : area ≡ areaOf (tri p q r)) (oe : out ≡ ccwIsOutward f) where
   area-is : area ≡ areaOf (cornersIn w f t)
   area-is =
       let a = pe ∙ ap (project f) xe in

@@ -1,6 +1,6 @@
 -- Supplied triangles in the work room, of which the outer contract does not speak. Behind the room of candidates (candidate_pool), for at most n candidates, nf facets and nc
 -- supplied triangles. Every step of caps writes behind what the steps before it wrote, so that its frame is one number. Assumes nothing.
---   turnedAt .. closingAt   where the tables stand (src/room.rt has them as a table)
+--   turnedAt .. closingAt   where the tables stand (src/room.rt has them as a table), and capsEnd, where they end
 --   Above          w became w', and nothing below b changed
 --   Pooled         the room holds candidates, as far as caps asks
 --   Supplied       with a list of triangles, and room for the tables
@@ -13,12 +13,13 @@ use mathlib.Core.List.{List, map}
 use lib.ListN.{length, getD}
 use Rattle.lists.specs.Regions.{view}
 use Rattle.geometry.specs.Triangles.{Triangle, threes}
+use Rattle.candidate_pool.specs.Offsets.{entryAt, poolEnd, openEdgesAt, roomEnd}
 use Rattle.candidate_pool.specs.Standing.{countAt, poolAt, Stored, Tidy, EdgesHeld}
 use Rattle.cap_triangles.specs.Selection.{capsOf, outwardCaps}
 use Rattle.cap_triangles.specs.Listed.{badCapPlace}
 
 abbrev pub turnedAt : ℕ → ℕ → ℕ
-turnedAt n nf = 8 + 62 * n + 66 * nf
+turnedAt n nf = roomEnd n nf
 
 abbrev pub recordsAt : ℕ → ℕ → ℕ → ℕ
 recordsAt n nf nc = turnedAt n nf + 3 * nc
@@ -47,15 +48,18 @@ seededAt n nf nc = turnedAt n nf + 27 * nf + 38 * nc
 abbrev pub closingAt : ℕ → ℕ → ℕ → ℕ
 closingAt n nf nc = turnedAt n nf + 27 * nf + 39 * nc
 
+abbrev pub capsEnd : ℕ → ℕ → ℕ → ℕ
+capsEnd n nf nc = closingAt n nf nc + 2 * n + 8 * nc + 1
+
 pub record Above (b : ℕ) (w w' : List ℕ) : Type 0 where
   pub long : length w' ≡ length w
   pub below : (x : ℕ) → x < b → getD w' x 0 ≡ getD w x 0
 
 pub record Pooled (n : ℕ) (w : List ℕ) : Type 0 where
-  pub size : 8 + 17 * n ≤ length w
+  pub size : poolEnd n ≤ length w
   pub few : countAt w ≤ n
-  pub stored : (c : ℕ) → c < countAt w → Stored w (8 + 5 * c)
-  pub masks : (c : ℕ) → c < countAt w → getD w (8 + 5 * c + 4) 0 < 64
+  pub stored : (c : ℕ) → c < countAt w → Stored w (entryAt c)
+  pub masks : (c : ℕ) → c < countAt w → getD w (entryAt c + 4) 0 < 64
   pub tidy : Tidy (poolAt n w)
 
 pub record Supplied (n nf : ℕ) (capList w : List ℕ) : Type 0 where
@@ -64,7 +68,7 @@ pub record Supplied (n nf : ℕ) (capList w : List ℕ) : Type 0 where
   pub few : nf < 268435456
   pub fours : length capList % 4 ≡ 0
   pub caps : length capList / 4 ≤ 1048576
-  pub size : 9 + 64 * n + 93 * nf + 47 * (length capList / 4) ≤ length w
+  pub size : capsEnd n nf (length capList / 4) ≤ length w
 
 abbrev pub turnedIn : ℕ → ℕ → ℕ → List ℕ → List (Triangle ℕ)
 turnedIn n nf nc w = threes (view w (turnedAt n nf) (3 * nc))
@@ -76,5 +80,5 @@ pub record TurnedReady (n nf : ℕ) (capList w : List ℕ) : Type 0 where
 
 pub record CapReady (n nf k : ℕ) (capList w : List ℕ) : Type 0 where
   pub ready : TurnedReady n nf capList w
-  pub held : EdgesHeld (poolAt n w) w (8 + 62 * n + 30 * nf) k
+  pub held : EdgesHeld (poolAt n w) w (openEdgesAt n nf) k
   pub edges : k ≤ 3 * nf

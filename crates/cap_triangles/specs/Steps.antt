@@ -15,27 +15,28 @@ use Rattle.root.specs.Doubles.{_⊖_, _⊗_, zeroF}
 use Rattle.geometry.specs.Triangles.{Triangle, mapped, reversed}
 use Rattle.box_faces.specs.declared.uv.Uv.{Uv}
 use Rattle.box_faces.specs.Faces.{project, hasBit, ccwIsOutward}
+use Rattle.candidate_pool.specs.Offsets.{entryAt}
 use Rattle.candidate_pool.specs.Standing.{countAt, pointAt, Stored}
 
 unfoldable pub listedIn : List ℕ → ℕ → ℕ → Bool
-listedIn w f c = ltb c (countAt w) && hasBit (getD w (8 + 5 * c + 4) 0) f
+listedIn w f c = ltb c (countAt w) && hasBit (getD w (entryAt c + 4) 0) f
 
 unfoldable pub badWords : List ℕ → ℕ → ℕ → ℕ → ℕ → ℕ → Bool
 badWords w last f a b c = ltb 5 f || (ltb f last || ((eqb a b || (eqb b c || eqb c a)) || not (listedIn w f a && (listedIn w f b && listedIn w f c))))
 
 pub record Standing (w : List ℕ) (t : Triangle ℕ) : Type 0 where
-  pub a : Stored w (8 + 5 * t .a)
-  pub b : Stored w (8 + 5 * t .b)
-  pub c : Stored w (8 + 5 * t .c)
-  pub a-low : 8 + 5 * t .a + 2 < length w
-  pub b-low : 8 + 5 * t .b + 2 < length w
-  pub c-low : 8 + 5 * t .c + 2 < length w
+  pub a : Stored w (entryAt (t .a))
+  pub b : Stored w (entryAt (t .b))
+  pub c : Stored w (entryAt (t .c))
+  pub a-low : entryAt (t .a) + 2 < length w
+  pub b-low : entryAt (t .b) + 2 < length w
+  pub c-low : entryAt (t .c) + 2 < length w
 
 unfoldable pub areaOf : Triangle Uv → Float
 areaOf q = (q .b .u ⊖ q .a .u) ⊗ (q .c .v ⊖ q .a .v) ⊖ (q .b .v ⊖ q .a .v) ⊗ (q .c .u ⊖ q .a .u)
 
 abbrev pub cornersIn : List ℕ → ℕ → Triangle ℕ → Triangle Uv
-cornersIn w f t = mapped (λ c. project f (pointAt w (8 + 5 * c))) t
+cornersIn w f t = mapped (λ c. project f (pointAt w (entryAt c))) t
 
 unfoldable pub turnedBy : List ℕ → ℕ → Triangle ℕ → Triangle ℕ
 turnedBy w f t = cond (Bool·beq (lt zeroF (areaOf (cornersIn w f t))) (ccwIsOutward f)) t (reversed t)

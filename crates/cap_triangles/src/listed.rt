@@ -4,6 +4,7 @@ ghost use mathlib.Core.Bool.{_&&_, _||_};
 ghost use Prim.Native.Nat.{_+_, _*_, _%_, _≤_, _<_};
 ghost use lib.Dec.{eqb};
 ghost use lib.ListN.{length};
+ghost use Rattle.candidate_pool.specs.Offsets.{entryAt};
 ghost use Rattle.candidate_pool.specs.Standing.{countAt, poolAt};
 ghost use Rattle.cap_triangles.specs.Selection.{capsOf};
 ghost use Rattle.cap_triangles.specs.Listed.{badCapPlace};
@@ -13,7 +14,7 @@ use box_faces::faces::has_face;
 
 // A candidate is in a face's list exactly if it has the face's bit.
 fn is_listed(w: &[u64], face: usize, id: u64) -> bool
-    requires { ⌜ (face < 6) × (8 + 5 * countAt (now w) ≤ length (now w)) ⌝ }
+    requires { ⌜ (face < 6) × (entryAt (countAt (now w)) ≤ length (now w)) ⌝ }
     ensures { λ r. ⌜ r ≡ listedIn (now (w .entry)) face id ⌝ }
 {
     if id < w[6] {
@@ -24,7 +25,7 @@ fn is_listed(w: &[u64], face: usize, id: u64) -> bool
 }
 
 fn all_listed(w: &[u64], face: usize, a: u64, b: u64, c: u64) -> bool
-    requires { ⌜ (face < 6) × (8 + 5 * countAt (now w) ≤ length (now w)) ⌝ }
+    requires { ⌜ (face < 6) × (entryAt (countAt (now w)) ≤ length (now w)) ⌝ }
     ensures { λ r. ⌜ r ≡ (listedIn (now (w .entry)) face a && (listedIn (now (w .entry)) face b && listedIn (now (w .entry)) face c)) ⌝ }
 {
     if is_listed(w, face, a) {
@@ -52,7 +53,7 @@ fn has_repeat(a: u64, b: u64, c: u64) -> bool
 
 // "face above 5 or descending, a repeated candidate, or one not in that face's list": `last` is the face of the triangle before.
 fn is_bad_cap(w: &[u64], last: u64, face: u64, a: u64, b: u64, c: u64) -> bool
-    requires { ⌜ 8 + 5 * countAt (now w) ≤ length (now w) ⌝ }
+    requires { ⌜ entryAt (countAt (now w)) ≤ length (now w) ⌝ }
     ensures { λ r. ⌜ r ≡ badWords (now (w .entry)) last face a b c ⌝ }
 {
     if 5 < face {

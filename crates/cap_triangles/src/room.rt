@@ -1,5 +1,5 @@
 // Where the tables of caps stand in the work room, behind those of candidates (candidate_pool, room.rt), for at most n candidates, nf facets and nc supplied triangles. A pair is
-// two candidates that an open edge or a triangle's side has; there are at most 3 nf + 3 nc. From 8 + 62 n + 66 nf on, in words:
+// two candidates that an open edge or a triangle's side has; there are at most 3 nf + 3 nc. From `room_end` on, in words:
 //   0                     3 nc             supplied triangles turned outward: three candidates
 //   3 nc                  12 nf + 12 nc    pairs: records (packed, which edge or side), and the sort's scratch
 //   12 nf + 15 nc         3 nf + 3 nc      of each open edge and then of each side the number of its pair
@@ -19,12 +19,13 @@
 ghost use mathlib.Core.Path.{_≡_};
 ghost use Prim.Native.Nat.{_<_};
 ghost use Rattle.cap_triangles.specs.Room.{turnedAt, recordsAt, numbersAt, upAt, downAt, heldAt, labelsAt, componentsAt, seededAt, closingAt};
+use candidate_pool::room::room_end;
 
 pub fn turned_at(n: usize, nf: usize) -> usize
     requires { ⌜ (n < 268435456) × (nf < 268435456) ⌝ }
     ensures { λ r. ⌜ r ≡ turnedAt n nf ⌝ }
 {
-    8 + 62 * n + 66 * nf
+    room_end(n, nf)
 }
 
 pub fn records_at(n: usize, nf: usize, nc: usize) -> usize

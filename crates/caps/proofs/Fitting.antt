@@ -11,6 +11,7 @@ use lib.Ieee.{Float}
 use Rattle.geometry.specs.Meshes.{meshOf, pointsOf}
 use Rattle.refusals.specs.declared.refusal.Checked.{Checked}
 use Rattle.refusals.specs.declared.refusal.Checked.the-variants.{Passed}
+use Rattle.candidate_pool.specs.Offsets.{roomEnd}
 use Rattle.refusals.specs.Refusals.{Passes}
 use Rattle.refusals.specs.Front.{ceiling}
 use Rattle.refusals.proofs.Replies.{cap-listed}
@@ -33,7 +34,7 @@ listable vs fs capList q w e =
 pub listable-same : (vs : List Float) (fs capList : List ℕ) (n m : ℕ) (w w' : List ℕ) → m ≡ n → length w' ≡ length w → Listable vs fs capList n w → Listable vs fs capList m w'
 listable-same vs fs capList n m w w' e l L = record { list = L .list; size = let s = L .size in omega (arith, e, l, s) }
 
-pub tabled-room : (vs : List Float) (fs capList : List ℕ) (n : ℕ) (w : List ℕ) → Listable vs fs capList n w → 8 + 62 * n + 66 * (length fs / 3) ≤ length w
+pub tabled-room : (vs : List Float) (fs capList : List ℕ) (n : ℕ) (w : List ℕ) → Listable vs fs capList n w → roomEnd n (length fs / 3) ≤ length w
 tabled-room vs fs capList n w L = let s = L .size in omega (arith, s)
 
 -- w₁ as the open edges left it, w as corner vertices and grids did, w' as the tests did

@@ -21,6 +21,7 @@ use Rattle.refusals.specs.declared.refusal.Checked.{Checked}
 use Rattle.refusals.specs.declared.refusal.Checked.the-variants.{Passed, Refused}
 use Rattle.refusals.specs.Refusals.{Test, firstRefusal}
 use Rattle.refusals.proofs.Refusals.{holds, passes, none-left}
+use Rattle.candidate_pool.specs.Offsets.{openEdgesAt}
 use Rattle.candidate_pool.specs.Pool.{Pool}
 use Rattle.candidate_pool.specs.Standing.{poolAt, Holds, EdgesHeld}
 use Rattle.cap_triangles.specs.Selection.{Cap, capsOf}
@@ -55,7 +56,7 @@ turned-off : (n nf k : ℕ) (capList : List ℕ) (r : Refusal) (w w' : List ℕ)
     → CapsChecked n nf k capList (Refused r) w w'
 turned-off n nf k capList r w w' e = record { found = e; above = refusal-passes r; ready = refusal-passes r; known = refusal-passes r }
 
-module _ (n nf k : ℕ) (capList w : List ℕ) (S : Supplied n nf capList w) (H : EdgesHeld (poolAt n w) w (8 + 62 * n + 30 * nf) k) (few : k ≤ 3 * nf)
+module _ (n nf k : ℕ) (capList w : List ℕ) (S : Supplied n nf capList w) (H : EdgesHeld (poolAt n w) w (openEdgesAt n nf) k) (few : k ≤ 3 * nf)
     (listed : ℕ) (el : listed ≡ length (edgesIn n nf k w)) (bad : ℕ) (eb : bad ≡ badCapPlace (poolAt n w) (capsOf capList)) where
   abbrev p : Pool
   p = poolAt n w
@@ -98,8 +99,8 @@ module _ (n nf k : ℕ) (capList w : List ℕ) (S : Supplied n nf capList w) (H 
       turned-ready =
           record {
             ready = T₁;
-            held = held-kept (turnedAt n nf) w w₁ A₁ (8 + 62 * n + 30 * nf) k (omega (arith, few)) (poolAt n w₁)
-                (subst (λ (q : Pool). EdgesHeld q w (8 + 62 * n + 30 * nf) k) (sym (pool-at w₁ A₁)) H);
+            held = held-kept (turnedAt n nf) w w₁ A₁ (openEdgesAt n nf) k (omega (arith, few)) (poolAt n w₁)
+                (subst (λ (q : Pool). EdgesHeld q w (openEdgesAt n nf) k) (sym (pool-at w₁ A₁)) H);
             edges = few;
           }
 
@@ -121,7 +122,7 @@ module _ (n nf k : ℕ) (capList w : List ℕ) (S : Supplied n nf capList w) (H 
             missing-is : missing ≡ missingPlace p l es
             missing-is =
                 em
-                ∙ (λ t. missingPlace (pool-at w₃ above-all t) l (edges-kept (turnedAt n nf) w w₃ above-all (8 + 62 * n + 30 * nf) k (omega (arith, few)) t))
+                ∙ (λ t. missingPlace (pool-at w₃ above-all t) l (edges-kept (turnedAt n nf) w w₃ above-all (openEdgesAt n nf) k (omega (arith, few)) t))
 
             pub missing-refused : missing < listed → CapsChecked n nf k capList (Refused (MissingEdge missing)) w w₃
             missing-refused h =

@@ -10,6 +10,7 @@ use lib.ListN.{length}
 use lib.Ieee.{Float}
 use Rattle.geometry.specs.Triangles.{Triangle, threes}
 use Rattle.geometry.specs.Meshes.{Mesh, meshOf}
+use Rattle.candidate_pool.specs.Offsets.{openEdgesAt}
 use Rattle.refusals.specs.Answers.{meshOutputs, Answer}
 use Rattle.candidate_pool.specs.Standing.{poolAt}
 use Rattle.cap_triangles.specs.Selection.{Cap, capsOf, outwardCaps, selected}
@@ -39,7 +40,7 @@ module _ (vs : List Float) (fs capList : List ℕ) (n k : ℕ) (positive : Bool)
   pool-is = pool-kept (labelsAt n nf nc) w w₁ (C .above) n (D .ready .ready .supplied .pooled) (omega arith)
 
   edges-is : edgesIn n nf k w₁ ≡ edgesIn n nf k w
-  edges-is = let f = D .ready .edges in edges-kept (labelsAt n nf nc) w w₁ (C .above) (8 + 62 * n + 30 * nf) k (omega (arith, f))
+  edges-is = let f = D .ready .edges in edges-kept (labelsAt n nf nc) w w₁ (C .above) (openEdgesAt n nf) k (omega (arith, f))
 
   chosen-is : chosenIn n nf nc w₁ ≡ selected (edgesIn n nf k w) (outwardCaps (poolAt n w) (capsOf capList))
   chosen-is = C .chosen ∙ (λ t. selected (edges-is t) (outwardCaps (pool-is t) (capsOf capList)))

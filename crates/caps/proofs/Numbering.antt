@@ -23,6 +23,7 @@ use Rattle.geometry.specs.Meshes.{Mesh, meshOf, pointsOf}
 use Rattle.geometry.proofs.Meshes.{length-pointsOf}
 use Rattle.mesh_weld.specs.Joining.{Joining}
 use Rattle.box_faces.specs.Faces.{uAxis, vAxis, project}
+use Rattle.candidate_pool.specs.Offsets.{entryAt, poolEnd}
 use Rattle.candidate_pool.specs.Pool.{Candidate, Pool, noCandidate, byKey, renewed, enteredAs, placeFor, insert}
 use Rattle.candidate_pool.specs.Setting.{Setting}
 use Rattle.candidate_pool.specs.Standing.{countAt, candidateAt, poolAt}
@@ -134,13 +135,13 @@ unfolding poolAt
 words-low n m w p e h c k =
     let a = ap (λ (q : Pool). getD (q .all) c noCandidate .mesh) e in
     let z : 0 + c ≡ c = omega arith in
-    let b : getD (poolAt n w .all) c noCandidate .mesh ≡ getD w (8 + 5 * c + 3) 0 = ap (λ (x : Candidate). x .mesh) (at-map-up (candidateAt w) noCandidate 0 (countAt w) c k) ∙ ap (λ (x : ℕ). getD w (8 + 5 * x + 3) 0) z in
+    let b : getD (poolAt n w .all) c noCandidate .mesh ≡ getD w (entryAt c + 3) 0 = ap (λ (x : Candidate). x .mesh) (at-map-up (candidateAt w) noCandidate 0 (countAt w) c k) ∙ ap (λ (x : ℕ). getD w (entryAt x + 3) 0) z in
     let d = h c in
     omega (arith, a, b, d)
 
-pub words-kept : (b n m : ℕ) (w w' : List ℕ) → Above b w w' → 8 + 17 * n ≤ b → countAt w ≤ n → MeshWords m w → MeshWords m w'
+pub words-kept : (b n m : ℕ) (w w' : List ℕ) → Above b w w' → poolEnd n ≤ b → countAt w ≤ n → MeshWords m w → MeshWords m w'
 words-kept b n m w w' r h few k c l =
     let e = r .below 6 (omega arith) in
-    let q = r .below (8 + 5 * c + 3) (omega (arith, e, l, few)) in
+    let q = r .below (entryAt c + 3) (omega (arith, e, l, few)) in
     let d = k c (omega (arith, e, l)) in
     omega (arith, q, d)

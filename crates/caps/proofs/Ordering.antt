@@ -23,6 +23,7 @@ use Rattle.refusals.specs.declared.reply.Reply.the-variants.{Refused}
 use Rattle.refusals.specs.Refusals.{documentedReply, Test, firstRefusal, Passes, unless}
 use Rattle.refusals.specs.Answers.{meshOutputs, Answer}
 use Rattle.refusals.proofs.Refusals.{none-left, row-passed, row-refused}
+use Rattle.candidate_pool.specs.Offsets.{openEdgesAt}
 use Rattle.refusals.proofs.Answers.{refused, after, behind, answered}
 use Rattle.refusals.proofs.Reports.{reply-zero}
 use Rattle.candidate_pool.specs.Pool.{byKey}
@@ -85,7 +86,7 @@ module _ (vs : List Float) (fs capList : List ℕ) (q : Asked) (mode : BoundaryC
       unfolding surface candidates
       closed-is positive e =
           let p = pool-kept (turnedAt n (length fs / 3)) w w' A n P (omega arith) ∙ D .pool in
-          let g = edges-kept (turnedAt n (length fs / 3)) w w' A (8 + 62 * n + 30 * (length fs / 3)) k (omega (arith, few)) ∙ D .edges in
+          let g = edges-kept (turnedAt n (length fs / 3)) w w' A (openEdgesAt n (length fs / 3)) k (omega (arith, few)) ∙ D .edges in
           λ t. closedOf (p t) (capsOf capList) (g t) (e t) mesh
 
   abbrev behind-nine : List Test

@@ -15,6 +15,7 @@ use Rattle.geometry.specs.Triangles.{Triangle}
 use Rattle.geometry.specs.Meshes.{Mesh, meshOf}
 use Rattle.refusals.specs.declared.refusal.Checked.{Checked}
 use Rattle.refusals.specs.declared.refusal.Checked.the-variants.{Passed}
+use Rattle.candidate_pool.specs.Offsets.{openEdgesAt}
 use Rattle.refusals.specs.Refusals.{firstRefusal}
 use Rattle.refusals.specs.Front.{ceiling, ListsPass, CapListPass}
 use Rattle.candidate_pool.specs.Pool.{Pool}
@@ -31,7 +32,7 @@ use Rattle.caps.specs.declared.mode.BoundaryClosure.{BoundaryClosure}
 use Rattle.caps.specs.Operation.{isPositive, suppliedTests, surface, pool}
 
 abbrev pub edgesIn : ℕ → ℕ → ℕ → List ℕ → List (Triangle ℕ)
-edgesIn n nf k w = edgesAt w (8 + 62 * n + 30 * nf) k
+edgesIn n nf k w = edgesAt w (openEdgesAt n nf) k
 
 -- from work room w to w', with the answer r
 pub record CapsChecked (n nf k : ℕ) (capList : List ℕ) (r : Checked) (w w' : List ℕ) : Type 0 where

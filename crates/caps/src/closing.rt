@@ -3,6 +3,7 @@ ghost use mathlib.Core.Path.{_≡_};
 ghost use mathlib.Core.List.{[]};
 ghost use Prim.Native.Nat.{_+_, _*_, _/_, _≤_};
 ghost use lib.ListN.{length};
+ghost use Rattle.candidate_pool.specs.Offsets.{openEdgesAt};
 ghost use Rattle.refusals.specs.Refusals.{documentedReply};
 ghost use Rattle.refusals.specs.Answers.{meshOutputs, Answer};
 ghost use Rattle.candidate_pool.specs.Standing.{poolAt, EdgesHeld};
@@ -30,7 +31,7 @@ pub fn check_caps(
     cap_list: &[u64],
 ) -> Checked
     requires { ⌜ Supplied n nf (now «cap_list») (now w) ⌝ }
-    requires { ⌜ EdgesHeld (poolAt n (now w)) (now w) (8 + 62 * n + 30 * nf) k × (k ≤ 3 * nf) ⌝ }
+    requires { ⌜ EdgesHeld (poolAt n (now w)) (now w) (openEdgesAt n nf) k × (k ≤ 3 * nf) ⌝ }
     requires { ⌜ listed ≡ length (edgesIn n nf k (now w)) ⌝ }
     ensures { λ r. ⌜ CapsChecked n nf k (now («cap_list» .entry)) r (now (w .entry)) (now (w .exit)) ⌝ }
 {

@@ -3,8 +3,8 @@ use borrow.Author.Needs.{needs}
 use Rattle.boundary_closure.proofs.surface.table_edges.Statement.{statement}
 use Rattle.boundary_closure.proofs.surface.table_edges.Tie as tie
 
-table-at-requires : tie.Need-table-at-requires
-table-at-requires c κs = search needs
+edge-table-at-requires : tie.Need-edge-table-at-requires
+edge-table-at-requires c κs = search needs
 
 mul-open-edges : tie.Need-mul-open-edges
 mul-open-edges c = search needs
@@ -31,13 +31,13 @@ same-length : tie.Need-same-length
 same-length c = search needs
 
 returns : tie.Need-returns
-returns c = let a = c .before .before .before .before .before .before .before .args in table-put (a .facets .now) (a .w .now) (c .before .before .open-edges .last .1 .0) (a .n) _ (c .before .before .before .before .table-at .result) (c .before .before .before .before .table-at .ensures) (c .before .before .before .before .before .before .before .pre .0) (c .before .before .before .before .before .before .before .pre .1 .1) (c .before .before .open-edges .ensures)
+returns c = let a = c .before .before .before .before .before .before .before .args in table-put (a .facets .now) (a .w .now) (c .before .before .open-edges .last .1 .0) (a .n) _ (c .before .before .before .before .edge-table-at .result) (c .before .before .before .before .edge-table-at .ensures) (c .before .before .before .before .before .before .before .pre .0) (c .before .before .before .before .before .before .before .pre .1 .1) (c .before .before .open-edges .ensures)
 
 pub table-edges-spec : {M : Type 1} → statement M
 table-edges-spec =
     tie.close
     (tie.spec
-    table-at-requires
+    edge-table-at-requires
     mul-open-edges
     add-open-edges
     mul-open-edges-2

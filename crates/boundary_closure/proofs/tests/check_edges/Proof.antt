@@ -23,8 +23,8 @@ returns-2 c = let a = c .before .before .before .before .before .before .before 
 stray-edge-requires : tie.Need-stray-edge-requires
 stray-edge-requires c κs = (c .before .before .before .before .before .before .before .pre .0, (c .before .before .before .before .before .before .before .pre .1 .table))
 
-table-at-requires : tie.Need-table-at-requires
-table-at-requires c κs = search needs
+edge-table-at-requires : tie.Need-edge-table-at-requires
+edge-table-at-requires c κs = search needs
 
 mul-key : tie.Need-mul-key
 mul-key c = search needs
@@ -59,7 +59,7 @@ check-edges-spec =
     box-has-far-key-requires
     returns-2
     stray-edge-requires
-    table-at-requires
+    edge-table-at-requires
     mul-key
     add-key
     mul-key-2

@@ -5,9 +5,10 @@ use mathlib.Core.Path.{_≡_}
 use Prim.Native.Nat.{_+_, _*_, _-_}
 use Rattle.candidate_constraints.proofs.distinct.keep_distinct.Statement.{statement}
 use Rattle.candidate_constraints.proofs.distinct.keep_distinct.Tie as tie
+use Rattle.candidate_pool.specs.Offsets.{pairsAt, constraintsAt}
 
 abbrev Inv-loop : tie.InvT-loop
-Inv-loop w₀ n nf c total pairs at t₀ i₀ w t i = Keeping n nf c total w₀ w t i × (pairs ≡ 8 + 22 * n) × (at ≡ 8 + 38 * n + 12 * nf)
+Inv-loop w₀ n nf c total pairs at t₀ i₀ w t i = Keeping n nf c total w₀ w t i × (pairs ≡ pairsAt n) × (at ≡ constraintsAt n nf)
 
 abbrev μ-loop : tie.MeasureT-loop
 μ-loop w₀ n nf c total pairs at t₀ i₀ w t i = c - i

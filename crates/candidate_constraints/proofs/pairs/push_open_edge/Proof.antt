@@ -6,8 +6,8 @@ use borrow.Author.Needs.{needs}
 use Rattle.candidate_constraints.proofs.pairs.push_open_edge.Statement.{statement}
 use Rattle.candidate_constraints.proofs.pairs.push_open_edge.Tie as tie
 
-edges-at-requires : tie.Need-edges-at-requires
-edges-at-requires c κs = search needs
+open-edges-at-requires : tie.Need-open-edges-at-requires
+open-edges-at-requires c κs = search needs
 
 mul-at : tie.Need-mul-at
 mul-at c = search needs
@@ -49,43 +49,43 @@ add-a : tie.Need-add-a
 add-a c =
     let s = c .before .before .before .before .before .before .before .before in
     let a = s .args in
-    let edges-at′ = c .before .before .before .before .before .before .edges-at in
-    omega (arith, from-low (a .n) (a .nf) (a .i) (a .face) (a .c) (a .w .now) (s .pre .0) (s .pre .1 .0) (s .pre .1 .1 .0) (s .pre .1 .1 .1 .0) (s .pre .1 .1 .1 .1 .0) (s .pre .1 .1 .1 .1 .1) (s .pre .1 .1 .1 .1 .2) (edges-at′ .result) (edges-at′ .ensures) (sym (c .before .before .before .before .has-face .ensures) ∙ c .before .before .before .if1 .taken), c .before .before .places-at .ensures, s .pre .1 .0 .small, s .pre .1 .0 .facets, s .pre .1 .0 .room, s .pre .1 .1 .1 .1, edges-at′ .ensures)
+    let open-edges-at′ = c .before .before .before .before .before .before .open-edges-at in
+    omega (arith, from-low (a .n) (a .nf) (a .i) (a .face) (a .c) (a .w .now) (s .pre .0) (s .pre .1 .0) (s .pre .1 .1 .0) (s .pre .1 .1 .1 .0) (s .pre .1 .1 .1 .1 .0) (s .pre .1 .1 .1 .1 .1) (s .pre .1 .1 .1 .1 .2) (open-edges-at′ .result) (open-edges-at′ .ensures) (sym (c .before .before .before .before .has-face .ensures) ∙ c .before .before .before .if1 .taken), c .before .before .places-at .ensures, s .pre .1 .0 .small, s .pre .1 .0 .facets, s .pre .1 .0 .room, s .pre .1 .1 .1 .1, open-edges-at′ .ensures)
 
 mul-a : tie.Need-mul-a
 mul-a c =
     let s = c .before .before .before .before .before .before .before .before in
     let a = s .args in
-    let edges-at′ = c .before .before .before .before .before .before .edges-at in
-    omega (arith, from-low (a .n) (a .nf) (a .i) (a .face) (a .c) (a .w .now) (s .pre .0) (s .pre .1 .0) (s .pre .1 .1 .0) (s .pre .1 .1 .1 .0) (s .pre .1 .1 .1 .1 .0) (s .pre .1 .1 .1 .1 .1) (s .pre .1 .1 .1 .1 .2) (edges-at′ .result) (edges-at′ .ensures) (sym (c .before .before .before .before .has-face .ensures) ∙ c .before .before .before .if1 .taken), c .before .before .places-at .ensures, s .pre .1 .0 .small, s .pre .1 .0 .facets, s .pre .1 .0 .room, s .pre .1 .1 .1 .1, edges-at′ .ensures)
+    let open-edges-at′ = c .before .before .before .before .before .before .open-edges-at in
+    omega (arith, from-low (a .n) (a .nf) (a .i) (a .face) (a .c) (a .w .now) (s .pre .0) (s .pre .1 .0) (s .pre .1 .1 .0) (s .pre .1 .1 .1 .0) (s .pre .1 .1 .1 .1 .0) (s .pre .1 .1 .1 .1 .1) (s .pre .1 .1 .1 .1 .2) (open-edges-at′ .result) (open-edges-at′ .ensures) (sym (c .before .before .before .before .has-face .ensures) ∙ c .before .before .before .if1 .taken), c .before .before .places-at .ensures, s .pre .1 .0 .small, s .pre .1 .0 .facets, s .pre .1 .0 .room, s .pre .1 .1 .1 .1, open-edges-at′ .ensures)
 
 slice-read-a : tie.Need-slice-read-a
 slice-read-a c =
     let s = c .before .before .before .before .before .before .before .before .before in
     let a = s .args in
-    let edges-at′ = c .before .before .before .before .before .before .before .edges-at in
-    omega (arith, from-low (a .n) (a .nf) (a .i) (a .face) (a .c) (a .w .now) (s .pre .0) (s .pre .1 .0) (s .pre .1 .1 .0) (s .pre .1 .1 .1 .0) (s .pre .1 .1 .1 .1 .0) (s .pre .1 .1 .1 .1 .1) (s .pre .1 .1 .1 .1 .2) (edges-at′ .result) (edges-at′ .ensures) (sym (c .before .before .before .before .before .has-face .ensures) ∙ c .before .before .before .before .if1 .taken), c .before .before .before .places-at .ensures, s .pre .1 .0 .small, s .pre .1 .0 .facets, s .pre .1 .0 .room, s .pre .1 .1 .1 .1, edges-at′ .ensures)
+    let open-edges-at′ = c .before .before .before .before .before .before .before .open-edges-at in
+    omega (arith, from-low (a .n) (a .nf) (a .i) (a .face) (a .c) (a .w .now) (s .pre .0) (s .pre .1 .0) (s .pre .1 .1 .0) (s .pre .1 .1 .1 .0) (s .pre .1 .1 .1 .1 .0) (s .pre .1 .1 .1 .1 .1) (s .pre .1 .1 .1 .1 .2) (open-edges-at′ .result) (open-edges-at′ .ensures) (sym (c .before .before .before .before .before .has-face .ensures) ∙ c .before .before .before .before .if1 .taken), c .before .before .before .places-at .ensures, s .pre .1 .0 .small, s .pre .1 .0 .facets, s .pre .1 .0 .room, s .pre .1 .1 .1 .1, open-edges-at′ .ensures)
 
 add-b : tie.Need-add-b
 add-b c =
     let s = c .before .before .before .before .before .before .before .before .before in
     let a = s .args in
-    let edges-at′ = c .before .before .before .before .before .before .before .edges-at in
-    omega (arith, to-low (a .n) (a .nf) (a .i) (a .face) (a .c) (a .w .now) (s .pre .0) (s .pre .1 .0) (s .pre .1 .1 .0) (s .pre .1 .1 .1 .0) (s .pre .1 .1 .1 .1 .0) (s .pre .1 .1 .1 .1 .1) (s .pre .1 .1 .1 .1 .2) (edges-at′ .result) (edges-at′ .ensures) (sym (c .before .before .before .before .before .has-face .ensures) ∙ c .before .before .before .before .if1 .taken), c .before .before .before .places-at .ensures, s .pre .1 .0 .small, s .pre .1 .0 .facets, s .pre .1 .0 .room, s .pre .1 .1 .1 .1, edges-at′ .ensures)
+    let open-edges-at′ = c .before .before .before .before .before .before .before .open-edges-at in
+    omega (arith, to-low (a .n) (a .nf) (a .i) (a .face) (a .c) (a .w .now) (s .pre .0) (s .pre .1 .0) (s .pre .1 .1 .0) (s .pre .1 .1 .1 .0) (s .pre .1 .1 .1 .1 .0) (s .pre .1 .1 .1 .1 .1) (s .pre .1 .1 .1 .1 .2) (open-edges-at′ .result) (open-edges-at′ .ensures) (sym (c .before .before .before .before .before .has-face .ensures) ∙ c .before .before .before .before .if1 .taken), c .before .before .before .places-at .ensures, s .pre .1 .0 .small, s .pre .1 .0 .facets, s .pre .1 .0 .room, s .pre .1 .1 .1 .1, open-edges-at′ .ensures)
 
 mul-b : tie.Need-mul-b
 mul-b c =
     let s = c .before .before .before .before .before .before .before .before .before in
     let a = s .args in
-    let edges-at′ = c .before .before .before .before .before .before .before .edges-at in
-    omega (arith, to-low (a .n) (a .nf) (a .i) (a .face) (a .c) (a .w .now) (s .pre .0) (s .pre .1 .0) (s .pre .1 .1 .0) (s .pre .1 .1 .1 .0) (s .pre .1 .1 .1 .1 .0) (s .pre .1 .1 .1 .1 .1) (s .pre .1 .1 .1 .1 .2) (edges-at′ .result) (edges-at′ .ensures) (sym (c .before .before .before .before .before .has-face .ensures) ∙ c .before .before .before .before .if1 .taken), c .before .before .before .places-at .ensures, s .pre .1 .0 .small, s .pre .1 .0 .facets, s .pre .1 .0 .room, s .pre .1 .1 .1 .1, edges-at′ .ensures)
+    let open-edges-at′ = c .before .before .before .before .before .before .before .open-edges-at in
+    omega (arith, to-low (a .n) (a .nf) (a .i) (a .face) (a .c) (a .w .now) (s .pre .0) (s .pre .1 .0) (s .pre .1 .1 .0) (s .pre .1 .1 .1 .0) (s .pre .1 .1 .1 .1 .0) (s .pre .1 .1 .1 .1 .1) (s .pre .1 .1 .1 .1 .2) (open-edges-at′ .result) (open-edges-at′ .ensures) (sym (c .before .before .before .before .before .has-face .ensures) ∙ c .before .before .before .before .if1 .taken), c .before .before .before .places-at .ensures, s .pre .1 .0 .small, s .pre .1 .0 .facets, s .pre .1 .0 .room, s .pre .1 .1 .1 .1, open-edges-at′ .ensures)
 
 slice-read-b : tie.Need-slice-read-b
 slice-read-b c =
     let s = c .before .before .before .before .before .before .before .before .before .before in
     let a = s .args in
-    let edges-at′ = c .before .before .before .before .before .before .before .before .edges-at in
-    omega (arith, to-low (a .n) (a .nf) (a .i) (a .face) (a .c) (a .w .now) (s .pre .0) (s .pre .1 .0) (s .pre .1 .1 .0) (s .pre .1 .1 .1 .0) (s .pre .1 .1 .1 .1 .0) (s .pre .1 .1 .1 .1 .1) (s .pre .1 .1 .1 .1 .2) (edges-at′ .result) (edges-at′ .ensures) (sym (c .before .before .before .before .before .before .has-face .ensures) ∙ c .before .before .before .before .before .if1 .taken), c .before .before .before .before .places-at .ensures, s .pre .1 .0 .small, s .pre .1 .0 .facets, s .pre .1 .0 .room, s .pre .1 .1 .1 .1, edges-at′ .ensures)
+    let open-edges-at′ = c .before .before .before .before .before .before .before .before .open-edges-at in
+    omega (arith, to-low (a .n) (a .nf) (a .i) (a .face) (a .c) (a .w .now) (s .pre .0) (s .pre .1 .0) (s .pre .1 .1 .0) (s .pre .1 .1 .1 .0) (s .pre .1 .1 .1 .1 .0) (s .pre .1 .1 .1 .1 .1) (s .pre .1 .1 .1 .1 .2) (open-edges-at′ .result) (open-edges-at′ .ensures) (sym (c .before .before .before .before .before .before .has-face .ensures) ∙ c .before .before .before .before .before .if1 .taken), c .before .before .before .before .places-at .ensures, s .pre .1 .0 .small, s .pre .1 .0 .facets, s .pre .1 .0 .room, s .pre .1 .1 .1 .1, open-edges-at′ .ensures)
 
 pairs-at-requires : tie.Need-pairs-at-requires
 pairs-at-requires c κs = search needs
@@ -100,11 +100,11 @@ put-pair-requires : tie.Need-put-pair-requires
 put-pair-requires c κs =
     let s = c .before .before .before .before .before .before .before .before .before .before .before .before in
     let a = s .args in
-    let edges-at′ = c .before .before .before .before .before .before .before .before .before .before .edges-at in
+    let open-edges-at′ = c .before .before .before .before .before .before .before .before .before .before .open-edges-at in
     let has-face′ = c .before .before .before .before .before .before .before .before .has-face in
     let if1′ = c .before .before .before .before .before .before .before .if1 in
     let places-at′ = c .before .before .before .before .before .before .places-at in
-    (omega (arith, c .pairs-at .ensures, s .pre .1 .0 .small, s .pre .1 .0 .facets, s .pre .1 .0 .room, s .pre .1 .1 .1 .1, edges-at′ .ensures), s .pre .1 .1 .1 .1 .0, omega (arith, from-place-low (a .n) (a .nf) (a .i) (a .face) (a .c) (a .w .now) (s .pre .0) (s .pre .1 .0) (s .pre .1 .1 .0) (s .pre .1 .1 .1 .0) (s .pre .1 .1 .1 .1 .0) (s .pre .1 .1 .1 .1 .1) (s .pre .1 .1 .1 .1 .2) (edges-at′ .result) (edges-at′ .ensures) (sym (has-face′ .ensures) ∙ if1′ .taken) (places-at′ .result) (places-at′ .ensures), s .pre .1 .0 .small, s .pre .1 .0 .facets, s .pre .1 .0 .room, s .pre .1 .1 .1 .1, edges-at′ .ensures), omega (arith, to-place-low (a .n) (a .nf) (a .i) (a .face) (a .c) (a .w .now) (s .pre .0) (s .pre .1 .0) (s .pre .1 .1 .0) (s .pre .1 .1 .1 .0) (s .pre .1 .1 .1 .1 .0) (s .pre .1 .1 .1 .1 .1) (s .pre .1 .1 .1 .1 .2) (edges-at′ .result) (edges-at′ .ensures) (sym (has-face′ .ensures) ∙ if1′ .taken) (places-at′ .result) (places-at′ .ensures), s .pre .1 .0 .small, s .pre .1 .0 .facets, s .pre .1 .0 .room, s .pre .1 .1 .1 .1, edges-at′ .ensures))
+    (omega (arith, c .pairs-at .ensures, s .pre .1 .0 .small, s .pre .1 .0 .facets, s .pre .1 .0 .room, s .pre .1 .1 .1 .1, open-edges-at′ .ensures), s .pre .1 .1 .1 .1 .0, omega (arith, from-place-low (a .n) (a .nf) (a .i) (a .face) (a .c) (a .w .now) (s .pre .0) (s .pre .1 .0) (s .pre .1 .1 .0) (s .pre .1 .1 .1 .0) (s .pre .1 .1 .1 .1 .0) (s .pre .1 .1 .1 .1 .1) (s .pre .1 .1 .1 .1 .2) (open-edges-at′ .result) (open-edges-at′ .ensures) (sym (has-face′ .ensures) ∙ if1′ .taken) (places-at′ .result) (places-at′ .ensures), s .pre .1 .0 .small, s .pre .1 .0 .facets, s .pre .1 .0 .room, s .pre .1 .1 .1 .1, open-edges-at′ .ensures), omega (arith, to-place-low (a .n) (a .nf) (a .i) (a .face) (a .c) (a .w .now) (s .pre .0) (s .pre .1 .0) (s .pre .1 .1 .0) (s .pre .1 .1 .1 .0) (s .pre .1 .1 .1 .1 .0) (s .pre .1 .1 .1 .1 .1) (s .pre .1 .1 .1 .1 .2) (open-edges-at′ .result) (open-edges-at′ .ensures) (sym (has-face′ .ensures) ∙ if1′ .taken) (places-at′ .result) (places-at′ .ensures), s .pre .1 .0 .small, s .pre .1 .0 .facets, s .pre .1 .0 .room, s .pre .1 .1 .1 .1, open-edges-at′ .ensures))
 
 add-result : tie.Need-add-result
 add-result c = search needs
@@ -116,24 +116,24 @@ returns : tie.Need-returns
 returns c =
     let s = c .before .before .before .before .before .before .before .before .before .before .before .before .before .before .before in
     let a = s .args in
-    let edges-at′ = c .before .before .before .before .before .before .before .before .before .before .before .before .before .edges-at in
+    let open-edges-at′ = c .before .before .before .before .before .before .before .before .before .before .before .before .before .open-edges-at in
     let places-at′ = c .before .before .before .before .before .before .before .before .before .places-at in
     let pairs-at′ = c .before .before .before .pairs-at in
     let put-pair′ = c .before .before .put-pair in
-    edge-pushed (a .n) (a .nf) (a .i) (a .face) (a .c) (a .w .now) (s .pre .0) (s .pre .1 .0) (s .pre .1 .1 .0) (s .pre .1 .1 .1 .0) (s .pre .1 .1 .1 .1 .0) (s .pre .1 .1 .1 .1 .1) (s .pre .1 .1 .1 .1 .2) (edges-at′ .result) (edges-at′ .ensures) (sym (c .before .before .before .before .before .before .before .before .before .before .before .has-face .ensures) ∙ c .before .before .before .before .before .before .before .before .before .before .if1 .taken) (places-at′ .result) (places-at′ .ensures) (pairs-at′ .result) (put-pair′ .last .0) (pairs-at′ .ensures) (put-pair′ .ensures)
+    edge-pushed (a .n) (a .nf) (a .i) (a .face) (a .c) (a .w .now) (s .pre .0) (s .pre .1 .0) (s .pre .1 .1 .0) (s .pre .1 .1 .1 .0) (s .pre .1 .1 .1 .1 .0) (s .pre .1 .1 .1 .1 .1) (s .pre .1 .1 .1 .1 .2) (open-edges-at′ .result) (open-edges-at′ .ensures) (sym (c .before .before .before .before .before .before .before .before .before .before .before .has-face .ensures) ∙ c .before .before .before .before .before .before .before .before .before .before .if1 .taken) (places-at′ .result) (places-at′ .ensures) (pairs-at′ .result) (put-pair′ .last .0) (pairs-at′ .ensures) (put-pair′ .ensures)
 
 returns-2 : tie.Need-returns-2
 returns-2 c =
     let s = c .before .before .before .before .before in
     let a = s .args in
-    let edges-at′ = c .before .before .before .edges-at in
-    edge-skipped (a .n) (a .nf) (a .i) (a .face) (a .c) (a .w .now) (s .pre .1 .1 .1 .1 .0) (edges-at′ .result) (edges-at′ .ensures) (sym (c .before .has-face .ensures) ∙ c .if1 .left)
+    let open-edges-at′ = c .before .before .before .open-edges-at in
+    edge-skipped (a .n) (a .nf) (a .i) (a .face) (a .c) (a .w .now) (s .pre .1 .1 .1 .1 .0) (open-edges-at′ .result) (open-edges-at′ .ensures) (sym (c .before .has-face .ensures) ∙ c .if1 .left)
 
 pub push-open-edge-spec : {M : Type 1} → statement M
 push-open-edge-spec =
     tie.close
     (tie.spec
-    edges-at-requires
+    open-edges-at-requires
     mul-at
     add-at
     add-mask

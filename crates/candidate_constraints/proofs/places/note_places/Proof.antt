@@ -1,5 +1,6 @@
 -- `note_places` meets its contract: after i turns the first i candidates of the list have their places noted. Assumes nothing.
 use Rattle.candidate_constraints.proofs.Noting.{Noting, noted-low, noting-start, noting-named, noting-end}
+use Rattle.candidate_pool.specs.Offsets.{listAt, placesAt}
 use Rattle.candidate_pool.proofs.Reading.{list-in}
 use lib.ListN.{getD}
 use native.Mathlib.Omega.{arith}
@@ -9,7 +10,7 @@ use Rattle.candidate_constraints.proofs.places.note_places.Statement.{s
 use Rattle.candidate_constraints.proofs.places.note_places.Tie as tie
 
 abbrev Inv-loop : tie.InvT-loop
-Inv-loop w₀ n face list places count i₀ w i = Noting n face w₀ w i × (list ≡ 8 + 11 * n + face * n) × (places ≡ 8 + 17 * n) × (count ≡ getD w₀ face 0)
+Inv-loop w₀ n face list places count i₀ w i = Noting n face w₀ w i × (list ≡ listAt n face) × (places ≡ placesAt n) × (count ≡ getD w₀ face 0)
 
 abbrev μ-loop : tie.MeasureT-loop
 μ-loop w₀ n face list places count i₀ w i = count - i

@@ -1,5 +1,6 @@
 -- `collect_side` meets its contract: after i turns the records are those of the first i candidates of the list. Assumes nothing.
 use Rattle.candidate_constraints.proofs.Along.{Collecting, collecting-start, collected-stored, on-side-no-nan, collecting-named, collecting-end}
+use Rattle.candidate_pool.specs.Offsets.{listAt, sideAt}
 use Rattle.candidate_pool.proofs.Reading.{list-in}
 use lib.ListN.{getD}
 use native.Mathlib.Omega.{arith}
@@ -9,7 +10,7 @@ use Rattle.candidate_constraints.proofs.side.collect_side.Statement.{st
 use Rattle.candidate_constraints.proofs.side.collect_side.Tie as tie
 
 abbrev Inv-loop : tie.InvT-loop
-Inv-loop w₀ n face side eps list at count m₀ i₀ w m i = Collecting eps n face side w₀ w m i × (list ≡ 8 + 11 * n + face * n) × (at ≡ 8 + 18 * n) × (count ≡ getD w₀ face 0)
+Inv-loop w₀ n face side eps list at count m₀ i₀ w m i = Collecting eps n face side w₀ w m i × (list ≡ listAt n face) × (at ≡ sideAt n) × (count ≡ getD w₀ face 0)
 
 abbrev μ-loop : tie.MeasureT-loop
 μ-loop w₀ n face side eps list at count m₀ i₀ w m i = count - i

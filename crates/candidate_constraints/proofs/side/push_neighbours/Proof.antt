@@ -5,9 +5,10 @@ use mathlib.Core.Path.{_≡_}
 use Prim.Native.Nat.{_+_, _*_, _-_}
 use Rattle.candidate_constraints.proofs.side.push_neighbours.Statement.{statement}
 use Rattle.candidate_constraints.proofs.side.push_neighbours.Tie as tie
+use Rattle.candidate_pool.specs.Offsets.{sideAt, pairsAt}
 
 abbrev Inv-loop : tie.InvT-loop
-Inv-loop w₀ n face m count at pairs c₀ j₀ w c j = Nearing n face m count w₀ w c j × (at ≡ 8 + 18 * n) × (pairs ≡ 8 + 22 * n)
+Inv-loop w₀ n face m count at pairs c₀ j₀ w c j = Nearing n face m count w₀ w c j × (at ≡ sideAt n) × (pairs ≡ pairsAt n)
 
 abbrev μ-loop : tie.MeasureT-loop
 μ-loop w₀ n face m count at pairs c₀ j₀ w c j = m - j

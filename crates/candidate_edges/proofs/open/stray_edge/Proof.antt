@@ -12,6 +12,7 @@ use Rattle.candidate_edges.proofs.Ends.{side-is, side-low}
 use Rattle.candidate_edges.proofs.Passes.{stray, stray-test}
 use Rattle.candidate_edges.proofs.open.stray_edge.Statement.{statement}
 use Rattle.candidate_edges.proofs.open.stray_edge.Tie as tie
+use Rattle.candidate_pool.specs.Offsets.{edgeTableAt}
 
 abbrev Inv-loop : tie.InvT-loop
 Inv-loop w vertices facets n k extents eps table i₀ i = (i ≤ k) × (place (stray vertices facets extents eps) (openEdges (threes facets)) ≡ i + place (stray vertices facets extents eps) (drop i (openEdges (threes facets))))
@@ -19,8 +20,8 @@ Inv-loop w vertices facets n k extents eps table i₀ i = (i ≤ k) × (place (s
 abbrev μ-loop : tie.MeasureT-loop
 μ-loop w vertices facets n k extents eps table i₀ i = k - i
 
-table-at-requires : tie.Need-table-at-requires Inv-loop μ-loop
-table-at-requires c κs = (c .before .before .before .pre .0 .small, c .before .before .before .pre .0 .few)
+edge-table-at-requires : tie.Need-edge-table-at-requires Inv-loop μ-loop
+edge-table-at-requires c κs = (c .before .before .before .pre .0 .small, c .before .before .before .pre .0 .few)
 
 loop-holds : tie.Need-loop-holds Inv-loop μ-loop
 loop-holds c = (omega arith, omega arith)
@@ -30,53 +31,53 @@ mul-side c =
     let f = c .before .before .before .before .before .before .pre .0 in
     let k = c .before .before .before .before .before .before .pre .1 .within in
     let h = c .loop-test .taken in
-    omega (arith, c .before .before .table-at .ensures)
+    omega (arith, c .before .before .edge-table-at .ensures)
 
 add-side : tie.Need-add-side Inv-loop μ-loop
 add-side c =
     let f = c .before .before .before .before .before .before .pre .0 in
     let k = c .before .before .before .before .before .before .pre .1 .within in
     let h = c .loop-test .taken in
-    omega (arith, c .before .before .table-at .ensures)
+    omega (arith, c .before .before .edge-table-at .ensures)
 
 add-side-2 : tie.Need-add-side-2 Inv-loop μ-loop
 add-side-2 c =
     let f = c .before .before .before .before .before .before .pre .0 in
     let k = c .before .before .before .before .before .before .pre .1 .within in
     let h = c .loop-test .taken in
-    omega (arith, c .before .before .table-at .ensures)
+    omega (arith, c .before .before .edge-table-at .ensures)
 
 mul-side-2 : tie.Need-mul-side-2 Inv-loop μ-loop
 mul-side-2 c =
     let f = c .before .before .before .before .before .before .pre .0 in
     let k = c .before .before .before .before .before .before .pre .1 .within in
     let h = c .loop-test .taken in
-    omega (arith, c .before .before .table-at .ensures)
+    omega (arith, c .before .before .edge-table-at .ensures)
 
 shared-slice-read-side : tie.Need-shared-slice-read-side Inv-loop μ-loop
 shared-slice-read-side c =
     let f = c .before .before .before .before .before .before .before .pre .0 in
     let k = c .before .before .before .before .before .before .before .pre .1 .within in
     let h = c .before .loop-test .taken in
-    omega (arith, c .before .before .before .table-at .ensures)
+    omega (arith, c .before .before .before .edge-table-at .ensures)
 
 side-mask-requires : tie.Need-side-mask-requires Inv-loop μ-loop
 side-mask-requires c κs =
     let s = c .before .before .before .before .before .before .before in
     let a = s .args in
-    let t = c .before .before .before .table-at in
+    let t = c .before .before .before .edge-table-at in
     let l = c .before .before .loop in
-    ((s .pre .0 .threes, side-low (a .facets .now) (a .w .now) (8 + 62 * a .n + 54 * (length (a .facets .now) / 3)) (t .result) (a .k) (l .i) (s .pre .1) (t .ensures) (c .before .loop-test .taken)), s .pre .0 .numbers)
+    ((s .pre .0 .threes, side-low (a .facets .now) (a .w .now) (edgeTableAt (a .n) (length (a .facets .now) / 3)) (t .result) (a .k) (l .i) (s .pre .1) (t .ensures) (c .before .loop-test .taken)), s .pre .0 .numbers)
 
 returns : tie.Need-returns Inv-loop μ-loop
 returns c =
     let s = c .before .before .before .before .before .before .before .before .before in
     let a = s .args in
-    let t = c .before .before .before .before .before .table-at in
+    let t = c .before .before .before .before .before .edge-table-at in
     let l = c .before .before .before .before .loop in
     let m = c .before .side-mask in
     let side = getD (sides (threes (a .facets .now))) (getD (a .w .now) (t .result + 2 * l .i + 1) 0) (0, 0) in
-    let tested = stray-test (a .vertices .now) (a .facets .now) (a .extents) (a .eps) (m .result) (getD (openEdges (threes (a .facets .now))) (l .i) (0, 0)) side (side-is (a .facets .now) (a .w .now) (8 + 62 * a .n + 54 * (length (a .facets .now) / 3)) (t .result) (a .k) (l .i) (s .pre .1) (t .ensures) (c .before .before .before .loop-test .taken)) (m .ensures) in
+    let tested = stray-test (a .vertices .now) (a .facets .now) (a .extents) (a .eps) (m .result) (getD (openEdges (threes (a .facets .now))) (l .i) (0, 0)) side (side-is (a .facets .now) (a .w .now) (edgeTableAt (a .n) (length (a .facets .now) / 3)) (t .result) (a .k) (l .i) (s .pre .1) (t .ensures) (c .before .before .before .loop-test .taken)) (m .ensures) in
     place-stop (stray (a .vertices .now) (a .facets .now) (a .extents) (a .eps)) (openEdges (threes (a .facets .now))) (l .i) (l .inv .1) (0, 0) (omega (arith, s .pre .1 .count, c .before .before .before .loop-test .taken)) (tested ∙ eq-eqb (m .result) 0 (c .if1 .taken))
 
 add-i : tie.Need-add-i Inv-loop μ-loop
@@ -84,7 +85,7 @@ add-i c =
     let f = c .before .before .before .before .before .before .before .before .before .pre .0 in
     let k = c .before .before .before .before .before .before .before .before .before .pre .1 .within in
     let h = c .before .before .before .loop-test .taken in
-    omega (arith, c .before .before .before .before .before .table-at .ensures)
+    omega (arith, c .before .before .before .before .before .edge-table-at .ensures)
 
 loop-less : tie.Need-loop-less Inv-loop μ-loop
 loop-less c = omega (arith, c .before .before .before .loop-test .taken)
@@ -93,11 +94,11 @@ loop-again : tie.Need-loop-again Inv-loop μ-loop
 loop-again c =
     let s = c .before .before .before .before .before .before .before .before .before in
     let a = s .args in
-    let t = c .before .before .before .before .before .table-at in
+    let t = c .before .before .before .before .before .edge-table-at in
     let l = c .before .before .before .before .loop in
     let m = c .before .side-mask in
     let side = getD (sides (threes (a .facets .now))) (getD (a .w .now) (t .result + 2 * l .i + 1) 0) (0, 0) in
-    let tested = stray-test (a .vertices .now) (a .facets .now) (a .extents) (a .eps) (m .result) (getD (openEdges (threes (a .facets .now))) (l .i) (0, 0)) side (side-is (a .facets .now) (a .w .now) (8 + 62 * a .n + 54 * (length (a .facets .now) / 3)) (t .result) (a .k) (l .i) (s .pre .1) (t .ensures) (c .before .before .before .loop-test .taken)) (m .ensures) in
+    let tested = stray-test (a .vertices .now) (a .facets .now) (a .extents) (a .eps) (m .result) (getD (openEdges (threes (a .facets .now))) (l .i) (0, 0)) side (side-is (a .facets .now) (a .w .now) (edgeTableAt (a .n) (length (a .facets .now) / 3)) (t .result) (a .k) (l .i) (s .pre .1) (t .ensures) (c .before .before .before .loop-test .taken)) (m .ensures) in
     (omega (arith, c .before .before .before .loop-test .taken), place-more (stray (a .vertices .now) (a .facets .now) (a .extents) (a .eps)) (openEdges (threes (a .facets .now))) (l .i) (l .inv .1) (0, 0) (omega (arith, s .pre .1 .count, c .before .before .before .loop-test .taken)) (tested ∙ ne-eqb (m .result) 0 (c .if1 .left)))
 
 returns-2 : tie.Need-returns-2 Inv-loop μ-loop
@@ -114,7 +115,7 @@ stray-edge-spec =
     (tie.spec
     Inv-loop
     μ-loop
-    table-at-requires
+    edge-table-at-requires
     loop-holds
     mul-side
     add-side

@@ -8,6 +8,7 @@ use Rattle.box_faces.specs.Faces.{hasBit}
 use Rattle.candidate_grids.proofs.Gathering.{Gathering, gather-start, gather-pass, gather-one, gather-end, edge-ready}
 use Rattle.candidate_grids.proofs.grids.gather_segments.Statement.{statement}
 use Rattle.candidate_grids.proofs.grids.gather_segments.Tie as tie
+use Rattle.candidate_pool.specs.Offsets.{openEdgesAt}
 
 abbrev Inv-loop : tie.InvT-loop
 Inv-loop w₀ n nf k face tolerance edges segments count₀ i₀ w count i = Gathering n nf k face tolerance w₀ w count i
@@ -19,13 +20,13 @@ abbrev start : tie.After-has-face Inv-loop μ-loop → tie.Start Inv-loop μ-loo
 start c = c .before .before .before .before .before .before .before
 
 bit : (c : tie.After-has-face Inv-loop μ-loop) → c .has-face .result
-    ≡ hasBit (getD (c .before .before .before .loop .w) (8 + 62 * start c .args .n + 30 * start c .args .nf + 3 * c .before .before .before .loop .i + 2) 0) (start c .args .face)
+    ≡ hasBit (getD (c .before .before .before .loop .w) (openEdgesAt (start c .args .n) (start c .args .nf) + 3 * c .before .before .before .loop .i + 2) 0) (start c .args .face)
 bit c =
     let l = c .before .before .before .loop in
-    c .has-face .ensures ∙ ap (λ (x : ℕ). hasBit (getD (l .w) (x + 3 * l .i + 2) 0) (start c .args .face)) (c .before .before .before .before .before .edges-at .ensures)
+    c .has-face .ensures ∙ ap (λ (x : ℕ). hasBit (getD (l .w) (x + 3 * l .i + 2) 0) (start c .args .face)) (c .before .before .before .before .before .open-edges-at .ensures)
 
-edges-at-requires : tie.Need-edges-at-requires Inv-loop μ-loop
-edges-at-requires c κs = (c .before .pre .small-n, c .before .pre .small)
+open-edges-at-requires : tie.Need-open-edges-at-requires Inv-loop μ-loop
+open-edges-at-requires c κs = (c .before .pre .small-n, c .before .pre .small)
 
 segments-at-requires : tie.Need-segments-at-requires Inv-loop μ-loop
 segments-at-requires c κs = (c .before .before .pre .small-n, c .before .before .pre .small)
@@ -67,7 +68,7 @@ gather-segment-requires : tie.Need-gather-segment-requires Inv-loop μ-loop
 gather-segment-requires c κs =
     let t = c .before .before in
     let l = t .before .before .before .loop in
-    rw (t .before .before .before .before .segments-at .ensures, t .before .before .before .before .before .edges-at .ensures)
+    rw (t .before .before .before .before .segments-at .ensures, t .before .before .before .before .before .open-edges-at .ensures)
     (edge-ready _ _ _ _ _ _ (start t .pre) (l .w) (l .count) (l .i) (l .inv) (t .before .before .loop-test .taken) _ (bit t) (c .before .if1 .taken))
 
 add-count : tie.Need-add-count Inv-loop μ-loop
@@ -86,7 +87,7 @@ loop-again c =
     ⊎-elim
     (λ q. rw (q .5, q .6)
     (gather-one _ _ _ _ _ _ (start t .pre) (l .w) (l .count) (l .i) (l .inv) (t .before .before .loop-test .taken) _ (bit t) (q .0 .taken) _
-    (rw (t .before .before .before .before .segments-at .ensures, t .before .before .before .before .before .edges-at .ensures) at (q .2 .ensures))))
+    (rw (t .before .before .before .before .segments-at .ensures, t .before .before .before .before .before .open-edges-at .ensures) at (q .2 .ensures))))
     (λ q. rw (q .1, q .2) (gather-pass _ _ _ _ _ _ (start t .pre) (l .w) (l .count) (l .i) (l .inv) (t .before .before .loop-test .taken) _ (bit t) (q .0 .left)))
     (c .if1 .came)
 
@@ -102,7 +103,7 @@ gather-segments-spec =
     (tie.spec
     Inv-loop
     μ-loop
-    edges-at-requires
+    open-edges-at-requires
     segments-at-requires
     loop-holds
     mul-has-face

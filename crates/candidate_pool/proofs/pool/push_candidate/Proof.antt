@@ -2,6 +2,7 @@ use Prim.Native.Nat.{ℕ, _+_, _*_}
 use lib.ListN.{getD, length, length-set}
 use mathlib.Core.Path.{refl, ap}
 use native.Mathlib.Omega.{arith}
+use Rattle.candidate_pool.specs.Offsets.{keysAt}
 use Rattle.candidate_pool.specs.Room.{keyAt, keyBucket}
 use Rattle.candidate_pool.proofs.Putting.{enter-asks, put-all, put-long}
 use borrow.Author.Needs.{needs}
@@ -72,7 +73,7 @@ chain-at-requires : tie.Need-chain-at-requires
 chain-at-requires c κs = search needs
 
 enter-requires : tie.Need-enter-requires
-enter-requires c κs = enter-asks (c .before .before .before .before .before .before .before .before .before .args .w .now) (c .before .before .before .before .before .before .before .before .before .args .n) (getD (c .before .before .before .before .before .before .before .before .before .args .w .now) 6 0) (c .before .before .before .before .before .before .before .before .before .args .p) (c .before .before .before .before .before .before .before .before .before .args .mesh) (c .before .before .before .before .before .before .before .before .before .args .key) (c .before .before .before .before .before .before .before .before .before .pre .1 .1) (c .before .before .before .before .before .before .before .before .before .pre .0 .1) (c .before .before .before .before .before .put-point .last .0) (c .before .before .before .before .before .put-point .last .0) (c .before .before .keys-at .result) (c .chain-at .result) (c .before .before .before .before .before .before .before .before .before .args .b) (c .before .before .before .before .before .put-point .ensures .0) (c .before .before .keys-at .ensures) (c .chain-at .ensures) (λ i. keyBucket (c .before .before .before .before .before .before .before .before .before .args .n) (keyAt (c .before .before .before .before .before .before .before .before .before .args .w .now) (8 + 5 * c .before .before .before .before .before .before .before .before .before .args .n + 3 * i))) (c .before .before .before .before .before .before .before .before .before .pre .0 .2) (c .before .before .before .before .before .before .before .before .before .pre .1 .0 .linked)
+enter-requires c κs = enter-asks (c .before .before .before .before .before .before .before .before .before .args .w .now) (c .before .before .before .before .before .before .before .before .before .args .n) (getD (c .before .before .before .before .before .before .before .before .before .args .w .now) 6 0) (c .before .before .before .before .before .before .before .before .before .args .p) (c .before .before .before .before .before .before .before .before .before .args .mesh) (c .before .before .before .before .before .before .before .before .before .args .key) (c .before .before .before .before .before .before .before .before .before .pre .1 .1) (c .before .before .before .before .before .before .before .before .before .pre .0 .1) (c .before .before .before .before .before .put-point .last .0) (c .before .before .before .before .before .put-point .last .0) (c .before .before .keys-at .result) (c .chain-at .result) (c .before .before .before .before .before .before .before .before .before .args .b) (c .before .before .before .before .before .put-point .ensures .0) (c .before .before .keys-at .ensures) (c .chain-at .ensures) (λ i. keyBucket (c .before .before .before .before .before .before .before .before .before .args .n) (keyAt (c .before .before .before .before .before .before .before .before .before .args .w .now) (keysAt (c .before .before .before .before .before .before .before .before .before .args .n) + 3 * i))) (c .before .before .before .before .before .before .before .before .before .pre .0 .2) (c .before .before .before .before .before .before .before .before .before .pre .1 .0 .linked)
 
 same-length : tie.Need-same-length
 same-length c = put-long (c .before .before .before .before .before .before .before .before .before .before .before .before .args .w .now) (c .before .before .before .before .before .before .before .before .before .before .before .before .args .n) (getD (c .before .before .before .before .before .before .before .before .before .before .before .before .args .w .now) 6 0) (c .before .before .before .before .before .before .before .before .before .before .before .before .args .p) (c .before .before .before .before .before .before .before .before .before .before .before .before .args .mesh) (c .before .before .before .before .before .before .before .before .before .before .before .before .args .key) (c .before .before .before .before .before .before .before .before .before .before .before .before .pre .1 .1) (c .before .before .before .before .before .before .before .before .before .before .before .before .pre .0 .1) (c .before .before .before .before .before .before .before .before .put-point .last .0) (c .before .before .enter .last .0) (c .before .before .before .before .before .keys-at .result) (c .before .before .before .chain-at .result) (c .before .before .before .before .before .before .before .before .before .before .before .before .args .b) (c .before .before .before .before .before .before .before .before .put-point .ensures .0) (c .before .before .before .before .before .keys-at .ensures) (c .before .before .before .chain-at .ensures) (c .before .before .enter .ensures)

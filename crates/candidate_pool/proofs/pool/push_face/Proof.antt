@@ -2,6 +2,7 @@ use Prim.Native.Nat.{_+_, _*_, _^_, _%_}
 use lib.ListN.{getD, length-set}
 use mathlib.Core.Path.{sym, _∙_}
 use native.Mathlib.Omega.{arith}
+use Rattle.candidate_pool.specs.Offsets.{entryAt}
 use Rattle.candidate_pool.proofs.Reading.{list-in}
 use Rattle.candidate_pool.proofs.Masking.{shifted, mask-low}
 use Rattle.candidate_pool.proofs.Facing.{face-there, count-marked, list-room, face-added}
@@ -34,7 +35,7 @@ shl-w : tie.Need-shl-w
 shl-w c = search needs
 
 add-w : tie.Need-add-w
-add-w c = omega (arith, shifted (c .before .before .before .before .args .face) (c .before .before .before .before .pre .1 .1), mask-low (getD (c .before .before .before .before .args .w .now) (8 + 5 * c .before .before .before .before .args .id + 4) 0) (c .before .before .before .before .args .face) (c .before .before .before .before .pre .0 .masks (c .before .before .before .before .args .id) (c .before .before .before .before .pre .1 .0)) (c .before .before .before .before .pre .1 .1) (sym (c .before .has-face .ensures) ∙ c .if1 .left))
+add-w c = omega (arith, shifted (c .before .before .before .before .args .face) (c .before .before .before .before .pre .1 .1), mask-low (getD (c .before .before .before .before .args .w .now) (entryAt (c .before .before .before .before .args .id) + 4) 0) (c .before .before .before .before .args .face) (c .before .before .before .before .pre .0 .masks (c .before .before .before .before .args .id) (c .before .before .before .before .pre .1 .0)) (c .before .before .before .before .pre .1 .1) (sym (c .before .has-face .ensures) ∙ c .if1 .left))
 
 mul-w : tie.Need-mul-w
 mul-w c = search needs

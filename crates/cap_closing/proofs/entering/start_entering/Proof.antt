@@ -2,6 +2,7 @@
 use Prim.Native.Nat.{_+_, _*_, _-_, _≤_}
 use mathlib.Core.Path.{_∙_}
 use native.Mathlib.Omega.{arith}
+use Rattle.candidate_pool.specs.Offsets.{entryAt}
 use borrow.Author.Needs.{needs}
 use lib.ListN.{getD, set, length-set}
 use Rattle.lists.proofs.Regions.{Filled}
@@ -11,7 +12,7 @@ use Rattle.cap_closing.proofs.entering.start_entering.Statement.{statem
 use Rattle.cap_closing.proofs.entering.start_entering.Tie as tie
 
 abbrev Inv-loop : tie.InvT-loop
-Inv-loop w₀ n nf nc nv given count c₀ w c = Filled (λ j. getD w₀ (8 + 5 * j + 3) 0) w₀ w (closingAt n nf nc) c × (c ≤ count)
+Inv-loop w₀ n nf nc nv given count c₀ w c = Filled (λ j. getD w₀ (entryAt j + 3) 0) w₀ w (closingAt n nf nc) c × (c ≤ count)
 
 abbrev μ-loop : tie.MeasureT-loop
 μ-loop w₀ n nf nc nv given count c₀ w c = count - c

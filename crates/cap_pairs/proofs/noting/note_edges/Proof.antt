@@ -17,8 +17,8 @@ Inv-loop w₀ n nf nc k edges numbers up down i₀ w i = Noted (edgeTarget n nf 
 abbrev μ-loop : tie.MeasureT-loop
 μ-loop w₀ n nf nc k edges numbers up down i₀ w i = k - i
 
-edges-at-requires : tie.Need-edges-at-requires Inv-loop μ-loop
-edges-at-requires c κs = omega arith
+open-edges-at-requires : tie.Need-open-edges-at-requires Inv-loop μ-loop
+open-edges-at-requires c κs = omega arith
 
 numbers-at-requires : tie.Need-numbers-at-requires Inv-loop μ-loop
 numbers-at-requires c κs = omega arith
@@ -38,28 +38,28 @@ mul-way-at : tie.Need-mul-way-at Inv-loop μ-loop
 mul-way-at c =
     let s = c .before .before .before .before .before .before .before .before in
     let a = s .args in
-    let edges-at′ = c .before .before .before .before .before .before .edges-at in
+    let open-edges-at′ = c .before .before .before .before .before .before .open-edges-at in
     let numbers-at′ = c .before .before .before .before .before .numbers-at in
     let l = c .before .before .loop in
-    record { fits = three-fits (a .n) (a .nf) (a .nc) (a .k) (a .w .now) (l .w) (s .pre .0) (l .inv .0 .long) (edges-at′ .result) (numbers-at′ .result) (l .i) (edges-at′ .ensures) (numbers-at′ .ensures) (omega arith) }
+    record { fits = three-fits (a .n) (a .nf) (a .nc) (a .k) (a .w .now) (l .w) (s .pre .0) (l .inv .0 .long) (open-edges-at′ .result) (numbers-at′ .result) (l .i) (open-edges-at′ .ensures) (numbers-at′ .ensures) (omega arith) }
 
 add-way-at : tie.Need-add-way-at Inv-loop μ-loop
 add-way-at c =
     let s = c .before .before .before .before .before .before .before .before in
     let a = s .args in
-    let edges-at′ = c .before .before .before .before .before .before .edges-at in
+    let open-edges-at′ = c .before .before .before .before .before .before .open-edges-at in
     let numbers-at′ = c .before .before .before .before .before .numbers-at in
     let l = c .before .before .loop in
-    record { fits = edge-fits (a .n) (a .nf) (a .nc) (a .k) (a .w .now) (l .w) (s .pre .0) (l .inv .0 .long) (edges-at′ .result) (numbers-at′ .result) (l .i) (edges-at′ .ensures) (numbers-at′ .ensures) (omega arith) }
+    record { fits = edge-fits (a .n) (a .nf) (a .nc) (a .k) (a .w .now) (l .w) (s .pre .0) (l .inv .0 .long) (open-edges-at′ .result) (numbers-at′ .result) (l .i) (open-edges-at′ .ensures) (numbers-at′ .ensures) (omega arith) }
 
 way-at-requires : tie.Need-way-at-requires Inv-loop μ-loop
 way-at-requires c κs =
     let s = c .before .before .before .before .before .before .before .before in
     let a = s .args in
-    let edges-at′ = c .before .before .before .before .before .before .edges-at in
+    let open-edges-at′ = c .before .before .before .before .before .before .open-edges-at in
     let numbers-at′ = c .before .before .before .before .before .numbers-at in
     let l = c .before .before .loop in
-    edge-in-1 (a .n) (a .nf) (a .nc) (a .k) (a .w .now) (l .w) (s .pre .0) (l .inv .0 .long) (edges-at′ .result) (numbers-at′ .result) (l .i) (edges-at′ .ensures) (numbers-at′ .ensures) (omega arith)
+    edge-in-1 (a .n) (a .nf) (a .nc) (a .k) (a .w .now) (l .w) (s .pre .0) (l .inv .0 .long) (open-edges-at′ .result) (numbers-at′ .result) (l .i) (open-edges-at′ .ensures) (numbers-at′ .ensures) (omega arith)
 
 add-pair : tie.Need-add-pair Inv-loop μ-loop
 add-pair c = omega arith
@@ -68,70 +68,70 @@ mul-pair : tie.Need-mul-pair Inv-loop μ-loop
 mul-pair c =
     let s = c .before .before .before .before .before .before .before .before .before in
     let a = s .args in
-    let edges-at′ = c .before .before .before .before .before .before .before .edges-at in
+    let open-edges-at′ = c .before .before .before .before .before .before .before .open-edges-at in
     let numbers-at′ = c .before .before .before .before .before .before .numbers-at in
     let l = c .before .before .before .loop in
-    record { fits = number-fits (a .n) (a .nf) (a .nc) (a .k) (a .w .now) (l .w) (s .pre .0) (l .inv .0 .long) (edges-at′ .result) (numbers-at′ .result) (l .i) (edges-at′ .ensures) (numbers-at′ .ensures) (omega arith) }
+    record { fits = number-fits (a .n) (a .nf) (a .nc) (a .k) (a .w .now) (l .w) (s .pre .0) (l .inv .0 .long) (open-edges-at′ .result) (numbers-at′ .result) (l .i) (open-edges-at′ .ensures) (numbers-at′ .ensures) (omega arith) }
 
 slice-read-pair : tie.Need-slice-read-pair Inv-loop μ-loop
 slice-read-pair c =
     let s = c .before .before .before .before .before .before .before .before .before .before in
     let a = s .args in
-    let edges-at′ = c .before .before .before .before .before .before .before .before .edges-at in
+    let open-edges-at′ = c .before .before .before .before .before .before .before .before .open-edges-at in
     let numbers-at′ = c .before .before .before .before .before .before .before .numbers-at in
     let l = c .before .before .before .before .loop in
-    number-in (a .n) (a .nf) (a .nc) (a .k) (a .w .now) (l .w) (s .pre .0) (l .inv .0 .long) (edges-at′ .result) (numbers-at′ .result) (l .i) (edges-at′ .ensures) (numbers-at′ .ensures) (omega arith)
+    number-in (a .n) (a .nf) (a .nc) (a .k) (a .w .now) (l .w) (s .pre .0) (l .inv .0 .long) (open-edges-at′ .result) (numbers-at′ .result) (l .i) (open-edges-at′ .ensures) (numbers-at′ .ensures) (omega arith)
 
 mul-edge-faces : tie.Need-mul-edge-faces Inv-loop μ-loop
 mul-edge-faces c =
     let s = c .before .before .before .before .before .before .before .before .before .before .before in
     let a = s .args in
-    let edges-at′ = c .before .before .before .before .before .before .before .before .before .edges-at in
+    let open-edges-at′ = c .before .before .before .before .before .before .before .before .before .open-edges-at in
     let numbers-at′ = c .before .before .before .before .before .before .before .before .numbers-at in
     let l = c .before .before .before .before .before .loop in
-    record { fits = three-fits (a .n) (a .nf) (a .nc) (a .k) (a .w .now) (l .w) (s .pre .0) (l .inv .0 .long) (edges-at′ .result) (numbers-at′ .result) (l .i) (edges-at′ .ensures) (numbers-at′ .ensures) (omega arith) }
+    record { fits = three-fits (a .n) (a .nf) (a .nc) (a .k) (a .w .now) (l .w) (s .pre .0) (l .inv .0 .long) (open-edges-at′ .result) (numbers-at′ .result) (l .i) (open-edges-at′ .ensures) (numbers-at′ .ensures) (omega arith) }
 
 add-edge-faces : tie.Need-add-edge-faces Inv-loop μ-loop
 add-edge-faces c =
     let s = c .before .before .before .before .before .before .before .before .before .before .before in
     let a = s .args in
-    let edges-at′ = c .before .before .before .before .before .before .before .before .before .edges-at in
+    let open-edges-at′ = c .before .before .before .before .before .before .before .before .before .open-edges-at in
     let numbers-at′ = c .before .before .before .before .before .before .before .before .numbers-at in
     let l = c .before .before .before .before .before .loop in
-    record { fits = edge-fits (a .n) (a .nf) (a .nc) (a .k) (a .w .now) (l .w) (s .pre .0) (l .inv .0 .long) (edges-at′ .result) (numbers-at′ .result) (l .i) (edges-at′ .ensures) (numbers-at′ .ensures) (omega arith) }
+    record { fits = edge-fits (a .n) (a .nf) (a .nc) (a .k) (a .w .now) (l .w) (s .pre .0) (l .inv .0 .long) (open-edges-at′ .result) (numbers-at′ .result) (l .i) (open-edges-at′ .ensures) (numbers-at′ .ensures) (omega arith) }
 
 edge-faces-requires : tie.Need-edge-faces-requires Inv-loop μ-loop
 edge-faces-requires c κs =
     let s = c .before .before .before .before .before .before .before .before .before .before .before in
     let a = s .args in
-    let edges-at′ = c .before .before .before .before .before .before .before .before .before .edges-at in
+    let open-edges-at′ = c .before .before .before .before .before .before .before .before .before .open-edges-at in
     let numbers-at′ = c .before .before .before .before .before .before .before .before .numbers-at in
     let l = c .before .before .before .before .before .loop in
-    edge-in (a .n) (a .nf) (a .nc) (a .k) (a .w .now) (l .w) (s .pre .0) (l .inv .0 .long) (edges-at′ .result) (numbers-at′ .result) (l .i) (edges-at′ .ensures) (numbers-at′ .ensures) (omega arith)
+    edge-in (a .n) (a .nf) (a .nc) (a .k) (a .w .now) (l .w) (s .pre .0) (l .inv .0 .long) (open-edges-at′ .result) (numbers-at′ .result) (l .i) (open-edges-at′ .ensures) (numbers-at′ .ensures) (omega arith)
 
 add-add-faces : tie.Need-add-add-faces Inv-loop μ-loop
 add-add-faces c =
     let s = c .before .before .before .before .before .before .before .before .before .before .before .before .before in
     let a = s .args in
-    let edges-at′ = c .before .before .before .before .before .before .before .before .before .before .before .edges-at in
+    let open-edges-at′ = c .before .before .before .before .before .before .before .before .before .before .before .open-edges-at in
     let numbers-at′ = c .before .before .before .before .before .before .before .before .before .before .numbers-at in
     let up-at′ = c .before .before .before .before .before .before .before .before .before .up-at in
     let down-at′ = c .before .before .before .before .before .before .before .before .down-at in
     let l = c .before .before .before .before .before .before .before .loop in
     let way-at′ = c .before .before .before .before .way-at in
-    omega (arith, note-edge-asks (a .n) (a .nf) (a .nc) (a .k) (a .w .now) (s .pre .0) (s .pre .1 .0) (s .pre .1 .1) (l .w) (l .i) (l .inv .0) (edges-at′ .result) (numbers-at′ .result) (up-at′ .result) (down-at′ .result) (edges-at′ .ensures) (numbers-at′ .ensures) (up-at′ .ensures) (down-at′ .ensures) (omega arith) (way-at′ .result) (getD (l .w) (numbers-at′ .result + l .i) 0) (way-at′ .ensures) refl .0)
+    omega (arith, note-edge-asks (a .n) (a .nf) (a .nc) (a .k) (a .w .now) (s .pre .0) (s .pre .1 .0) (s .pre .1 .1) (l .w) (l .i) (l .inv .0) (open-edges-at′ .result) (numbers-at′ .result) (up-at′ .result) (down-at′ .result) (open-edges-at′ .ensures) (numbers-at′ .ensures) (up-at′ .ensures) (down-at′ .ensures) (omega arith) (way-at′ .result) (getD (l .w) (numbers-at′ .result + l .i) 0) (way-at′ .ensures) refl .0)
 
 add-faces-requires : tie.Need-add-faces-requires Inv-loop μ-loop
 add-faces-requires c κs =
     let s = c .before .before .before .before .before .before .before .before .before .before .before .before .before in
     let a = s .args in
-    let edges-at′ = c .before .before .before .before .before .before .before .before .before .before .before .edges-at in
+    let open-edges-at′ = c .before .before .before .before .before .before .before .before .before .before .before .open-edges-at in
     let numbers-at′ = c .before .before .before .before .before .before .before .before .before .before .numbers-at in
     let up-at′ = c .before .before .before .before .before .before .before .before .before .up-at in
     let down-at′ = c .before .before .before .before .before .before .before .before .down-at in
     let l = c .before .before .before .before .before .before .before .loop in
     let way-at′ = c .before .before .before .before .way-at in
-    note-edge-asks (a .n) (a .nf) (a .nc) (a .k) (a .w .now) (s .pre .0) (s .pre .1 .0) (s .pre .1 .1) (l .w) (l .i) (l .inv .0) (edges-at′ .result) (numbers-at′ .result) (up-at′ .result) (down-at′ .result) (edges-at′ .ensures) (numbers-at′ .ensures) (up-at′ .ensures) (down-at′ .ensures) (omega arith) (way-at′ .result) (getD (l .w) (numbers-at′ .result + l .i) 0) (way-at′ .ensures) refl
+    note-edge-asks (a .n) (a .nf) (a .nc) (a .k) (a .w .now) (s .pre .0) (s .pre .1 .0) (s .pre .1 .1) (l .w) (l .i) (l .inv .0) (open-edges-at′ .result) (numbers-at′ .result) (up-at′ .result) (down-at′ .result) (open-edges-at′ .ensures) (numbers-at′ .ensures) (up-at′ .ensures) (down-at′ .ensures) (omega arith) (way-at′ .result) (getD (l .w) (numbers-at′ .result + l .i) 0) (way-at′ .ensures) refl
 
 add-i : tie.Need-add-i Inv-loop μ-loop
 add-i c = omega arith
@@ -143,7 +143,7 @@ loop-again : tie.Need-loop-again Inv-loop μ-loop
 loop-again c =
     let s = c .before .before .before .before .before .before .before .before .before .before .before .before .before .before .before .before in
     let a = s .args in
-    let edges-at′ = c .before .before .before .before .before .before .before .before .before .before .before .before .before .before .edges-at in
+    let open-edges-at′ = c .before .before .before .before .before .before .before .before .before .before .before .before .before .before .open-edges-at in
     let numbers-at′ = c .before .before .before .before .before .before .before .before .before .before .before .before .before .numbers-at in
     let up-at′ = c .before .before .before .before .before .before .before .before .before .before .before .before .up-at in
     let down-at′ = c .before .before .before .before .before .before .before .before .before .before .before .down-at in
@@ -151,7 +151,7 @@ loop-again c =
     let way-at′ = c .before .before .before .before .before .before .before .way-at in
     let edge-faces′ = c .before .before .before .before .edge-faces in
     let add-faces′ = c .before .before .add-faces in
-    (note-edge-turn (a .n) (a .nf) (a .nc) (a .k) (a .w .now) (s .pre .0) (s .pre .1 .0) (s .pre .1 .1) (l .w) (l .i) (l .inv .0) (edges-at′ .result) (numbers-at′ .result) (up-at′ .result) (down-at′ .result) (edges-at′ .ensures) (numbers-at′ .ensures) (up-at′ .ensures) (down-at′ .ensures) (omega arith) (way-at′ .result) (getD (l .w) (numbers-at′ .result + l .i) 0) (way-at′ .ensures) refl (edge-faces′ .result) (add-faces′ .last .0) (edge-faces′ .ensures) (add-faces′ .ensures), omega arith)
+    (note-edge-turn (a .n) (a .nf) (a .nc) (a .k) (a .w .now) (s .pre .0) (s .pre .1 .0) (s .pre .1 .1) (l .w) (l .i) (l .inv .0) (open-edges-at′ .result) (numbers-at′ .result) (up-at′ .result) (down-at′ .result) (open-edges-at′ .ensures) (numbers-at′ .ensures) (up-at′ .ensures) (down-at′ .ensures) (omega arith) (way-at′ .result) (getD (l .w) (numbers-at′ .result + l .i) 0) (way-at′ .ensures) refl (edge-faces′ .result) (add-faces′ .last .0) (edge-faces′ .ensures) (add-faces′ .ensures), omega arith)
 
 same-length : tie.Need-same-length Inv-loop μ-loop
 same-length c = c .before .loop .inv .0 .long
@@ -168,7 +168,7 @@ note-edges-spec =
     (tie.spec
     Inv-loop
     μ-loop
-    edges-at-requires
+    open-edges-at-requires
     numbers-at-requires
     up-at-requires
     down-at-requires

@@ -15,8 +15,8 @@ Inv-loop w₀ n nf nc k edges records i₀ w i = Recorded (λ j. edgePair w₀ (
 abbrev μ-loop : tie.MeasureT-loop
 μ-loop w₀ n nf nc k edges records i₀ w i = k - i
 
-edges-at-requires : tie.Need-edges-at-requires Inv-loop μ-loop
-edges-at-requires c κs = omega arith
+open-edges-at-requires : tie.Need-open-edges-at-requires Inv-loop μ-loop
+open-edges-at-requires c κs = omega arith
 
 records-at-requires : tie.Need-records-at-requires Inv-loop μ-loop
 records-at-requires c κs = omega arith
@@ -24,9 +24,9 @@ records-at-requires c κs = omega arith
 loop-holds : tie.Need-loop-holds Inv-loop μ-loop
 loop-holds c =
     let a = c .before .before .before .args in
-    let edges-at′ = c .before .edges-at in
+    let open-edges-at′ = c .before .open-edges-at in
     let records-at′ = c .records-at in
-    (recording-start (λ j. edgePair (a .w .now) (edges-at′ .result + 3 * j)) (a .w .now) (records-at′ .result) 0, omega arith)
+    (recording-start (λ j. edgePair (a .w .now) (open-edges-at′ .result + 3 * j)) (a .w .now) (records-at′ .result) 0, omega arith)
 
 mul-edge-word : tie.Need-mul-edge-word Inv-loop μ-loop
 mul-edge-word c = omega arith
@@ -38,10 +38,10 @@ edge-word-requires : tie.Need-edge-word-requires Inv-loop μ-loop
 edge-word-requires c κs =
     let s = c .before .before .before .before .before .before in
     let a = s .args in
-    let edges-at′ = c .before .before .before .before .edges-at in
+    let open-edges-at′ = c .before .before .before .before .open-edges-at in
     let records-at′ = c .before .before .before .records-at in
     let l = c .before .before .loop in
-    edge-asks (a .w .now) (l .w) (a .n) (a .nf) (a .nc) (a .k) (edges-at′ .result) (records-at′ .result) (l .i) (s .pre .0) (edges-at′ .ensures) (records-at′ .ensures) (l .inv .0) (omega arith) (s .pre .1)
+    edge-asks (a .w .now) (l .w) (a .n) (a .nf) (a .nc) (a .k) (open-edges-at′ .result) (records-at′ .result) (l .i) (s .pre .0) (open-edges-at′ .ensures) (records-at′ .ensures) (l .inv .0) (omega arith) (s .pre .1)
 
 mul-w : tie.Need-mul-w Inv-loop μ-loop
 mul-w c = omega arith
@@ -80,11 +80,11 @@ loop-again : tie.Need-loop-again Inv-loop μ-loop
 loop-again c =
     let s = c .before .before .before .before .before .before .before in
     let a = s .args in
-    let edges-at′ = c .before .before .before .before .before .edges-at in
+    let open-edges-at′ = c .before .before .before .before .before .open-edges-at in
     let records-at′ = c .before .before .before .before .records-at in
     let l = c .before .before .before .loop in
     let edge-word′ = c .edge-word in
-    (edge-turn (a .w .now) (l .w) (a .n) (a .nf) (a .nc) (a .k) (edges-at′ .result) (records-at′ .result) (l .i) (s .pre .0) (edges-at′ .ensures) (records-at′ .ensures) (l .inv .0) (omega arith) (edge-word′ .result) (edge-word′ .ensures), omega arith)
+    (edge-turn (a .w .now) (l .w) (a .n) (a .nf) (a .nc) (a .k) (open-edges-at′ .result) (records-at′ .result) (l .i) (s .pre .0) (open-edges-at′ .ensures) (records-at′ .ensures) (l .inv .0) (omega arith) (edge-word′ .result) (edge-word′ .ensures), omega arith)
 
 same-length : tie.Need-same-length Inv-loop μ-loop
 same-length c = omega arith
@@ -93,10 +93,10 @@ returns : tie.Need-returns Inv-loop μ-loop
 returns c =
     let s = c .before .before .before .before .before in
     let a = s .args in
-    let edges-at′ = c .before .before .before .edges-at in
+    let open-edges-at′ = c .before .before .before .open-edges-at in
     let records-at′ = c .before .before .records-at in
     let l = c .before .loop in
-    edge-end (a .w .now) (l .w) (a .n) (a .nf) (a .nc) (a .k) (edges-at′ .result) (records-at′ .result) (l .i) (s .pre .0) (edges-at′ .ensures) (records-at′ .ensures) (l .inv .0) (l .inv .1) (omega arith)
+    edge-end (a .w .now) (l .w) (a .n) (a .nf) (a .nc) (a .k) (open-edges-at′ .result) (records-at′ .result) (l .i) (s .pre .0) (open-edges-at′ .ensures) (records-at′ .ensures) (l .inv .0) (l .inv .1) (omega arith)
 
 pub put-edges-spec : {M : Type 1} → statement M
 put-edges-spec =
@@ -104,7 +104,7 @@ put-edges-spec =
     (tie.spec
     Inv-loop
     μ-loop
-    edges-at-requires
+    open-edges-at-requires
     records-at-requires
     loop-holds
     mul-edge-word
