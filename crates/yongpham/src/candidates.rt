@@ -27,7 +27,11 @@ pub extern "C" fn yongpham_candidates(
     open_edges: &mut [u64],
     values: &mut [u64; 4],
 ) -> u32
-    ensures { λ r. ⌜ Called (candidatesTests (now (vertices .entry)) (now (facets .entry)) (asked (boxOf «min_x» «min_y» «min_z» «max_x» «max_y» «max_z») eps resolution) (length (now (work .entry)))) (candidateOutputs (candidatesResult (now (vertices .entry)) (now (facets .entry)) (asked (boxOf «min_x» «min_y» «min_z» «max_x» «max_y» «max_z») eps resolution)) (now (candidates .entry)) (now (candidates .exit)) (now («face_lists» .entry)) (now («face_lists» .exit)) (now (constraints .entry)) (now (constraints .exit)) (now («open_edges» .entry)) (now («open_edges» .exit))) (now (work .entry)) (now (work .exit)) r (now (values .exit)) ⌝ }
+    ensures { λ r. ⌜ Called (candidatesTests (now (vertices .entry)) (now (facets .entry)) (asked (boxOf «min_x» «min_y» «min_z» «max_x» «max_y» «max_z») eps resolution)
+        (length (now (work .entry)))) (candidateOutputs (candidatesResult (now (vertices .entry)) (now (facets .entry))
+        (asked (boxOf «min_x» «min_y» «min_z» «max_x» «max_y» «max_z») eps resolution)) (now (candidates .entry)) (now (candidates .exit)) (now («face_lists» .entry))
+        (now («face_lists» .exit)) (now (constraints .entry)) (now (constraints .exit)) (now («open_edges» .entry)) (now («open_edges» .exit))) (now (work .entry))
+        (now (work .exit)) r (now (values .exit)) ⌝ }
 {
     let extents = AABB {
         min_corner: [min_x, min_y, min_z],

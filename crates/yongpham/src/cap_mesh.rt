@@ -14,8 +14,8 @@ use geometry::aabb::AABB;
 use refusals::front::check_lists;
 use refusals::refusal::Checked;
 use refusals::refusal::Refusal;
-use refusals::report::report_reply;
 use refusals::report::report_refusal;
+use refusals::report::report_reply;
 use words::zero;
 
 fn mode_of(mode: u32) -> BoundaryClosure
