@@ -2,6 +2,7 @@
 --   fresh-vertices, fresh-facets    the lengths of fresh outputs;   outputs-within   where they lie
 --   same-box                        a box from the doubles of a record
 --   tolerance-decides               a reported tolerance
+--   MeshReported, mesh-called       what a call promises
 --   answer-decides                  a call as reported
 --   clip-reply, clip-result, clean-reply, clean-result, caps-reply, caps-result   from the values of a call to those of the record
 --   lent-caps, lists-decides        the cap list as lent, and a request of the lists as read
@@ -16,20 +17,22 @@ use lib.ListN.{length, getD, take, drop, replicate, length-map, length-replicate
 use lib.Ieee.{Float}
 use Rattle.geometry.specs.declared.aabb.AABB.{AABB}
 use Rattle.geometry.specs.Triangles.{flat}
-use Rattle.geometry.specs.Meshes.{Mesh, coordinates}
+use Rattle.geometry.specs.Meshes.{Mesh, coordinates, meshLengths}
 use Rattle.lists.specs.Lists.{upTo}
 use Rattle.lists.proofs.Places.{length-up}
-use Rattle.refusals.specs.Refusals.{settle, Zeroed}
+use Rattle.refusals.specs.Refusals.{Test, settle, Zeroed}
+use Rattle.refusals.specs.Answers.{meshOutputs, replyIn, Called}
 use Rattle.refusals.specs.Reports.{Reported}
 use Rattle.tolerance.specs.Tolerance.{toleranceReply}
-use Rattle.aabb_clipping.specs.Clip.{clipReply, clipResult}
-use Rattle.mesh_cleanup.specs.Clean.{cleanReply, cleanResult}
+use Rattle.aabb_clipping.specs.Clip.{clipResult}
+use Rattle.mesh_cleanup.specs.Clean.{cleanResult}
+use Rattle.boundary_closure.specs.Asked.{asked}
 use Rattle.caps.specs.Operation.{capsResult}
-use Rattle.yongpham.specs.Calls.{MeshReported, boxOf, modeOf, calledReply}
+use Rattle.yongpham.specs.Calls.{boxOf, modeOf}
 use Rattle.replay.specs.Words.{Everywhere, Decides}
 use Rattle.replay.specs.Layout.{storedReply, outputsFrom, Laid}
 use Rattle.replay.specs.Contents.{table, oldDoubles, oldWords, oldDouble, doublesIn, numbersIn}
-use Rattle.replay.specs.Agreement.{SameDoubles, SameWords, Answered, Fresh, Stored, ClipStored, CleanStored, CandidatesStored, CapsStored, MeshStored, clip, clean, caps, AnswerStored, mesh, candidates, ListsStored, NoNan, ToleranceAgrees, ListsAgree, Agrees, tolerance, lists, doubleAt, boxIn, epsIn, resolutionIn, modeIn, capsIn, outputsIn, reported}
+use Rattle.replay.specs.Agreement.{SameDoubles, SameWords, Answered, Fresh, Stored, ClipStored, CleanStored, CandidatesStored, CapsStored, MeshStored, clip, clean, caps, AnswerStored, mesh, candidates, ListsStored, NoNan, ToleranceAgrees, ListsAgree, Agrees, tolerance, lists, doubleAt, boxIn, epsIn, resolutionIn, askedIn, modeIn, capsIn, outputsIn, reported, clipReply, cleanReply, capsReply}
 use Rattle.replay.proofs.Deciding.{ends}
 
 pub length-table : {A : Type 0} (f : ℕ → A) (n : ℕ) → length (table f n) ≡ n
@@ -65,6 +68,18 @@ tolerance-decides stored box number values r n h e k d =
     let same : number ∷ values ≡ reported (toleranceReply (boxIn stored)) = as-reported (toleranceReply box) number values k ∙ ap (λ (b : AABB). reported (toleranceReply b)) e in
     ends (ToleranceAgrees stored) d (λ p. record { whole = n; box = h; answer = sym same ∙ p }) (λ a. same ∙ a .answer)
 
+-- what a call from C promises, by its reply and its mesh
+pub record MeshReported (reply : List ℕ) (result : Mesh) (number : ℕ) (values w w' : List ℕ) (v v' : List Float) (f f' : List ℕ) : Type 0 where
+  pub told : Reported reply number values
+  pub vertices : v' ≡ settle reply (coordinates (result .points)) v
+  pub facets : f' ≡ settle reply (flat (result .facets)) f
+  pub work : Zeroed w w'
+
+pub mesh-called : (ts : List Test) (result : Mesh) (number : ℕ) (values w w' : List ℕ) (v v' : List Float) (f f' : List ℕ) → Called ts (meshOutputs result v v' f f') w w' number values
+    → MeshReported (replyIn ts (meshLengths result) (length v ∷ length f ∷ [])) result number values w w' v v' f f'
+mesh-called ts result number values w w' v v' f f' c =
+    record { told = c .reported; vertices = c .settled .0; facets = c .settled .1 .0; work = c .work }
+
 -- A call as reported: its reply and result are the record's.
 module _ (stored reply reply₀ : List ℕ) (result result₀ : Mesh) (number : ℕ) (values w w' : List ℕ) (v v' : List Float) (f f' : List ℕ)
     (fresh : Fresh stored w v f)
@@ -79,10 +94,10 @@ module _ (stored reply reply₀ : List ℕ) (result result₀ : Mesh) (number : 
         (subst (λ (m : Mesh). MeshReported reply₀ m number values w w' v v' f f') same-result call)
 
     ends-v : v' ≡ settle reply (coordinates (result .points)) (oldDoubles (getD stored 15 0))
-    ends-v = there .vertices .ends ∙ ap (settle reply (coordinates (result .points))) (fresh .coordinates)
+    ends-v = there .vertices ∙ ap (settle reply (coordinates (result .points))) (fresh .coordinates)
 
     ends-f : f' ≡ settle reply (flat (result .facets)) (oldWords (getD stored 16 0))
-    ends-f = there .facets .ends ∙ ap (settle reply (flat (result .facets))) (fresh .numbers)
+    ends-f = there .facets ∙ ap (settle reply (flat (result .facets))) (fresh .numbers)
 
     at-f : outputsFrom stored + length v' ≡ outputsFrom stored + getD stored 15 0
     at-f = ap (λ (n : ℕ). outputsFrom stored + n) (long ∙ fresh-vertices stored w v f fresh)
@@ -92,7 +107,7 @@ module _ (stored reply reply₀ : List ℕ) (result result₀ : Mesh) (number : 
         ends (Stored stored reply result) d
         (λ a.
         record {
-          replied = sym (as-reported reply number values (there .reported)) ∙ a .replied;
+          replied = sym (as-reported reply number values (there .told)) ∙ a .replied;
           coords = subst (λ (l : List Float). SameDoubles stored (outputsFrom stored) l) ends-v (a .coordinates);
           numbers =
               subst (λ (l : List ℕ). SameWords stored (outputsFrom stored + getD stored 15 0) l) ends-f
@@ -100,7 +115,7 @@ module _ (stored reply reply₀ : List ℕ) (result result₀ : Mesh) (number : 
         })
         (λ s.
         record {
-          replied = as-reported reply number values (there .reported) ∙ s .replied;
+          replied = as-reported reply number values (there .told) ∙ s .replied;
           coordinates = subst (λ (l : List Float). SameDoubles stored (outputsFrom stored) l) (sym ends-v) (s .coords);
           numbers =
               subst (λ (n : ℕ). SameWords stored n f') (sym at-f)
@@ -127,13 +142,11 @@ module _ (stored w : List ℕ) (v : List Float) (f : List ℕ) (fresh : Fresh st
 
   pub caps-reply : (vs : List Float) (fs : List ℕ) {capList : List ℕ} {box : AABB} {eps resolution : Float} {mode : ℕ}
       → capList ≡ capsIn stored → box ≡ boxIn stored → eps ≡ epsIn stored → resolution ≡ resolutionIn stored → mode ≡ modeIn stored
-      → calledReply vs fs capList box eps resolution mode (length w) (length v ∷ length f ∷ [])
-      ≡ calledReply vs fs (capsIn stored) (boxIn stored) (epsIn stored) (resolutionIn stored) (modeIn stored) (getD stored 14 0) (outputsIn stored)
-  caps-reply vs fs {capList} {box} {eps} {resolution} {mode} c b e r m =
-      ap₂ (λ (x : List ℕ) (y : AABB). calledReply vs fs x y eps resolution mode (length w) (length v ∷ length f ∷ [])) c b
-      ∙ ap₂ (λ (x y : Float). calledReply vs fs (capsIn stored) (boxIn stored) x y mode (length w) (length v ∷ length f ∷ [])) e r
-      ∙ ap (λ (x : ℕ). calledReply vs fs (capsIn stored) (boxIn stored) (epsIn stored) (resolutionIn stored) x (length w) (length v ∷ length f ∷ [])) m
-      ∙ same-lengths (calledReply vs fs (capsIn stored) (boxIn stored) (epsIn stored) (resolutionIn stored) (modeIn stored))
+      → capsReply vs fs capList (asked box eps resolution) mode (length w) (length v ∷ length f ∷ [])
+      ≡ capsReply vs fs (capsIn stored) (askedIn stored) (modeIn stored) (getD stored 14 0) (outputsIn stored)
+  caps-reply vs fs c b e r m =
+      (λ t. capsReply vs fs (c t) (asked (b t) (e t) (r t)) (m t) (length w) (length v ∷ length f ∷ []))
+      ∙ same-lengths (capsReply vs fs (capsIn stored) (askedIn stored) (modeIn stored))
 
 pub clip-result : (stored : List ℕ) (vs : List Float) (fs : List ℕ) {box : AABB} {eps : Float} → box ≡ boxIn stored → eps ≡ epsIn stored
     → clipResult vs fs box eps ≡ clipResult vs fs (boxIn stored) (epsIn stored)
@@ -144,12 +157,8 @@ clean-result stored vs fs e = ap (cleanResult vs fs) e
 
 pub caps-result : (stored : List ℕ) (vs : List Float) (fs : List ℕ) {capList : List ℕ} {box : AABB} {eps resolution : Float} {mode : ℕ}
     → capList ≡ capsIn stored → box ≡ boxIn stored → eps ≡ epsIn stored → resolution ≡ resolutionIn stored → mode ≡ modeIn stored
-    → capsResult vs fs capList box eps resolution (modeOf mode)
-    ≡ capsResult vs fs (capsIn stored) (boxIn stored) (epsIn stored) (resolutionIn stored) (modeOf (modeIn stored))
-caps-result stored vs fs {capList} {box} {eps} {resolution} {mode} c b e r m =
-    ap₂ (λ (x : List ℕ) (y : AABB). capsResult vs fs x y eps resolution (modeOf mode)) c b
-    ∙ ap₂ (λ (x y : Float). capsResult vs fs (capsIn stored) (boxIn stored) x y (modeOf mode)) e r
-    ∙ ap (λ (x : ℕ). capsResult vs fs (capsIn stored) (boxIn stored) (epsIn stored) (resolutionIn stored) (modeOf x)) m
+    → capsResult vs fs capList (asked box eps resolution) (modeOf mode) ≡ capsResult vs fs (capsIn stored) (askedIn stored) (modeOf (modeIn stored))
+caps-result stored vs fs c b e r m = λ t. capsResult vs fs (c t) (asked (b t) (e t) (r t)) (modeOf (m t))
 
 -- the cap list, lent from behind the facet numbers to its end
 pub lent-caps : (stored : List ℕ)

@@ -1,6 +1,7 @@
 -- Laws of the operation that writes four lists of words: from a call, compared with a record, to the definitions. Assumes nothing.
 --   fresh-lent, lent-after        the lengths of the four outputs before a call and after
 --   candidates-reply, candidates-result   from the values of a call to those of the record
+--   CandidatesReported, candidates-called   what a call promises
 --   candidates-decides            a call as reported
 use Prim.Native.Nat.{ℕ, _+_}
 use mathlib.Core.Path.{_≡_, sym, ap, ap₂, _∙_, subst}
@@ -10,14 +11,16 @@ use lib.ListN.{length, getD}
 use lib.Ieee.{Float}
 use Rattle.geometry.specs.declared.aabb.AABB.{AABB}
 use Rattle.geometry.specs.Triangles.{flat}
-use Rattle.refusals.specs.Refusals.{settle}
+use Rattle.refusals.specs.Refusals.{Test, settle, Zeroed}
+use Rattle.refusals.specs.Answers.{replyIn, Called}
+use Rattle.refusals.specs.Reports.{Reported}
+use Rattle.boundary_closure.specs.Asked.{asked}
 use Rattle.boundary_closure.specs.Candidates.{Candidates, candidateWords, listWords}
-use Rattle.boundary_closure.specs.Operation.{candidatesReply, candidatesResult}
-use Rattle.yongpham.specs.Calls.{CandidatesReported}
+use Rattle.boundary_closure.specs.Operation.{candidatesResult, candidateLengths, candidateOutputs}
 use Rattle.replay.specs.Words.{Decides}
 use Rattle.replay.specs.Layout.{outputsFrom}
 use Rattle.replay.specs.Contents.{oldWords}
-use Rattle.replay.specs.Agreement.{SameWords, OutputsLent, SameOutputs, CandidatesAnswered, CandidatesFresh, WordsStored, boxIn, epsIn, resolutionIn, fourIn}
+use Rattle.replay.specs.Agreement.{SameWords, OutputsLent, SameOutputs, CandidatesAnswered, CandidatesFresh, WordsStored, boxIn, epsIn, resolutionIn, askedIn, fourIn, candidatesReply}
 use Rattle.replay.proofs.Deciding.{ends}
 use Rattle.replay.proofs.Agreeing.{length-table, as-reported, zero-each}
 
@@ -54,17 +57,36 @@ module _ (stored w c l k e : List ℕ) (h : CandidatesFresh stored w c l k e) wh
       ∙ ap₂ (λ (a b : ℕ). reply (getD stored 14 0) (getD stored 15 0 ∷ getD stored 16 0 ∷ a ∷ b ∷ [])) (o .constraints) (o .open-edges)
 
   pub candidates-reply : (vs : List Float) (fs : List ℕ) {box : AABB} {eps resolution : Float} → box ≡ boxIn stored → eps ≡ epsIn stored → resolution ≡ resolutionIn stored
-      → candidatesReply vs fs box eps resolution (length w) (length c ∷ length l ∷ length k ∷ length e ∷ [])
-      ≡ candidatesReply vs fs (boxIn stored) (epsIn stored) (resolutionIn stored) (getD stored 14 0) (fourIn stored)
-  candidates-reply vs fs {box} {eps} {resolution} b p r =
-      ap₂ (λ (x : AABB) (y : Float). candidatesReply vs fs x y resolution (length w) (length c ∷ length l ∷ length k ∷ length e ∷ [])) b p
-      ∙ ap (λ (z : Float). candidatesReply vs fs (boxIn stored) (epsIn stored) z (length w) (length c ∷ length l ∷ length k ∷ length e ∷ [])) r
-      ∙ same-lengths (candidatesReply vs fs (boxIn stored) (epsIn stored) (resolutionIn stored))
+      → candidatesReply vs fs (asked box eps resolution) (length w) (length c ∷ length l ∷ length k ∷ length e ∷ []) ≡ candidatesReply vs fs (askedIn stored) (getD stored 14 0) (fourIn stored)
+  candidates-reply vs fs b p r =
+      (λ t. candidatesReply vs fs (asked (b t) (p t) (r t)) (length w) (length c ∷ length l ∷ length k ∷ length e ∷ []))
+      ∙ same-lengths (candidatesReply vs fs (askedIn stored))
 
 pub candidates-result : (stored : List ℕ) (vs : List Float) (fs : List ℕ) {box : AABB} {eps resolution : Float} → box ≡ boxIn stored → eps ≡ epsIn stored → resolution ≡ resolutionIn stored
-    → candidatesResult vs fs box eps resolution ≡ candidatesResult vs fs (boxIn stored) (epsIn stored) (resolutionIn stored)
-candidates-result stored vs fs {box} {eps} {resolution} b p r =
-    ap₂ (λ (x : AABB) (y : Float). candidatesResult vs fs x y resolution) b p ∙ ap (candidatesResult vs fs (boxIn stored) (epsIn stored)) r
+    → candidatesResult vs fs (asked box eps resolution) ≡ candidatesResult vs fs (askedIn stored)
+candidates-result stored vs fs b p r = λ t. candidatesResult vs fs (asked (b t) (p t) (r t))
+
+-- what a call from C promises, by its reply and its candidates
+pub record CandidatesReported (reply : List ℕ) (result : Candidates) (number : ℕ) (values w w' c c' l l' k k' e e' : List ℕ) : Type 0 where
+  pub told : Reported reply number values
+  pub candidates : c' ≡ settle reply (candidateWords (result .all)) c
+  pub face-lists : l' ≡ settle reply (listWords (result .lists)) l
+  pub constraints : k' ≡ settle reply (flat (result .constraints)) k
+  pub open-edges : e' ≡ settle reply (flat (result .edges)) e
+  pub work : Zeroed w w'
+
+pub candidates-called : (ts : List Test) (result : Candidates) (number : ℕ) (values w w' c c' l l' k k' e e' : List ℕ)
+    → Called ts (candidateOutputs result c c' l l' k k' e e') w w' number values
+    → CandidatesReported (replyIn ts (candidateLengths result) (length c ∷ length l ∷ length k ∷ length e ∷ [])) result number values w w' c c' l l' k k' e e'
+candidates-called ts result number values w w' c c' l l' k k' e e' h =
+    record {
+      told = h .reported;
+      candidates = h .settled .0;
+      face-lists = h .settled .1 .0;
+      constraints = h .settled .1 .1 .0;
+      open-edges = h .settled .1 .1 .1 .0;
+      work = h .work;
+    }
 
 -- A call as reported: its reply and result are the record's.
 module _ (stored reply reply₀ : List ℕ) (result result₀ : Candidates) (number : ℕ) (values w w' c c' l l' k k' e e' : List ℕ)
@@ -79,16 +101,16 @@ module _ (stored reply reply₀ : List ℕ) (result result₀ : Candidates) (num
         (subst (λ (x : Candidates). CandidatesReported reply₀ x number values w w' c c' l l' k k' e e') same-result call)
 
     ends-c : c' ≡ settle reply (candidateWords (result .all)) (oldWords (getD stored 15 0))
-    ends-c = there .candidates .ends ∙ ap (settle reply (candidateWords (result .all))) (fresh .candidates)
+    ends-c = there .candidates ∙ ap (settle reply (candidateWords (result .all))) (fresh .candidates)
 
     ends-l : l' ≡ settle reply (listWords (result .lists)) (oldWords (getD stored 16 0))
-    ends-l = there .face-lists .ends ∙ ap (settle reply (listWords (result .lists))) (fresh .face-lists)
+    ends-l = there .face-lists ∙ ap (settle reply (listWords (result .lists))) (fresh .face-lists)
 
     ends-k : k' ≡ settle reply (flat (result .constraints)) (oldWords (getD stored 17 0))
-    ends-k = there .constraints .ends ∙ ap (settle reply (flat (result .constraints))) (fresh .constraints)
+    ends-k = there .constraints ∙ ap (settle reply (flat (result .constraints))) (fresh .constraints)
 
     ends-e : e' ≡ settle reply (flat (result .edges)) (oldWords (getD stored 18 0))
-    ends-e = there .open-edges .ends ∙ ap (settle reply (flat (result .edges))) (fresh .open-edges)
+    ends-e = there .open-edges ∙ ap (settle reply (flat (result .edges))) (fresh .open-edges)
 
     same-words : (from : ℕ) {x y : List ℕ} → x ≡ y → SameWords stored from x → SameWords stored from y
     same-words from p s = subst (λ (z : List ℕ). SameWords stored from z) p s
@@ -104,7 +126,7 @@ module _ (stored reply reply₀ : List ℕ) (result result₀ : Candidates) (num
 
     pub candidates-decides : (r : Bool) → Decides (CandidatesAnswered stored (number ∷ values) c' l' k' e' w') r → Decides (WordsStored stored reply result) r
     candidates-decides r d =
-        let told : number ∷ values ≡ _ = as-reported reply number values (there .reported) in
+        let told : number ∷ values ≡ _ = as-reported reply number values (there .told) in
         ends (WordsStored stored reply result) d
         (λ a. record { replied = sym told ∙ a .replied; outputs = same-outputs ends-c ends-l ends-k ends-e (a .outputs) })
         (λ s.

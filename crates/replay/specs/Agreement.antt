@@ -5,7 +5,8 @@
 --   Fresh                     work room and outputs before a call
 --   OutputsLent               four outputs are as long as the record says
 --   SameOutputs, CandidatesAnswered, CandidatesFresh   the same as Answered and Fresh of the operation that writes four lists of words
---   boxIn, epsIn, resolutionIn, modeIn, capsIn   box, eps, resolution, mode and cap list of a record
+--   boxIn, epsIn, resolutionIn, askedIn, modeIn, capsIn   box, eps, resolution, all three, mode and cap list of a record
+--   clipReply, cleanReply, candidatesReply, capsReply   the definitions' replies
 --   reported                  a reply as a number and four values
 --   Stored, WordsStored       the stored answer is this reply, with this mesh, or these candidates, in front of old contents
 --   ToleranceStored, ClipStored, CleanStored, CandidatesStored, CapsStored   it is that of the operation's definition, on the record's request
@@ -22,15 +23,17 @@ use lib.ListN.{length, getD, take, drop, replicate}
 use lib.Ieee.{Float, nan, isNan, binary64, toBits, nanBits}
 use Rattle.geometry.specs.declared.aabb.AABB.{AABB}
 use Rattle.geometry.specs.Triangles.{flat}
-use Rattle.geometry.specs.Meshes.{Mesh, coordinates}
+use Rattle.geometry.specs.Meshes.{Mesh, coordinates, meshLengths}
 use Rattle.refusals.specs.Refusals.{settle}
+use Rattle.refusals.specs.Answers.{replyIn}
 use Rattle.tolerance.specs.Tolerance.{toleranceReply}
-use Rattle.aabb_clipping.specs.Clip.{clipReply, clipResult}
-use Rattle.mesh_cleanup.specs.Clean.{cleanReply, cleanResult}
+use Rattle.aabb_clipping.specs.Clip.{clipTests, clipResult}
+use Rattle.mesh_cleanup.specs.Clean.{cleanTests, cleanResult}
 use Rattle.boundary_closure.specs.Candidates.{Candidates, candidateWords, listWords}
-use Rattle.boundary_closure.specs.Operation.{candidatesReply, candidatesResult}
+use Rattle.boundary_closure.specs.Asked.{Asked, asked}
+use Rattle.boundary_closure.specs.Operation.{candidatesTests, candidatesResult, candidateLengths}
 use Rattle.caps.specs.Operation.{capsResult}
-use Rattle.yongpham.specs.Calls.{boxOf, modeOf, calledReply}
+use Rattle.yongpham.specs.Calls.{boxOf, modeOf, capsCallTests}
 use Rattle.replay.specs.Words.{Everywhere}
 use Rattle.replay.specs.Layout.{storedReply, outputsFrom, Few, Laid}
 use Rattle.replay.specs.Contents.{doubleOf, doublesIn, numbersIn, oldDoubles, oldWords}
@@ -97,6 +100,9 @@ epsIn stored = doubleAt stored 12
 abbrev pub resolutionIn : List ℕ → Float
 resolutionIn stored = doubleAt stored 13
 
+abbrev pub askedIn : List ℕ → Asked
+askedIn stored = asked (boxIn stored) (epsIn stored) (resolutionIn stored)
+
 -- the low half, where `Numbers` says that the other is 0
 abbrev pub modeIn : List ℕ → ℕ
 modeIn stored = getD stored 5 0 % 4294967296
@@ -132,6 +138,19 @@ outputsIn stored = getD stored 15 0 ∷ getD stored 16 0 ∷ []
 abbrev pub fourIn : List ℕ → List ℕ
 fourIn stored = getD stored 15 0 ∷ getD stored 16 0 ∷ getD stored 17 0 ∷ getD stored 18 0 ∷ []
 
+-- the definitions' replies, for so many words of work room lent and outputs of these lengths
+abbrev pub clipReply : List Float → List ℕ → AABB → Float → ℕ → List ℕ → List ℕ
+clipReply vs fs box eps lent outs = replyIn (clipTests vs fs box eps lent) (meshLengths (clipResult vs fs box eps)) outs
+
+abbrev pub cleanReply : List Float → List ℕ → Float → ℕ → List ℕ → List ℕ
+cleanReply vs fs eps lent outs = replyIn (cleanTests vs fs eps lent) (meshLengths (cleanResult vs fs eps)) outs
+
+abbrev pub candidatesReply : List Float → List ℕ → Asked → ℕ → List ℕ → List ℕ
+candidatesReply vs fs q lent outs = replyIn (candidatesTests vs fs q lent) (candidateLengths (candidatesResult vs fs q)) outs
+
+abbrev pub capsReply : List Float → List ℕ → List ℕ → Asked → ℕ → ℕ → List ℕ → List ℕ
+capsReply vs fs capList q mode lent outs = replyIn (capsCallTests vs fs capList q mode lent) (meshLengths (capsResult vs fs capList q (modeOf mode))) outs
+
 abbrev pub ClipStored : List ℕ → List Float → List ℕ → Type 0
 ClipStored stored vs fs =
     Stored stored (clipReply vs fs (boxIn stored) (epsIn stored) (getD stored 14 0) (outputsIn stored)) (clipResult vs fs (boxIn stored) (epsIn stored))
@@ -142,14 +161,14 @@ CleanStored stored vs fs = Stored stored (cleanReply vs fs (epsIn stored) (getD 
 abbrev pub CandidatesStored : List ℕ → List Float → List ℕ → Type 0
 CandidatesStored stored vs fs =
     WordsStored stored
-    (candidatesReply vs fs (boxIn stored) (epsIn stored) (resolutionIn stored) (getD stored 14 0) (fourIn stored))
-    (candidatesResult vs fs (boxIn stored) (epsIn stored) (resolutionIn stored))
+    (candidatesReply vs fs (askedIn stored) (getD stored 14 0) (fourIn stored))
+    (candidatesResult vs fs (askedIn stored))
 
 abbrev pub CapsStored : List ℕ → List Float → List ℕ → Type 0
 CapsStored stored vs fs =
     Stored stored
-    (calledReply vs fs (capsIn stored) (boxIn stored) (epsIn stored) (resolutionIn stored) (modeIn stored) (getD stored 14 0) (outputsIn stored))
-    (capsResult vs fs (capsIn stored) (boxIn stored) (epsIn stored) (resolutionIn stored) (modeOf (modeIn stored)))
+    (capsReply vs fs (capsIn stored) (askedIn stored) (modeIn stored) (getD stored 14 0) (outputsIn stored))
+    (capsResult vs fs (capsIn stored) (askedIn stored) (modeOf (modeIn stored)))
 
 pub data MeshStored (stored : List ℕ) (vs : List Float) (fs : List ℕ) : Type 0 where
   clip : getD stored 1 0 ≡ 2 → ClipStored stored vs fs → MeshStored stored vs fs
