@@ -8,21 +8,22 @@ use lib.ListN.{length, getD, replicate}
 use lib.Ieee.{Float}
 use Rattle.root.specs.Doubles.{zeroF}
 use Rattle.geometry.specs.Triangles.{flat}
-use Rattle.geometry.specs.Meshes.{coordinates}
-use Rattle.refusals.specs.declared.reply.MeshReply.{MeshReply}
-use Rattle.refusals.specs.Refusals.{documentedMesh, settle}
-use Rattle.mesh_cleanup.specs.Clean.{cleanReply, cleanResult, Cleaned}
-use Rattle.cases.specs.Cleaning.{isMesh, isKeyRange, cleansTo, hasFarKey}
+use Rattle.geometry.specs.Meshes.{coordinates, meshLengths}
+use Rattle.refusals.specs.declared.reply.Reply.{Reply}
+use Rattle.refusals.specs.Refusals.{documentedReply, settle}
+use Rattle.refusals.specs.Answers.{replyIn}
+use Rattle.mesh_cleanup.specs.Clean.{cleanTests, cleanResult, Cleaned}
+use Rattle.cases.specs.Cleaning.{isMesh, isKeyRange, replyInRoom, cleansTo, hasFarKey}
 
-module _ (vs : List Float) (fs : List ℕ) (eps : Float) (reply : MeshReply) (w w' : List ℕ) (v' : List Float) (f' : List ℕ) (long : length w ≡ 2048) where
-  answer : Cleaned vs fs eps reply w w' (replicate 12 zeroF) v' (replicate 6 0) f' → documentedMesh reply ≡ cleanReply vs fs eps 2048 (12 ∷ 6 ∷ [])
-  answer h = h .replied ∙ ap (λ (n : ℕ). cleanReply vs fs eps n (12 ∷ 6 ∷ [])) long
+module _ (vs : List Float) (fs : List ℕ) (eps : Float) (reply : Reply) (w w' : List ℕ) (v' : List Float) (f' : List ℕ) (long : length w ≡ 2048) where
+  answer : Cleaned vs fs eps reply w w' (replicate 12 zeroF) v' (replicate 6 0) f' → documentedReply reply ≡ replyInRoom vs fs eps
+  answer h = h .answered .answer .replied ∙ ap (λ (n : ℕ). replyIn (cleanTests vs fs eps n) (meshLengths (cleanResult vs fs eps)) (12 ∷ 6 ∷ [])) long
 
   pub cleaned-to : Cleaned vs fs eps reply w w' (replicate 12 zeroF) v' (replicate 6 0) f' → (statedVs : List Float) (statedFs : List ℕ)
-      → isMesh (documentedMesh reply) v' f' statedVs statedFs ≡ cleansTo vs fs eps statedVs statedFs
+      → isMesh (documentedReply reply) v' f' statedVs statedFs ≡ cleansTo vs fs eps statedVs statedFs
   unfolding cleansTo
   cleaned-to h statedVs statedFs =
-      ap₂ (λ (a : List Float) (b : List ℕ). isMesh (documentedMesh reply) a b statedVs statedFs) (h .vertices .ends) (h .facets .ends)
+      ap₂ (λ (a : List Float) (b : List ℕ). isMesh (documentedReply reply) a b statedVs statedFs) (h .answered .answer .settled .0) (h .answered .answer .settled .1 .0)
       ∙ ap
       (λ (d : List ℕ).
       isMesh d
@@ -31,6 +32,6 @@ module _ (vs : List Float) (fs : List ℕ) (eps : Float) (reply : MeshReply) (w 
       statedVs statedFs)
       (answer h)
 
-  pub cleaned-key : Cleaned vs fs eps reply w w' (replicate 12 zeroF) v' (replicate 6 0) f' → isKeyRange (documentedMesh reply) ≡ hasFarKey vs fs eps
+  pub cleaned-key : Cleaned vs fs eps reply w w' (replicate 12 zeroF) v' (replicate 6 0) f' → isKeyRange (documentedReply reply) ≡ hasFarKey vs fs eps
   unfolding hasFarKey
   cleaned-key h = ap isKeyRange (answer h)

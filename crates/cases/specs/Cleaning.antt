@@ -11,9 +11,10 @@ use lib.ListN.{length, getD, take, drop, replicate}
 use lib.Ieee.{Float, nan}
 use Rattle.root.specs.Doubles.{bits, zeroF, oneF}
 use Rattle.geometry.specs.Triangles.{flat}
-use Rattle.geometry.specs.Meshes.{coordinates}
+use Rattle.geometry.specs.Meshes.{coordinates, meshLengths}
 use Rattle.refusals.specs.Refusals.{settle}
-use Rattle.mesh_cleanup.specs.Clean.{cleanReply, cleanResult}
+use Rattle.refusals.specs.Answers.{replyIn}
+use Rattle.mesh_cleanup.specs.Clean.{cleanTests, cleanResult}
 use Rattle.cases.specs.Comparing.{begins, sameBits}
 
 abbrev pub valuesOf : List ℕ → List ℕ
@@ -30,7 +31,7 @@ isKeyRange reply = eqb (getD reply 0 0) 8
 
 module _ (vs : List Float) (fs : List ℕ) (eps : Float) where
   abbrev pub replyInRoom : List ℕ
-  replyInRoom = cleanReply vs fs eps 2048 (12 ∷ 6 ∷ [])
+  replyInRoom = replyIn (cleanTests vs fs eps 2048) (meshLengths (cleanResult vs fs eps)) (12 ∷ 6 ∷ [])
 
   unfoldable pub cleansTo : List Float → List ℕ → Bool
   cleansTo statedVs statedFs =

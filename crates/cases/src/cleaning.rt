@@ -1,12 +1,12 @@
 // C2, C8 and C14: the operation clean.
 ghost use mathlib.Core.Path.{_≡_};
-ghost use Rattle.refusals.specs.Refusals.{documentedMesh};
+ghost use Rattle.refusals.specs.Refusals.{documentedReply};
 ghost use Rattle.cases.specs.Cleaning.{isMesh, isKeyRange, cleansTo, hasFarKey, c2Holds, c8Holds, c14Holds};
 use crate::bits::begins_with;
 use crate::bits::begins_with_numbers;
 use mesh_cleanup::clean_mesh;
-use refusals::reply::MeshReply;
-use refusals::report::report_mesh;
+use refusals::reply::Reply;
+use refusals::report::report_reply;
 
 // 1/1024
 const EPS: f64 = 0.0009765625;
@@ -16,16 +16,16 @@ const FINE: f64 = 0.00000095367431640625;
 
 // The reply is a mesh of these lengths, and the outputs begin with it.
 fn is_mesh(
-    reply: MeshReply,
+    reply: Reply,
     vertices: &[f64],
     facets: &[u32],
     stated_vertices: &[f64],
     stated_facets: &[u32],
 ) -> bool
-    ensures { λ r. ⌜ r ≡ isMesh (documentedMesh reply) (now (vertices .entry)) (now (facets .entry)) (now («stated_vertices» .entry)) (now («stated_facets» .entry)) ⌝ }
+    ensures { λ r. ⌜ r ≡ isMesh (documentedReply reply) (now (vertices .entry)) (now (facets .entry)) (now («stated_vertices» .entry)) (now («stated_facets» .entry)) ⌝ }
 {
     let mut values = [0u64; 4];
-    if report_mesh(&mut values, reply) != 0 {
+    if report_reply(&mut values, reply) != 0 {
         return false;
     }
     if values[0] != stated_vertices.len() as u64 {
@@ -41,11 +41,11 @@ fn is_mesh(
 }
 
 // 8
-fn is_key_range(reply: MeshReply) -> bool
-    ensures { λ r. ⌜ r ≡ isKeyRange (documentedMesh reply) ⌝ }
+fn is_key_range(reply: Reply) -> bool
+    ensures { λ r. ⌜ r ≡ isKeyRange (documentedReply reply) ⌝ }
 {
     let mut values = [0u64; 4];
-    report_mesh(&mut values, reply) == 8
+    report_reply(&mut values, reply) == 8
 }
 
 fn cleans_to(

@@ -1,8 +1,8 @@
 -- Laws of what the operation leaves behind: the tests in front, test 12, and the writing. Assumes nothing.
 --   lists-refused, number-refused, room-refused, key-refused, all-passed   the tests in front, one after the other
 --   ready                                what is known once they have passed
---   short-vertices, short-facets, done   what Written asks, on each of the three ways
---   refused, accepted, cleaned-up        what Answered and Cleaned ask
+--   short-vertices, short-facets, done   test 12, and the mesh written
+--   cleaned-up                           the work room cleared
 use Prim.Native.Nat.{ℕ, _+_, _*_, _/_, _≤_, _<_}
 use native.Mathlib.Omega.{arith}
 use mathlib.Core.Bool.{Bool, true, false, not, _&&_}
@@ -18,24 +18,26 @@ use Rattle.lists.proofs.Regions.{view-length}
 use Rattle.words.specs.Overlay.{overlay}
 use Rattle.words.proofs.Overlay.{overlay-whole}
 use Rattle.geometry.specs.Triangles.{flat}
-use Rattle.geometry.specs.Meshes.{Mesh, coordinates, meshLengths}
+use Rattle.geometry.specs.Meshes.{Mesh, coordinates}
 use Rattle.geometry.proofs.Meshes.{length-coordinates}
 use Rattle.refusals.specs.declared.refusal.Refusal.{Refusal}
 use Rattle.refusals.specs.declared.refusal.Refusal.the-variants.{BadNumber, NoWorkRoom, KeyRange, NoRoom}
 use Rattle.refusals.specs.declared.refusal.Checked.{Checked}
 use Rattle.refusals.specs.declared.refusal.Checked.the-variants.{Passed, Refused}
-use Rattle.refusals.specs.declared.reply.MeshReply.{MeshReply}
-use Rattle.refusals.specs.declared.reply.MeshReply.the-variants.{Done}
-use Rattle.refusals.specs.declared.reply.MeshReply.the-variants as mesh
-use Rattle.refusals.specs.Refusals.{documented, documentedMesh, Test, firstRefusal, settle, Settled}
-use Rattle.refusals.specs.Front.{ceiling, listTests, inRange, epsInRange, workNeed, farKeys, roomTests}
-use Rattle.refusals.proofs.Refusals.{holds, passes, none-left, row-passed, row-refused, untouched}
-use Rattle.refusals.proofs.Replies.{reply-refused, reply-passed, short-first, short-second, roomy, head-passed, tail-passed, row-front, row-rest, listed}
+use Rattle.refusals.specs.declared.reply.Reply.{Reply}
+use Rattle.refusals.specs.declared.reply.Reply.the-variants.{DoneTwo}
+use Rattle.refusals.specs.declared.reply.Reply.the-variants as reply
+use Rattle.refusals.specs.Refusals.{documentedReply, Test, firstRefusal}
+use Rattle.refusals.specs.Answers.{Output, output, meshOutputs, Answer}
+use Rattle.refusals.specs.Front.{ceiling, listTests, inRange, epsInRange, workNeed, farKeys}
+use Rattle.refusals.proofs.Refusals.{holds, passes, none-left, row-passed, row-refused}
+use Rattle.refusals.proofs.Replies.{head-passed, tail-passed, row-front, row-rest, listed}
+use Rattle.refusals.proofs.Answers.{short, done-two, answered}
 use Rattle.mesh_weld.specs.Room.{vertexOf}
 use Rattle.mesh_compact.specs.declared.compact.Staged.{Staged}
 use Rattle.mesh_compact.proofs.Statuses.{rule}
-use Rattle.mesh_cleanup.specs.Clean.{cleanTests, cleanResult, cleanReply, Cleaned}
-use Rattle.mesh_cleanup.specs.Steps.{Ready, Staging, Written, Answered}
+use Rattle.mesh_cleanup.specs.Clean.{cleanTests, cleanResult, Cleaned}
+use Rattle.mesh_cleanup.specs.Steps.{Ready, Staging}
 
 -- ---- the tests in front, one after the other
 
@@ -95,11 +97,7 @@ module _ (vs : List Float) (fs : List ℕ) (eps : Float) (lent : ℕ) where
       let e8 = tail-passed (ltb lent n) (NoWorkRoom n) keys e7 in
       let h = ltb-false lent n (head-passed (ltb lent n) (NoWorkRoom n) keys e7) in
       record {
-        whole-vertices = l .whole-vertices;
-        whole-facets = l .whole-facets;
-        few-vertices = l .few-vertices;
-        few-facets = l .few-facets;
-        below = l .below;
+        lists = l;
         near = head-passed (farKeys eps vs) KeyRange [] e8;
         room = omega arith;
       }
@@ -123,80 +121,32 @@ module _ (vs : List Float) (m : Mesh) (s : Staged) (w : List ℕ) (S : Staging v
   numbers-is : s .numbers ≡ nf
   numbers-is = sym (view-length w (s .corners) (s .numbers) (S .numbers-in)) ∙ ap length (S .delivered .numbers)
 
-  same : {A : Type 0} (x : Refusal) (new old now : List A) → now ≡ old → Settled (documentedMesh (mesh.Refused x)) new old now
-  unfolding documentedMesh
-  same x new old now e = record { ends = e ∙ sym (untouched x new old) }
+  abbrev out-v : Output
+  out-v = output (coordinates (m .points)) v v'
 
-  pub short-vertices : length v < 3 * s .vertices → v' ≡ v → f' ≡ f → Written m (mesh.Refused (NoRoom (3 * s .vertices))) v v' f f'
-  unfolding documentedMesh
-  short-vertices h a b =
-      record {
-        replied = ap (λ (x : ℕ). documented (NoRoom x)) length-is ∙ sym (short-first nv nf (length v) (length f) (meshLengths m) (omega (arith, length-is)));
-        vertices = same (NoRoom (3 * s .vertices)) (coordinates (m .points)) v v' a;
-        facets = same (NoRoom (3 * s .vertices)) (flat (m .facets)) f f' b;
-      }
+  abbrev out-f : Output
+  out-f = output (flat (m .facets)) f f'
 
-  pub short-facets : 3 * s .vertices ≤ length v → length f < s .numbers → v' ≡ v → f' ≡ f → Written m (mesh.Refused (NoRoom (s .numbers))) v v' f f'
-  unfolding documentedMesh
-  short-facets h g a b =
-      record {
-        replied = ap (λ (x : ℕ). documented (NoRoom x)) numbers-is
-            ∙ sym (short-second nv nf (length v) (length f) (meshLengths m) (omega (arith, length-is)) (omega (arith, numbers-is)));
-        vertices = same (NoRoom (s .numbers)) (coordinates (m .points)) v v' a;
-        facets = same (NoRoom (s .numbers)) (flat (m .facets)) f f' b;
-      }
+  pub short-vertices : length v < 3 * s .vertices → v' ≡ v → f' ≡ f → Answer [] (meshOutputs m v v' f f') (documentedReply (reply.Refused (NoRoom (3 * s .vertices))))
+  short-vertices h a b = short [] out-v (out-f ∷ []) (3 * s .vertices) length-is tt h (a, (b, tt))
+
+  pub short-facets : 3 * s .vertices ≤ length v → length f < s .numbers → v' ≡ v → f' ≡ f → Answer [] (meshOutputs m v v' f f') (documentedReply (reply.Refused (NoRoom (s .numbers))))
+  short-facets h g a b = short (out-v ∷ []) out-f [] (s .numbers) numbers-is (omega (arith, length-is, h), tt) g (a, (b, tt))
 
   pub done : 3 * s .vertices ≤ length v → s .numbers ≤ length f → v' ≡ overlay (coordinates (map (vertexOf vs) (view w (s .order) (s .vertices)))) v → f' ≡ overlay (view w (s .corners) (s .numbers)) f
-      → Written m (Done (3 * s .vertices) (s .numbers)) v v' f f'
-  unfolding documentedMesh settle
+      → Answer [] (meshOutputs m v v' f f') (documentedReply (DoneTwo (3 * s .vertices) (s .numbers)))
   done h g a b =
-      record {
-        replied = (λ t. 0 ∷ length-is t ∷ numbers-is t ∷ [])
-            ∙ sym (roomy nv nf (length v) (length f) (meshLengths m) (omega (arith, length-is)) (omega (arith, numbers-is)));
-        vertices = record { ends = a ∙ ap (λ l. overlay (coordinates l) v) (S .delivered .vertices) };
-        facets = record { ends = b ∙ ap (λ (l : List ℕ). overlay l f) (S .delivered .numbers) };
-      }
-
--- ---- the tests in front, and then the mesh
-
-module _ (vs : List Float) (fs : List ℕ) (eps : Float) (lent : ℕ) (x : Checked) (found : x ≡ firstRefusal (cleanTests vs fs eps lent)) (v : List Float) (f : List ℕ) where
-  abbrev m : Mesh
-  m = cleanResult vs fs eps
-
-  abbrev rooms : List Test
-  rooms = roomTests (meshLengths m) (length v ∷ length f ∷ [])
-
-  untouched-by : {A : Type 0} (r : Refusal) (new old : List A) → Settled (documentedMesh (mesh.Refused r)) new old old
-  unfolding documentedMesh
-  untouched-by r new old = record { ends = sym (untouched r new old) }
-
-  pub refused : (r : Refusal) → x ≡ Refused r → Answered vs fs eps lent (mesh.Refused r) v v f f
-  unfolding cleanReply documentedMesh
-  refused r e =
-      record {
-        replied = sym (reply-refused (cleanTests vs fs eps lent) rooms (meshLengths m) r (sym found ∙ e));
-        vertices = untouched-by r (coordinates (m .points)) v;
-        facets = untouched-by r (flat (m .facets)) f;
-      }
-
-  pub accepted : x ≡ Passed → (r : MeshReply) (v' : List Float) (f' : List ℕ) → Written m r v v' f f' → Answered vs fs eps lent r v v' f f'
-  unfolding cleanReply
-  accepted e r v' f' d =
-      record {
-        replied = d .replied ∙ sym (reply-passed (cleanTests vs fs eps lent) rooms (meshLengths m) (sym found ∙ e));
-        vertices = d .vertices;
-        facets = d .facets;
-      }
+      done-two out-v out-f (3 * s .vertices) (s .numbers) length-is numbers-is (omega (arith, length-is, h), (omega (arith, numbers-is, g), tt))
+      (a ∙ ap (λ l. overlay (coordinates l) v) (S .delivered .vertices), (b ∙ ap (λ (l : List ℕ). overlay l f) (S .delivered .numbers), tt))
 
 -- ---- the work room cleared
 
-pub cleaned-up : (vs : List Float) (fs : List ℕ) (eps : Float) (r : MeshReply) (w u w' : List ℕ) (v v' : List Float) (f f' : List ℕ)
-    → Answered vs fs eps (length w) r v v' f f' → length u ≡ length w → w' ≡ overlay (replicate (length u) 0) u → Cleaned vs fs eps r w w' v v' f f'
-cleaned-up vs fs eps r w u w' v v' f f' A e z =
+pub cleaned-up : (vs : List Float) (fs : List ℕ) (eps : Float) (r : Reply) (w u w' : List ℕ) (v v' : List Float) (f f' : List ℕ)
+    → Answer (cleanTests vs fs eps (length w)) (meshOutputs (cleanResult vs fs eps) v v' f f') (documentedReply r) → length u ≡ length w → w' ≡ overlay (replicate (length u) 0) u
+    → Cleaned vs fs eps r w w' v v' f f'
+cleaned-up vs fs eps r w u w' v v' f f' a e z =
     record {
-      replied = A .replied;
-      vertices = A .vertices;
-      facets = A .facets;
-      work = record { ends = z ∙ overlay-whole (replicate (length u) 0) u (omega (arith, length-replicate {A = ℕ} (length u) 0)) ∙ ap (λ (n : ℕ). replicate n 0) e };
+      answered = answered (cleanTests vs fs eps (length w)) (meshOutputs (cleanResult vs fs eps) v v' f f') w u w' (documentedReply r) a e
+          (z ∙ overlay-whole (replicate (length u) 0) u (omega (arith, length-replicate {A = ℕ} (length u) 0)));
       rule = rule eps _ _ 2;
     }

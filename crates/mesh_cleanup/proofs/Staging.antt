@@ -46,7 +46,7 @@ module _ (vs : List Float) (fs : List ℕ) (eps : Float) (lent : ℕ) (R : Ready
   -- ---- what welding asks
 
   coordinates-in : (i : ℕ) → i < nv → 3 * i + 2 < length vs
-  coordinates-in i h = let w = R .whole-vertices in omega arith
+  coordinates-in i h = let w = R .lists .whole-vertices in omega arith
 
   pub keys-in : KeysIn vs eps nv
   unfolding farKeys
@@ -60,7 +60,7 @@ module _ (vs : List Float) (fs : List ℕ) (eps : Float) (lent : ℕ) (R : Ready
       })
 
   pub weld-room : (nv < 268435456) × (3 * nv ≤ length vs) × (14 * nv ≤ lent)
-  weld-room = let a = R .few-vertices in let b = R .room in (omega arith, omega arith, omega arith)
+  weld-room = let a = R .lists .few-vertices in let b = R .room in (omega arith, omega arith, omega arith)
 
   -- ---- what the filter asks
 
@@ -85,15 +85,15 @@ module _ (vs : List Float) (fs : List ℕ) (eps : Float) (lent : ℕ) (R : Ready
     numbered =
         let a = R .room in
         let b = W .few in
-        let c = R .few-vertices in
+        let c = R .lists .few-vertices in
         record {
           kept-in = omega arith;
           numbers-in = omega arith;
           room = omega arith;
-          facets = let w = R .whole-facets in omega arith;
-          small = R .few-facets;
+          facets = let w = R .lists .whole-facets in omega arith;
+          small = R .lists .few-facets;
           few = omega arith;
-          corner = λ j h. ltb-true (getD fs j 0) nv (not-false (ltb (getD fs j 0) nv) (none-at (λ k. not (ltb k nv)) fs j 0 (R .below) h));
+          corner = λ j h. ltb-true (getD fs j 0) nv (not-false (ltb (getD fs j 0) nv) (none-at (λ k. not (ltb k nv)) fs j 0 (R .lists .below) h));
           new = λ i h. rw (sym (view-at m₁ (10 * nv) nv i h), W .oldToNew) (let l = numbers .number i h in let e = kept-long in omega arith);
           old = λ k h. coordinates-in (getD m₁ (9 * nv + k) 0) (kept-low k h);
         }
@@ -128,9 +128,9 @@ module _ (vs : List Float) (fs : List ℕ) (eps : Float) (lent : ℕ) (R : Ready
       last-room =
           let a = R .room in
           let b = W .few in
-          let c = R .few-vertices in
+          let c = R .lists .few-vertices in
           let d = Q .few in
-          let e = R .few-facets in
+          let e = R .lists .few-facets in
           let f = Q .long in
           record {
             few = omega arith;

@@ -1,25 +1,26 @@
--- Cleaning (document 01, module 4, the table of refusals, and "Agreement"; `clean_mesh` of mesh_cleanup.rs): the cleaned mesh, the tests in the table's order, the reply, and what
--- the operation leaves in outputs and work room. Assumes nothing.
+-- Cleaning (document 01, module 4, the table of refusals, and "Agreement"; `clean_mesh` of mesh_cleanup.rs): the cleaned mesh, the tests in the table's order, and what the operation
+-- promises. Assumes nothing.
 --   welded, weldedPoints, weldedFacets   the mesh after welding by a joining rule
 --   cleaned              the cleaned mesh, for a joining rule and the least number of facets of a component
 --   minComponentFacets   "fewer than two facets" are dropped
 --   cleanResult          document 01's: the rule by cells, and two facets
---   cleanTests           1, 2, 3, 4, 7, 8                cleanReply    the reply as numbers, with 12
---   Cleaned              what the operation promises: the result, and the rule for a kept facet without its computing
+--   cleanTests           1, 2, 3, 4, 7, 8
+
+--   Cleaned              what the operation promises: the answer, and the rule for a kept facet without its computing
 use Prim.Native.Nat.{ℕ, _/_}
-use mathlib.Core.Path.{_≡_}
 use mathlib.Core.Bool.{not, _&&_}
 use mathlib.Core.List.{List, [], _∷_, _++_, map}
 use lib.ListN.{getD, length}
 use lib.Ieee.{Float}
 use Rattle.lists.specs.Lists.{every}
 use Rattle.geometry.specs.declared.point.Point.{Point}
-use Rattle.geometry.specs.Triangles.{Triangle, mapped, flat}
-use Rattle.geometry.specs.Meshes.{Mesh, meshOf, vertex, coordinates, meshLengths}
+use Rattle.geometry.specs.Triangles.{Triangle, mapped}
+use Rattle.geometry.specs.Meshes.{Mesh, meshOf, vertex}
 use Rattle.refusals.specs.declared.refusal.Refusal.the-variants.{BadNumber, KeyRange}
-use Rattle.refusals.specs.declared.reply.MeshReply.{MeshReply}
-use Rattle.refusals.specs.Refusals.{documentedMesh, Test, replyTo, Settled, Zeroed}
-use Rattle.refusals.specs.Front.{ceiling, listTests, inRange, epsInRange, workNeed, workTest, farKeys, roomTests}
+use Rattle.refusals.specs.declared.reply.Reply.{Reply}
+use Rattle.refusals.specs.Refusals.{documentedReply, Test}
+use Rattle.refusals.specs.Answers.{meshOutputs, Answered}
+use Rattle.refusals.specs.Front.{ceiling, listTests, inRange, epsInRange, workNeed, workTest, farKeys}
 use Rattle.mesh_weld.specs.Joining.{Joining}
 use Rattle.mesh_weld.specs.Weld.{Welded, weld}
 use Rattle.mesh_weld.specs.Cells.{cells}
@@ -57,20 +58,13 @@ module _ (vs : List Float) (fs : List ℕ) (eps : Float) where
       ∷ workTest (workNeed (length vs / 3) (length fs / 3) 0 0) lent
       ∷ (farKeys eps vs, KeyRange) ∷ []
 
-  -- for outputs of the lengths outs, vertices before facets
-  unfoldable pub cleanReply : ℕ → List ℕ → List ℕ
-  cleanReply lent outs = replyTo (cleanTests lent ++ roomTests (meshLengths cleanResult) outs) (meshLengths cleanResult)
-
   -- the facets kept are exactly those that stay
   abbrev pub KeptRule : Type 0
   KeptRule =
       let w = welded (cells eps) (meshOf vs fs) in
       Rule eps (weldedPoints w (meshOf vs fs .points)) (weldedFacets w (meshOf vs fs .facets)) minComponentFacets
 
--- from work room w and outputs v and f to w', v' and f', with the reply r
-pub record Cleaned (vs : List Float) (fs : List ℕ) (eps : Float) (r : MeshReply) (w w' : List ℕ) (v v' : List Float) (f f' : List ℕ) : Type 0 where
-  pub replied : documentedMesh r ≡ cleanReply vs fs eps (length w) (length v ∷ length f ∷ [])
-  pub vertices : Settled (documentedMesh r) (coordinates (cleanResult vs fs eps .points)) v v'
-  pub facets : Settled (documentedMesh r) (flat (cleanResult vs fs eps .facets)) f f'
-  pub work : Zeroed w w'
-  pub rule : KeptRule vs fs eps
+  -- from work room w and outputs v and f to w', v' and f', with the reply r
+  pub record Cleaned (r : Reply) (w w' : List ℕ) (v v' : List Float) (f f' : List ℕ) : Type 0 where
+    pub answered : Answered (cleanTests (length w)) (meshOutputs cleanResult v v' f f') w w' (documentedReply r)
+    pub rule : KeptRule

@@ -1,15 +1,16 @@
 // The operation clean (document 01, module 4; `clean_mesh` of mesh_cleanup.rs).
 ghost use mathlib.Core.Path.{_≡_};
-ghost use mathlib.Core.List.{map};
+ghost use mathlib.Core.List.{[], map};
 ghost use Prim.Native.Nat.{ℕ, _+_, _*_, _/_, _≤_, _<_};
 ghost use lib.ListN.{length, getD, set};
 ghost use Rattle.lists.specs.Regions.{view};
 ghost use Rattle.words.specs.Overlay.{overlay};
 ghost use Rattle.geometry.specs.Meshes.{coordinates};
-ghost use Rattle.refusals.specs.Refusals.{firstRefusal};
+ghost use Rattle.refusals.specs.Refusals.{documentedReply, firstRefusal};
+ghost use Rattle.refusals.specs.Answers.{meshOutputs, Answer};
 ghost use Rattle.mesh_weld.specs.Room.{vertexOf};
 ghost use Rattle.mesh_cleanup.specs.Clean.{cleanTests, cleanResult, Cleaned};
-ghost use Rattle.mesh_cleanup.specs.Steps.{Ready, Staging, Written, Answered};
+ghost use Rattle.mesh_cleanup.specs.Steps.{Ready, Staging};
 use geometry::point::Point;
 use mesh_compact::compact::Staged;
 use mesh_compact::compact::remove_small_disconnected_components;
@@ -24,7 +25,7 @@ use refusals::front::work_need;
 use refusals::grid::has_far_key;
 use refusals::refusal::Checked;
 use refusals::refusal::Refusal;
-use refusals::reply::MeshReply;
+use refusals::reply::Reply;
 use words::zero_front;
 
 // `MIN_CONNECTED_COMPONENT_FACETS`
@@ -124,9 +125,9 @@ fn clean_checked(
     work: &mut [u64],
     out_vertices: &mut [f64],
     out_facets: &mut [u32],
-) -> MeshReply
+) -> Reply
     requires { ⌜ Ready (now vertices) (now facets) eps (length (now work)) ⌝ }
-    ensures { λ r. ⌜ Written (cleanResult (now (vertices .entry)) (now (facets .entry)) eps) r (now («out_vertices» .entry)) (now («out_vertices» .exit)) (now («out_facets» .entry)) (now («out_facets» .exit)) ⌝ }
+    ensures { λ r. ⌜ Answer [] (meshOutputs (cleanResult (now (vertices .entry)) (now (facets .entry)) eps) (now («out_vertices» .entry)) (now («out_vertices» .exit)) (now («out_facets» .entry)) (now («out_facets» .exit))) (documentedReply r) ⌝ }
 {
     let s = stage(vertices, facets, eps, work);
     let order = s.order;
@@ -135,14 +136,14 @@ fn clean_checked(
     let numbers = s.numbers;
     let need = 3 * used;
     if out_vertices.len() < need {
-        return MeshReply::Refused(Refusal::NoRoom(need));
+        return Reply::Refused(Refusal::NoRoom(need));
     }
     if out_facets.len() < numbers {
-        return MeshReply::Refused(Refusal::NoRoom(numbers));
+        return Reply::Refused(Refusal::NoRoom(numbers));
     }
     write_vertices(work, order, used, vertices, out_vertices);
     write_numbers(work, corners, numbers, out_facets);
-    MeshReply::Done(need, numbers)
+    Reply::DoneTwo(need, numbers)
 }
 
 // The tests, and the mesh where they pass. The work room is left as it came out.
@@ -153,12 +154,12 @@ fn clean_lent(
     work: &mut [u64],
     out_vertices: &mut [f64],
     out_facets: &mut [u32],
-) -> MeshReply
-    ensures { λ r. ⌜ Answered (now (vertices .entry)) (now (facets .entry)) eps (length (now (work .entry))) r (now («out_vertices» .entry)) (now («out_vertices» .exit)) (now («out_facets» .entry)) (now («out_facets» .exit)) ⌝ }
+) -> Reply
+    ensures { λ r. ⌜ Answer (cleanTests (now (vertices .entry)) (now (facets .entry)) eps (length (now (work .entry)))) (meshOutputs (cleanResult (now (vertices .entry)) (now (facets .entry)) eps) (now («out_vertices» .entry)) (now («out_vertices» .exit)) (now («out_facets» .entry)) (now («out_facets» .exit))) (documentedReply r) ⌝ }
 {
     match check(vertices, facets, eps, work.len()) {
         Checked::Passed => clean_checked(vertices, facets, eps, work, out_vertices, out_facets),
-        Checked::Refused(r) => MeshReply::Refused(r),
+        Checked::Refused(r) => Reply::Refused(r),
     }
 }
 
@@ -170,7 +171,7 @@ pub fn clean_mesh(
     work: &mut [u64],
     out_vertices: &mut [f64],
     out_facets: &mut [u32],
-) -> MeshReply
+) -> Reply
     ensures { λ r. ⌜ Cleaned (now (vertices .entry)) (now (facets .entry)) eps r (now (work .entry)) (now (work .exit)) (now («out_vertices» .entry)) (now («out_vertices» .exit)) (now («out_facets» .entry)) (now («out_facets» .exit)) ⌝ }
 {
     let reply = clean_lent(vertices, facets, eps, work, out_vertices, out_facets);

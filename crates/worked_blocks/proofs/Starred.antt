@@ -14,10 +14,11 @@ use Rattle.rounding.specs.Rounding.{ceil, wholeUp, halfUp, rounded, key, beyond
 use Rattle.geometry.specs.declared.aabb.AABB.{AABB}
 use Rattle.geometry.specs.declared.fraction.Fraction.{Fraction}
 use Rattle.geometry.specs.declared.fraction.Fraction.the-variants.{Nothing}
-use Rattle.geometry.specs.Points.{pt, along, minus, dot, cross}
+use Rattle.geometry.specs.Points.{pt, along, minus, dot, cross, norm}
 use Rattle.geometry.specs.Triangles.{threes, sortedVertices}
-use Rattle.geometry.specs.Meshes.{Mesh, meshOf, enter}
+use Rattle.geometry.specs.Meshes.{Mesh, meshOf, meshLengths, enter}
 use Rattle.refusals.specs.Refusals.{documented, firstRefusal}
+use Rattle.refusals.specs.Answers.{replyIn}
 use Rattle.refusals.specs.Front.{ragged, tooMany, badIndex, inRange, epsInRange, resolutionInRange, boxInRange, badBox, gridTooFine, workNeed, farKeys, roomTests}
 use Rattle.components.specs.Components.{components}
 use Rattle.mesh_weld.specs.Weld.{weldNext, weld}
@@ -25,14 +26,15 @@ use Rattle.mesh_weld.specs.Cells.{keyOf, sameKey, around, near, neighbours, cel
 use Rattle.mesh_filter.specs.Filters.{hasRepeatedCorner, isFlat, sameCorners, isDuplicate, passes, passedNext, passed}
 use Rattle.mesh_compact.specs.Status.{shareVertex, isAlone, status, keptFacets}
 use Rattle.mesh_compact.specs.Compact.{numbering, renumbered, compacted}
-use Rattle.mesh_cleanup.specs.Clean.{welded, cleaned, cleanResult, cleanTests, cleanReply}
+use Rattle.mesh_cleanup.specs.Clean.{welded, cleaned, cleanResult, cleanTests}
 use Rattle.aabb_polygons.specs.Polygons.{inside, snapTo, snapped, crossing, interpolated, onPlane, crossed, sideClipped, walk, clipToPlane, clipPolygon}
 use Rattle.aabb_facets.specs.Clipped.{fan, fanned, insideBox, sharing, clipFacet, made, clipped}
-use Rattle.aabb_clipping.specs.Clip.{clipTests, clipResult, clipReply}
+use Rattle.aabb_clipping.specs.Clip.{clipTests, clipResult}
 use Rattle.geometry.specs.Axes.{segments, gridLine, axisPoints, gridSize}
 use Rattle.edges.specs.Edges.{samePair, pairBefore, openEdges}
 use Rattle.box_faces.specs.Faces.{onFace, facesOf}
-use Rattle.boundary_closure.specs.Operation.{closureTests, strayEdge, edgeTests, candidatesReply}
+use Rattle.boundary_closure.specs.Asked.{Asked, asked}
+use Rattle.boundary_closure.specs.Operation.{closureTests, strayEdge, edgeTests, candidatesTests, candidatesResult, candidateLengths}
 
 -- ---- the document's numbers, by their bits
 
@@ -97,16 +99,26 @@ pub record Row : Type 1 where
 abbrev pub row : {A : Type 0} → A → A → Row
 row g s = record { Result = _; given = g; stated = s }
 
--- C1: "eps 1/1024, points (-1/2048,0,0), (1/2048,0,0), no facets: keys -1 and 1, two vertices, though the distance is eps". The keys, the distance test, the reply with just
+-- the replies of operations, for so many words of work room lent and outputs of these lengths
+abbrev pub clipReply : List Float → List ℕ → AABB → Float → ℕ → List ℕ → List ℕ
+clipReply vs fs box eps lent outs = replyIn (clipTests vs fs box eps lent) (meshLengths (clipResult vs fs box eps)) outs
+
+abbrev pub cleanReply : List Float → List ℕ → Float → ℕ → List ℕ → List ℕ
+cleanReply vs fs eps lent outs = replyIn (cleanTests vs fs eps lent) (meshLengths (cleanResult vs fs eps)) outs
+
+abbrev pub candidatesReply : List Float → List ℕ → Asked → ℕ → List ℕ → List ℕ
+candidatesReply vs fs q lent outs = replyIn (candidatesTests vs fs q lent) (candidateLengths (candidatesResult vs fs q)) outs
+
+-- C1: "eps 1/1024, points (-1/2048,0,0), (1/2048,0,0), no facets: keys -1 and 1, two vertices, though the distance is eps". The keys, the distance, the reply with just
 -- enough room, and the cleaned mesh
 abbrev pub points1 : List Float
 points1 = -1/2048 ∷ +0 ∷ +0 ∷ +1/2048 ∷ +0 ∷ +0 ∷ []
 
 abbrev pub c1 : Row
 c1 =
-    row {A = List ℤ × Bool × List ℕ × Mesh}
-    (map (key 1/1024) (-1/2048 ∷ +1/2048 ∷ []), near 1/1024 (pt -1/2048 +0 +0) (pt +1/2048 +0 +0), cleanReply points1 [] 1/1024 1280 (6 ∷ 0 ∷ []), cleanResult points1 [] 1/1024)
-    (negsuc 0 ∷ pos 1 ∷ [], true, 0 ∷ 6 ∷ 0 ∷ [], meshOf points1 [])
+    row {A = List ℤ × Float × List ℕ × Mesh}
+    (map (key 1/1024) (-1/2048 ∷ +1/2048 ∷ []), norm (minus (pt -1/2048 +0 +0) (pt +1/2048 +0 +0)), cleanReply points1 [] 1/1024 1280 (6 ∷ 0 ∷ []), cleanResult points1 [] 1/1024)
+    (negsuc 0 ∷ pos 1 ∷ [], 1/1024, 0 ∷ 6 ∷ 0 ∷ [], meshOf points1 [])
 
 -- C3: "the same eps, (±3/8192 on all axes, equal signs): cleaning keeps two, though both have key (0,0,0)"
 abbrev pub points3 : List Float
@@ -114,8 +126,8 @@ points3 = -3/8192 ∷ -3/8192 ∷ -3/8192 ∷ +3/8192 ∷ +3/8192 ∷ +3/8192 �
 
 abbrev pub c3 : Row
 c3 =
-    row {A = List ℤ × Mesh} (map (key 1/1024) points3, cleanResult points3 [] 1/1024)
-    (pos 0 ∷ pos 0 ∷ pos 0 ∷ pos 0 ∷ pos 0 ∷ pos 0 ∷ [], meshOf points3 [])
+    row {A = List ℤ × List ℕ × Mesh} (map (key 1/1024) points3, cleanReply points3 [] 1/1024 1280 (6 ∷ 0 ∷ []), cleanResult points3 [] 1/1024)
+    (pos 0 ∷ pos 0 ∷ pos 0 ∷ pos 0 ∷ pos 0 ∷ pos 0 ∷ [], 0 ∷ 6 ∷ 0 ∷ [], meshOf points3 [])
 
 -- C4: "XMin 1, eps 0.75 × 2^-53, from x = 1 - 2^-53 to x = 0: inside differs, crossing nothing"
 abbrev pub box4 : AABB
@@ -163,7 +175,7 @@ abbrev pub points9 : List Float
 points9 = +0 ∷ +0 ∷ +1 ∷ +1 ∷ +0 ∷ +1 ∷ +0 ∷ +1 ∷ +1 ∷ []
 
 abbrev pub c9 : Row
-c9 = row (candidatesReply points9 (0 ∷ 1 ∷ 2 ∷ []) box9 1e-10 +2 4608 []) (9 ∷ 1 ∷ 2 ∷ [])
+c9 = row (candidatesReply points9 (0 ∷ 1 ∷ 2 ∷ []) (asked box9 1e-10 +2) 4608 []) (9 ∷ 1 ∷ 2 ∷ [])
 
 -- C11, C12: "axis from 0, length 8, resolution 4, eps 0: 0, 4, 8"; "length 0.5, resolution 4: two points". The first two axes of one box
 abbrev pub box11 : AABB
@@ -193,7 +205,7 @@ of-all a {r} (List·Memᴰ·head {x} {xs} e) = subst⁻¹ (λ (q : Row). q .give
 of-all a {r} (List·Memᴰ·tail {x} {xs} m) = of-all (a .1) m
 
 computed : All starred
-unfolding every some upFrom threes magnitude within inside snapTo snapped crossing interpolated onPlane crossed sideClipped walk clipToPlane clipPolygon along enter fan fanned insideBox sharing clipFacet made clipped flatMap firstRefusal documented ragged tooMany badIndex inRange epsInRange boxInRange badBox workNeed roomTests clipTests clipResult clipReply keep place insertBy sortBy halfUp rounded key beyond farKey farKeys minus dot cross keyOf sameKey around near neighbours cells first weldNext weld hasRepeatedCorner isFlat sortedVertices sameCorners isDuplicate passes passedNext passed components shareVertex isAlone status keptFacets numbering renumbered compacted welded cleaned cleanResult cleanTests cleanReply larger one units root rootOfSquare wholeRoot wholeUp ceil rounding.segments segments gridLine axisPoints gridSize resolutionInRange gridTooFine samePair pairBefore openEdges onFace facesOf closureTests strayEdge edgeTests candidatesReply ofBits ofInt round add sub mul div neg lt le eq
+unfolding every some upFrom threes magnitude within inside snapTo snapped crossing interpolated onPlane crossed sideClipped walk clipToPlane clipPolygon along enter fan fanned insideBox sharing clipFacet made clipped flatMap firstRefusal documented ragged tooMany badIndex inRange epsInRange boxInRange badBox workNeed roomTests clipTests clipResult keep place insertBy sortBy halfUp rounded key beyond farKey farKeys minus dot cross keyOf sameKey around near neighbours cells first weldNext weld hasRepeatedCorner isFlat sortedVertices sameCorners isDuplicate passes passedNext passed components shareVertex isAlone status keptFacets numbering renumbered compacted welded cleaned cleanResult cleanTests larger one units root rootOfSquare wholeRoot wholeUp ceil rounding.segments segments gridLine axisPoints gridSize resolutionInRange gridTooFine samePair pairBefore openEdges onFace facesOf closureTests strayEdge edgeTests ofBits ofInt round add sub mul div neg lt le eq
 computed = (refl, (refl, (refl, (refl, (refl, (refl, (refl, (refl, (refl, (refl, tt))))))))))
 
 pub every-row : {r : Row} → List·Memᴰ r starred → r .given ≡ r .stated

@@ -1,9 +1,8 @@
-ghost use mathlib.Core.List.{[], _∷_};
 ghost use lib.ListN.{length};
-ghost use Rattle.mesh_cleanup.specs.Clean.{cleanReply, cleanResult, KeptRule};
-ghost use Rattle.yongpham.specs.Calls.{MeshReported};
+ghost use Rattle.refusals.specs.Answers.{meshOutputs, Called};
+ghost use Rattle.mesh_cleanup.specs.Clean.{cleanTests, cleanResult, KeptRule};
 use mesh_cleanup::clean_mesh;
-use refusals::report::report_mesh;
+use refusals::report::report_reply;
 
 // `clean_mesh`: values[0] and values[1] get the lengths written.
 #[no_mangle]
@@ -16,9 +15,9 @@ pub extern "C" fn yongpham_clean(
     out_facets: &mut [u32],
     values: &mut [u64; 4],
 ) -> u32
-    ensures written { λ r. ⌜ MeshReported (cleanReply (now (vertices .entry)) (now (facets .entry)) eps (length (now (work .entry))) (length (now («out_vertices» .entry)) ∷ length (now («out_facets» .entry)) ∷ [])) (cleanResult (now (vertices .entry)) (now (facets .entry)) eps) r (now (values .exit)) (now (work .entry)) (now (work .exit)) (now («out_vertices» .entry)) (now («out_vertices» .exit)) (now («out_facets» .entry)) (now («out_facets» .exit)) ⌝ }
+    ensures answered { λ r. ⌜ Called (cleanTests (now (vertices .entry)) (now (facets .entry)) eps (length (now (work .entry)))) (meshOutputs (cleanResult (now (vertices .entry)) (now (facets .entry)) eps) (now («out_vertices» .entry)) (now («out_vertices» .exit)) (now («out_facets» .entry)) (now («out_facets» .exit))) (now (work .entry)) (now (work .exit)) r (now (values .exit)) ⌝ }
     ensures rule { λ _. ⌜ KeptRule (now (vertices .entry)) (now (facets .entry)) eps ⌝ }
 {
     let reply = clean_mesh(vertices, facets, eps, work, out_vertices, out_facets);
-    report_mesh(values, reply)
+    report_reply(values, reply)
 }

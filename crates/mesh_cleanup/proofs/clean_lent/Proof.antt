@@ -1,6 +1,9 @@
 use lib.ListN.{length}
-use Rattle.mesh_cleanup.proofs.Delivery.{ready, refused, accepted}
-use mathlib.Core.Path.{sym, _∙_}
+use Rattle.mesh_cleanup.proofs.Delivery.{ready}
+use Rattle.refusals.proofs.Answers.{refused, behind}
+use Rattle.refusals.specs.Answers.{meshOutputs}
+use Rattle.mesh_cleanup.specs.Clean.{cleanTests, cleanResult}
+use mathlib.Core.Path.{refl, sym, _∙_}
 use borrow.Author.Needs.{needs}
 use Rattle.mesh_cleanup.proofs.clean_lent.Statement.{statement}
 use Rattle.mesh_cleanup.proofs.clean_lent.Tie as tie
@@ -27,10 +30,10 @@ same-length-3 : tie.Need-same-length-3
 same-length-3 c = search needs
 
 returns : tie.Need-returns
-returns c = let s = c .before .before .before .before .before .before .before .before .before .before .before .before .before .before .before .before .before .before in let a = s .args in accepted (a .vertices .now) (a .facets .now) (a .eps) (length (a .work .now)) _ (c .before .before .before .before .before .before .before .before .before .before .before .before .check .ensures) (a .out-vertices .now) (a .out-facets .now) (c .before .before .before .before .before .before .before .before .before .before .enum-told .given .1) _ _ _ (c .before .before .before .before .before .before .clean-checked .ensures)
+returns c = let a = c .before .before .before .before .before .before .before .before .before .before .before .before .before .before .before .before .before .before .args in behind (cleanTests (a .vertices .now) (a .facets .now) (a .eps) (length (a .work .now))) _ _ (sym (c .before .before .before .before .before .before .before .before .before .before .before .before .check .ensures) ∙ c .before .before .before .before .before .before .before .before .before .before .enum-told .given .1) (c .before .before .before .before .before .before .clean-checked .ensures)
 
 returns-2 : tie.Need-returns-2
-returns-2 c = let s = c .before .before .before .before .before .before .before .before .before in let a = s .args in refused (a .vertices .now) (a .facets .now) (a .eps) (length (a .work .now)) _ (c .before .before .before .check .ensures) (a .out-vertices .now) (a .out-facets .now) _ (c .before .r .given .1)
+returns-2 c = let a = c .before .before .before .before .before .before .before .before .before .args in refused (cleanTests (a .vertices .now) (a .facets .now) (a .eps) (length (a .work .now))) (meshOutputs (cleanResult (a .vertices .now) (a .facets .now) (a .eps)) (a .out-vertices .now) (a .out-vertices .now) (a .out-facets .now) (a .out-facets .now)) _ (sym (c .before .before .before .check .ensures) ∙ c .before .r .given .1) (refl, (refl, tt))
 
 pub clean-lent-spec : {M : Type 1} → statement M
 clean-lent-spec =

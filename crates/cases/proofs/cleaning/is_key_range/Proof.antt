@@ -6,13 +6,13 @@ use Rattle.cases.proofs.cleaning.is_key_range.Statement.{statement}
 use Rattle.cases.proofs.cleaning.is_key_range.Tie as tie
 use Rattle.cases.proofs.cleaning.is_key_range.Reads as reads
 use Rattle.cases.proofs.cleaning.is_key_range.Lts as lts
-use Rattle.refusals.proofs.report.report_mesh.Reads as report-mesh-reads
+use Rattle.refusals.proofs.report.report_reply.Reads as report-reply-reads
 
-report-mesh-requires : tie.Need-report-mesh-requires
-report-mesh-requires c κs = search needs
+report-reply-requires : tie.Need-report-reply-requires
+report-reply-requires c κs = search needs
 
 returns : tie.Need-returns
-returns c = ap (λ (n : ℕ). eqb n 8) (c .report-mesh .ensures .number)
+returns c = ap (λ (n : ℕ). eqb n 8) (c .report-reply .ensures .number)
 
 pub is-key-range-spec : {M : Type 1} → statement M
-is-key-range-spec = tie.close (tie.spec report-mesh-requires returns)
+is-key-range-spec = tie.close (tie.spec report-reply-requires returns)

@@ -1,17 +1,17 @@
-use Rattle.yongpham.proofs.Reports.{mesh-reported}
+use Rattle.refusals.proofs.Answers.{called}
 use borrow.Author.Needs.{needs}
 use Rattle.yongpham.proofs.clean.yongpham_clean.Statement.{statement}
 use Rattle.yongpham.proofs.clean.yongpham_clean.Tie as tie
 use Rattle.yongpham.proofs.clean.yongpham_clean.Reads as reads
 use Rattle.yongpham.proofs.clean.yongpham_clean.Lts as lts
 use Rattle.mesh_cleanup.proofs.clean_mesh.Reads as clean-mesh-reads
-use Rattle.refusals.proofs.report.report_mesh.Reads as report-mesh-reads
+use Rattle.refusals.proofs.report.report_reply.Reads as report-reply-reads
 
 clean-mesh-requires : tie.Need-clean-mesh-requires
 clean-mesh-requires c κs = search needs
 
-report-mesh-requires : tie.Need-report-mesh-requires
-report-mesh-requires c κs = search needs
+report-reply-requires : tie.Need-report-reply-requires
+report-reply-requires c κs = search needs
 
 same-length : tie.Need-same-length
 same-length c = search needs
@@ -23,14 +23,14 @@ same-length-3 : tie.Need-same-length-3
 same-length-3 c = search needs
 
 returns : tie.Need-returns
-returns c = (mesh-reported _ _ _ _ _ _ _ _ _ _ _ (c .before .before .before .before .before .before .before .before .clean-mesh .ensures .replied) (c .before .before .before .before .before .before .before .before .clean-mesh .ensures .vertices) (c .before .before .before .before .before .before .before .before .clean-mesh .ensures .facets) (c .before .before .before .before .before .before .before .before .clean-mesh .ensures .work) (c .report-mesh .ensures), c .before .before .before .before .before .before .before .before .clean-mesh .ensures .rule)
+returns c = (called _ _ _ _ _ _ _ (c .before .before .before .before .before .before .before .before .clean-mesh .ensures .answered) (c .report-reply .ensures), c .before .before .before .before .before .before .before .before .clean-mesh .ensures .rule)
 
 pub yongpham-clean-spec : {M : Type 1} → statement M
 yongpham-clean-spec =
     tie.close
     (tie.spec
     clean-mesh-requires
-    report-mesh-requires
+    report-reply-requires
     same-length
     same-length-2
     same-length-3
