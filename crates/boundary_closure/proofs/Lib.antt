@@ -7,4 +7,3 @@ pub mod Frames
 pub mod Fitting
 pub mod Completing
 pub mod Listing
-pub mod Examples
