@@ -1,4 +1,4 @@
-// Tests 4 to 6 of the box.
+// Tests 4 and 5 of the box.
 ghost use mathlib.Core.Path.{_≡_};
 ghost use mathlib.Core.Bool.{_&&_, not};
 ghost use lib.Ieee.{lt};

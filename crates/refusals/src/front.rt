@@ -1,4 +1,4 @@
-// Tests 1 to 4 and 8 of lists of coordinates and of facets.
+// Tests 1 to 4 of lists and numbers, and the need of test 7.
 ghost use mathlib.Core.Path.{_≡_};
 ghost use mathlib.Core.Bool.{_&&_, _||_};
 ghost use Prim.Native.Nat.{_<_, _≤_, _+_};
