@@ -53,7 +53,7 @@ module _ (vs : List Float) (fs : List ℕ) (box : AABB) (eps resolution : Float)
           small-facets = M .few;
           size = let s = M .size in let l = K .long in omega (arith, s, l);
           few = let c = K .low 6 (omega arith) in let f = D .holds .table .few in omega (arith, c, f);
-          words = words-same eps n w w' (D .holds) (K .long) (K .low);
+          words = words-same eps n w w' (D .holds) (K .long) (λ x h. K .low x (omega arith));
           short = λ f h. let s = D .holds .lengths f h in let e = K .low f (omega arith) in omega (arith, s, e);
           constraints = K .few;
           edges = let t = M .threes in omega (arith, t, few);
@@ -63,6 +63,6 @@ module _ (vs : List Float) (fs : List ℕ) (box : AABB) (eps resolution : Float)
     pub standing-is : standing n nf k total w' ≡ candidates (setting box eps resolution) (meshOf vs fs)
     unfolding candidates
     standing-is =
-        let p = pool-same eps n w w' (D .holds) (K .long) (K .low) ∙ D .pool in
+        let p = pool-same eps n w w' (D .holds) (K .long) (λ x h. K .low x (omega arith)) ∙ D .pool in
         let c = K .listed ∙ (λ t. flatMap (faceConstraints box eps (D .edges t) (D .pool t)) faces) in
         λ t. record { all = p t .all; lists = p t .lists; constraints = c t; edges = edges-here t }

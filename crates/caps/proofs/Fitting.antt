@@ -9,7 +9,7 @@ use mathlib.Core.Path.{_≡_, sym, subst}
 use mathlib.Core.List.{List, [], _∷_}
 use borrow.Author.Tests.{ltb-false, eqb-true, not-false}
 use lib.Dec.{eqb, ltb}
-use lib.ListN.{length}
+use lib.ListN.{length, getD}
 use lib.Ieee.{Float}
 use Rattle.lists.specs.Lists.{every}
 use Rattle.lists.proofs.Bools.{or-none-right}
@@ -23,9 +23,8 @@ use Rattle.refusals.specs.Refusals.{Test, firstRefusal}
 use Rattle.refusals.specs.Front.{ceiling, capCeiling, ragged, tooMany, badIndex, listTests, inRange, epsInRange, resolutionInRange, boxInRange, badBox, gridTooFine, workNeed, workTest}
 use Rattle.refusals.proofs.Replies.{head-passed, tail-passed, row-front}
 use Rattle.candidate_pool.specs.Offsets.{roomEnd}
-use Rattle.candidate_pool.specs.Pool.{Pool, byKey}
-use Rattle.candidate_edges.specs.Surface.{edgeSurface}
-use Rattle.candidate_edges.specs.Steps.{VerticesIn, Sourced}
+use Rattle.candidate_pool.specs.Pool.{Pool, noCandidate}
+use Rattle.candidate_edges.specs.Steps.{VerticesIn}
 use Rattle.boundary_closure.specs.Operation.{oneResolution, setting, closureTests}
 use Rattle.boundary_closure.specs.Steps.{Sound, most, Surfaced, fullPool, Completed}
 use Rattle.boundary_closure.proofs.Checking.{room-passed}
@@ -86,7 +85,7 @@ tabled-room vs fs capList n w L = let s = L .size in omega (arith, s)
 pub closable : (vs : List Float) (fs capList : List ℕ) (box : AABB) (eps resolution : Float) (n k : ℕ) (w₁ w w' : List ℕ) (r : Checked) → Sound vs fs box eps resolution
     → Surfaced vs fs box eps n k w₁ → Completed vs fs box eps resolution n k w → CapsChecked n (length fs / 3) k capList r w w' → r ≡ Passed → Closable vs fs capList n k w'
 closable vs fs capList box eps resolution n k w₁ w w' r S F D C e =
-    let low = full-low vs fs box eps resolution (subst (λ (p : Pool). Sourced (pointsOf vs) eps p) (F .pool) (F .sourced)) in
+    let low = full-low vs fs box eps resolution (subst (λ (p : Pool). (c : ℕ) → c < length (p .all) → getD (p .all) c noCandidate .mesh ≤ length (pointsOf vs)) (F .pool) (F .sourced .low)) in
     record {
       whole-vertices = S .whole-vertices;
       whole-facets = S .whole-facets;

@@ -27,7 +27,6 @@ use Rattle.candidate_pool.specs.Pool.{Candidate, Pool, noCandidate, byKey, rene
 use Rattle.candidate_pool.specs.Setting.{Setting}
 use Rattle.candidate_pool.specs.Standing.{countAt, candidateAt, poolAt}
 use Rattle.candidate_edges.specs.Surface.{meshCandidate, edgeFaces, cornerVertices, edgeSurface, meshPool}
-use Rattle.candidate_edges.specs.Steps.{Sourced}
 use Rattle.candidate_grids.specs.Grid.{gridPoint, interior, skipped, gridAt, faceGrid, grid, segmentsOf}
 use Rattle.boundary_closure.specs.Operation.{setting}
 use Rattle.boundary_closure.specs.Steps.{fullPool}
@@ -114,14 +113,16 @@ grid-low s edges p m =
     point-low f i j =
         one (interior s (uAxis f) i && (interior s (vAxis f) j && skipped s edges p f (project f (gridPoint s f i j)))) (gridPoint s f i j) (f ∷ [])
 
-pub full-low : (vs : List Float) (fs : List ℕ) (box : AABB) (eps resolution : Float) → Sourced (pointsOf vs) eps (edgeSurface box eps (byKey eps) (meshOf vs fs) .pool)
+pub full-low : (vs : List Float) (fs : List ℕ) (box : AABB) (eps resolution : Float)
+    → ((c : ℕ) → c < length (edgeSurface box eps (byKey eps) (meshOf vs fs) .pool .all)
+    → getD (edgeSurface box eps (byKey eps) (meshOf vs fs) .pool .all) c noCandidate .mesh ≤ length (pointsOf vs))
     → Low (length vs / 3) (fullPool (setting box eps resolution) (meshOf vs fs))
 unfolding meshPool
 full-low vs fs box eps resolution S =
     let mesh = meshOf vs fs in
     let first = edgeSurface box eps (byKey eps) mesh .pool in
     let m = length (pointsOf vs) in
-    let a : Low m first = low-all m (first .all) (S .low) in
+    let a : Low m first = low-all m (first .all) S in
     let b = low-fold (byKey eps) m first (cornerVertices box eps mesh) a (corners-low box eps mesh) in
     let c = low-fold (byKey eps) m (meshPool box eps (byKey eps) mesh) (grid (setting box eps resolution) (edgeSurface box eps (byKey eps) mesh .edges) (meshPool box eps (byKey eps) mesh)) b
     (grid-low (setting box eps resolution) (edgeSurface box eps (byKey eps) mesh .edges) (meshPool box eps (byKey eps) mesh) m) in
