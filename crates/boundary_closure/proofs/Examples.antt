@@ -6,7 +6,7 @@ use mathlib.Core.List.{List, [], _∷_, map, flatMap}
 use lib.Dec.{eqb}
 use lib.ListN.{getD}
 use lib.Ieee.{Float, ofBits, toBits, ofInt, round, add, sub, mul, div, neg, lt, le, eq}
-use Rattle.lists.specs.Lists.{every, some, keep, place, insertBy, sortBy, distinctFrom, upFrom}
+use Rattle.lists.specs.Lists.{every, some, first, keep, place, insertBy, sortBy, distinctFrom, upFrom}
 use Rattle.root.specs.Doubles.{bits, magnitude, within, larger, clamped, before, 1e-10}
 use Rattle.rounding.specs.Rounding as rounding
 use Rattle.rounding.specs.Rounding.{halfUp, rounded, key, beyond, farKey, ceil, wholeUp}
@@ -14,7 +14,6 @@ use Rattle.geometry.specs.declared.aabb.AABB.{AABB}
 use Rattle.geometry.specs.Points.{along}
 use Rattle.geometry.specs.Triangles.{Triangle, tri, threes}
 use Rattle.geometry.specs.Axes.{segments, gridLine, gridSize}
-use Rattle.chains.specs.Links.{linkTo}
 use Rattle.mesh_weld.specs.Cells.{keyOf, sameKey}
 use Rattle.edges.specs.Edges.{samePair, pairBefore, openEdges}
 use Rattle.refusals.specs.Refusals.{documented, firstRefusal}
@@ -123,5 +122,5 @@ pub record WorkedBlocks : Type 0 where
   c15 : reply points15 (0 ∷ 1 ∷ 2 ∷ 0 ∷ 2 ∷ 3 ∷ []) (boxTo +1 +1 +1) 1e-10 +1 ≡ 0 ∷ 60 ∷ 38 ∷ 108 ∷ 12 ∷ []
 
 pub computed : WorkedBlocks
-unfolding every some keep place insertBy sortBy distinctFrom upFrom flatMap magnitude within larger clamped before halfUp rounded key beyond farKey ceil wholeUp rounding.segments along threes segments gridLine gridSize linkTo keyOf sameKey samePair pairBefore openEdges documented firstRefusal ragged tooMany badIndex inRange epsInRange resolutionInRange boxInRange badBox gridTooFine workNeed farKeys roomTests project faceBits onFace facesOf faceSides betweenEnds alongSide onSide byKey renewed listed numberFor insert gridPoint skipped gridAt faceGrid grid neighbours sideOrder edgePlaces faceConstraints enterEdge edgeSurface cornerVertices meshPool candidates candidateWords listWords closureTests strayEdge edgeTests noTwoEnds candidatesResult outputs candidatesReply ofBits toBits ofInt round add sub mul div neg lt le eq
+unfolding every some keep place insertBy sortBy distinctFrom upFrom flatMap magnitude within larger clamped before halfUp rounded key beyond farKey ceil wholeUp rounding.segments along threes segments gridLine gridSize first keyOf sameKey samePair pairBefore openEdges documented firstRefusal ragged tooMany badIndex inRange epsInRange resolutionInRange boxInRange badBox gridTooFine workNeed farKeys roomTests project faceBits onFace facesOf faceSides betweenEnds alongSide onSide byKey renewed listed numberFor insert gridPoint skipped gridAt faceGrid grid neighbours sideOrder edgePlaces faceConstraints enterEdge edgeSurface cornerVertices meshPool candidates candidateWords listWords closureTests strayEdge edgeTests noTwoEnds candidatesResult outputs candidatesReply ofBits toBits ofInt round add sub mul div neg lt le eq
 computed = record { c9 = refl; c10 = refl; c13 = refl; c3b-first = refl; c3b-edges = refl; c3b = refl; infinite = refl; few = refl; downward = refl; c15 = refl }

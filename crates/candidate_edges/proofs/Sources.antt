@@ -8,6 +8,7 @@ use Prim.Native.Nat.{ℕ, zero, suc, _+_, _≤_, _<_}
 use mathlib.Core.Path.{_≡_, refl, sym, ap, _∙_, subst}
 use mathlib.Core.Bool.{Bool, true, false, cond, _&&_, true≢false}
 use mathlib.Core.List.{List, [], _∷_, _++_, map}
+use mathlib.Core.Option.{Option, none, some as just, Option·some-ne-none}
 use native.Mathlib.Omega.{arith}
 use native.Mathlib.Decide.{ℕ-discrete}
 use borrow.Author.Tests.{eq-eqb, ne-eqb}
@@ -22,10 +23,11 @@ use Rattle.lists.proofs.Places.{length-up, at-map-up}
 use Rattle.lists.proofs.Sequences.{at-map}
 use Rattle.geometry.specs.declared.point.Point.{Point}
 use Rattle.geometry.specs.Meshes.{vertex}
-use Rattle.chains.specs.Links.{linkTo, Found, First}
-use Rattle.chains.proofs.Firsts.{linkTo-first, first-linkTo, first-new}
+use Rattle.geometry.specs.Points.{origin}
+use Rattle.chains.specs.Links.{linkOf, linkTo, Found, First}
+use Rattle.chains.proofs.Firsts.{linkTo-first, first-linkTo, first-new, places-link, link-some}
 use Rattle.mesh_weld.specs.Cells.{Key, keyOf, same, sameKey}
-use Rattle.candidate_pool.specs.Pool.{Candidate, Pool, noCandidate, noPool, pointOf, renewed, byKey, linkFor, numberFor, insert}
+use Rattle.candidate_pool.specs.Pool.{Candidate, Pool, noCandidate, noPool, pointOf, renewed, byKey, placeFor, numberFor, insert}
 use Rattle.candidate_pool.proofs.Rule.{key-symmetric, key-lawful}
 use Rattle.candidate_pool.proofs.Growing.{number-new, number-found, all-new, all-found, count-new, count-found, count-most, found-low}
 use Rattle.candidate_pool.proofs.KeyWords.{same-is, same-self}
@@ -79,14 +81,14 @@ module _ (eps : Float) (p : Pool) where
   spots-long = length-map (p .all) (λ d. d .point)
 
   module _ (e : Candidate) where
-    link-new : linkFor (byKey eps) p e ≡ 0 → (c : ℕ) → c < length (p .all) → sameKey (keyOf eps (pointOf p c)) (keyOf eps (e .point)) ≡ false
+    link-new : placeFor (byKey eps) p e ≡ none → (c : ℕ) → c < length (p .all) → sameKey (keyOf eps (pointOf p c)) (keyOf eps (e .point)) ≡ false
     unfolding byKey
     link-new z c h =
         key-symmetric (keyOf eps (pointOf p c)) (keyOf eps (e .point))
         ∙ ap (λ (q : Point). sameKey (keyOf eps (e .point)) (keyOf eps q)) (sym (spot-at (e .point) c h))
         ∙ key-lawful eps .none (e .point) spots z c (omega (arith, spots-long))
 
-    link-old : (i : ℕ) → linkFor (byKey eps) p e ≡ suc i → keyOf eps (e .point) ≡ keyOf eps (pointOf p i)
+    link-old : (i : ℕ) → placeFor (byKey eps) p e ≡ just i → keyOf eps (e .point) ≡ keyOf eps (pointOf p i)
     unfolding byKey
     link-old i z =
         let low = found-low (byKey eps) p e (key-lawful eps) i z in
@@ -94,13 +96,20 @@ module _ (eps : Float) (p : Pool) where
         (ap (λ (q : Point). sameKey (keyOf eps (e .point)) (keyOf eps q)) (sym (spot-at (e .point) i low))
         ∙ key-lawful eps .found (e .point) spots i z .1)
 
+    link-is : linkTo (λ q. sameKey (keyOf eps q) (keyOf eps (e .point))) spots ≡ linkOf (placeFor (byKey eps) p e)
+    unfolding byKey
+    link-is = places-link (λ q. sameKey (keyOf eps q) (keyOf eps (e .point))) origin spots
+
+    place-is : (c : ℕ) → linkTo (λ q. sameKey (keyOf eps q) (keyOf eps (e .point))) spots ≡ suc c → placeFor (byKey eps) p e ≡ just c
+    place-is c h = link-some (placeFor (byKey eps) p e) (suc c) (sym h ∙ link-is) (λ z. omega arith) ∙ ap just (omega arith)
+
 -- ---- no candidate, and one more
 
 pub sourced-none : (points : List Point) (eps : Float) (word : ℕ → ℕ) → ((v : ℕ) → v < length points → word v ≡ 0) → Sourced points eps noPool word
-sourced-none points eps word none =
+sourced-none points eps word zeros =
     record {
       low = λ c h. absurd (omega arith);
-      found = λ v c h e. absurd (omega (arith, none v h));
+      found = λ v c h e. absurd (omega (arith, zeros v h));
       source = λ c. c;
       within = λ c h. absurd (omega arith);
       names = λ c h. absurd (omega arith);
@@ -159,92 +168,93 @@ module _ (points : List Point) (eps : Float) (p : Pool) (v : ℕ) (on : List ℕ
 
   -- the candidates there were keep their keys
   keys-kept : (c : ℕ) → c < length (p .all) → keyOf eps (pointOf then c) ≡ keyOf eps (pointOf p c)
-  keys-kept c h = go (linkFor (byKey eps) p entered) refl
+  keys-kept c h = go (placeFor (byKey eps) p entered) refl
     where
-      at : (i : ℕ) → linkFor (byKey eps) p entered ≡ suc i → Dec (c ≡ i) → keyOf eps (getD (set (p .all) i (anew i)) c noCandidate .point) ≡ keyOf eps (pointOf p c)
+      at : (i : ℕ) → placeFor (byKey eps) p entered ≡ just i → Dec (c ≡ i) → keyOf eps (getD (set (p .all) i (anew i)) c noCandidate .point) ≡ keyOf eps (pointOf p c)
       at i z (yes q) =
           subst (λ (j : ℕ). keyOf eps (getD (set (p .all) j (anew j)) c noCandidate .point) ≡ keyOf eps (pointOf p c)) q
           (ap (λ (k : Candidate). keyOf eps (k .point)) (getD-set-same (p .all) c (anew c) noCandidate h)
-          ∙ ap (keyOf eps) (point-anew c) ∙ link-old eps p entered c (z ∙ ap suc (sym q)))
+          ∙ ap (keyOf eps) (point-anew c) ∙ link-old eps p entered c (z ∙ ap just (sym q)))
       at i z (no d) = ap (λ (k : Candidate). keyOf eps (k .point)) (getD-set-other (p .all) i c (anew i) noCandidate d)
 
-      go : (k : ℕ) → linkFor (byKey eps) p entered ≡ k → keyOf eps (pointOf then c) ≡ keyOf eps (pointOf p c)
-      go zero z =
+      go : (k : Option ℕ) → placeFor (byKey eps) p entered ≡ k → keyOf eps (pointOf then c) ≡ keyOf eps (pointOf p c)
+      go none z =
           ap (λ (l : List Candidate). keyOf eps (getD l c noCandidate .point)) (all-new (byKey eps) p entered z)
           ∙ ap (λ (k : Candidate). keyOf eps (k .point)) (List·getD-append (p .all) (entered ∷ []) noCandidate c h)
-      go (suc i) z = ap (λ (l : List Candidate). keyOf eps (getD l c noCandidate .point)) (all-found (byKey eps) p entered i z) ∙ at i z (ℕ-discrete c i)
+      go (just i) z = ap (λ (l : List Candidate). keyOf eps (getD l c noCandidate .point)) (all-found (byKey eps) p entered i z) ∙ at i z (ℕ-discrete c i)
 
   count-least : length (p .all) ≤ length (then .all)
-  count-least = go (linkFor (byKey eps) p entered) refl
+  count-least = go (placeFor (byKey eps) p entered) refl
     where
-      go : (k : ℕ) → linkFor (byKey eps) p entered ≡ k → length (p .all) ≤ length (then .all)
-      go zero z = omega (arith, count-new (byKey eps) p entered z)
-      go (suc i) z = omega (arith, count-found (byKey eps) p entered i z)
+      go : (k : Option ℕ) → placeFor (byKey eps) p entered ≡ k → length (p .all) ≤ length (then .all)
+      go none z = omega (arith, count-new (byKey eps) p entered z)
+      go (just i) z = omega (arith, count-found (byKey eps) p entered i z)
 
   -- what the rule finds it finds again
-  link-stays : (e : Candidate) (c : ℕ) → linkFor (byKey eps) p e ≡ suc c → linkFor (byKey eps) then e ≡ suc c
-  unfolding byKey
-  link-stays e c =
+  link-stays : (e : Candidate) (c : ℕ) → placeFor (byKey eps) p e ≡ just c → placeFor (byKey eps) then e ≡ just c
+  link-stays e c z =
       let l = spots-long eps p in
       let l' = spots-long eps then in
-      first-stays (λ q. sameKey (keyOf eps q) (keyOf eps (e .point))) (e .point) (spots eps p) (spots eps then) (omega (arith, count-least))
+      place-is eps then e c
+      (first-stays (λ q. sameKey (keyOf eps q) (keyOf eps (e .point))) (e .point) (spots eps p) (spots eps then) (omega (arith, count-least))
       (λ k h.
       let low : k < length (p .all) = omega arith in
       ap (λ (x : Key). sameKey x (keyOf eps (e .point)))
       (ap (keyOf eps) (spot-at eps then (e .point) k (omega (arith, count-least))) ∙ keys-kept k low ∙ ap (keyOf eps) (sym (spot-at eps p (e .point) k low))))
-      c
+      c (link-is eps p e ∙ ap linkOf z))
 
   -- and the vertex that was inserted has a candidate
-  link-own : linkFor (byKey eps) then entered ≡ suc (numberFor (byKey eps) p entered)
-  unfolding byKey
-  link-own = go (linkFor (byKey eps) p entered) refl
+  link-own : placeFor (byKey eps) then entered ≡ just (numberFor (byKey eps) p entered)
+  link-own = go (placeFor (byKey eps) p entered) refl
     where
       passes : ℕ → Type 0
       passes k = T (sameKey (keyOf eps (getD (spots eps then) k (vertex points v))) (keyOf eps (vertex points v)))
 
-      last : linkFor (byKey eps) p entered ≡ 0 → getD (spots eps then) (length (p .all)) (vertex points v) ≡ vertex points v
+      last : placeFor (byKey eps) p entered ≡ none → getD (spots eps then) (length (p .all)) (vertex points v) ≡ vertex points v
       last z =
           spot-at eps then (vertex points v) (length (p .all)) (omega (arith, count-new (byKey eps) p entered z))
           ∙ ap (λ (l : List Candidate). getD l (length (p .all)) noCandidate .point) (all-new (byKey eps) p entered z)
           ∙ ap (λ (k : Candidate). k .point) (getD-at (p .all) entered [] noCandidate (length (p .all)) refl)
 
-      before : linkFor (byKey eps) p entered ≡ 0 → (k : ℕ) → k < length (p .all) → passes k → ⊥
+      before : placeFor (byKey eps) p entered ≡ none → (k : ℕ) → k < length (p .all) → passes k → ⊥
       before z k h t =
           true≢false
           (sym (is-true (sameKey (keyOf eps (getD (spots eps then) k (vertex points v))) (keyOf eps (vertex points v))) t)
           ∙ ap (λ (x : Key). sameKey x (keyOf eps (vertex points v))) (ap (keyOf eps) (spot-at eps then (vertex points v) k (omega (arith, count-least))) ∙ keys-kept k h)
           ∙ link-new eps p entered z k h)
 
-      go : (k : ℕ) → linkFor (byKey eps) p entered ≡ k → linkFor (byKey eps) then entered ≡ suc (numberFor (byKey eps) p entered)
-      go zero z =
-          sym (first-linkTo (λ q. sameKey (keyOf eps q) (keyOf eps (vertex points v))) (vertex points v) (spots eps then) (length (p .all) + 1)
+      go : (k : Option ℕ) → placeFor (byKey eps) p entered ≡ k → placeFor (byKey eps) then entered ≡ just (numberFor (byKey eps) p entered)
+      go none z =
+          place-is eps then entered (length (p .all))
+          (sym (first-linkTo (λ q. sameKey (keyOf eps q) (keyOf eps (vertex points v))) (vertex points v) (spots eps then) (length (p .all) + 1)
           (subst (λ (m : ℕ). First passes 0 m (length (p .all) + 1)) (let l = spots-long eps then in omega (arith, count-new (byKey eps) p entered z))
           (first-new passes 0 (length (p .all)) (omega arith)
           (subst T (sym (ap (λ (q : Point). sameKey (keyOf eps q) (keyOf eps (vertex points v))) (last z) ∙ key-self (keyOf eps (vertex points v)))) tt)
           (λ k a b. before z k b))))
-          ∙ omega (arith, number-new (byKey eps) p entered z)
-      go (suc i) z = link-stays entered i z ∙ ap suc (sym (number-found (byKey eps) p entered i z))
+          ∙ omega arith)
+          ∙ ap just (sym (number-new (byKey eps) p entered z))
+      go (just i) z = link-stays entered i z ∙ ap just (sym (number-found (byKey eps) p entered i z))
 
   module _ (word word' : ℕ → ℕ) (s : Sourced points eps p word) (h : v < length points) (own : word' v ≡ suc (numberFor (byKey eps) p entered))
       (other : (u : ℕ) → (u ≡ v → ⊥) → word' u ≡ word u) where
     low : (c : ℕ) → c < length (then .all) → getD (then .all) c noCandidate .mesh ≤ length points
-    low = go (linkFor (byKey eps) p entered) refl
+    low = go (placeFor (byKey eps) p entered) refl
       where
-        go : (k : ℕ) → linkFor (byKey eps) p entered ≡ k → (c : ℕ) → c < length (then .all) → getD (then .all) c noCandidate .mesh ≤ length points
-        go zero z =
+        go : (k : Option ℕ) → placeFor (byKey eps) p entered ≡ k → (c : ℕ) → c < length (then .all) → getD (then .all) c noCandidate .mesh ≤ length points
+        go none z =
             subst (λ (l : List Candidate). (c : ℕ) → c < length l → getD l c noCandidate .mesh ≤ length points) (sym (all-new (byKey eps) p entered z))
             (snoc-all (λ k. k .mesh ≤ length points) (p .all) entered (s .low) (omega arith))
-        go (suc i) z =
+        go (just i) z =
             subst (λ (l : List Candidate). (c : ℕ) → c < length l → getD l c noCandidate .mesh ≤ length points) (sym (all-found (byKey eps) p entered i z))
             (set-all (λ k. k .mesh ≤ length points) (p .all) i (anew i) (s .low) (let m = mesh-anew i in omega arith))
 
-    found : (u c : ℕ) → u < length points → word' u ≡ suc c → linkFor (byKey eps) then (record { point = vertex points u; mesh = u + 1; on = [] }) ≡ suc c
+    found : (u c : ℕ) → u < length points → word' u ≡ suc c → placeFor (byKey eps) then (record { point = vertex points u; mesh = u + 1; on = [] }) ≡ just c
     found u c l e = go (ℕ-discrete u v)
       where
-        go : Dec (u ≡ v) → linkFor (byKey eps) then (record { point = vertex points u; mesh = u + 1; on = [] }) ≡ suc c
+        go : Dec (u ≡ v) → placeFor (byKey eps) then (record { point = vertex points u; mesh = u + 1; on = [] }) ≡ just c
         go (yes q) =
-            ap (λ (x : ℕ). linkFor (byKey eps) then (record { point = vertex points x; mesh = x + 1; on = [] })) q
-            ∙ link-own ∙ sym own ∙ ap word' (sym q) ∙ e
+            ap (λ (x : ℕ). placeFor (byKey eps) then (record { point = vertex points x; mesh = x + 1; on = [] })) q
+            ∙ link-own ∙ ap just (omega (arith, own, e, ap word' q))
         go (no d) = link-stays (record { point = vertex points u; mesh = u + 1; on = [] }) c (s .found u c l (sym (other u d) ∙ e))
 
     abbrev from : ℕ → ℕ
@@ -256,9 +266,9 @@ module _ (points : List Point) (eps : Float) (p : Pool) (v : ℕ) (on : List ℕ
     from-old : (c : ℕ) → (c ≡ length (p .all) → ⊥) → from c ≡ s .source c
     from-old c d = ap (λ (b : Bool). cond b v (s .source c)) (ne-eqb c (length (p .all)) d)
 
-    names-new : (k : ℕ) → linkFor (byKey eps) p entered ≡ k → length (p .all) < length (then .all) → word' v ≡ suc (length (p .all))
-    names-new zero z l = own ∙ ap suc (number-new (byKey eps) p entered z)
-    names-new (suc i) z l = absurd (omega (arith, count-found (byKey eps) p entered i z))
+    names-new : (k : Option ℕ) → placeFor (byKey eps) p entered ≡ k → length (p .all) < length (then .all) → word' v ≡ suc (length (p .all))
+    names-new none z l = own ∙ ap suc (number-new (byKey eps) p entered z)
+    names-new (just i) z l = absurd (omega (arith, count-found (byKey eps) p entered i z))
 
     names-old : (c : ℕ) → c < length (p .all) → Dec (s .source c ≡ v) → word' (s .source c) ≡ suc c
     names-old c l (yes q) =
@@ -270,7 +280,7 @@ module _ (points : List Point) (eps : Float) (p : Pool) (v : ℕ) (on : List ℕ
     within c l (no d) = subst (λ (x : ℕ). x < length points) (sym (from-old c d)) (s .within c (omega (arith, count-most (byKey eps) p entered)))
 
     names : (c : ℕ) → c < length (then .all) → Dec (c ≡ length (p .all)) → word' (from c) ≡ suc c
-    names c l (yes q) = ap word' (from-new c q) ∙ names-new (linkFor (byKey eps) p entered) refl (omega arith) ∙ ap suc (sym q)
+    names c l (yes q) = ap word' (from-new c q) ∙ names-new (placeFor (byKey eps) p entered) refl (omega arith) ∙ ap suc (sym q)
     names c l (no d) = let low : c < length (p .all) = omega (arith, count-most (byKey eps) p entered) in ap word' (from-old c d) ∙ names-old c low (ℕ-discrete (s .source c) v)
 
     pub sourced-kept : Sourced points eps then word'
@@ -310,12 +320,11 @@ module _ (points : List Point) (eps : Float) (p : Pool) (word : ℕ → ℕ) (s 
   pub sourced-few : length (p .all) ≤ length points
   sourced-few = omega (arith, sources-long, pigeonhole (length points) sources differ source-low)
 
-  module _ (v : ℕ) (on : List ℕ) (h : v < length points) (z : linkFor (byKey eps) p (record { point = vertex points v; mesh = v + 1; on = on }) ≡ 0) where
+  module _ (v : ℕ) (on : List ℕ) (h : v < length points) (z : placeFor (byKey eps) p (record { point = vertex points v; mesh = v + 1; on = on }) ≡ none) where
     unnamed : (d : ℕ) → d < length sources → v ≡ getD sources d 0 → ⊥
     unnamed d l e =
         let k : d < length (p .all) = omega (arith, sources-long) in
-        let q : suc d ≡ 0 = sym (s .found v d h (ap word e ∙ word-at d k)) ∙ z in
-        omega arith
+        Option·some-ne-none d (sym (s .found v d h (ap word e ∙ word-at d k)) ∙ z)
 
     all-differ : (c d : ℕ) → c < d → d < length (v ∷ sources) → getD (v ∷ sources) c 0 ≡ getD (v ∷ sources) d 0 → ⊥
     all-differ c zero cd l e = omega arith

@@ -12,6 +12,7 @@
 use Prim.Native.Nat.{ℕ, suc, _+_, _*_, _/_, _%_, _≤_, _<_}
 use mathlib.Core.Path.{_≡_}
 use mathlib.Core.List.{List, [], _∷_, foldl}
+use mathlib.Core.Option.{some}
 use lib.Dec.{leb}
 use lib.ListN.{length, getD}
 use lib.Ieee.{Float}
@@ -22,7 +23,7 @@ use Rattle.geometry.specs.Triangles.{threes}
 use Rattle.geometry.specs.Meshes.{vertex, pointsOf, meshOf}
 use Rattle.edges.specs.Edges.{sides, openEdges}
 use Rattle.candidate_pool.specs.Offsets.{poolEnd, openEdgesAt, edgeTableAt, roomEnd}
-use Rattle.candidate_pool.specs.Pool.{Pool, noCandidate, byKey, linkFor, numberFor, insert}
+use Rattle.candidate_pool.specs.Pool.{Pool, noCandidate, byKey, placeFor, numberFor, insert}
 use Rattle.candidate_pool.specs.Standing.{facesIn, countAt, joinedIn, poolAt, PointIn, Holds, VertexInserted, edgesAt, EdgesHeld}
 use Rattle.candidate_edges.specs.Surface.{Surface, edgeFaces, meshCandidate, enterEdge, edgeSurface, cornerVertices}
 
@@ -47,7 +48,7 @@ VerticesIn vs = (v : ℕ) → v < length vs / 3 → PointIn (vertex (pointsOf vs
 -- A vertex's word is 0 while it was not inserted. `source` of a candidate is the vertex that it was made for.
 pub record Sourced (points : List Point) (eps : Float) (p : Pool) (word : ℕ → ℕ) : Type 0 where
   pub low : (c : ℕ) → c < length (p .all) → getD (p .all) c noCandidate .mesh ≤ length points
-  pub found : (v c : ℕ) → v < length points → word v ≡ suc c → linkFor (byKey eps) p (record { point = vertex points v; mesh = v + 1; on = [] }) ≡ suc c
+  pub found : (v c : ℕ) → v < length points → word v ≡ suc c → placeFor (byKey eps) p (record { point = vertex points v; mesh = v + 1; on = [] }) ≡ some c
   pub source : ℕ → ℕ
   pub within : (c : ℕ) → c < length (p .all) → source c < length points
   pub names : (c : ℕ) → c < length (p .all) → word (source c) ≡ suc c

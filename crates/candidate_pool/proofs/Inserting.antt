@@ -8,6 +8,7 @@ use native.Mathlib.Omega.{arith}
 use mathlib.Core.Path.{_≡_, refl, sym, ap, _∙_}
 use mathlib.Core.Bool.{Bool, true, false, cond, _||_}
 use mathlib.Core.List.{List, [], _∷_, _++_}
+use mathlib.Core.Option.{Option, none, some as just, Option·getD}
 use lib.Dec.{eqb}
 use lib.ListN.{getD, set, length}
 use lib.Seq.{getD-set-same, set-set, getD-append-seam, set-append-seam}
@@ -19,7 +20,7 @@ use Rattle.geometry.specs.declared.point.Point.{Point}
 use Rattle.geometry.specs.Points.{origin}
 use Rattle.geometry.specs.Boxes.{faces}
 use Rattle.mesh_weld.specs.Joining.{Joining}
-use Rattle.candidate_pool.specs.Pool.{Candidate, Pool, noCandidate, renewed, enteredAs, numberAs, added, listed, linkFor, numberFor, insert}
+use Rattle.candidate_pool.specs.Pool.{Candidate, Pool, noCandidate, renewed, enteredAs, added, listed, placeFor, numberFor, insert}
 use Rattle.candidate_pool.specs.Standing.{candidate}
 use Rattle.candidate_pool.specs.Steps.{withFaces}
 use Rattle.candidate_pool.proofs.Listing.{faces-same, keep-faces, has-kept, has-added, listed-at}
@@ -73,19 +74,19 @@ faces-more p c a b h = pool-is (all-twice (p .all) c origin 0 a b h) (listed-twi
 
 -- `on` is in face order, and no more than faces
 pub insert-faces : (J : Joining Point) (p : Pool) (q : Point) (m : ℕ) (on : List ℕ) → keep (λ f. has on f) faces ≡ on
-    → ((i : ℕ) → linkFor J p (candidate q m []) ≡ suc i → i < length (p .all))
+    → ((i : ℕ) → placeFor J p (candidate q m []) ≡ just i → i < length (p .all))
     → withFaces (insert J p (candidate q m [])) (numberFor J p (candidate q m [])) on ≡ insert J p (candidate q m on)
 unfolding insert numberFor renewed some
-insert-faces J p q m on canonical low = pool-is (go (linkFor J p (candidate q m [])) refl) (listed-twice (p .lists) [] on (numberFor J p (candidate q m [])))
+insert-faces J p q m on canonical low = pool-is (go (placeFor J p (candidate q m [])) refl) (listed-twice (p .lists) [] on (numberFor J p (candidate q m [])))
   where
-    go : (k : ℕ) → linkFor J p (candidate q m []) ≡ k
-        → set (enteredAs (p .all) (candidate q m []) k) (numberAs (p .all) k) (renewed (getD (enteredAs (p .all) (candidate q m []) k) (numberAs (p .all) k) noCandidate) (candidate origin 0 on))
+    go : (k : Option ℕ) → placeFor J p (candidate q m []) ≡ k
+        → set (enteredAs (p .all) (candidate q m []) k) (Option·getD k (length (p .all))) (renewed (getD (enteredAs (p .all) (candidate q m []) k) (Option·getD k (length (p .all))) noCandidate) (candidate origin 0 on))
         ≡ enteredAs (p .all) (candidate q m on) k
-    go zero e =
+    go none e =
         set-append-seam (p .all) (candidate q m []) [] (renewed (getD (p .all ++ (candidate q m [] ∷ [])) (length (p .all)) noCandidate) (candidate origin 0 on))
         ∙ ap (λ (y : Candidate). p .all ++ (renewed y (candidate origin 0 on) ∷ [])) (getD-append-seam (p .all) (candidate q m []) [] noCandidate)
         ∙ ap (λ (o : List ℕ). p .all ++ (candidate q m o ∷ [])) canonical
-    go (suc i) e = all-twice (p .all) i q m [] on (low i e)
+    go (just i) e = all-twice (p .all) i q m [] on (low i e)
 
 pub one-face : (f : ℕ) → f < 6 → keep (λ g. has (f ∷ []) g) faces ≡ f ∷ []
 unfolding keep some

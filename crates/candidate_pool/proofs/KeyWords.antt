@@ -21,8 +21,8 @@ use Rattle.rounding.specs.Rounding.{halfUp, rounded, key, keyWord}
 use Rattle.rounding.proofs.Keys.{same-word}
 use Rattle.geometry.specs.declared.point.Point.{Point}
 use Rattle.geometry.specs.Points.{origin}
-use Rattle.chains.specs.Links.{linkTo}
-use Rattle.chains.proofs.Firsts.{linkTo-places}
+use Rattle.chains.specs.Links.{linkOf, linkTo}
+use Rattle.chains.proofs.Firsts.{linkTo-places, places-link}
 use Rattle.mesh_weld.specs.Cells.{keyOf, same, sameKey}
 use Rattle.candidate_pool.specs.Offsets.{keysAt}
 use Rattle.candidate_pool.specs.Pool.{byKey}
@@ -82,8 +82,9 @@ words-keys eps p q =
 
 -- ---- the search
 
-pub found-is : (eps : Float) (p : Point) (l : List Point) (w : List ℕ) (n : ℕ) → ((i : ℕ) → i < length l → keyAt w (keysAt n + 3 * i) ≡ keyWords (keyOf eps (getD l i origin))) → linkTo (keyIs w n (keyWords (keyOf eps p))) (upTo (length l)) ≡ byKey eps .find p l
+pub found-is : (eps : Float) (p : Point) (l : List Point) (w : List ℕ) (n : ℕ) → ((i : ℕ) → i < length l → keyAt w (keysAt n + 3 * i) ≡ keyWords (keyOf eps (getD l i origin))) → linkTo (keyIs w n (keyWords (keyOf eps p))) (upTo (length l)) ≡ linkOf (byKey eps .find p l)
 unfolding byKey
 found-is eps p l w n stands =
     linkTo-places (λ q. sameKey (keyOf eps q) (keyOf eps p)) origin l (keyIs w n (keyWords (keyOf eps p)))
     (λ i h. ap (λ k. sameWords k (keyWords (keyOf eps p))) (stands i h) ∙ words-keys eps (getD l i origin) p)
+    ∙ places-link (λ q. sameKey (keyOf eps q) (keyOf eps p)) origin l

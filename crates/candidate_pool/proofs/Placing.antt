@@ -12,6 +12,7 @@ use native.Mathlib.Decide.{ℕ-discrete}
 use mathlib.Core.Path.{_≡_, refl, sym, ap, subst, _∙_}
 use mathlib.Core.Bool.{Bool, cond, _||_}
 use mathlib.Core.List.{List, [], _∷_, _++_, map}
+use mathlib.Core.Option.{Option, none, some as just}
 use lib.ListN.{getD, set, length, length-append, length-set, List·getD-append}
 use lib.Seq.{getD-set-same, getD-set-other, getD-append-seam, set-getD}
 use lib.Ieee.{Float, binary64, ofBits, toBits}
@@ -24,12 +25,13 @@ use Rattle.geometry.specs.Points.{pt}
 use Rattle.geometry.specs.Boxes.{faces}
 use Rattle.box_faces.specs.Faces.{hasBit}
 use Rattle.chains.specs.Hash.{mixed, InBucket}
-use Rattle.chains.specs.Links.{linkTo}
+use Rattle.chains.specs.Links.{linkOf, linkTo}
+use Rattle.chains.proofs.Firsts.{link-none, link-some}
 use Rattle.chains.proofs.Entering.{linked-cong, linked-same}
 use Rattle.mesh_weld.specs.Cells.{keyOf}
 use Rattle.candidate_pool.specs.Offsets.{entryAt, keysAt, chainAt, listsAt, listAt}
 use Rattle.candidate_pool.specs.declared.keys.KeyWords.{KeyWords}
-use Rattle.candidate_pool.specs.Pool.{Candidate, Pool, noCandidate, byKey, renewed, enteredAs, listed, linkFor, numberFor, insert}
+use Rattle.candidate_pool.specs.Pool.{Candidate, Pool, noCandidate, byKey, renewed, enteredAs, listed, placeFor, numberFor, insert}
 use Rattle.candidate_pool.specs.Room.{keyWords, keyAt, sameWords, keyBucket, KeyTable}
 use Rattle.candidate_pool.specs.Standing.{facesIn, candidate, countAt, pointAt, candidateAt, poolAt, PointIn, Stored, Tidy, Holds, RoomFor, Inserted}
 use Rattle.candidate_pool.specs.Steps.{BitsOf, pointPut, candidatePut}
@@ -143,13 +145,13 @@ module _ (eps : Float) (n : ℕ) (w : List ℕ) (h : Holds eps n w) (p : Point) 
           candidate-same w new c (λ i s. old-word c i r s)
           ∙ sym (List·getD-append (poolAt n w .all) (candidate p m [] ∷ []) noCandidate c (omega (arith, pool-count n w)) ∙ pool-at n w c r)
 
-  pub push-pool : linkFor (byKey eps) (poolAt n w) (candidate p m []) ≡ 0 → poolAt n new ≡ insert (byKey eps) (poolAt n w) (candidate p m [])
+  pub push-pool : placeFor (byKey eps) (poolAt n w) (candidate p m []) ≡ none → poolAt n new ≡ insert (byKey eps) (poolAt n w) (candidate p m [])
   unfolding insert listed some poolAt
   push-pool q =
       appended
       ∙ sym (λ i. record { all = enteredAs (poolAt n w .all) (candidate p m []) (q i); lists = map (λ f. view w (listAt n f) (getD w f 0)) faces })
 
-  push-holds : linkFor (byKey eps) (poolAt n w) (candidate p m []) ≡ 0 → Holds eps n new
+  push-holds : placeFor (byKey eps) (poolAt n w) (candidate p m []) ≡ none → Holds eps n new
   push-holds q =
       record {
         size = omega (arith, h .size, put .long);
@@ -182,7 +184,7 @@ module _ (eps : Float) (n : ℕ) (w : List ℕ) (h : Holds eps n w) (p : Point) 
       masks c k (yes e) = rw e (omega (arith, put .mask))
       masks c k (no d) = let r : c < id = omega arith in omega (arith, old-word c 4 r (omega arith), h .masks c r)
 
-  pub push-inserted : linkFor (byKey eps) (poolAt n w) (candidate p m []) ≡ 0 → Inserted eps n (candidate p m []) w new
+  pub push-inserted : placeFor (byKey eps) (poolAt n w) (candidate p m []) ≡ none → Inserted eps n (candidate p m []) w new
   push-inserted q =
       record {
         pool = push-pool q;
@@ -198,7 +200,7 @@ unfolding some
 kept-none t = keep-faces (λ f. has (keep t faces) f || has [] f) t (λ f h. or-last (has (keep t faces) f) ∙ has-kept t f h)
 
 module _ (eps : Float) (n : ℕ) (w : List ℕ) (h : Holds eps n w) (p : Point) (m id : ℕ)
-    (found : linkFor (byKey eps) (poolAt n w) (candidate p m []) ≡ suc id) where
+    (found : placeFor (byKey eps) (poolAt n w) (candidate p m []) ≡ just id) where
   abbrev renewedPool : Pool
   renewedPool =
       record {
@@ -344,14 +346,17 @@ module _ (eps : Float) (n : ℕ) (w : List ℕ) (h : Holds eps n w) (p : Point) 
 module _ (eps : Float) (n : ℕ) (w : List ℕ) (h : Holds eps n w) (p : Point) (m : ℕ) (k : KeyWords) (b link : ℕ)
     (key-is : k ≡ keyWords (keyOf eps p)) (in-bucket : InBucket (mixed (k .x) (k .y) (k .z)) n b)
     (searched : link ≡ linkTo (λ i. sameWords (keyAt w (keysAt n + 3 * i)) k) (upTo (countAt w))) where
-  linked : link ≡ linkFor (byKey eps) (poolAt n w) (candidate p m [])
+  linked : link ≡ linkOf (placeFor (byKey eps) (poolAt n w) (candidate p m []))
   linked = searched ∙ ap (λ (q : KeyWords). linkTo (keyIs w n q) (upTo (countAt w))) key-is ∙ link-is eps n w h (candidate p m [])
 
-  hit : (link ≡ 0 → ⊥) → linkFor (byKey eps) (poolAt n w) (candidate p m []) ≡ suc (link - 1)
-  hit some = sym linked ∙ omega arith
+  hit : (link ≡ 0 → ⊥) → placeFor (byKey eps) (poolAt n w) (candidate p m []) ≡ just (link - 1)
+  hit some = link-some (placeFor (byKey eps) (poolAt n w) (candidate p m [])) link linked some
+
+  miss : link ≡ 0 → placeFor (byKey eps) (poolAt n w) (candidate p m []) ≡ none
+  miss z = link-none (placeFor (byKey eps) (poolAt n w) (candidate p m [])) link linked z
 
   pub miss-room : link ≡ 0 → RoomFor eps n w (candidate p m []) → countAt w < n
-  miss-room z room = room (sym linked ∙ z)
+  miss-room z room = room (miss z)
 
   pub hit-room : (link ≡ 0 → ⊥) → entryAt (link - 1) + 3 < length w
   hit-room some = omega (arith, link-low eps n w h (candidate p m []) (link - 1) (hit some), h .table .few, h .size)
@@ -360,7 +365,7 @@ module _ (eps : Float) (n : ℕ) (w : List ℕ) (h : Holds eps n w) (p : Point) 
       → Inserted eps n (candidate p m []) w v
   placed-new v z room within bits e =
       subst (λ (u : List ℕ). Inserted eps n (candidate p m []) w u) (sym (e ∙ ap (λ (q : KeyWords). candidatePut w n (countAt w) p m q b) key-is))
-      (push-inserted eps n w h p m within bits (miss-room z room) b (in-bucket .is ∙ ap (keyBucket n) key-is) (in-bucket .low) (sym linked ∙ z))
+      (push-inserted eps n w h p m within bits (miss-room z room) b (in-bucket .is ∙ ap (keyBucket n) key-is) (in-bucket .low) (miss z))
 
   pub placed-moved : (v : List ℕ) → (link ≡ 0 → ⊥) → (m ≡ 0 → ⊥) → PointIn p → BitsOf p → v ≡ pointPut w (link - 1) p m → Inserted eps n (candidate p m []) w v
   placed-moved v some vertex within bits e =
@@ -370,7 +375,7 @@ module _ (eps : Float) (n : ℕ) (w : List ℕ) (h : Holds eps n w) (p : Point) 
   placed-kept some z = kept-inserted eps n w h p m (link - 1) (hit some) z
 
   pub number-miss : link ≡ 0 → countAt w ≡ numberFor (byKey eps) (poolAt n w) (candidate p m [])
-  number-miss z = sym (number-new (byKey eps) (poolAt n w) (candidate p m []) (sym linked ∙ z) ∙ pool-count n w)
+  number-miss z = sym (number-new (byKey eps) (poolAt n w) (candidate p m []) (miss z) ∙ pool-count n w)
 
   pub number-hit : (link ≡ 0 → ⊥) → link - 1 ≡ numberFor (byKey eps) (poolAt n w) (candidate p m [])
   number-hit some = sym (number-found (byKey eps) (poolAt n w) (candidate p m []) (link - 1) (hit some))

@@ -14,7 +14,9 @@ use Prim.Native.Nat.{ℕ, zero, suc, _+_, _*_, _≤_, _<_}
 use native.Mathlib.Omega.{arith}
 use native.Mathlib.Nat.{mul-le-mul-right}
 use mathlib.Core.Path.{_≡_, refl, sym, ap, _∙_}
+use mathlib.Core.Bool.{Bool}
 use mathlib.Core.List.{List, [], map}
+use mathlib.Core.Option.{Option, none, some}
 use lib.ListN.{getD, length, length-map, List·getD-map}
 use lib.Seq.{ext-getD}
 use lib.Ieee.{Float, binary64, ofBits}
@@ -27,15 +29,16 @@ use Rattle.lists.proofs.Pigeonhole.{pigeonhole}
 use Rattle.geometry.specs.declared.point.Point.{Point}
 use Rattle.geometry.specs.Points.{pt, origin}
 use Rattle.geometry.specs.Boxes.{faces}
-use Rattle.chains.specs.Links.{linkTo}
-use Rattle.chains.proofs.Firsts.{linkTo-first}
+use Rattle.chains.specs.Links.{linkOf, linkTo}
+use Rattle.chains.proofs.Firsts.{places-link, link-found}
 use Rattle.mesh_weld.specs.Cells.{keyOf, sameKey}
 use Rattle.candidate_pool.specs.Offsets.{entryAt, keysAt, listsAt, listAt, joinedAt, poolEnd}
-use Rattle.candidate_pool.specs.Pool.{Candidate, noCandidate, faceList, byKey, linkFor, pointOf}
+use Rattle.candidate_pool.specs.Pool.{Candidate, noCandidate, faceList, byKey, placeFor, pointOf}
 use Rattle.candidate_pool.specs.Room.{keyWords, keyAt}
 use Rattle.candidate_pool.specs.Standing.{facesIn, countAt, pointAt, candidateAt, poolAt, Holds, RoomFor, Tidy}
 use Rattle.candidate_pool.proofs.Listing.{at-faces, faces-same}
 use Rattle.candidate_pool.proofs.Searching.{keyIs, words-same}
+use Rattle.candidate_pool.proofs.Rule.{key-lawful}
 use Rattle.candidate_pool.proofs.KeyWords.{words-keys, found-is}
 
 -- ---- the pool by its parts
@@ -124,29 +127,28 @@ module _ (eps : Float) (n : ℕ) (w : List ℕ) (h : Holds eps n w) where
   point-is : (c : ℕ) → c < countAt w → getD points c origin ≡ pointAt w (entryAt c)
   point-is c k = List·getD-map (λ c. c .point) (poolAt n w .all) c noCandidate ∙ ap (λ (x : Candidate). x .point) (pool-at n w c k)
 
-  pub link-is : (e : Candidate) → linkTo (keyIs w n (keyWords (keyOf eps (e .point)))) (upTo (countAt w)) ≡ linkFor (byKey eps) (poolAt n w) e
+  pub link-is : (e : Candidate) → linkTo (keyIs w n (keyWords (keyOf eps (e .point)))) (upTo (countAt w)) ≡ linkOf (placeFor (byKey eps) (poolAt n w) e)
   link-is e =
       ap (λ (k : ℕ). linkTo (keyIs w n (keyWords (keyOf eps (e .point)))) (upTo k)) (sym points-long)
       ∙ found-is eps (e .point) points w n
       (λ i k. let r : i < countAt w = omega (arith, points-long) in h .keys i r ∙ ap (λ (p : Point). keyWords (keyOf eps p)) (sym (point-is i r)))
 
-  pub link-low : (e : Candidate) (i : ℕ) → linkFor (byKey eps) (poolAt n w) e ≡ suc i → i < countAt w
-  unfolding byKey
-  link-low e i q = let f = linkTo-first (λ p. sameKey (keyOf eps p) (keyOf eps (e .point))) origin points .some i q in omega (arith, f .within, points-long)
+  pub link-low : (e : Candidate) (i : ℕ) → placeFor (byKey eps) (poolAt n w) e ≡ some i → i < countAt w
+  link-low e i q = omega (arith, key-lawful eps .found (e .point) points i q .0, points-long)
 
-  pub link-key : (e : Candidate) (i : ℕ) → linkFor (byKey eps) (poolAt n w) e ≡ suc i → keyAt w (keysAt n + 3 * i) ≡ keyWords (keyOf eps (e .point))
+  pub link-key : (e : Candidate) (i : ℕ) → placeFor (byKey eps) (poolAt n w) e ≡ some i → keyAt w (keysAt n + 3 * i) ≡ keyWords (keyOf eps (e .point))
   unfolding byKey
   link-key e i q =
-      let f = linkTo-first (λ p. sameKey (keyOf eps p) (keyOf eps (e .point))) origin points .some i q in
+      let t : Point → Bool = λ p. sameKey (keyOf eps p) (keyOf eps (e .point)) in
       h .keys i (link-low e i q)
       ∙ words-same (keyWords (keyOf eps (pointAt w (entryAt i)))) (keyWords (keyOf eps (e .point)))
       (words-keys eps (pointAt w (entryAt i)) (e .point)
       ∙ ap (λ (p : Point). sameKey (keyOf eps p) (keyOf eps (e .point))) (sym (point-is i (link-low e i q)))
-      ∙ is-true (sameKey (keyOf eps (getD points i origin)) (keyOf eps (e .point))) (f .has))
+      ∙ link-found t origin points i (places-link t origin points ∙ ap linkOf q) .1)
 
   pub some-room : (e : Candidate) → RoomFor eps n w e → 0 < n
-  some-room e room = go (linkFor (byKey eps) (poolAt n w) e) refl
+  some-room e room = go (placeFor (byKey eps) (poolAt n w) e) refl
     where
-      go : (k : ℕ) → linkFor (byKey eps) (poolAt n w) e ≡ k → 0 < n
-      go zero q = omega (arith, room q)
-      go (suc i) q = omega (arith, link-low e i q, h .table .few)
+      go : (k : Option ℕ) → placeFor (byKey eps) (poolAt n w) e ≡ k → 0 < n
+      go none q = omega (arith, room q)
+      go (some i) q = omega (arith, link-low e i q, h .table .few)

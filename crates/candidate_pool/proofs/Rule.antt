@@ -1,8 +1,8 @@
 -- "One key, one candidate" is a lawful joining rule: it is symmetric, what is found joins, and where nothing is found none joins. Assumes nothing.
 --   key-symmetric   two keys are one either way
 --   key-lawful      the rule's laws
-use Prim.Native.Nat.{ℕ, zero-le}
-use mathlib.Core.Path.{_≡_, refl, sym, subst, _∙_}
+use Prim.Native.Nat.{ℕ}
+use mathlib.Core.Path.{_≡_, refl, sym, ap, subst, _∙_}
 use mathlib.Core.Bool.{_&&_}
 use lib.Dec.{T, T-not, eqb, eqb→eq, eqb-refl}
 use lib.IntN.{ℤ, pos, negsuc}
@@ -11,7 +11,9 @@ use lib.Ieee.{Float}
 use borrow.Author.Tests.{eq-eqb, ne-eqb}
 use Rattle.lists.proofs.Bools.{by-test, is-true, is-false}
 use Rattle.geometry.specs.declared.point.Point.{Point}
-use Rattle.chains.proofs.Firsts.{linkTo-first}
+use Rattle.geometry.specs.Points.{origin}
+use Rattle.chains.proofs.Firsts.{places-link, link-found, link-absent}
+use Rattle.chains.specs.Links.{linkOf}
 use Rattle.mesh_weld.specs.Joining.{Lawful}
 use Rattle.mesh_weld.specs.Cells.{Key, keyOf, same, sameKey}
 use Rattle.candidate_pool.specs.Pool.{byKey}
@@ -37,9 +39,11 @@ key-lawful eps =
     record {
       symmetric = λ p q. key-symmetric (keyOf eps p) (keyOf eps q);
       found = λ p l k e.
-          let f = linkTo-first (λ q. sameKey (keyOf eps q) (keyOf eps p)) p l .some k e in
-          (f .within, key-symmetric (keyOf eps p) (keyOf eps (getD l k p)) ∙ is-true (sameKey (keyOf eps (getD l k p)) (keyOf eps p)) (f .has));
+          let f = link-found (λ q. sameKey (keyOf eps q) (keyOf eps p)) p l k (places-link (λ q. sameKey (keyOf eps q) (keyOf eps p)) origin l ∙ ap linkOf e) in
+          (f .0, key-symmetric (keyOf eps p) (keyOf eps (getD l k p)) ∙ f .1);
       none = λ p l e k h.
           key-symmetric (keyOf eps p) (keyOf eps (getD l k p))
-          ∙ is-false (sameKey (keyOf eps (getD l k p)) (keyOf eps p)) (λ t. linkTo-first (λ q. sameKey (keyOf eps q) (keyOf eps p)) p l .none e k zero-le h t);
+          ∙ is-false (sameKey (keyOf eps (getD l k p)) (keyOf eps p))
+          (λ t. link-absent (λ q. sameKey (keyOf eps q) (keyOf eps p)) p l (places-link (λ q. sameKey (keyOf eps q) (keyOf eps p)) origin l ∙ ap linkOf e) k h
+          (is-true (sameKey (keyOf eps (getD l k p)) (keyOf eps p)) t));
     }

@@ -8,6 +8,7 @@ use native.Mathlib.Decide.{ℕ-discrete}
 use mathlib.Core.Path.{_≡_, refl, sym, ap, subst, _∙_}
 use mathlib.Core.Bool.{Bool, true, false, cond, _&&_, _||_}
 use mathlib.Core.List.{List, [], _∷_, _++_}
+use mathlib.Core.Option.{Option, none, some}
 use lib.Dec.{T, eqb}
 use lib.ListN.{getD, set, length, length-append, length-set, List·getD-append}
 use lib.Seq.{getD-set-same, getD-set-other, getD-append-seam}
@@ -19,7 +20,7 @@ use Rattle.lists.proofs.Members.{of-has, mem-getD}
 use Rattle.geometry.specs.declared.point.Point.{Point}
 use Rattle.geometry.specs.Points.{origin}
 use Rattle.mesh_weld.specs.Joining.{Joining, Lawful}
-use Rattle.candidate_pool.specs.Pool.{Candidate, Pool, noCandidate, noPool, faceList, renewed, added, linkFor, numberFor, insert}
+use Rattle.candidate_pool.specs.Pool.{Candidate, Pool, noCandidate, noPool, faceList, renewed, added, placeFor, numberFor, insert}
 use Rattle.candidate_pool.specs.Standing.{candidate, Tidy}
 use Rattle.candidate_pool.specs.Steps.{withFaces}
 use Rattle.candidate_pool.proofs.Listing.{at-faces, has-kept, has-added, listed-at}
@@ -177,9 +178,9 @@ tidy-insert J p e lawful t =
       low = number-low J p e lawful;
       more = count-grows J p e;
       lists = λ f hf. listed-at (p .lists) (e .on) c f hf;
-      kept = λ d hd n. kept (linkFor J p e) refl d hd n;
-      others = λ d hd n. others (linkFor J p e) refl d hd n;
-      own = λ f hf. own (linkFor J p e) refl f hf;
+      kept = λ d hd n. kept (placeFor J p e) refl d hd n;
+      others = λ d hd n. others (placeFor J p e) refl d hd n;
+      own = λ f hf. own (placeFor J p e) refl f hf;
     })
     t
   where
@@ -189,24 +190,24 @@ tidy-insert J p e lawful t =
     all : List Candidate
     all = p .all
 
-    kept : (k : ℕ) → linkFor J p e ≡ k → (d : ℕ) → d < length (insert J p e .all) → (d ≡ c → ⊥) → d < length all
-    kept zero q d hd n = let a = count-new J p e q in let b = number-new J p e q in let m : (d ≡ length all → ⊥) = λ z. n (z ∙ sym b) in omega arith
-    kept (suc i) q d hd n = omega (arith, count-found J p e i q)
+    kept : (k : Option ℕ) → placeFor J p e ≡ k → (d : ℕ) → d < length (insert J p e .all) → (d ≡ c → ⊥) → d < length all
+    kept none q d hd n = let a = count-new J p e q in let b = number-new J p e q in let m : (d ≡ length all → ⊥) = λ z. n (z ∙ sym b) in omega arith
+    kept (some i) q d hd n = omega (arith, count-found J p e i q)
 
-    others : (k : ℕ) → linkFor J p e ≡ k → (d : ℕ) → d < length all → (d ≡ c → ⊥) → getD (insert J p e .all) d noCandidate ≡ getD all d noCandidate
-    others zero q d hd n = ap (λ (l : List Candidate). getD l d noCandidate) (all-new J p e q) ∙ List·getD-append all (e ∷ []) noCandidate d hd
-    others (suc i) q d hd n =
+    others : (k : Option ℕ) → placeFor J p e ≡ k → (d : ℕ) → d < length all → (d ≡ c → ⊥) → getD (insert J p e .all) d noCandidate ≡ getD all d noCandidate
+    others none q d hd n = ap (λ (l : List Candidate). getD l d noCandidate) (all-new J p e q) ∙ List·getD-append all (e ∷ []) noCandidate d hd
+    others (some i) q d hd n =
         ap (λ (l : List Candidate). getD l d noCandidate) (all-found J p e i q)
         ∙ getD-set-other all i d (renewed (getD all i noCandidate) e) noCandidate (λ z. n (z ∙ sym (number-found J p e i q)))
 
-    own : (k : ℕ) → linkFor J p e ≡ k → (f : ℕ) → f < 6 → has (getD (insert J p e .all) c noCandidate .on) f ≡ (has (faceList p f) c || has (e .on) f)
-    own zero q f hf =
+    own : (k : Option ℕ) → placeFor J p e ≡ k → (f : ℕ) → f < 6 → has (getD (insert J p e .all) c noCandidate .on) f ≡ (has (faceList p f) c || has (e .on) f)
+    own none q f hf =
         ap (λ (l : List Candidate). has (getD l c noCandidate .on) f) (all-new J p e q)
         ∙ ap (λ (d : ℕ). has (getD (all ++ (e ∷ [])) d noCandidate .on) f) (number-new J p e q)
         ∙ ap (λ (y : Candidate). has (y .on) f) (getD-append-seam all e [] noCandidate)
         ∙ ap (λ (b : Bool). b || has (e .on) f) (sym (low-absent (length all) (faceList p f) (λ i h. t .low f i hf h)))
         ∙ ap (λ (d : ℕ). has (faceList p f) d || has (e .on) f) (sym (number-new J p e q))
-    own (suc i) q f hf =
+    own (some i) q f hf =
         ap (λ (l : List Candidate). has (getD l c noCandidate .on) f) (all-found J p e i q)
         ∙ ap (λ (d : ℕ). has (getD (set all i (renewed (getD all i noCandidate) e)) d noCandidate .on) f) (number-found J p e i q)
         ∙ ap (λ (y : Candidate). has (y .on) f) (getD-set-same all i (renewed (getD all i noCandidate) e) noCandidate (found-low J p e lawful i q))

@@ -1,22 +1,24 @@
 -- Candidates and their insertion (document 01, module 5; `insert_candidate` of boundary_closure.rs). Assumes nothing.
 --   Candidate     a point, "mesh vertex + 1 or 0", its faces. What is inserted has the same form
---   byKey         "One key, one candidate": the joining rule of candidates
+--   byKey         "One key, one candidate": the joining rule of candidates, which finds the first with the key
 --   Pool          the candidates so far, and the list of each face       pointOf   the point of candidate c
---   numberFor     the number of the candidate that an inserted one becomes part of, or gets
+--   placeFor      the place of the candidate that an inserted one becomes part of, or none
+--   numberFor     that place, or the number that it gets as a new one
 --   renewed       a candidate after another was inserted with its key
 --   listed        `push_unique`: the face lists after candidate c was added to some faces
---   insert        `insert_candidate`
-use Prim.Native.Nat.{ℕ, zero, suc}
+--   insert        `insert_candidate`: the candidate found is renewed, else the new one stands behind all
+use Prim.Native.Nat.{ℕ}
 use mathlib.Core.Bool.{cond, _||_}
 use mathlib.Core.List.{List, [], _∷_, _++_, map}
+use mathlib.Core.Option.{Option, none, some, Option·getD}
 use lib.Dec.{eqb}
 use lib.ListN.{getD, set, length}
 use lib.Ieee.{Float}
-use Rattle.lists.specs.Lists.{keep, has}
+use Rattle.lists.specs.Lists.{first, keep, has, upTo}
 use Rattle.geometry.specs.declared.point.Point.{Point}
 use Rattle.geometry.specs.Points.{origin}
 use Rattle.geometry.specs.Boxes.{faces}
-use Rattle.chains.specs.Links.{linkTo}
+use Rattle.geometry.specs.Meshes.{vertex}
 use Rattle.mesh_weld.specs.Joining.{Joining}
 use Rattle.mesh_weld.specs.Cells.{keyOf, sameKey}
 
@@ -29,11 +31,10 @@ abbrev pub noCandidate : Candidate
 noCandidate = record { point = origin; mesh = 0; on = [] }
 
 unfoldable pub byKey : Float → Joining Point
-unfolding sameKey keyOf linkTo
 byKey eps =
     record {
       joins = λ p q. sameKey (keyOf eps p) (keyOf eps q);
-      find = λ p l. linkTo (λ q. sameKey (keyOf eps q) (keyOf eps p)) l;
+      find = λ p l. first (λ k. sameKey (keyOf eps (vertex l k)) (keyOf eps p)) (upTo (length l));
     }
 
 pub record Pool : Type 0 where
@@ -58,14 +59,10 @@ renewed c e =
       on = keep (λ f. has (c .on) f || has (e .on) f) faces;
     }
 
--- by the link to the candidate that has the same key, if there is one
-abbrev pub enteredAs : List Candidate → Candidate → ℕ → List Candidate
-enteredAs l e zero = l ++ (e ∷ [])
-enteredAs l e (suc i) = set l i (renewed (getD l i noCandidate) e)
-
-abbrev pub numberAs : List Candidate → ℕ → ℕ
-numberAs l zero = length l
-numberAs l (suc i) = i
+-- the candidate at the place found is renewed; where none was found, e stands behind all
+abbrev pub enteredAs : List Candidate → Candidate → Option ℕ → List Candidate
+enteredAs l e (some i) = set l i (renewed (getD l i noCandidate) e)
+enteredAs l e none = l ++ (e ∷ [])
 
 abbrev pub added : List ℕ → ℕ → List ℕ
 added l c = cond (has l c) l (l ++ (c ∷ []))
@@ -75,12 +72,11 @@ unfoldable pub listed : List (List ℕ) → List ℕ → ℕ → List (List ℕ)
 listed lists on c = map (λ f. let l = getD lists f [] in cond (has on f) (added l c) l) faces
 
 module _ (J : Joining Point) where
-  abbrev pub linkFor : Pool → Candidate → ℕ
-  linkFor p e = J .find (e .point) (map (λ c. c .point) (p .all))
+  abbrev pub placeFor : Pool → Candidate → Option ℕ
+  placeFor p e = J .find (e .point) (map (λ c. c .point) (p .all))
 
   unfoldable pub numberFor : Pool → Candidate → ℕ
-  numberFor p e = numberAs (p .all) (linkFor p e)
+  numberFor p e = Option·getD (placeFor p e) (length (p .all))
 
   unfoldable pub insert : Pool → Candidate → Pool
-  unfolding numberFor
-  insert p e = record { all = enteredAs (p .all) e (linkFor p e); lists = listed (p .lists) (e .on) (numberFor p e) }
+  insert p e = record { all = enteredAs (p .all) e (placeFor p e); lists = listed (p .lists) (e .on) (numberFor p e) }

@@ -19,6 +19,7 @@ use Prim.Native.Nat.{ℕ, suc, _+_, _*_, _≤_, _<_, _^_}
 use mathlib.Core.Path.{_≡_}
 use mathlib.Core.Bool.{true}
 use mathlib.Core.List.{List, [], _∷_, map, flatMap}
+use mathlib.Core.Option.{none}
 use lib.ListN.{length, getD, set}
 use lib.Ieee.{Float, binary64, ofBits, toBits}
 use Rattle.lists.specs.Lists.{keep, has, upTo}
@@ -31,7 +32,7 @@ use Rattle.geometry.specs.Triangles.{Triangle, tri}
 use Rattle.mesh_weld.specs.Cells.{keyOf}
 use Rattle.box_faces.specs.Faces.{hasBit}
 use Rattle.candidate_pool.specs.Offsets.{entryAt, keysAt, listAt, joinedAt, poolEnd}
-use Rattle.candidate_pool.specs.Pool.{Candidate, Pool, noCandidate, noPool, faceList, renewed, listed, byKey, linkFor, numberFor, insert}
+use Rattle.candidate_pool.specs.Pool.{Candidate, Pool, noCandidate, noPool, faceList, renewed, listed, byKey, placeFor, numberFor, insert}
 use Rattle.candidate_pool.specs.Room.{keyWords, keyAt, KeyTable}
 
 abbrev pub facesIn : ℕ → List ℕ
@@ -81,7 +82,7 @@ pub record Holds (eps : Float) (n : ℕ) (w : List ℕ) : Type 0 where
   pub tidy : Tidy (poolAt n w)
 
 abbrev pub RoomFor : Float → ℕ → List ℕ → Candidate → Type 0
-RoomFor eps n w e = linkFor (byKey eps) (poolAt n w) e ≡ 0 → countAt w < n
+RoomFor eps n w e = placeFor (byKey eps) (poolAt n w) e ≡ none → countAt w < n
 
 -- only the words below joinedAt change
 pub record Inserted (eps : Float) (n : ℕ) (e : Candidate) (w w' : List ℕ) : Type 0 where

@@ -7,6 +7,7 @@ use native.Mathlib.Omega.{arith}
 use mathlib.Core.Bool.{Bool, true, false, cond, _&&_}
 use mathlib.Core.Path.{_≡_, ap, _∙_}
 use mathlib.Core.List.{List, [], _∷_, _++_, map, flatMap, foldl}
+use mathlib.Core.Option.{Option, none, some}
 use lib.Dec.{eqb, leb}
 use lib.ListN.{length, getD, set, length-map}
 use lib.Ieee.{Float}
@@ -23,7 +24,7 @@ use Rattle.geometry.proofs.Meshes.{length-pointsOf}
 use Rattle.mesh_weld.specs.Joining.{Joining}
 use Rattle.box_faces.specs.Faces.{uAxis, vAxis, project}
 use Rattle.candidate_pool.specs.Offsets.{entryAt, poolEnd}
-use Rattle.candidate_pool.specs.Pool.{Candidate, Pool, noCandidate, byKey, renewed, enteredAs, linkFor, insert}
+use Rattle.candidate_pool.specs.Pool.{Candidate, Pool, noCandidate, byKey, renewed, enteredAs, placeFor, insert}
 use Rattle.candidate_pool.specs.Setting.{Setting}
 use Rattle.candidate_pool.specs.Standing.{countAt, candidateAt, poolAt}
 use Rattle.candidate_edges.specs.Surface.{meshCandidate, edgeFaces, cornerVertices, edgeSurface, meshPool}
@@ -70,13 +71,13 @@ renewed-low m c e h k = go (eqb (e .mesh) 0)
     go false = k
 
 module _ (J : Joining Point) (m : ℕ) where
-  entered-low : (l : List Candidate) (e : Candidate) (link : ℕ) → LowAll m l → Names m e → LowAll m (enteredAs l e link)
-  entered-low l e zero h k = low-append m l e h k
-  entered-low l e (suc i) h k = low-set m l i (renewed (getD l i noCandidate) e) h (renewed-low m (getD l i noCandidate) e (h i) k)
+  entered-low : (l : List Candidate) (e : Candidate) (place : Option ℕ) → LowAll m l → Names m e → LowAll m (enteredAs l e place)
+  entered-low l e none h k = low-append m l e h k
+  entered-low l e (some i) h k = low-set m l i (renewed (getD l i noCandidate) e) h (renewed-low m (getD l i noCandidate) e (h i) k)
 
   pub low-insert : (p : Pool) (e : Candidate) → Low m p → Names m e → Low m (insert J p e)
   unfolding insert
-  low-insert p e h k = entered-low (p .all) e (linkFor J p e) h k
+  low-insert p e h k = entered-low (p .all) e (placeFor J p e) h k
 
   pub low-fold : (p : Pool) (l : List Candidate) → Low m p → Each (Names m) l → Low m (foldl (insert J) p l)
   low-fold p [] h k = h

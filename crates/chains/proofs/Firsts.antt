@@ -1,18 +1,20 @@
 -- Laws of links to the first and the last number with a property (specs/Links.antt).
-use Prim.Native.Nat.{ℕ, zero, suc, _+_, _-_, _≤_, _<_}
+use Prim.Native.Nat.{ℕ, zero, suc, _+_, _-_, _≤_, _<_, zero-le}
 use native.Mathlib.Omega.{arith}
 use native.Mathlib.Decide.{ℕ-discrete}
 use mathlib.Core.Path.{_≡_, refl, sym, ap, _∙_, subst}
 use mathlib.Core.Bool.{Bool, true, false, cond}
-use mathlib.Core.List.{List, [], _∷_}
+use mathlib.Core.List.{List, [], _∷_, map}
 use mathlib.Core.Logic.{_⊎_, inl, inr, ⊎-elim}
+use mathlib.Core.Option.{Option, none, some}
 use lib.Dec.{T, eqb}
-use lib.ListN.{getD, length}
+use lib.ListN.{getD, length, length-map}
 use borrow.Author.Tests.{eq-eqb, ne-eqb}
-use Rattle.lists.specs.Lists.{place, upTo}
+use Rattle.lists.specs.Lists.{first, place, upFrom, upTo}
+use Rattle.lists.proofs.Bools.{is-true}
 use Rattle.lists.proofs.Places.{at-up, length-up}
 use Rattle.lists.proofs.Members.{place-before, place-at, place-le}
-use Rattle.chains.specs.Links.{linkTo, Absent, Found, First, Final, Last}
+use Rattle.chains.specs.Links.{linkOf, linkTo, Absent, Found, First, Final, Last}
 
 -- ---- one number more
 
@@ -141,3 +143,76 @@ first-ids t n v f = first-linkTo t 0 (upTo n) v
     (first-cong (λ k. T (t k)) (λ k. T (t (getD (upTo n) k 0))) 0 n v
     (λ k h x. subst T (ap t (sym (at-up 0 n k h ∙ omega arith))) x)
     (λ k h x. subst T (ap t (at-up 0 n k h ∙ omega arith)) x) f))
+
+-- what a search answers
+module _ {A : Type 0} (t : A → Bool) (d : A) (l : List A) where
+  pub link-found : (k : ℕ) → linkTo t l ≡ suc k → (k < length l) × (t (getD l k d) ≡ true)
+  link-found k e = let f = linkTo-first t d l .some k e in (f .within, is-true (t (getD l k d)) (f .has))
+
+  pub link-absent : linkTo t l ≡ 0 → (k : ℕ) → k < length l → t (getD l k d) ≡ true → ⊥
+  link-absent e k h q = linkTo-first t d l .none e k zero-le h (subst T (sym q) tt)
+
+place-map : {A B : Type 0} (f : A → B) (t : B → Bool) (l : List A) → place t (map f l) ≡ place (λ a. t (f a)) l
+unfolding place
+place-map f t [] = refl
+place-map f t (x ∷ xs) = ap (λ (k : ℕ). cond (t (f x)) 0 (suc k)) (place-map f t xs)
+
+pub link-map : {A B : Type 0} (f : A → B) (t : B → Bool) (l : List A) → linkTo t (map f l) ≡ linkTo (λ a. t (f a)) l
+unfolding linkTo
+link-map f t l =
+    ap (λ (k : ℕ). cond (eqb k (length (map f l))) 0 (suc k)) (place-map f t l)
+    ∙ ap (λ (n : ℕ). cond (eqb (place (λ a. t (f a)) l) n) 0 (suc (place (λ a. t (f a)) l))) (length-map l f)
+
+-- ---- the first that passes, or none, as a link
+
+first-up : (t : ℕ → Bool) (k n : ℕ) → First (λ j. T (t j)) k (k + n) (linkOf (first t (upFrom k n)))
+unfolding first upFrom
+first-up t k zero = first-empty (λ j. T (t j)) k (k + zero) (omega arith)
+first-up t k (suc n) = go (t k) refl (first t (upFrom (suc k) n)) (first-up t (suc k) n)
+  where
+    here : T (t k) → First (λ j. T (t j)) k (k + suc n) (suc k)
+    here h = record {
+      none = λ e. absurd (omega arith);
+      some = λ j e. let d : j ≡ k = omega arith in rw d (record { from = omega arith; within = omega arith; has = h; before = λ i a b has. omega arith });
+    }
+
+    beyond : (T (t k) → ⊥) → (v : ℕ) → First (λ j. T (t j)) (suc k) (suc k + n) v → First (λ j. T (t j)) k (k + suc n) v
+    beyond h v f = record {
+      none = λ e j a b has. pass (suc k + n) (f .none e) j a (omega arith) has;
+      some = λ j e. let g = f .some j e in
+          record { from = omega (arith, g .from); within = omega (arith, g .within); has = g .has; before = λ i a b has. pass j (g .before) i a b has };
+    }
+      where
+        pass : (m : ℕ) → Absent (λ j. T (t j)) (suc k) m → Absent (λ j. T (t j)) k m
+        pass m f j a b has = go (ℕ-discrete j k)
+          where
+            go : Dec (j ≡ k) → ⊥
+            go (yes e) = h (subst (λ (i : ℕ). T (t i)) e has)
+            go (no e) = f j (omega arith) b has
+
+    go : (b : Bool) → t k ≡ b → (o : Option ℕ) → First (λ j. T (t j)) (suc k) (suc k + n) (linkOf o) → First (λ j. T (t j)) k (k + suc n) (linkOf (cond b (some k) o))
+    go true e o f = here (subst T (sym e) tt)
+    go false e o f = beyond (λ h. subst T e h) (linkOf o) f
+
+-- the first of the ids below n that passes, or none
+pub ids-link : (t : ℕ → Bool) (n : ℕ) → linkTo t (upTo n) ≡ linkOf (first t (upTo n))
+ids-link t n = sym (first-ids t n (linkOf (first t (upTo n))) (subst (λ (m : ℕ). First (λ k. T (t k)) 0 m (linkOf (first t (upTo n)))) (omega arith) (first-up t 0 n)))
+
+-- the place of the first of l that passes, or none
+pub places-link : {A : Type 0} (p : A → Bool) (d : A) (l : List A) → linkTo p l ≡ linkOf (first (λ k. p (getD l k d)) (upTo (length l)))
+places-link p d l = sym (linkTo-places p d l (λ k. p (getD l k d)) (λ i h. refl)) ∙ ids-link (λ k. p (getD l k d)) (length l)
+
+-- tests that agree below n
+pub ids-same : (t u : ℕ → Bool) (n : ℕ) → ((k : ℕ) → k < n → t k ≡ u k) → linkTo t (upTo n) ≡ linkTo u (upTo n)
+ids-same t u n h =
+    ap (λ (m : ℕ). linkTo t (upTo m)) (sym (length-up 0 n))
+    ∙ linkTo-places u 0 (upTo n) t (λ i l. let g : i < n = omega (arith, length-up 0 n) in h i g ∙ ap u (sym (at-up 0 n i g ∙ omega arith)))
+
+-- what a link says of the answer
+pub link-none : (o : Option ℕ) (v : ℕ) → v ≡ linkOf o → v ≡ 0 → o ≡ none
+link-none none v e z = refl
+link-none (some k) v e z = absurd (omega arith)
+
+pub link-some : (o : Option ℕ) (v : ℕ) → v ≡ linkOf o → (v ≡ 0 → ⊥) → o ≡ some (v - 1)
+link-some none v e z = absurd (z e)
+link-some (some k) v e z = let d : k ≡ v - 1 = omega arith in ap some d

@@ -1,16 +1,22 @@
 -- Links: the first and the last number with a property, as a link: 0 for none, and k + 1 for k. Assumes nothing.
+--   linkOf            of a number or none, as the definitions have it (mathlib.Core.Option), the link
 --   linkTo p l        computed: the link to the place of the first of l that passes
 --   Absent P i n      no number from i up to, not including, n has the property
 --   First P i n v     v is the link to the first number from i up to n with the property
 --   Last P n v        v is the link to the last number below n with the property
---   headLink, orElse  the link to the first id of a list; the first of two links that is one
+--   orElse            the first of two links that is one
 use Prim.Native.Nat.{ℕ, zero, suc, _+_, _≤_, _<_}
 use mathlib.Core.Path.{_≡_}
 use mathlib.Core.Bool.{Bool, cond}
-use mathlib.Core.List.{List, [], _∷_}
+use mathlib.Core.List.{List}
+use mathlib.Core.Option.{Option, none, some}
 use lib.Dec.{eqb}
 use lib.ListN.{length}
 use Rattle.lists.specs.Lists.{place}
+
+abbrev pub linkOf : Option ℕ → ℕ
+linkOf none = 0
+linkOf (some k) = suc k
 
 unfoldable pub linkTo : {A : Type 0} → (A → Bool) → List A → ℕ
 linkTo p l = let k = place p l in cond (eqb k (length l)) 0 (suc k)
@@ -38,11 +44,6 @@ pub record Final (P : ℕ → Type 0) (n k : ℕ) : Type 0 where
 pub record Last (P : ℕ → Type 0) (n v : ℕ) : Type 0 where
   pub none : v ≡ 0 → Absent P 0 n
   pub some : (k : ℕ) → v ≡ suc k → Final P n k
-
--- the link to the first id of a list: 0 if it has none
-abbrev pub headLink : List ℕ → ℕ
-headLink [] = 0
-headLink (i ∷ l) = suc i
 
 -- the first link that is one
 abbrev pub orElse : ℕ → ℕ → ℕ

@@ -10,7 +10,7 @@
 --   place-is, place-all              the first that passes, and none passes, by places
 --   some-place, has-place, place-has   a member's place is one of the list, and the member stands there
 --   fold-more, fold-all, fold-flat   a fold over the first i of a list, over all of it, and over one list more
---   at-map                           what stands at a place after `map`
+--   at-map, getD-any                 what stands at a place after `map`; whatever would stand behind the end
 --   each-append, each-flat, each-any, each-mapped   what holds of each
 use Prim.Native.Nat.{ℕ, zero, suc, _+_, _-_, _≤_, _<_}
 use native.Mathlib.Omega.{arith}
@@ -204,6 +204,11 @@ pub at-map : {A B : Type 0} (f : A → B) (l : List A) (i : ℕ) (d : A) (e : B)
 at-map f [] i d e h = absurd (omega arith)
 at-map f (x ∷ l) zero d e h = refl
 at-map f (x ∷ l) (suc i) d e h = at-map f l i d e (omega arith)
+
+pub getD-any : {A : Type 0} (l : List A) (i : ℕ) (d e : A) → i < length l → getD l i d ≡ getD l i e
+getD-any [] i d e h = absurd (omega arith)
+getD-any (x ∷ l) zero d e h = refl
+getD-any (x ∷ l) (suc i) d e h = getD-any l i d e (omega arith)
 
 -- ---- what holds of each
 

@@ -1,12 +1,14 @@
 -- Lists: the few words about lists that the definitions use, beyond the library's (map, foldl, flatMap). A test is a function into Bool. Assumes nothing.
 --   every, some   all pass; one passes                has       a number stands in the list
 --   keep          those that pass, in order           count     how many pass
+--   first         the first that passes, or none
 --   place         how many stand before the first that passes (all, if none does)
 --   insertBy, sortBy   an insertion sort: x goes behind y where `before y x` says so, else in front of it
 --   distinct      the first of each kind              upTo      0, 1, .. n - 1
 use Prim.Native.Nat.{ℕ, zero, suc}
 use mathlib.Core.Bool.{Bool, true, false, cond, _&&_, _||_}
 use mathlib.Core.List.{List, [], _∷_}
+use mathlib.Core.Option.{Option, none, some as just}
 use lib.Dec.{eqb}
 use lib.ListN.{length}
 
@@ -22,6 +24,10 @@ module _ {A : Type 0} where
   unfoldable pub keep : (A → Bool) → List A → List A
   keep p [] = []
   keep p (x ∷ xs) = let r = keep p xs in cond (p x) (x ∷ r) r
+
+  unfoldable pub first : (A → Bool) → List A → Option A
+  first p [] = none
+  first p (x ∷ xs) = let r = first p xs in cond (p x) (just x) r
 
   unfoldable pub place : (A → Bool) → List A → ℕ
   place p [] = 0

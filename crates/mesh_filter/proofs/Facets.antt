@@ -5,10 +5,11 @@ use native.Mathlib.Omega.{arith}
 use mathlib.Core.Path.{_≡_, refl, sym, ap, subst, _∙_}
 use mathlib.Core.Bool.{Bool, true, false}
 use mathlib.Core.List.{List, [], _∷_, map}
-use lib.Dec.{eqb}
+use lib.Dec.{T, eqb}
 use lib.ListN.{length, getD, length-map, List·getD-eq-default}
 use lib.Ieee.{Float, le}
 use Rattle.lists.specs.Lists.{some}
+use Rattle.lists.proofs.Bools.{is-true}
 use Rattle.lists.proofs.Regions.{view-length, view-at}
 use Rattle.lists.proofs.Members.{of-some, some-of, mem-getD, getD-mem}
 use Rattle.lists.proofs.Sequences.{at-map}
@@ -19,7 +20,7 @@ use Rattle.geometry.specs.Meshes.{vertex}
 use Rattle.geometry.proofs.Threes.{length-threes, threes-at}
 use Rattle.chains.specs.Links.{linkTo}
 use Rattle.mesh_weld.specs.Room.{vertexOf}
-use Rattle.mesh_weld.proofs.Found.{is-true, test-true, link-found, link-none, link-map}
+use Rattle.chains.proofs.Firsts.{link-found, link-absent, link-map}
 use Rattle.mesh_filter.specs.declared.corners.WeldedAt.{WeldedAt}
 use Rattle.mesh_filter.specs.Filters.{facetAt, isFlat, sameCorners, isDuplicate}
 use Rattle.mesh_filter.specs.Room.{keptIn, numbersIn, pointsIn, facetsIn, rawFacet, cornersKey, Below, Numbered}
@@ -85,9 +86,9 @@ module _ (w : WeldedAt) (vs : List Float) (fs : List ℕ) (at n : ℕ) (m : List
     pub no-duplicate : r ≡ 0 → isDuplicate F l t ≡ false
     unfolding isDuplicate
     no-duplicate z = keys-some t h l ∙ none (some (λ j. eqb (cornersKey t) (cornersKey (facetAt F j))) l) (λ q.
-        let m = of-some (λ j. eqb (cornersKey t) (cornersKey (facetAt F j))) l (test-true _ q) in
+        let m = of-some (λ j. eqb (cornersKey t) (cornersKey (facetAt F j))) l (subst T (sym q) tt) in
         let p = mem-getD 0 (m .1) in
-        link-none (λ j. eqb (cornersKey t) (cornersKey (facetAt F j))) 0 l (sym found-in ∙ z) (p .0) (p .1)
+        link-absent (λ j. eqb (cornersKey t) (cornersKey (facetAt F j))) 0 l (sym found-in ∙ z) (p .0) (p .1)
         (ap (λ (j : ℕ). eqb (cornersKey t) (cornersKey (facetAt F j))) (p .2) ∙ is-true _ (m .2)))
       where
         none : (b : Bool) → (b ≡ true → ⊥) → b ≡ false
@@ -102,4 +103,4 @@ module _ (w : WeldedAt) (vs : List Float) (fs : List ℕ) (at n : ℕ) (m : List
         go zero q nz = absurd (nz refl)
         go (suc k) q nz =
             let p = link-found (λ j. eqb (cornersKey t) (cornersKey (facetAt F j))) 0 l k (sym q) in
-            is-true _ (some-of (λ j. eqb (cornersKey t) (cornersKey (facetAt F j))) (getD-mem l k 0 (p .0)) (test-true _ (p .1)))
+            is-true _ (some-of (λ j. eqb (cornersKey t) (cornersKey (facetAt F j))) (getD-mem l k 0 (p .0)) (subst T (sym (p .1)) tt))

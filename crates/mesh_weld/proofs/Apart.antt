@@ -5,6 +5,7 @@ use native.Mathlib.Omega.{arith}
 use mathlib.Core.Path.{_≡_, refl, subst}
 use mathlib.Core.Bool.{false}
 use mathlib.Core.List.{List, [], _∷_, _++_, map}
+use mathlib.Core.Option.{Option, none, some}
 use lib.ListN.{length, getD, length-map, length-append, List·getD-append}
 use lib.Seq.{getD-at}
 use Rattle.mesh_weld.specs.Joining.{Joining, Lawful}
@@ -20,7 +21,7 @@ module _ {Vertex : Type 0} (J : Joining Vertex) (L : Lawful Vertex J) (at : ℕ 
   getD-map (x ∷ l) d zero h = refl
   getD-map (x ∷ l) d (suc j) h = getD-map l d j (omega arith)
 
-  one-more : (l : List ℕ) (n : ℕ) → Apart l → J .find (at n) (map at l) ≡ 0 → Apart (l ++ (n ∷ []))
+  one-more : (l : List ℕ) (n : ℕ) → Apart l → J .find (at n) (map at l) ≡ none → Apart (l ++ (n ∷ []))
   one-more l n a e j k jk kl = go (decLt k (length l))
     where
       long : k < length l + 1
@@ -36,9 +37,9 @@ module _ {Vertex : Type 0} (J : Joining Vertex) (L : Lawful Vertex J) (at : ℕ 
           rw (getD-at l n [] 0 k z, List·getD-append l (n ∷ []) 0 j jl)
           (subst (λ (q : Vertex). J .joins (at n) q ≡ false) (getD-map l (at n) j jl) (L .none (at n) (map at l) e j (rw (length-map l at) jl)))
 
-  placed : (r n : ℕ) (w : Welded) → Apart (w .kept) → J .find (at n) (map at (w .kept)) ≡ r → Apart (welding r n w .kept)
-  placed zero n w a e = one-more (w .kept) n a e
-  placed (suc k) n w a e = a
+  placed : (r : Option ℕ) (n : ℕ) (w : Welded) → Apart (w .kept) → J .find (at n) (map at (w .kept)) ≡ r → Apart (welding r n w .kept)
+  placed none n w a e = one-more (w .kept) n a e
+  placed (some k) n w a e = a
 
   pub kept-apart : (n : ℕ) → Apart (weld J at n .kept)
   unfolding weld weldNext

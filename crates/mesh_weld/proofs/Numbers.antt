@@ -4,6 +4,7 @@ use native.Mathlib.Decide.{decLt}
 use native.Mathlib.Omega.{arith}
 use mathlib.Core.Path.{_≡_, refl, _∙_}
 use mathlib.Core.List.{List, [], _∷_, _++_, map}
+use mathlib.Core.Option.{Option, none, some}
 use lib.ListN.{length, getD, length-map, length-append, List·getD-append}
 use lib.Seq.{getD-at}
 use Rattle.mesh_weld.specs.Joining.{Joining, Lawful}
@@ -28,8 +29,8 @@ snoc-at P l x i n e h f g = go (decLt i n)
     go (no q) = rw (getD-at l x [] 0 i (omega arith)) g
 
 module _ {Vertex : Type 0} (J : Joining Vertex) (L : Lawful Vertex J) (at : ℕ → Vertex) where
-  placed : (r n : ℕ) (w : Welded) → Numbers n w → J .find (at n) (map at (w .kept)) ≡ r → Numbers (suc n) (welding r n w)
-  placed zero n w N e =
+  placed : (r : Option ℕ) (n : ℕ) (w : Welded) → Numbers n w → J .find (at n) (map at (w .kept)) ≡ r → Numbers (suc n) (welding r n w)
+  placed none n w N e =
       record {
         long = snoc-long (w .oldToNew) (length (w .kept)) ∙ (let l = N .long in omega arith);
         few = rw (snoc-long (w .kept) n) (let f = N .few in omega arith);
@@ -37,7 +38,7 @@ module _ {Vertex : Type 0} (J : Joining Vertex) (L : Lawful Vertex J) (at : ℕ 
         number = λ i h. snoc-at (λ x. x < length (w .kept ++ (n ∷ []))) (w .oldToNew) (length (w .kept)) i n (N .long) (omega arith)
             (λ j q. rw (snoc-long (w .kept) n) (let l = N .number j q in omega arith)) (rw (snoc-long (w .kept) n) (omega arith));
       }
-  placed (suc k) n w N e =
+  placed (some k) n w N e =
       record {
         long = snoc-long (w .oldToNew) k ∙ (let l = N .long in omega arith);
         few = let f = N .few in omega arith;

@@ -1,18 +1,28 @@
 -- The rule by cells is lawful: it is symmetric, what is found joins, and where nothing is found none joins. Assumes nothing.
-use Prim.Native.Nat.{_+_}
+use Prim.Native.Nat.{ℕ, _+_, _<_}
+use native.Mathlib.Omega.{arith}
 use mathlib.Core.Path.{_≡_, refl, sym, ap, subst, _∙_}
 use mathlib.Core.Bool.{Bool, true, false, _&&_, _||_, true≢false}
 use mathlib.Core.List.{List, [], _∷_, _++_, flatMap}
 use mathlib.Core.Logic.{_⊎_, inl, inr, ⊎-elim}
+use mathlib.Core.Option.{none, some}
+use lib.Dec.{T}
 use lib.IntN.{ℤ, pos, negsuc, sucℤ, predℤ, suc-pred, pred-suc}
 use lib.Ieee.{Float}
-use lib.ListN.{getD}
+use lib.ListN.{length, getD}
 use borrow.Author.Tests.{eqb-true, eq-eqb}
-use Rattle.lists.proofs.Bools.{and-left, and-right}
+use Rattle.lists.specs.Lists.{first, upTo}
+use Rattle.lists.proofs.Bools.{and-left, and-right, is-true}
+use Rattle.lists.proofs.Members.{keep-of, of-keep, flatMap-of, of-flatMap}
+use Rattle.lists.proofs.Places.{of-up, up-of}
+use Rattle.lists.proofs.First.{first-found, first-none}
+use Rattle.lists.proofs.Mapped.{Each, each-of, of-each}
+use Rattle.lists.proofs.Sequences.{getD-any}
 use Rattle.geometry.specs.declared.point.Point.{Point}
+use Rattle.geometry.specs.Points.{origin}
+use Rattle.geometry.specs.Meshes.{vertex}
 use Rattle.mesh_weld.specs.Joining.{Lawful}
-use Rattle.mesh_weld.specs.Cells.{Key, keyOf, same, sameKey, beside, around, near, nextTo, neighbours, cells}
-use Rattle.mesh_weld.proofs.Found.{All, all-map, in-found, in-none}
+use Rattle.mesh_weld.specs.Cells.{Key, keyOf, same, sameKey, beside, around, near, inCell, nextTo, neighbours, cells}
 use Rattle.mesh_weld.proofs.Words.{all-flat}
 use Rattle.mesh_weld.proofs.Squares.{near-sym}
 
@@ -89,11 +99,11 @@ or-third true b c e = refl
 or-third false true c e = refl
 or-third false false c e = e
 
-beside-all : (a b : ℤ) → All (λ x. same b x ≡ true → nextTo a b ≡ true) (beside a)
+beside-all : (a b : ℤ) → Each (λ x. same b x ≡ true → nextTo a b ≡ true) (beside a)
 beside-all a b =
     (or-first (same b (predℤ a)) (same b a) (same b (sucℤ a)), (or-second (same b (predℤ a)) (same b a) (same b (sucℤ a)), (or-third (same b (predℤ a)) (same b a) (same b (sucℤ a)), tt)))
 
-around-sound : (k q : Key) → All (λ c. sameKey q c ≡ true → neighbours k q ≡ true) (around k)
+around-sound : (k q : Key) → Each (λ c. sameKey q c ≡ true → neighbours k q ≡ true) (around k)
 unfolding around sameKey neighbours
 around-sound k q =
     all-flat (λ x. same (q .x) x ≡ true → nextTo (k .x) (q .x) ≡ true) (λ c. sameKey q c ≡ true → neighbours k q ≡ true) (λ x. flatMap (λ y. flatMap (λ z. record { x = x; y = y; z = z } ∷ []) (beside (k .z))) (beside (k .y)))
@@ -112,66 +122,85 @@ around-sound k q =
     (beside (k .x)) (beside-all (k .x) (q .x))
 
 -- from all of a list of lists to all of each
-all-split : {A : Type 0} (P : A → Type 0) (xs ys : List A) → All P (xs ++ ys) → All P xs × All P ys
+all-split : {A : Type 0} (P : A → Type 0) (xs ys : List A) → Each P (xs ++ ys) → Each P xs × Each P ys
 all-split P [] ys p = (tt, p)
 all-split P (x ∷ xs) ys p = let r = all-split P xs ys (p .1) in ((p .0, r .0), r .1)
 
-flat-all : {A B : Type 0} (P : B → Type 0) (f : A → List B) (xs : List A) → All P (flatMap f xs) → All (λ a. All P (f a)) xs
+flat-all : {A B : Type 0} (P : B → Type 0) (f : A → List B) (xs : List A) → Each P (flatMap f xs) → Each (λ a. Each P (f a)) xs
 unfolding flatMap
 flat-all P f [] p = tt
 flat-all P f (x ∷ xs) p = let r = all-split P (f x) (flatMap f xs) p in (r .0, flat-all P f xs (r .1))
 
 -- what holds of the three keys beside a holds of one that is the same as b
-beside-one : (P : ℤ → Type 0) (Q : Type 0) (a b : ℤ) → nextTo a b ≡ true → All P (beside a) → ((x : ℤ) → same b x ≡ true → P x → Q) → Q
+beside-one : (P : ℤ → Type 0) (Q : Type 0) (a b : ℤ) → nextTo a b ≡ true → Each P (beside a) → ((x : ℤ) → same b x ≡ true → P x → Q) → Q
 beside-one P Q a b e p f =
     ⊎-elim (λ h. f (predℤ a) h (p .0)) (λ r. ⊎-elim (λ h. f a h (p .1 .0)) (λ h. f (sucℤ a) h (p .1 .1 .0)) r)
     (or-cases (same b (predℤ a)) (same b a) (same b (sucℤ a)) e)
 
-around-complete : (k q : Key) (Q : Type 0) → neighbours k q ≡ true → All (λ c. sameKey q c ≡ true → Q) (around k) → Q
+around-complete : (k q : Key) (Q : Type 0) → neighbours k q ≡ true → Each (λ c. sameKey q c ≡ true → Q) (around k) → Q
 unfolding around sameKey neighbours
 around-complete k q Q e p =
     let r = and-right (nextTo (k .x) (q .x)) (nextTo (k .y) (q .y) && nextTo (k .z) (q .z)) e in
     let R : Key → Type 0 = λ c. sameKey q c ≡ true → Q in
-    beside-one (λ x. All R (flatMap (λ y. flatMap (λ z. record { x = x; y = y; z = z } ∷ []) (beside (k .z))) (beside (k .y)))) Q (k .x) (q .x)
+    beside-one (λ x. Each R (flatMap (λ y. flatMap (λ z. record { x = x; y = y; z = z } ∷ []) (beside (k .z))) (beside (k .y)))) Q (k .x) (q .x)
     (and-left (nextTo (k .x) (q .x)) (nextTo (k .y) (q .y) && nextTo (k .z) (q .z)) e)
     (flat-all R (λ x. flatMap (λ y. flatMap (λ z. record { x = x; y = y; z = z } ∷ []) (beside (k .z))) (beside (k .y))) (beside (k .x)) p)
     (λ x sx px.
-    beside-one (λ y. All R (flatMap (λ z. record { x = x; y = y; z = z } ∷ []) (beside (k .z)))) Q (k .y) (q .y)
+    beside-one (λ y. Each R (flatMap (λ z. record { x = x; y = y; z = z } ∷ []) (beside (k .z)))) Q (k .y) (q .y)
     (and-left (nextTo (k .y) (q .y)) (nextTo (k .z) (q .z)) r)
     (flat-all R (λ y. flatMap (λ z. record { x = x; y = y; z = z } ∷ []) (beside (k .z))) (beside (k .y)) px)
     (λ y sy py.
-    beside-one (λ z. All R (record { x = x; y = y; z = z } ∷ [])) Q (k .z) (q .z)
+    beside-one (λ z. Each R (record { x = x; y = y; z = z } ∷ [])) Q (k .z) (q .z)
     (and-right (nextTo (k .y) (q .y)) (nextTo (k .z) (q .z)) r)
     (flat-all R (λ z. record { x = x; y = y; z = z } ∷ []) (beside (k .z)) py)
     (λ z sz pz. pz .0 (and-both (same (q .x) x) (same (q .y) y && same (q .z) z) sx (and-both (same (q .y) y) (same (q .z) z) sy sz)))))
 
 -- ---- the laws
 
+module _ (eps : Float) (p : Point) (l : List Point) where
+  -- the cells around p, its test, and what the cells hold
+  abbrev here : Key
+  here = keyOf eps p
+
+  abbrev nearAt : ℕ → Bool
+  nearAt k = near eps p (vertex l k)
+
+  abbrev held : List ℕ
+  held = flatMap (inCell eps l) (around here)
+
+  abbrev Joins : Point → Bool
+  Joins q = neighbours here (keyOf eps q) && near eps p q
+
+  found-joins : (k : ℕ) → first nearAt held ≡ some k → (k < length l) × (Joins (getD l k p) ≡ true)
+  found-joins k e =
+      let r = first-found nearAt held k e in
+      let s = of-flatMap (inCell eps l) (around here) (r .0) in
+      let t = of-keep (λ j. sameKey (keyOf eps (vertex l j)) (s .0)) (upTo (length l)) (s .2) in
+      let low : k < length l = omega (arith, of-up 0 (length l) (t .0) .1) in (
+        low,
+        subst (λ (q : Point). Joins q ≡ true) (getD-any l k origin p low)
+            (and-both (neighbours here (keyOf eps (vertex l k))) (nearAt k)
+            (of-each (λ c. sameKey (keyOf eps (vertex l k)) c ≡ true → neighbours here (keyOf eps (vertex l k)) ≡ true) (s .1) (around-sound here (keyOf eps (vertex l k)))
+            (is-true (sameKey (keyOf eps (vertex l k)) (s .0)) (t .1)))
+            (r .1)),
+      )
+
+  none-joins : first nearAt held ≡ none → (k : ℕ) → k < length l → Joins (getD l k p) ≡ false
+  none-joins e k h =
+      subst (λ (q : Point). Joins q ≡ false) (getD-any l k origin p h)
+      (not-true (Joins (vertex l k)) (λ j.
+      around-complete here (keyOf eps (vertex l k)) ⊥ (and-left (neighbours here (keyOf eps (vertex l k))) (nearAt k) j)
+      (each-of (λ c. sameKey (keyOf eps (vertex l k)) c ≡ true → ⊥) (around here)
+      (λ c m s. true≢false
+      (sym (and-right (neighbours here (keyOf eps (vertex l k))) (nearAt k) j)
+      ∙ first-none nearAt held e
+      (flatMap-of (inCell eps l) m (keep-of (λ i. sameKey (keyOf eps (vertex l i)) c) (up-of 0 (length l) (omega arith) (omega arith)) (subst T (sym s) tt))))))))
+
 pub lawful : (eps : Float) → Lawful Point (cells eps)
 unfolding cells
 lawful eps =
     record {
       symmetric = λ p q. rw (neighbours-sym (keyOf eps p) (keyOf eps q), near-sym eps p q);
-      found = λ p l k e.
-          let r = in-found (λ c q. sameKey (keyOf eps q) c && near eps p q) p l (λ q. neighbours (keyOf eps p) (keyOf eps q) && near eps p q ≡ true) (around (keyOf eps p))
-          (sound p) k e in
-          (r .0, r .1);
-      none = λ p l e k h.
-          not-true (neighbours (keyOf eps p) (keyOf eps (getD l k p)) && near eps p (getD l k p)) (λ j.
-          around-complete (keyOf eps p) (keyOf eps (getD l k p)) ⊥
-          (and-left (neighbours (keyOf eps p) (keyOf eps (getD l k p))) (near eps p (getD l k p)) j)
-          (all-map (λ c. (sameKey (keyOf eps (getD l k p)) c && near eps p (getD l k p)) ≡ true → ⊥) (λ c. sameKey (keyOf eps (getD l k p)) c ≡ true → ⊥)
-          (λ c f s. f (and-both (sameKey (keyOf eps (getD l k p)) c) (near eps p (getD l k p)) s (and-right (neighbours (keyOf eps p) (keyOf eps (getD l k p))) (near eps p (getD l k p)) j)))
-          (around (keyOf eps p)) (in-none (λ c q. sameKey (keyOf eps q) c && near eps p q) p l (around (keyOf eps p)) e k h)));
+      found = λ p l k e. found-joins eps p l k e;
+      none = λ p l e k h. none-joins eps p l e k h;
     }
-  where
-    sound : (p : Point) → All (λ c. (q : Point) → (sameKey (keyOf eps q) c && near eps p q) ≡ true → (neighbours (keyOf eps p) (keyOf eps q) && near eps p q) ≡ true) (around (keyOf eps p))
-    sound p =
-        all-of (λ c q. (sameKey (keyOf eps q) c && near eps p q) ≡ true → (neighbours (keyOf eps p) (keyOf eps q) && near eps p q) ≡ true) (around (keyOf eps p))
-        (λ q. all-map (λ c. sameKey (keyOf eps q) c ≡ true → neighbours (keyOf eps p) (keyOf eps q) ≡ true) (λ c. (sameKey (keyOf eps q) c && near eps p q) ≡ true → (neighbours (keyOf eps p) (keyOf eps q) && near eps p q) ≡ true)
-        (λ c f s. and-both (neighbours (keyOf eps p) (keyOf eps q)) (near eps p q) (f (and-left (sameKey (keyOf eps q) c) (near eps p q) s)) (and-right (sameKey (keyOf eps q) c) (near eps p q) s))
-        (around (keyOf eps p)) (around-sound (keyOf eps p) (keyOf eps q)))
-      where
-        all-of : (R : Key → Point → Type 0) (cs : List Key) → ((q : Point) → All (λ c. R c q) cs) → All (λ c. (q : Point) → R c q) cs
-        all-of R [] f = tt
-        all-of R (c ∷ cs) f = (λ q. f q .0, all-of R cs (λ q. f q .1))

@@ -5,18 +5,21 @@ use native.Mathlib.Numerals.{add-one}
 use native.Mathlib.Omega.{arith}
 use mathlib.Core.Path.{_≡_, refl, sym, ap, subst, _∙_}
 use mathlib.Core.List.{List, [], _∷_, _++_, map}
+use mathlib.Core.Option.{Option, none, some}
 use lib.ListN.{length, getD, set, length-set}
 use lib.Seq.{getD-set-same, getD-set-other}
 use lib.Ieee.{Float}
 use Rattle.lists.specs.Regions.{view, Zeroed}
 use Rattle.lists.proofs.Regions.{view-same, view-more}
 use Rattle.chains.specs.Chains.{Linked, entered}
+use Rattle.chains.specs.Links.{linkOf}
 use Rattle.chains.specs.Hash.{mixed, InBucket}
+use Rattle.chains.proofs.Firsts.{link-none, link-some}
 use Rattle.chains.proofs.Entering.{linked-none, linked-cong, linked-same, linked-more, tail-le, entered-length, entered-rest}
 use Rattle.mesh_weld.specs.declared.cells.Cell.{Cell}
 use Rattle.mesh_weld.specs.Weld.{Welded, welding, weldNext, weld}
 use Rattle.mesh_weld.specs.Cells.{keyOf, cells}
-use Rattle.mesh_weld.specs.Room.{vertexOf, wordsOf, cellAt, cellBucket, Index, CellOf, Going, Welds}
+use Rattle.mesh_weld.specs.Room.{vertexOf, wordsOf, cellAt, keptPoints, cellBucket, Index, CellOf, Going, Welds}
 use Rattle.mesh_weld.proofs.Searching.{kept-long}
 
 pub cell-same : (m v : List ℕ) (o : ℕ) → getD v o 0 ≡ getD m o 0 → getD v (o + 1) 0 ≡ getD m (o + 1) 0 → getD v (o + 2) 0 ≡ getD m (o + 2) 0 → cellAt v o ≡ cellAt m o
@@ -28,14 +31,15 @@ module _ (vs : List Float) (eps : Float) (n i count : ℕ) (m : List ℕ) (G : G
 
   -- what the search found
   abbrev pub Answers : ℕ → Type 0
-  Answers r = r ≡ cells eps .find (vertexOf vs i) (map (vertexOf vs) (view m (9 * n) count))
+  Answers r = r ≡ linkOf (cells eps .find (vertexOf vs i) (keptPoints vs n count m))
 
-  step-is : (r : ℕ) → Answers r → weld (cells eps) (vertexOf vs) (i + 1) ≡ welding r i (weld (cells eps) (vertexOf vs) i)
+  step-is : (r : Option ℕ) → cells eps .find (vertexOf vs i) (keptPoints vs n count m) ≡ r
+      → weld (cells eps) (vertexOf vs) (i + 1) ≡ welding r i (weld (cells eps) (vertexOf vs) i)
   unfolding weld weldNext
   step-is r e =
       ap (weld (cells eps) (vertexOf vs)) (add-one i)
-      ∙ ap (λ (f : ℕ). welding f i (weld (cells eps) (vertexOf vs) i))
-      (ap (λ (l : List ℕ). cells eps .find (vertexOf vs i) (map (vertexOf vs) l)) (sym (G .kept)) ∙ sym e)
+      ∙ ap (λ (f : Option ℕ). welding f i (weld (cells eps) (vertexOf vs) i))
+      (ap (λ (l : List ℕ). cells eps .find (vertexOf vs i) (map (vertexOf vs) l)) (sym (G .kept)) ∙ e)
 
   few : count < n
   few = omega (arith, G .within)
@@ -79,11 +83,8 @@ module _ (vs : List Float) (eps : Float) (n i count : ℕ) (m : List ℕ) (G : G
       cell : (k : ℕ) → cellAt v (11 * n + 3 * k) ≡ cellAt m (11 * n + 3 * k)
       cell k = cell-same m v (11 * n + 3 * k) (off (11 * n + 3 * k) (λ q. omega arith)) (off (11 * n + 3 * k + 1) (λ q. omega arith)) (off (11 * n + 3 * k + 2) (λ q. omega arith))
 
-      one-up : (r : ℕ) → (r ≡ 0 → ⊥) → r ≡ suc (r - 1)
-      one-up r nz = omega arith
-
-      step : weld (cells eps) (vertexOf vs) (i + 1) ≡ welding (suc (r - 1)) i (weld (cells eps) (vertexOf vs) i)
-      step = step-is r e ∙ ap (λ (k : ℕ). welding k i (weld (cells eps) (vertexOf vs) i)) (one-up r nz)
+      step : weld (cells eps) (vertexOf vs) (i + 1) ≡ welding (some (r - 1)) i (weld (cells eps) (vertexOf vs) i)
+      step = step-is (some (r - 1)) (link-some (cells eps .find (vertexOf vs i) (keptPoints vs n count m)) r e nz)
 
   -- ---- the vertex is kept
 
@@ -243,8 +244,8 @@ module _ (vs : List Float) (eps : Float) (n i count : ℕ) (m : List ℕ) (G : G
               ∙ sym (ap (λ (w : Welded). w .oldToNew) step);
         }
       where
-        step : weld (cells eps) (vertexOf vs) (i + 1) ≡ welding 0 i (weld (cells eps) (vertexOf vs) i)
-        step = step-is r e ∙ ap (λ (k : ℕ). welding k i (weld (cells eps) (vertexOf vs) i)) z
+        step : weld (cells eps) (vertexOf vs) (i + 1) ≡ welding none i (weld (cells eps) (vertexOf vs) i)
+        step = step-is none (link-none (cells eps .find (vertexOf vs i) (keptPoints vs n count m)) r e z)
 
         low : (k : ℕ) → k < count + 1 → Dec (k < count) → getD v (9 * n + k) 0 < n
         low k lt (yes g) = rw (id-old k g) (I .low k g)
@@ -261,12 +262,12 @@ module _ (vs : List Float) (eps : Float) (n i count : ℕ) (m : List ℕ) (G : G
 
 pub going-start : (vs : List Float) (eps : Float) (n : ℕ) (m v : List ℕ) → 0 < n → n < 268435456 → 3 * n ≤ length vs → 14 * n ≤ length m → Zeroed m v 0 (8 * n) → Going vs eps n 0 0 v
 unfolding weld
-going-start vs eps n m v some small size room z =
+going-start vs eps n m v any small size room z =
     record {
       index =
           record {
             size = size;
-            some = some;
+            some = any;
             small = small;
             room = omega (arith, z .long);
             few = omega arith;

@@ -14,7 +14,8 @@ use Rattle.geometry.specs.declared.point.Point.{Point}
 use Rattle.mesh_weld.specs.declared.cells.Cell.{Cell}
 use Rattle.mesh_weld.specs.Cells.{Key, keyOf, same, sameKey, beside, around}
 use Rattle.mesh_weld.specs.Room.{word, wordsOf, sameCell, InReach, KeyIn, block}
-use Rattle.mesh_weld.proofs.Found.{All, all-append}
+use Rattle.lists.proofs.Mapped.{Each}
+use Rattle.lists.proofs.Sequences.{each-append}
 
 cases : (b : Bool) → (b ≡ true) ⊎ (b ≡ false)
 cases true = inl refl
@@ -92,15 +93,15 @@ word-suc (pos n) h = omega arith
 word-suc (negsuc zero) h = omega arith
 word-suc (negsuc (suc n)) h = omega arith
 
-pub all-flat : {A B : Type 0} (Q : A → Type 0) (P : B → Type 0) (f : A → List B) → ((a : A) → Q a → All P (f a)) → (xs : List A) → All Q xs → All P (flatMap f xs)
+pub all-flat : {A B : Type 0} (Q : A → Type 0) (P : B → Type 0) (f : A → List B) → ((a : A) → Q a → Each P (f a)) → (xs : List A) → Each Q xs → Each P (flatMap f xs)
 unfolding flatMap
 all-flat Q P f h [] q = tt
-all-flat Q P f h (x ∷ xs) q = all-append P (f x) (flatMap f xs) (h x (q .0)) (all-flat Q P f h xs (q .1))
+all-flat Q P f h (x ∷ xs) q = each-append P (f x) (flatMap f xs) (h x (q .0)) (all-flat Q P f h xs (q .1))
 
-beside-reach : (k : ℤ) → 1 ≤ word k → All Reach (beside k)
+beside-reach : (k : ℤ) → 1 ≤ word k → Each Reach (beside k)
 beside-reach k h = (pred-reach k h, (self-reach k h, (suc-reach k h, tt)))
 
-pub around-reach : (k : Key) → 1 ≤ word (k .x) → 1 ≤ word (k .y) → 1 ≤ word (k .z) → All ReachKey (around k)
+pub around-reach : (k : Key) → 1 ≤ word (k .x) → 1 ≤ word (k .y) → 1 ≤ word (k .z) → Each ReachKey (around k)
 unfolding around
 around-reach k hx hy hz =
     all-flat Reach ReachKey (λ x. flatMap (λ y. flatMap (λ z. record { x = x; y = y; z = z } ∷ []) (beside (k .z))) (beside (k .y)))

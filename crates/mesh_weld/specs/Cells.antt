@@ -2,20 +2,23 @@
 --   Key, keyOf   a point's cell: "each coordinate divided by max(eps, 1e-12), rounded"
 --   sameKey      two cells are one                   around       "the 27 cells dx, dy, dz from -1 to 1 in that nesting"
 --   near         "squared distance at most eps × eps"
---   firstIn      the first that passes, cell by cell, "each in order of entry": first in cell order, neither nearest nor lowest-numbered
+--   inCell       the kept vertices of a cell, "in order of entry"
 --   neighbours   two cells are no further than one apart on each axis
---   cells        the rule: two points join that are near and in neighbouring cells; the kept vertex found is the first near one, cell by cell
-use Prim.Native.Nat.{ℕ, zero, suc}
+--   cells        the rule: two points join that are near and in neighbouring cells; of the kept vertices of the 27 cells, in order, the first that is near is found,
+--                which need be neither the nearest nor the lowest-numbered
+use Prim.Native.Nat.{ℕ}
 use mathlib.Core.Bool.{Bool, false, _&&_, _||_}
 use mathlib.Core.List.{List, [], _∷_, _++_, flatMap}
 use lib.Dec.{eqb}
 use lib.IntN.{ℤ, pos, negsuc, sucℤ, predℤ}
+use lib.ListN.{length}
 use lib.Ieee.{Float, le}
+use Rattle.lists.specs.Lists.{first, keep, upTo}
 use Rattle.root.specs.Doubles.{_⊗_}
 use Rattle.rounding.specs.Rounding.{key}
 use Rattle.geometry.specs.declared.point.Point.{Point}
 use Rattle.geometry.specs.Points.{minus, norm2}
-use Rattle.chains.specs.Links.{linkTo}
+use Rattle.geometry.specs.Meshes.{vertex}
 use Rattle.mesh_weld.specs.Joining.{Joining}
 
 pub record Key : Type 0 where
@@ -46,13 +49,9 @@ around k =
 unfoldable pub near : Float → Point → Point → Bool
 near eps p q = le (norm2 (minus p q)) (eps ⊗ eps)
 
-abbrev pub orElse : ℕ → ℕ → ℕ
-orElse zero b = b
-orElse (suc k) b = suc k
-
-unfoldable pub firstIn : {C Vertex : Type 0} → (C → Vertex → Bool) → List C → List Vertex → ℕ
-firstIn t [] l = 0
-firstIn t (c ∷ cs) l = orElse (linkTo (t c) l) (firstIn t cs l)
+-- the kept vertices in the cell c, "in order of entry"
+abbrev pub inCell : Float → List Point → Key → List ℕ
+inCell eps kept c = keep (λ k. sameKey (keyOf eps (vertex kept k)) c) (upTo (length kept))
 
 abbrev pub nextTo : ℤ → ℤ → Bool
 nextTo a b = same b (predℤ a) || (same b a || same b (sucℤ a))
@@ -61,9 +60,8 @@ unfoldable pub neighbours : Key → Key → Bool
 neighbours a b = nextTo (a .x) (b .x) && (nextTo (a .y) (b .y) && nextTo (a .z) (b .z))
 
 unfoldable pub cells : Float → Joining Point
-unfolding neighbours keyOf near firstIn around sameKey
 cells eps =
     record {
       joins = λ p q. neighbours (keyOf eps p) (keyOf eps q) && near eps p q;
-      find = λ p kept. firstIn (λ c q. sameKey (keyOf eps q) c && near eps p q) (around (keyOf eps p)) kept;
+      find = λ p kept. first (λ k. near eps p (vertex kept k)) (flatMap (inCell eps kept) (around (keyOf eps p)));
     }

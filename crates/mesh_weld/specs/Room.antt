@@ -2,7 +2,8 @@
 -- vertices from 9 n on, the new numbers from 10 n on, and the cells of the kept from 11 n on, three words each. A key stands as a word, 2 ^ 62 + 1 more than it. Assumes nothing.
 --   vertexOf             vertex v of a list of coordinates
 --   word, wordsOf        a key as a word, a cell as three           cellAt    three words of the room as a cell
---   sameCell, meets      two cells are one; the kept vertex v is in the cell c and near p
+--   sameCell             two cells are one                             keptPoints   the points of the vertices kept
+--   foundIn              the link to the first kept vertex of some cells that is near p
 --   row, layer, block    3, 9 and 27 cells from one up
 --   HashOf, cellBucket   what the hash of a cell is congruent to, and its bucket
 --   InReach, Inner       a word, a cell has one on every side      KeyIn, KeysIn   "Rounded keys at most 2^62 in magnitude"
@@ -12,17 +13,19 @@
 use Prim.Native.Nat.{ℕ, _+_, _*_, _-_, _%_, _≤_, _<_}
 use mathlib.Core.Path.{_≡_}
 use mathlib.Core.Bool.{Bool, false, _&&_}
-use mathlib.Core.List.{List, [], _∷_, _++_}
+use mathlib.Core.List.{List, [], _∷_, _++_, map, flatMap}
 use lib.Dec.{eqb}
 use lib.IntN.{ℤ, pos, negsuc}
 use lib.ListN.{length, getD}
 use lib.Ieee.{Float}
+use Rattle.lists.specs.Lists.{first, keep, upTo}
 use Rattle.lists.specs.Regions.{view}
 use Rattle.rounding.specs.Rounding.{farKey}
 use Rattle.geometry.specs.declared.point.Point.{Point}
 use Rattle.geometry.specs.Meshes.{vertex, pointsOf}
 use Rattle.chains.specs.Hash.{prime, mixed, bucketOf}
 use Rattle.chains.specs.Chains.{Linked}
+use Rattle.chains.specs.Links.{linkOf}
 use Rattle.mesh_weld.specs.declared.cells.Cell.{Cell}
 use Rattle.mesh_weld.specs.Weld.{weld}
 use Rattle.mesh_weld.specs.Cells.{Key, keyOf, near, cells}
@@ -46,8 +49,15 @@ cellAt m o = record { x = getD m o 0; y = getD m (o + 1) 0; z = getD m (o + 2) 0
 abbrev pub sameCell : Cell → Cell → Bool
 sameCell a b = eqb (a .x) (b .x) && (eqb (a .y) (b .y) && eqb (a .z) (b .z))
 
-unfoldable pub meets : List Float → Float → Point → Cell → ℕ → Bool
-meets vs eps p c v = sameCell (wordsOf (keyOf eps (vertexOf vs v))) c && near eps p (vertexOf vs v)
+abbrev pub keptPoints : List Float → ℕ → ℕ → List ℕ → List Point
+keptPoints vs n count m = map (vertexOf vs) (view m (9 * n) count)
+
+-- the kept vertices in the cell c, as the room has them
+abbrev pub inCellAt : ℕ → ℕ → List ℕ → Cell → List ℕ
+inCellAt n count m c = keep (λ k. sameCell (cellAt m (11 * n + 3 * k)) c) (upTo count)
+
+unfoldable pub foundIn : List Float → Float → ℕ → ℕ → List ℕ → Point → List Cell → ℕ
+foundIn vs eps n count m p cs = linkOf (first (λ k. near eps p (vertex (keptPoints vs n count m) k)) (flatMap (inCellAt n count m) cs))
 
 abbrev pub zUp : Cell → ℕ → Cell
 zUp c k = record { x = c .x; y = c .y; z = c .z + k }

@@ -4,6 +4,7 @@
 --   weld J at n      the first n vertices welded, where vertex i is `at i`
 use Prim.Native.Nat.{ℕ, zero, suc}
 use mathlib.Core.List.{List, [], _∷_, _++_, map}
+use mathlib.Core.Option.{Option, none, some}
 use lib.ListN.{length}
 use Rattle.mesh_weld.specs.Joining.{Joining}
 
@@ -11,14 +12,13 @@ pub record Welded : Type 0 where
   pub kept : List ℕ
   pub oldToNew : List ℕ
 
-abbrev pub welding : ℕ → ℕ → Welded → Welded
-welding zero i w = record { kept = w .kept ++ (i ∷ []); oldToNew = w .oldToNew ++ (length (w .kept) ∷ []) }
-welding (suc k) i w = record { kept = w .kept; oldToNew = w .oldToNew ++ (k ∷ []) }
+abbrev pub welding : Option ℕ → ℕ → Welded → Welded
+welding none i w = record { kept = w .kept ++ (i ∷ []); oldToNew = w .oldToNew ++ (length (w .kept) ∷ []) }
+welding (some k) i w = record { kept = w .kept; oldToNew = w .oldToNew ++ (k ∷ []) }
 
 unfoldable pub weldNext : {Vertex : Type 0} → Joining Vertex → (ℕ → Vertex) → ℕ → Welded → Welded
 weldNext J at i w = welding (J .find (at i) (map at (w .kept))) i w
 
 unfoldable pub weld : {Vertex : Type 0} → Joining Vertex → (ℕ → Vertex) → ℕ → Welded
-unfolding weldNext
 weld J at zero = record { kept = []; oldToNew = [] }
 weld J at (suc i) = weldNext J at i (weld J at i)

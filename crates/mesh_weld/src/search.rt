@@ -2,14 +2,13 @@
 // 4 n tails and n nexts (crate chains), the kept vertices from 9 n on, the new numbers from 10 n on, and the cells of the kept from 11 n on, three words each.
 ghost use mathlib.Core.Path.{_≡_};
 ghost use mathlib.Core.Bool.{_&&_};
-ghost use mathlib.Core.List.{map};
+ghost use mathlib.Core.List.{[], _∷_};
 ghost use Prim.Native.Nat.{_+_, _*_, _≤_, _<_};
 ghost use lib.ListN.{length, getD};
-ghost use Rattle.lists.specs.Regions.{view};
-ghost use Rattle.chains.specs.Links.{linkTo};
+ghost use Rattle.chains.specs.Links.{linkOf};
 ghost use Rattle.mesh_weld.specs.Joining.{Joining};
-ghost use Rattle.mesh_weld.specs.Cells.{near, firstIn, cells};
-ghost use Rattle.mesh_weld.specs.Room.{vertexOf, cellAt, sameCell, meets, row, layer, block, HashOf, Index, KeysIn, CellOf};
+ghost use Rattle.mesh_weld.specs.Cells.{near, cells};
+ghost use Rattle.mesh_weld.specs.Room.{vertexOf, cellAt, sameCell, keptPoints, foundIn, row, layer, block, HashOf, Index, KeysIn, CellOf};
 use crate::cells::Cell;
 use crate::cells::is_near;
 use crate::cells::point_at;
@@ -52,7 +51,7 @@ fn search_cell(
 ) -> u64
     requires { ⌜ Index (now vs) eps n count (now m) ⌝ }
     requires { ⌜ HashOf c s ⌝ }
-    ensures { λ r. ⌜ r ≡ linkTo (meets (now (vs .entry)) eps p c) (view (now (m .entry)) (9 * n) count) ⌝ }
+    ensures { λ r. ⌜ r ≡ foundIn (now (vs .entry)) eps n count (now (m .entry)) p (c ∷ []) ⌝ }
 {
     let b = bucket_at(s, (4 * n) as u64) as usize;
     let mut l = first(m, 0, b);
@@ -80,7 +79,7 @@ fn search_row(
     requires { ⌜ Index (now vs) eps n count (now m) ⌝ }
     requires { ⌜ HashOf c s ⌝ }
     requires { ⌜ (s ≤ 9223372036854775808) × (c .z ≤ 9223372036854775809) ⌝ }
-    ensures { λ r. ⌜ r ≡ firstIn (meets (now (vs .entry)) eps p) (row c) (view (now (m .entry)) (9 * n) count) ⌝ }
+    ensures { λ r. ⌜ r ≡ foundIn (now (vs .entry)) eps n count (now (m .entry)) p (row c) ⌝ }
 {
     let r0 = search_cell(m, vs, n, count, s, c, p, eps);
     if r0 != 0 {
@@ -117,7 +116,7 @@ fn search_layer(
     requires { ⌜ Index (now vs) eps n count (now m) ⌝ }
     requires { ⌜ HashOf c s ⌝ }
     requires { ⌜ (s ≤ 8000000000000000000) × (c .y ≤ 9223372036854775809) × (c .z ≤ 9223372036854775809) ⌝ }
-    ensures { λ r. ⌜ r ≡ firstIn (meets (now (vs .entry)) eps p) (layer c) (view (now (m .entry)) (9 * n) count) ⌝ }
+    ensures { λ r. ⌜ r ≡ foundIn (now (vs .entry)) eps n count (now (m .entry)) p (layer c) ⌝ }
 {
     let r0 = search_row(m, vs, n, count, s, c, p, eps);
     if r0 != 0 {
@@ -154,7 +153,7 @@ fn search_block(
     requires { ⌜ Index (now vs) eps n count (now m) ⌝ }
     requires { ⌜ HashOf c s ⌝ }
     requires { ⌜ (s ≤ 7000000000000000000) × (c .x ≤ 9223372036854775809) × (c .y ≤ 9223372036854775809) × (c .z ≤ 9223372036854775809) ⌝ }
-    ensures { λ r. ⌜ r ≡ firstIn (meets (now (vs .entry)) eps p) (block c) (view (now (m .entry)) (9 * n) count) ⌝ }
+    ensures { λ r. ⌜ r ≡ foundIn (now (vs .entry)) eps n count (now (m .entry)) p (block c) ⌝ }
 {
     let r0 = search_layer(m, vs, n, count, s, c, p, eps);
     if r0 != 0 {
@@ -182,7 +181,7 @@ pub fn search(m: &[u64], vs: &[f64], n: usize, count: usize, c: Cell, p: Point, 
     requires { ⌜ Index (now vs) eps n count (now m) ⌝ }
     requires { ⌜ KeysIn (now vs) eps n ⌝ }
     requires { ⌜ CellOf eps p c ⌝ }
-    ensures { λ r. ⌜ r ≡ cells eps .find p (map (vertexOf (now (vs .entry))) (view (now (m .entry)) (9 * n) count)) ⌝ }
+    ensures { λ r. ⌜ r ≡ linkOf (cells eps .find p (keptPoints (now (vs .entry)) n count (now (m .entry)))) ⌝ }
 {
     let corner = Cell {
         x: c.x - 1,

@@ -6,7 +6,7 @@ use mathlib.Core.Bool.{Bool, true, false}
 use mathlib.Core.List.{List, [], _∷_, map, flatMap, List·Memᴰ, List·Memᴰ·head, List·Memᴰ·tail}
 use lib.Ieee.{Float, ofBits, ofInt, round, add, sub, mul, div, neg, lt, le, eq}
 use lib.IntN.{ℤ, pos, negsuc}
-use Rattle.lists.specs.Lists.{every, some, keep, place, insertBy, sortBy, upFrom}
+use Rattle.lists.specs.Lists.{every, some, first, keep, place, insertBy, sortBy, upFrom}
 use Rattle.root.specs.Doubles.{bits, 1e-10, magnitude, within, larger, one, units}
 use Rattle.root.specs.Root.{root, rootOfSquare, wholeRoot}
 use Rattle.rounding.specs.Rounding as rounding
@@ -19,10 +19,9 @@ use Rattle.geometry.specs.Triangles.{threes, sortedVertices}
 use Rattle.geometry.specs.Meshes.{Mesh, meshOf, enter}
 use Rattle.refusals.specs.Refusals.{documented, firstRefusal}
 use Rattle.refusals.specs.Front.{ragged, tooMany, badIndex, inRange, epsInRange, resolutionInRange, boxInRange, badBox, gridTooFine, workNeed, farKeys, roomTests}
-use Rattle.chains.specs.Links.{linkTo}
 use Rattle.components.specs.Components.{components}
 use Rattle.mesh_weld.specs.Weld.{weldNext, weld}
-use Rattle.mesh_weld.specs.Cells.{keyOf, sameKey, around, near, firstIn, neighbours, cells}
+use Rattle.mesh_weld.specs.Cells.{keyOf, sameKey, around, near, neighbours, cells}
 use Rattle.mesh_filter.specs.Filters.{hasRepeatedCorner, isFlat, sameCorners, isDuplicate, passes, passedNext, passed}
 use Rattle.mesh_compact.specs.Status.{shareVertex, isAlone, status, keptFacets}
 use Rattle.mesh_compact.specs.Compact.{numbering, renumbered, compacted}
@@ -194,7 +193,7 @@ of-all a {r} (List·Memᴰ·head {x} {xs} e) = subst⁻¹ (λ (q : Row). q .give
 of-all a {r} (List·Memᴰ·tail {x} {xs} m) = of-all (a .1) m
 
 computed : All starred
-unfolding every some upFrom threes magnitude within inside snapTo snapped crossing interpolated onPlane crossed sideClipped walk clipToPlane clipPolygon along enter fan fanned insideBox sharing clipFacet made clipped flatMap firstRefusal documented ragged tooMany badIndex inRange epsInRange boxInRange badBox workNeed roomTests clipTests clipResult clipReply keep place insertBy sortBy halfUp rounded key beyond farKey farKeys minus dot cross keyOf sameKey around near firstIn neighbours cells linkTo weldNext weld hasRepeatedCorner isFlat sortedVertices sameCorners isDuplicate passes passedNext passed components shareVertex isAlone status keptFacets numbering renumbered compacted welded cleaned cleanResult cleanTests cleanReply larger one units root rootOfSquare wholeRoot wholeUp ceil rounding.segments segments gridLine axisPoints gridSize resolutionInRange gridTooFine samePair pairBefore openEdges onFace facesOf closureTests strayEdge edgeTests candidatesReply ofBits ofInt round add sub mul div neg lt le eq
+unfolding every some upFrom threes magnitude within inside snapTo snapped crossing interpolated onPlane crossed sideClipped walk clipToPlane clipPolygon along enter fan fanned insideBox sharing clipFacet made clipped flatMap firstRefusal documented ragged tooMany badIndex inRange epsInRange boxInRange badBox workNeed roomTests clipTests clipResult clipReply keep place insertBy sortBy halfUp rounded key beyond farKey farKeys minus dot cross keyOf sameKey around near neighbours cells first weldNext weld hasRepeatedCorner isFlat sortedVertices sameCorners isDuplicate passes passedNext passed components shareVertex isAlone status keptFacets numbering renumbered compacted welded cleaned cleanResult cleanTests cleanReply larger one units root rootOfSquare wholeRoot wholeUp ceil rounding.segments segments gridLine axisPoints gridSize resolutionInRange gridTooFine samePair pairBefore openEdges onFace facesOf closureTests strayEdge edgeTests candidatesReply ofBits ofInt round add sub mul div neg lt le eq
 computed = (refl, (refl, (refl, (refl, (refl, (refl, (refl, (refl, (refl, (refl, tt))))))))))
 
 pub every-row : {r : Row} → List·Memᴰ r starred → r .given ≡ r .stated
