@@ -20,7 +20,7 @@ use Rattle.geometry.specs.Triangles.{threes}
 use Rattle.edges.specs.Edges.{sides, openEdges}
 use Rattle.edges.specs.Table.{OpenEdges}
 use Rattle.mesh_weld.specs.Joining.{Joining}
-use Rattle.candidate_pool.specs.Offsets.{poolEnd, edgeTableAt, roomEnd}
+use Rattle.candidate_pool.specs.Offsets.{joinedAt, edgeTableAt, roomEnd}
 use Rattle.candidate_pool.specs.Pool.{Candidate, Pool, faceList, insert}
 use Rattle.candidate_pool.specs.Standing.{countAt, poolAt, Holds}
 use Rattle.candidate_pool.proofs.Growing.{grows}
@@ -89,7 +89,7 @@ module _ (rule : Joining Point) where
 
 -- ---- the pool
 
-module _ (eps : Float) (n : ℕ) (w w' : List ℕ) (H : Holds eps n w) (long : length w' ≡ length w) (same : (x : ℕ) → x < poolEnd n → getD w' x 0 ≡ getD w x 0) where
+module _ (eps : Float) (n : ℕ) (w w' : List ℕ) (H : Holds eps n w) (long : length w' ≡ length w) (same : (x : ℕ) → x < joinedAt n → getD w' x 0 ≡ getD w x 0) where
   pub words-same : candidateWords (poolAt n w' .all) ≡ view w' 8 (5 * countAt w')
   words-same =
       let l = H .table .few in

@@ -54,7 +54,7 @@ module _ (vs : List Float) (fs : List ℕ) (q : Asked) (listed : ℕ) (el : list
           small-facets = M .few;
           size = let s = M .size in let l = K .long in omega (arith, s, l);
           few = let c = K .low 6 (omega arith) in let f = D .holds .table .few in omega (arith, c, f);
-          words = words-same (q .eps) n w w' (D .holds) (K .long) (K .low);
+          words = words-same (q .eps) n w w' (D .holds) (K .long) (λ x h. K .low x (omega arith));
           short = λ f h. let s = D .holds .lengths f h in let e = K .low f (omega arith) in omega (arith, s, e);
           constraints = K .few;
           edges = let t = M .threes in omega (arith, t, few);
@@ -64,6 +64,6 @@ module _ (vs : List Float) (fs : List ℕ) (q : Asked) (listed : ℕ) (el : list
     pub standing-is : standing n nf k total w' ≡ candidates (setting q) (meshOf vs fs)
     unfolding candidates
     standing-is =
-        let p = pool-same (q .eps) n w w' (D .holds) (K .long) (K .low) ∙ D .pool in
+        let p = pool-same (q .eps) n w w' (D .holds) (K .long) (λ x h. K .low x (omega arith)) ∙ D .pool in
         let c = K .listed ∙ (λ t. flatMap (faceConstraints (q .box) (q .eps) (D .edges t) (D .pool t)) faces) in
         λ t. record { all = p t .all; lists = p t .lists; constraints = c t; edges = edges-here t }

@@ -28,7 +28,7 @@ use Rattle.box_faces.specs.Faces.{hasBit}
 use Rattle.candidate_pool.specs.Offsets.{constraintsAt, openEdgesAt, edgeTableAt, roomEnd}
 use Rattle.candidate_pool.specs.Pool.{Pool, byKey, insert}
 use Rattle.candidate_pool.specs.Setting.{Setting}
-use Rattle.candidate_pool.specs.Standing.{countAt, poolAt, Holds, edgesAt, EdgesHeld}
+use Rattle.candidate_pool.specs.Standing.{countAt, joinedIn, poolAt, Holds, edgesAt, EdgesHeld}
 use Rattle.candidate_edges.specs.Surface.{edgeSurface, meshPool}
 use Rattle.candidate_edges.specs.Steps.{TableAt, Sourced}
 use Rattle.candidate_grids.specs.Grid.{grid}
@@ -58,7 +58,7 @@ pub record Surfaced (vs : List Float) (fs : List ℕ) (box : AABB) (eps : Float)
   pub edges : edgesAt w (openEdgesAt n (length fs / 3)) k ≡ edgeSurface box eps (byKey eps) (meshOf vs fs) .edges
   pub holds : Holds eps n w
   pub held : EdgesHeld (poolAt n w) w (openEdgesAt n (length fs / 3)) k
-  pub sourced : Sourced (pointsOf vs) eps (poolAt n w)
+  pub sourced : Sourced (pointsOf vs) eps (poolAt n w) (joinedIn n w)
 
 abbrev pub fullPool : Setting → Mesh → Pool
 fullPool s mesh =

@@ -147,7 +147,7 @@ module _ (eps : Float) (n f : ℕ) (s : Side) (w₀ : List ℕ) where
     collected-low h = omega (arith, collected-id h, list-low n w₀ o f hf i h)
 
     -- the point that the loop reads is that of candidate i of the list
-    pub collected-point : i < getD w₀ f 0 → pointAt w (entryAt (getD w (8 + 11 * n + f * n + i) 0)) ≡ pointOf (poolAt n w₀) (getD (faceList (poolAt n w₀) f) i 0)
+    pub collected-point : i < getD w₀ f 0 → pointAt w (entryAt (getD w (listAt n f + i) 0)) ≡ pointOf (poolAt n w₀) (getD (faceList (poolAt n w₀) f) i 0)
     collected-point h =
         let d = getD w (listAt n f + i) 0 in
         let l = collected-low h in

@@ -8,7 +8,7 @@ use mathlib.Core.Path.{_≡_, sym, subst}
 use native.Mathlib.Omega.{arith}
 use lib.ListN.{length, getD}
 use lib.Ieee.{Float}
-use Rattle.candidate_pool.specs.Offsets.{listAt, poolEnd}
+use Rattle.candidate_pool.specs.Offsets.{listAt, joinedAt, poolEnd}
 use Rattle.candidate_pool.specs.Pool.{Pool}
 use Rattle.candidate_pool.specs.Standing.{countAt, poolAt, Tidy, Holds, edgesAt, EdgesHeld}
 use Rattle.candidate_pool.proofs.Reading.{pool-count, list-at, list-length}
@@ -22,16 +22,19 @@ list-low n w s f hf i h = omega (arith, sym (list-at n w f i hf h), s .tidy .low
 
 -- ---- after stores elsewhere
 module _ (n : ℕ) (w w' : List ℕ) (s : Shown n w) (long : length w' ≡ length w) (low : (x : ℕ) → x < poolEnd n → getD w' x 0 ≡ getD w x 0) where
+  inner : (x : ℕ) → x < joinedAt n → getD w' x 0 ≡ getD w x 0
+  inner x h = low x (omega arith)
+
   pub pool-same : poolAt n w' ≡ poolAt n w
-  pool-same = pool-agrees n w w' long low (s .few) (s .tidy)
+  pool-same = pool-agrees n w w' long inner (s .few) (s .tidy)
 
   pub shown-same : Shown n w'
   shown-same =
       record {
         size = omega (arith, s .size);
-        few = omega (arith, count-same n w w' long low, s .few);
+        few = omega (arith, count-same n w w' long inner, s .few);
         lengths = λ f h. omega (arith, low f (omega arith), s .lengths f h);
-        stored = λ c h. let k : c < countAt w = omega (arith, count-same n w w' long low) in stored-kept n w w' long low (s .few) c k (s .stored c k);
+        stored = λ c h. let k : c < countAt w = omega (arith, count-same n w w' long inner) in stored-kept n w w' long inner (s .few) c k (s .stored c k);
         tidy = subst Tidy (sym pool-same) (s .tidy);
       }
 

@@ -18,8 +18,9 @@ use Rattle.geometry.proofs.Meshes.{length-pointsOf}
 use Rattle.edges.specs.Edges.{sides, openEdges}
 use Rattle.edges.specs.Table.{nextSide}
 use Rattle.edges.proofs.Sides.{next-in, side-at}
-use Rattle.candidate_pool.specs.Pool.{byKey, numberFor}
-use Rattle.candidate_pool.specs.Standing.{facesIn, candidate, poolAt, PointIn, RoomFor, Inserted}
+use Rattle.candidate_pool.specs.Offsets.{joinedAt}
+use Rattle.candidate_pool.specs.Pool.{Pool, byKey, numberFor}
+use Rattle.candidate_pool.specs.Standing.{facesIn, candidate, joinedIn, poolAt, PointIn, RoomFor, VertexInserted}
 use Rattle.candidate_pool.proofs.Reading.{pool-count}
 use Rattle.candidate_edges.specs.Steps.{TableAt, Sourced, Ready, VertexEntered}
 use Rattle.candidate_edges.proofs.Sources.{sourced-kept, sourced-room}
@@ -49,18 +50,21 @@ module _ (vs : List Float) (eps : Float) (n : ℕ) (w : List ℕ) (v : ℕ) (p :
   vertex-room on =
       subst (λ (q : Point). RoomFor eps n w (candidate q (v + 1) on)) (sym is)
       (λ z.
-      let r = sourced-room (pointsOf vs) eps (poolAt n w) (ready .sourced) v on low z in
+      let r = sourced-room (pointsOf vs) eps (poolAt n w) (joinedIn n w) (ready .sourced) v on low z in
       let k = ready .vertices in
       omega (arith, pool-count n w, length-pointsOf vs))
 
-  pub vertex-entered : (mask r : ℕ) (w' : List ℕ) → Inserted eps n (candidate p (v + 1) (facesIn mask)) w w'
+  pub vertex-entered : (mask r : ℕ) (w' : List ℕ) → VertexInserted eps n v (candidate p (v + 1) (facesIn mask)) w w'
       → r ≡ numberFor (byKey eps) (poolAt n w) (candidate p (v + 1) (facesIn mask)) → VertexEntered vs eps n v mask r w w'
   vertex-entered mask r w' inserted number =
-      let done : Inserted eps n (candidate (vertex (pointsOf vs) v) (v + 1) (facesIn mask)) w w' = subst (λ (q : Point). Inserted eps n (candidate q (v + 1) (facesIn mask)) w w') is inserted in
+      let done : VertexInserted eps n v (candidate (vertex (pointsOf vs) v) (v + 1) (facesIn mask)) w w' = subst (λ (q : Point). VertexInserted eps n v (candidate q (v + 1) (facesIn mask)) w w') is inserted in
       record {
         inserted = done;
         number = number ∙ ap (λ (q : Point). numberFor (byKey eps) (poolAt n w) (candidate q (v + 1) (facesIn mask))) is;
-        sourced = subst (Sourced (pointsOf vs) eps) (sym (done .pool)) (sourced-kept (pointsOf vs) eps (poolAt n w) v (facesIn mask) (ready .sourced) low);
+        sourced = subst (λ (p : Pool). Sourced (pointsOf vs) eps p (joinedIn n w')) (sym (done .pool))
+            (sourced-kept (pointsOf vs) eps (poolAt n w) v (facesIn mask) (joinedIn n w) (joinedIn n w') (ready .sourced) low (done .joined)
+            (λ u d. done .rest (joinedAt n + u) (omega arith) (λ q. d (omega arith))));
+        rest = λ x l. done .rest x (omega arith) (λ q. omega (arith, ready .vertices));
       }
 
 pub ready-next : (vs : List Float) (eps : Float) (n v mask r : ℕ) (w w' : List ℕ) → Ready vs eps n w → VertexEntered vs eps n v mask r w w' → Ready vs eps n w'

@@ -24,7 +24,7 @@ use Rattle.box_faces.specs.Faces.{faceBits, bitCount, facesOf}
 use Rattle.edges.specs.Edges.{openEdges}
 use Rattle.candidate_pool.specs.Offsets.{poolEnd, openEdgesAt, edgeTableAt}
 use Rattle.candidate_pool.specs.Pool.{Candidate, Pool, noPool, byKey, insert}
-use Rattle.candidate_pool.specs.Standing.{facesIn, poolAt, Holds, edgesAt, EdgesHeld}
+use Rattle.candidate_pool.specs.Standing.{facesIn, joinedIn, poolAt, Holds, edgesAt, EdgesHeld}
 use Rattle.candidate_pool.proofs.Reading.{pool-count}
 use Rattle.candidate_pool.proofs.Edges.{edges-none, held-none}
 use Rattle.candidate_edges.specs.Surface.{Surface, edgeFaces, meshCandidate, enterEdge, edgeSurface, cornerVertices}
@@ -62,7 +62,7 @@ module _ (vs : List Float) (fs : List ℕ) (box : AABB) (eps : Float) (n : ℕ) 
   abbrev none : Surface
   none = record { pool = noPool; edges = [] }
 
-  pub edges-start : (k : ℕ) (w : List ℕ) → MeshFits vs fs n w → TableAt fs w (edgeTableAt n (length fs / 3)) k → VerticesIn vs → Holds eps n w × (poolAt n w ≡ noPool)
+  pub edges-start : (k : ℕ) (w : List ℕ) → MeshFits vs fs n w → TableAt fs w (edgeTableAt n (length fs / 3)) k → VerticesIn vs → Holds eps n w × (poolAt n w ≡ noPool) × ((v : ℕ) → v < n → joinedIn n w v ≡ 0)
       → EdgesGoing vs fs box eps n 0 0 w w
   edges-start k w fits table within pool =
       record {
@@ -74,7 +74,7 @@ module _ (vs : List Float) (fs : List ℕ) (box : AABB) (eps : Float) (n : ℕ) 
             record {
               fits = fits;
               table = subst (TableAt fs w (edgeTableAt n (length fs / 3))) (table .count) table;
-              ready = record { holds = pool .0; vertices = fits .vertices; within = within; sourced = subst (Sourced (pointsOf vs) eps) (sym (pool .1)) (sourced-none (pointsOf vs) eps) };
+              ready = record { holds = pool .0; vertices = fits .vertices; within = within; sourced = subst (λ (p : Pool). Sourced (pointsOf vs) eps p (joinedIn n w)) (sym (pool .1)) (sourced-none (pointsOf vs) eps (joinedIn n w) (λ v l. pool .2 v (omega (arith, length-pointsOf vs, fits .vertices)))) };
               held = held-none (poolAt n w) w at;
             };
         long = refl;
@@ -151,7 +151,7 @@ module _ (vs : List Float) (box : AABB) (eps : Float) (n : ℕ) where
               ∙ sym (ap (foldl (insert (byKey eps)) (poolAt n w)) (kept v true (le-leb 2 (length (corner vs box eps v .on)) (omega (arith, count-are)))));
           ready = ready-next vs eps n v mask r w w' ready e;
           long = e .inserted .long;
-          rest = e .inserted .rest;
+          rest = e .rest;
         }
 
     pub corner-out : bitCount mask < 2 → CornerEntered vs box eps n v w w
@@ -163,7 +163,7 @@ module _ (vs : List Float) (box : AABB) (eps : Float) (n : ℕ) where
           rest = λ x l. refl;
         }
 
-  pub corners-start : (w : List ℕ) → Holds eps n w × (length vs / 3 ≤ n) → VerticesIn vs → Sourced (pointsOf vs) eps (poolAt n w) → CornersGoing vs box eps n 0 w w
+  pub corners-start : (w : List ℕ) → Holds eps n w × (length vs / 3 ≤ n) → VerticesIn vs → Sourced (pointsOf vs) eps (poolAt n w) (joinedIn n w) → CornersGoing vs box eps n 0 w w
   unfolding upFrom keep
   corners-start w holds within sourced =
       record {
@@ -201,7 +201,7 @@ module _ (vs : List Float) (box : AABB) (eps : Float) (n : ℕ) where
       record {
         pool = g .pool ∙ ap (λ (k : ℕ). foldl (insert (byKey eps)) (poolAt n w₀) (keep (twice vs box eps) (map (corner vs box eps) (upTo k)))) same;
         holds = g .ready .holds;
-        few = omega (arith, sourced-few (pointsOf vs) eps (poolAt n w) (g .ready .sourced), pool-count n w, length-pointsOf vs);
+        few = omega (arith, sourced-few (pointsOf vs) eps (poolAt n w) (joinedIn n w) (g .ready .sourced), pool-count n w, length-pointsOf vs);
         long = g .long;
         rest = g .rest;
       }

@@ -17,13 +17,15 @@ use Rattle.geometry.specs.Triangles.{Triangle, tri, threes}
 use Rattle.geometry.specs.Meshes.{vertex, pointsOf, meshOf}
 use Rattle.box_faces.specs.Faces.{faceBits, hasBit, bitCount}
 use Rattle.edges.specs.Edges.{sides, openEdges}
-use Rattle.candidate_pool.specs.Offsets.{poolEnd, openEdgesAt, edgeTableAt}
+use Rattle.candidate_pool.specs.Offsets.{joinedAt, poolEnd, openEdgesAt, edgeTableAt}
 use Rattle.candidate_pool.specs.Pool.{Pool, faceList, byKey, numberFor, insert}
-use Rattle.candidate_pool.specs.Standing.{facesIn, poolAt, edgeAt, edgesAt, EdgesHeld}
+use Rattle.candidate_pool.specs.Standing.{facesIn, joinedIn, poolAt, edgeAt, edgesAt, EdgesHeld}
 use Rattle.candidate_pool.proofs.Growing.{grows, number-listed}
 use Rattle.candidate_pool.proofs.Masking.{no-faces, no-bit, has-faces, few-faces}
 use Rattle.candidate_pool.proofs.Frames.{pool-same, holds-same}
 use Rattle.candidate_pool.proofs.Edges.{edges-more, edges-same, held-kept, held-more}
+use Rattle.geometry.proofs.Meshes.{length-pointsOf}
+use Rattle.candidate_edges.proofs.Sources.{sourced-same}
 use Rattle.candidate_edges.specs.Surface.{edgeFaces, meshCandidate, enterEdge}
 use Rattle.candidate_edges.specs.Steps.{TableAt, MeshFits, Sourced, Ready, VertexEntered, surfaceAt, Entering, EdgeEntered}
 use Rattle.candidate_edges.proofs.Faces.{mask-faces, mask-small}
@@ -113,7 +115,7 @@ module _ (vs : List Float) (fs : List ℕ) (box : AABB) (eps : Float) (n i mask 
   word x f g k = ap (λ (l : List ℕ). getD l x 0) stored ∙ three-other w2 (at + 3 * i) a b (cond (eqb a b) 0 mask) room x f g k
 
   same : (x : ℕ) → poolEnd n ≤ x → (x ≡ at + 3 * i → ⊥) → (x ≡ at + 3 * i + 1 → ⊥) → (x ≡ at + 3 * i + 2 → ⊥) → getD w3 x 0 ≡ getD w x 0
-  same x l f g k = word x f g k ∙ second .inserted .rest x l ∙ first .inserted .rest x l
+  same x l f g k = word x f g k ∙ second .rest x l ∙ first .rest x l
 
   same-edges : (x : ℕ) → at ≤ x → x < at + 3 * i → getD w3 x 0 ≡ getD w x 0
   same-edges x l k = same x (omega arith) (λ e. omega arith) (λ e. omega arith) (λ e. omega arith)
@@ -136,7 +138,7 @@ module _ (vs : List Float) (fs : List ℕ) (box : AABB) (eps : Float) (n i mask 
   long3 = ap (length {A = ℕ}) stored ∙ three-long w2 (at + 3 * i) a b (cond (eqb a b) 0 mask) room
 
   pool3 : poolAt n w3 ≡ poolAt n w2
-  pool3 = pool-same eps n w2 w3 (second .inserted .holds) long3 same-below
+  pool3 = pool-same eps n w2 w3 (second .inserted .holds) long3 (λ x l. same-below x (omega arith))
 
   on-is : facesIn mask ≡ on
   on-is = ap facesIn is ∙ mask-faces box eps (vertex (pointsOf vs) (side .0)) (vertex (pointsOf vs) (side .1))
@@ -219,10 +221,11 @@ module _ (vs : List Float) (fs : List ℕ) (box : AABB) (eps : Float) (n i mask 
   ready : Ready vs eps n w3
   ready =
       record {
-        holds = holds-same eps n w2 w3 (second .inserted .holds) long3 same-below;
+        holds = holds-same eps n w2 w3 (second .inserted .holds) long3 (λ x l. same-below x (omega arith));
         vertices = entering .ready .vertices;
         within = entering .ready .within;
-        sourced = subst (Sourced (pointsOf vs) eps) (sym pool3) (second .sourced);
+        sourced = sourced-same (pointsOf vs) eps (poolAt n w2) (poolAt n w3) (joinedIn n w2) (joinedIn n w3) pool3
+            (λ v l. same-below (joinedAt n + v) (omega (arith, length-pointsOf vs, entering .ready .vertices))) (second .sourced);
       }
 
   held-old : EdgesHeld (poolAt n w3) w3 at i

@@ -3,16 +3,16 @@
 --   TableAt          the k records from `at` on are those of the open edges in order (crate edges)
 --   MeshFits         the mesh and the room that the functions ask for
 --   VerticesIn       every vertex is a point of no NaN and no infinity
---   Sourced          each candidate stands at the mesh vertex that it names, and no two have one key: so there are no more than vertices
+--   Sourced          a vertex's word names the candidate that the rule finds for it, and each candidate is named by a vertex: so there are no more than vertices
 --   Ready            what `enter_vertex` asks for       VertexEntered    what it leaves
 --   surfaceAt        the candidates and the first i open edges as they stand
 --   Entering         what `enter_edge` asks for and keeps, before the open edge i
 --   EdgeEntered      what `enter_edge` leaves           EdgesEntered     what `enter_edges` leaves
 --   CornerEntered    what `enter_corner` leaves         CornersEntered   what `enter_corners` leaves
-use Prim.Native.Nat.{ℕ, _+_, _*_, _-_, _/_, _%_, _≤_, _<_}
+use Prim.Native.Nat.{ℕ, suc, _+_, _*_, _/_, _%_, _≤_, _<_}
 use mathlib.Core.Path.{_≡_}
-use mathlib.Core.Bool.{false}
 use mathlib.Core.List.{List, [], _∷_, foldl}
+use mathlib.Core.Option.{some}
 use lib.Dec.{leb}
 use lib.ListN.{length, getD}
 use lib.Ieee.{Float}
@@ -21,11 +21,10 @@ use Rattle.geometry.specs.declared.point.Point.{Point}
 use Rattle.geometry.specs.declared.aabb.AABB.{AABB}
 use Rattle.geometry.specs.Triangles.{threes}
 use Rattle.geometry.specs.Meshes.{vertex, pointsOf, meshOf}
-use Rattle.mesh_weld.specs.Cells.{keyOf, sameKey}
 use Rattle.edges.specs.Edges.{sides, openEdges}
 use Rattle.candidate_pool.specs.Offsets.{poolEnd, openEdgesAt, edgeTableAt, roomEnd}
-use Rattle.candidate_pool.specs.Pool.{Pool, noCandidate, pointOf, byKey, numberFor, insert}
-use Rattle.candidate_pool.specs.Standing.{facesIn, countAt, poolAt, PointIn, Holds, Inserted, edgesAt, EdgesHeld}
+use Rattle.candidate_pool.specs.Pool.{Pool, noCandidate, byKey, placeFor, numberFor, insert}
+use Rattle.candidate_pool.specs.Standing.{facesIn, countAt, joinedIn, poolAt, PointIn, Holds, VertexInserted, edgesAt, EdgesHeld}
 use Rattle.candidate_edges.specs.Surface.{Surface, edgeFaces, meshCandidate, enterEdge, edgeSurface, cornerVertices}
 
 pub record TableAt (fs w : List ℕ) (at k : ℕ) : Type 0 where
@@ -46,22 +45,25 @@ pub record MeshFits (vs : List Float) (fs : List ℕ) (n : ℕ) (w : List ℕ) :
 abbrev pub VerticesIn : List Float → Type 0
 VerticesIn vs = (v : ℕ) → v < length vs / 3 → PointIn (vertex (pointsOf vs) v)
 
-pub record Sourced (points : List Point) (eps : Float) (p : Pool) : Type 0 where
-  pub some : (c : ℕ) → c < length (p .all) → 1 ≤ getD (p .all) c noCandidate .mesh
+-- A vertex's word is 0 while it was not inserted. `source` of a candidate is the vertex that it was made for.
+pub record Sourced (points : List Point) (eps : Float) (p : Pool) (word : ℕ → ℕ) : Type 0 where
   pub low : (c : ℕ) → c < length (p .all) → getD (p .all) c noCandidate .mesh ≤ length points
-  pub at : (c : ℕ) → c < length (p .all) → pointOf p c ≡ vertex points (getD (p .all) c noCandidate .mesh - 1)
-  pub apart : (c d : ℕ) → c < d → d < length (p .all) → sameKey (keyOf eps (pointOf p c)) (keyOf eps (pointOf p d)) ≡ false
+  pub found : (v c : ℕ) → v < length points → word v ≡ suc c → placeFor (byKey eps) p (record { point = vertex points v; mesh = v + 1; on = [] }) ≡ some c
+  pub source : ℕ → ℕ
+  pub within : (c : ℕ) → c < length (p .all) → source c < length points
+  pub names : (c : ℕ) → c < length (p .all) → word (source c) ≡ suc c
 
 pub record Ready (vs : List Float) (eps : Float) (n : ℕ) (w : List ℕ) : Type 0 where
   pub holds : Holds eps n w
   pub vertices : length vs / 3 ≤ n
   pub within : VerticesIn vs
-  pub sourced : Sourced (pointsOf vs) eps (poolAt n w)
+  pub sourced : Sourced (pointsOf vs) eps (poolAt n w) (joinedIn n w)
 
 pub record VertexEntered (vs : List Float) (eps : Float) (n v mask r : ℕ) (w w' : List ℕ) : Type 0 where
-  pub inserted : Inserted eps n (meshCandidate (meshOf vs []) v (facesIn mask)) w w'
+  pub inserted : VertexInserted eps n v (meshCandidate (meshOf vs []) v (facesIn mask)) w w'
   pub number : r ≡ numberFor (byKey eps) (poolAt n w) (meshCandidate (meshOf vs []) v (facesIn mask))
-  pub sourced : Sourced (pointsOf vs) eps (poolAt n w')
+  pub sourced : Sourced (pointsOf vs) eps (poolAt n w') (joinedIn n w')
+  pub rest : (x : ℕ) → poolEnd n ≤ x → getD w' x 0 ≡ getD w x 0
 
 abbrev pub surfaceAt : ℕ → List ℕ → ℕ → ℕ → Surface
 surfaceAt n w at i = record { pool = poolAt n w; edges = edgesAt w at i }
@@ -85,7 +87,7 @@ pub record EdgesEntered (vs : List Float) (fs : List ℕ) (box : AABB) (eps : Fl
   pub listed : r ≡ length (edgeSurface box eps (byKey eps) (meshOf vs fs) .edges)
   pub holds : Holds eps n w'
   pub held : EdgesHeld (poolAt n w') w' (openEdgesAt n (length fs / 3)) k
-  pub sourced : Sourced (pointsOf vs) eps (poolAt n w')
+  pub sourced : Sourced (pointsOf vs) eps (poolAt n w') (joinedIn n w')
   pub long : length w' ≡ length w
 
 -- "every mesh vertex on two or more faces"

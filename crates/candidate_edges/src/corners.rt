@@ -2,7 +2,7 @@
 ghost use Prim.Native.Nat.{_/_, _≤_, _<_};
 ghost use lib.ListN.{length};
 ghost use Rattle.geometry.specs.Meshes.{pointsOf};
-ghost use Rattle.candidate_pool.specs.Standing.{poolAt, Holds};
+ghost use Rattle.candidate_pool.specs.Standing.{joinedIn, poolAt, Holds};
 ghost use Rattle.candidate_edges.specs.Steps.{VerticesIn, Sourced, Ready, CornerEntered, CornersEntered};
 use crate::open::enter_vertex;
 use crate::open::vertex_point;
@@ -26,7 +26,7 @@ fn enter_corner(w: &mut [u64], vertices: &[f64], n: usize, v: MeshVertexId, exte
 pub fn enter_corners(w: &mut [u64], vertices: &[f64], n: usize, extents: AABB, eps: f64)
     requires { ⌜ Holds eps n (now w) × (length (now vertices) / 3 ≤ n) ⌝ }
     requires { ⌜ VerticesIn (now vertices) ⌝ }
-    requires { ⌜ Sourced (pointsOf (now vertices)) eps (poolAt n (now w)) ⌝ }
+    requires { ⌜ Sourced (pointsOf (now vertices)) eps (poolAt n (now w)) (joinedIn n (now w)) ⌝ }
     ensures { λ _. ⌜ CornersEntered (now (vertices .entry)) extents eps n (now (w .entry)) (now (w .exit)) ⌝ }
 {
     let count = vertices.len() / 3;

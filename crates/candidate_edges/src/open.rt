@@ -11,7 +11,7 @@ ghost use Rattle.box_faces.specs.Faces.{faceBits, bitCount};
 ghost use Rattle.edges.specs.Edges.{sides, openEdges};
 ghost use Rattle.candidate_pool.specs.Offsets.{edgeTableAt};
 ghost use Rattle.candidate_pool.specs.Pool.{noPool};
-ghost use Rattle.candidate_pool.specs.Standing.{poolAt, Holds};
+ghost use Rattle.candidate_pool.specs.Standing.{joinedIn, poolAt, Holds};
 ghost use Rattle.candidate_edges.specs.Surface.{edgeFaces};
 ghost use Rattle.candidate_edges.specs.Steps.{TableAt, VerticesIn, MeshFits, Ready, VertexEntered, Entering, EdgeEntered, EdgesEntered};
 use box_faces::faces::aabb_face_mask;
@@ -74,7 +74,7 @@ pub fn stray_edge(
     k
 }
 
-// Inserts a mesh vertex with some faces. There is room for it: no two candidates have one key, so they stand at different vertices.
+// Inserts a mesh vertex with some faces. There is room for it: each candidate was made for a vertex that had none.
 pub fn enter_vertex(
     w: &mut [u64],
     vertices: &[f64],
@@ -148,7 +148,7 @@ pub fn enter_edges(
     requires { ⌜ MeshFits (now vertices) (now facets) n (now w) ⌝ }
     requires { ⌜ TableAt (now facets) (now w) (edgeTableAt n (length (now facets) / 3)) k ⌝ }
     requires { ⌜ VerticesIn (now vertices) ⌝ }
-    requires { ⌜ Holds eps n (now w) × (poolAt n (now w) ≡ noPool) ⌝ }
+    requires { ⌜ Holds eps n (now w) × (poolAt n (now w) ≡ noPool) × ((v : ℕ) → v < n → joinedIn n (now w) v ≡ 0) ⌝ }
     ensures { λ r. ⌜ EdgesEntered (now (vertices .entry)) (now (facets .entry)) extents eps n k r (now (w .entry)) (now (w .exit)) ⌝ }
 {
     let mut listed = 0;

@@ -34,7 +34,7 @@ use Rattle.refusals.proofs.Grids.{not-too-fine, cut-is}
 use Rattle.box_faces.specs.declared.uv.Uv.{Uv}
 use Rattle.box_faces.specs.Faces.{uAxis, vAxis, project}
 use Rattle.box_faces.specs.Lines.{lineAt, pointOnFace}
-use Rattle.candidate_pool.specs.Offsets.{poolEnd, openEdgesAt, segmentsAt, roomEnd}
+use Rattle.candidate_pool.specs.Offsets.{joinedAt, openEdgesAt, segmentsAt, roomEnd}
 use Rattle.candidate_pool.specs.Pool.{Pool, pointOf, faceList, byKey, insert}
 use Rattle.candidate_pool.specs.Standing.{candidate, countAt, poolAt, Holds, edgesAt}
 use Rattle.candidate_pool.proofs.Frames.{pool-same, holds-same}
@@ -200,7 +200,7 @@ face-line-in box f parts e h a b = line-in box (axis f) parts (cond (isMin f) 0 
 -- ---- the face
 
 module _ (eps : Float) (n nf k f : ℕ) (tolerance : Float) (w v : List ℕ) (H : Holds eps n w) (count : ℕ) (G : Gathered n nf k f tolerance w v count) where
-  below : (x : ℕ) → x < poolEnd n → getD v x 0 ≡ getD w x 0
+  below : (x : ℕ) → x < joinedAt n → getD v x 0 ≡ getD w x 0
   below x h = G .rest x (omega arith)
 
   pub gathered-pool : poolAt n v ≡ poolAt n w

@@ -10,7 +10,7 @@ use Rattle.lists.proofs.Sequences.{some-below}
 use Rattle.box_faces.specs.declared.uv.Uv.{Uv}
 use Rattle.candidate_grids.specs.declared.grids.Near.{Near}
 use Rattle.candidate_grids.specs.Steps.{double, SegmentIn, SegmentAt, startAt, endAt, hitAt, skipsAt, NearReady}
-use Rattle.candidate_pool.specs.Offsets.{poolEnd}
+use Rattle.candidate_pool.specs.Offsets.{joinedAt}
 
 module _ (w v : List ℕ) (at : ℕ) (same : (k : ℕ) → k < 5 → getD v (at + k) 0 ≡ getD w (at + k) 0) where
   word : getD v at 0 ≡ getD w at 0
@@ -42,7 +42,7 @@ module _ (w v : List ℕ) (at count : ℕ) (same : (x : ℕ) → at ≤ x → x 
       some-below (λ i. hitAt v (at + 5 * i) tolerance p) (λ i. hitAt w (at + 5 * i) tolerance p) count
       (λ i h. hit-same w v (at + 5 * i) (λ k l. same (at + 5 * i + k) (omega arith) (omega arith)) tolerance p)
 
-pub near-same : (n : ℕ) (near : Near) (w v : List ℕ) → length v ≡ length w → ((x : ℕ) → poolEnd n ≤ x → getD v x 0 ≡ getD w x 0) → NearReady n near w → NearReady n near v
+pub near-same : (n : ℕ) (near : Near) (w v : List ℕ) → length v ≡ length w → ((x : ℕ) → joinedAt n ≤ x → getD v x 0 ≡ getD w x 0) → NearReady n near w → NearReady n near v
 near-same n near w v long same r =
     record {
       above = r .above;

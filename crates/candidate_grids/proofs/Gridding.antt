@@ -19,7 +19,7 @@ use Rattle.geometry.specs.Axes.{segments, gridSize}
 use Rattle.refusals.specs.Front.{byAxis}
 use Rattle.box_faces.specs.declared.uv.Uv.{Uv}
 use Rattle.box_faces.specs.Faces.{uAxis, vAxis, project}
-use Rattle.candidate_pool.specs.Offsets.{poolEnd, openEdgesAt, segmentsAt}
+use Rattle.candidate_pool.specs.Offsets.{joinedAt, openEdgesAt, segmentsAt}
 use Rattle.candidate_pool.specs.Pool.{Pool, byKey, insert}
 use Rattle.candidate_pool.specs.Setting.{Setting}
 use Rattle.candidate_pool.specs.Standing.{candidate, countAt, poolAt, Holds, edgesAt, EdgesHeld}
@@ -70,7 +70,7 @@ pub record Gridding (box : AABB) (eps : Float) (resolution skip : List Float) (n
   pub few : countAt v ≤ countAt w + sizeTo box eps resolution face
   pub grown : Grown n w v
   pub long : length v ≡ length w
-  pub rest : (x : ℕ) → poolEnd n ≤ x → x < segmentsAt n nf → getD v x 0 ≡ getD w x 0
+  pub rest : (x : ℕ) → joinedAt n ≤ x → x < segmentsAt n nf → getD v x 0 ≡ getD w x 0
 
 module _ (box : AABB) (eps : Float) (resolution skip : List Float) (n nf k : ℕ) (w : List ℕ) (R : GridReady box eps resolution skip n nf k w) where
   abbrev E : ℕ

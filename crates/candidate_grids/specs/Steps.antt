@@ -37,7 +37,7 @@ use Rattle.box_faces.specs.declared.uv.Uv.{Uv}
 use Rattle.box_faces.specs.Faces.{uv, uAxis, vAxis, project, hasBit}
 use Rattle.box_faces.specs.Lines.{lineAt, pointOnFace}
 use Rattle.box_faces.specs.Segments.{onSegmentBy, onSegment}
-use Rattle.candidate_pool.specs.Offsets.{entryAt, poolEnd, openEdgesAt, segmentsAt, roomEnd}
+use Rattle.candidate_pool.specs.Offsets.{entryAt, joinedAt, poolEnd, openEdgesAt, segmentsAt, roomEnd}
 use Rattle.candidate_pool.specs.Pool.{Candidate, Pool, pointOf, faceList, byKey, insert}
 use Rattle.candidate_pool.specs.Setting.{Setting}
 use Rattle.candidate_pool.specs.Standing.{candidate, countAt, pointAt, poolAt, PointIn, Stored, Holds, edgesAt, EdgesHeld}
@@ -66,7 +66,7 @@ pub record Gridded (box : AABB) (eps : Float) (resolution skip : List Float) (n 
   pub holds : Holds eps n w'
   pub held : EdgesHeld (poolAt n w') w' (openEdgesAt n nf) k
   pub long : length w' ≡ length w
-  pub rest : (x : ℕ) → poolEnd n ≤ x → x < segmentsAt n nf → getD w' x 0 ≡ getD w x 0
+  pub rest : (x : ℕ) → joinedAt n ≤ x → x < segmentsAt n nf → getD w' x 0 ≡ getD w x 0
 
 -- ---- segments
 
@@ -190,7 +190,7 @@ pub record Entered (eps : Float) (n : ℕ) (l : List Candidate) (most : ℕ) (w 
   pub few : countAt w' ≤ countAt w + most
   pub grown : Grown n w w'
   pub long : length w' ≡ length w
-  pub rest : (x : ℕ) → poolEnd n ≤ x → getD w' x 0 ≡ getD w x 0
+  pub rest : (x : ℕ) → joinedAt n ≤ x → getD w' x 0 ≡ getD w x 0
 
 pub record RowReady (eps : Float) (n : ℕ) (near : Near) (face : ℕ) (row : Row) (box : AABB) (last : ℕ) (w : List ℕ) : Type 0 where
   pub holds : Holds eps n w
@@ -224,4 +224,4 @@ pub record FaceEntered (box : AABB) (eps : Float) (resolution skip : List Float)
   pub few : countAt w' ≤ countAt w + faceSize box eps resolution face
   pub grown : Grown n w w'
   pub long : length w' ≡ length w
-  pub rest : (x : ℕ) → poolEnd n ≤ x → x < segmentsAt n nf → getD w' x 0 ≡ getD w x 0
+  pub rest : (x : ℕ) → joinedAt n ≤ x → x < segmentsAt n nf → getD w' x 0 ≡ getD w x 0

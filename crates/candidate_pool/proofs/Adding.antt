@@ -3,13 +3,14 @@
 --   adding-start, adding-low, adding-turn, adding-skip, adding-end   its laws
 --   same-number        the faces do not bear on the number;   number-in   the number that an insertion gives is that of a candidate
 --   inserted-faces, inserted-face   an insertion with no face, and faces added, is an insertion with them
+--   vertex-inserted    and a mesh vertex, whose word is written
 use Prim.Native.Nat.{ℕ, _+_, _*_, _≤_, _<_}
 use native.Mathlib.Omega.{arith}
-use mathlib.Core.Path.{_≡_, refl, sym, ap, _∙_}
+use mathlib.Core.Path.{_≡_, refl, sym, ap, subst, _∙_}
 use mathlib.Core.Bool.{Bool, true, false, cond}
 use mathlib.Core.List.{List, [], _∷_, _++_, map, append-nil}
 use lib.ListN.{getD, set, length, length-set}
-use lib.Seq.{set-getD}
+use lib.Seq.{getD-set-same, getD-set-other, set-getD}
 use lib.Ieee.{Float}
 use Rattle.lists.specs.Lists.{some, keep, has, upFrom, upTo}
 use Rattle.lists.specs.Regions.{view}
@@ -19,9 +20,9 @@ use Rattle.geometry.specs.Points.{origin}
 use Rattle.geometry.specs.Boxes.{faces}
 use Rattle.box_faces.specs.Faces.{hasBit}
 use Rattle.mesh_weld.specs.Joining.{Joining}
-use Rattle.candidate_pool.specs.Offsets.{entryAt, listAt, poolEnd}
+use Rattle.candidate_pool.specs.Offsets.{entryAt, listAt, joinedAt}
 use Rattle.candidate_pool.specs.Pool.{Candidate, Pool, noCandidate, byKey, renewed, listed, numberFor, insert}
-use Rattle.candidate_pool.specs.Standing.{facesIn, candidate, countAt, pointAt, candidateAt, poolAt, Holds, Inserted, FaceAdded}
+use Rattle.candidate_pool.specs.Standing.{facesIn, candidate, countAt, pointAt, candidateAt, poolAt, Holds, Inserted, VertexInserted, FaceAdded}
 use Rattle.candidate_pool.specs.Steps.{withFaces, FacesAdded}
 use Rattle.candidate_pool.proofs.Listing.{kept-again}
 use Rattle.candidate_pool.proofs.Rule.{key-lawful}
@@ -29,12 +30,13 @@ use Rattle.candidate_pool.proofs.Growing.{number-low}
 use Rattle.candidate_pool.proofs.Inserting.{faces-more, insert-faces, one-face}
 use Rattle.candidate_pool.proofs.Reading.{pool-count, pool-at, link-low}
 use Rattle.candidate_pool.proofs.Placing.{kept-none}
+use Rattle.candidate_pool.proofs.Frames.{pool-same, holds-same}
 
 pub record Adding (eps : Float) (n id mask k : ℕ) (w v : List ℕ) : Type 0 where
   pub pool : poolAt n v ≡ withFaces (poolAt n w) id (keep (hasBit mask) (upTo k))
   pub holds : Holds eps n v
   pub long : length v ≡ length w
-  pub rest : (x : ℕ) → poolEnd n ≤ x → getD v x 0 ≡ getD w x 0
+  pub rest : (x : ℕ) → joinedAt n ≤ x → getD v x 0 ≡ getD w x 0
 
 -- adding no face changes nothing, since a candidate's faces are in face order
 with-none : (n : ℕ) (w : List ℕ) (id : ℕ) → id < countAt w → poolAt n w ≡ withFaces (poolAt n w) id []
@@ -133,3 +135,25 @@ module _ (eps : Float) (n : ℕ) (w u v : List ℕ) (p : Point) (m id : ℕ) (h 
         long = a .long ∙ i .long;
         rest = λ x r. a .rest x r ∙ i .rest x r;
       }
+
+-- and a mesh vertex has its word then
+module _ (eps : Float) (n v id : ℕ) (e : Candidate) (w u : List ℕ) (i : Inserted eps n e w u) (low : v < n) (number : id ≡ numberFor (byKey eps) (poolAt n w) e) where
+  abbrev worded : List ℕ
+  worded = set u (joinedAt n + v) (id + 1)
+
+  long : length worded ≡ length u
+  long = length-set u (joinedAt n + v) (id + 1)
+
+  below : (x : ℕ) → x < joinedAt n → getD worded x 0 ≡ getD u x 0
+  below x h = getD-set-other u (joinedAt n + v) x (id + 1) 0 (λ d. omega arith)
+
+  pub vertex-inserted : (u' : List ℕ) (at : ℕ) → at ≡ joinedAt n → u' ≡ set u (at + v) (id + 1) → VertexInserted eps n v e w u'
+  vertex-inserted u' at to stored =
+      subst (VertexInserted eps n v e w) (sym (stored ∙ ap (λ (x : ℕ). set u (x + v) (id + 1)) to))
+      (record {
+        pool = pool-same eps n u worded (i .holds) long below ∙ i .pool;
+        holds = holds-same eps n u worded (i .holds) long below;
+        joined = getD-set-same u (joinedAt n + v) (id + 1) 0 (omega (arith, i .holds .size)) ∙ omega arith;
+        long = long ∙ i .long;
+        rest = λ x h d. getD-set-other u (joinedAt n + v) x (id + 1) 0 d ∙ i .rest x h;
+      })

@@ -8,23 +8,24 @@ use lib.ListN.{getD, length}
 use lib.Ieee.{Float}
 use Rattle.lists.specs.Regions.{view, Zeroed}
 use Rattle.chains.proofs.Entering.{linked-none}
-use Rattle.candidate_pool.specs.Offsets.{keysAt, chainAt, listAt, poolEnd}
+use Rattle.candidate_pool.specs.Offsets.{keysAt, chainAt, listAt, joinedAt, poolEnd}
 use Rattle.candidate_pool.specs.Pool.{noPool}
 use Rattle.candidate_pool.specs.Room.{keyAt, keyBucket, KeyTable}
 use Rattle.candidate_pool.specs.Standing.{countAt, poolAt, Tidy, Cleared}
 use Rattle.candidate_pool.proofs.Tidying.{tidy-none}
 use Rattle.candidate_pool.proofs.Reading.{pool-is}
 
-module _ (eps : Float) (n : ℕ) (w u v : List ℕ) (at : ℕ) (at-is : at ≡ chainAt n) (small : n < 268435456) (size : poolEnd n ≤ length w)
-    (counts : Zeroed w u 0 8) (chains : Zeroed u v at (2 * n)) where
+module _ (eps : Float) (n : ℕ) (w u t v : List ℕ) (at to : ℕ) (at-is : at ≡ chainAt n) (to-is : to ≡ joinedAt n) (small : n < 268435456) (size : poolEnd n ≤ length w)
+    (counts : Zeroed w u 0 8) (chains : Zeroed u t at (2 * n)) (vertices : Zeroed t v to n) where
   count-zero : (f : ℕ) → f < 8 → getD v f 0 ≡ 0
-  count-zero f h = chains .rest f (λ i r e. omega arith) ∙ ap (λ (x : ℕ). getD u x 0) (omega arith) ∙ counts .zero f h
+  count-zero f h =
+      vertices .rest f (λ i r e. omega arith) ∙ chains .rest f (λ i r e. omega arith) ∙ ap (λ (x : ℕ). getD u x 0) (omega arith) ∙ counts .zero f h
 
   chain-zero : (i : ℕ) → i < n + n → getD v (chainAt n + i) 0 ≡ 0
-  chain-zero i h = ap (λ (x : ℕ). getD v (x + i) 0) (sym at-is) ∙ chains .zero i (omega arith)
+  chain-zero i h = vertices .rest (chainAt n + i) (λ j r e. omega arith) ∙ ap (λ (x : ℕ). getD t (x + i) 0) (sym at-is) ∙ chains .zero i (omega arith)
 
   long : length v ≡ length w
-  long = chains .long ∙ counts .long
+  long = vertices .long ∙ chains .long ∙ counts .long
 
   none : (c : ℕ) → c < countAt v → ⊥
   none c h = omega (arith, count-zero 6 (omega arith))
@@ -58,6 +59,7 @@ module _ (eps : Float) (n : ℕ) (w u v : List ℕ) (at : ℕ) (at-is : at ≡ c
               lengths = λ f h. omega (arith, count-zero f (omega arith));
               tidy = subst Tidy (sym pool) tidy-none;
             };
+        joined = λ i h. ap (λ (x : ℕ). getD v (x + i) 0) (sym to-is) ∙ vertices .zero i h;
         long = long;
-        rest = λ x h. chains .rest x (λ i r e. omega arith) ∙ counts .rest x (λ i r e. omega arith);
+        rest = λ x h. vertices .rest x (λ i r e. omega arith) ∙ chains .rest x (λ i r e. omega arith) ∙ counts .rest x (λ i r e. omega arith);
       }

@@ -23,7 +23,7 @@ use Rattle.geometry.specs.Boxes.{faces}
 use Rattle.geometry.specs.declared.point.Point.{Point}
 use Rattle.box_faces.specs.Faces.{hasBit}
 use Rattle.mesh_weld.specs.Cells.{keyOf}
-use Rattle.candidate_pool.specs.Offsets.{entryAt, keysAt, listsAt, listAt, poolEnd}
+use Rattle.candidate_pool.specs.Offsets.{entryAt, keysAt, listsAt, listAt, joinedAt}
 use Rattle.candidate_pool.specs.Pool.{Candidate, Pool, noCandidate, faceList, renewed, added, listed}
 use Rattle.candidate_pool.specs.Room.{keyWords, keyAt}
 use Rattle.candidate_pool.specs.Standing.{facesIn, candidate, countAt, pointAt, candidateAt, poolAt, Stored, Tidy, Holds, withFace, FaceAdded}
@@ -140,7 +140,7 @@ module _ (eps : Float) (n : ℕ) (w : List ℕ) (h : Holds eps n w) (id f : ℕ)
       facePut = set (set marked (o + getD marked f 0) id) f (getD marked f 0 + 1)
 
       -- where the candidate's number goes
-      end-in : o + getD marked f 0 < poolEnd n
+      end-in : o + getD marked f 0 < joinedAt n
       end-in = omega (arith, list-in n f k, list-room, count-kept)
 
       end-low : listsAt n ≤ o + getD marked f 0

@@ -15,7 +15,7 @@ use Rattle.lists.specs.Regions.{view}
 use Rattle.lists.proofs.Regions.{view-at}
 use Rattle.geometry.specs.declared.point.Point.{Point}
 use Rattle.mesh_weld.specs.Cells.{keyOf}
-use Rattle.candidate_pool.specs.Offsets.{entryAt, keysAt, listAt, poolEnd}
+use Rattle.candidate_pool.specs.Offsets.{entryAt, keysAt, listAt, joinedAt}
 use Rattle.candidate_pool.specs.Room.{keyWords}
 use Rattle.candidate_pool.specs.Standing.{countAt, pointAt, candidateAt, poolAt, Stored, Tidy, Holds}
 use Rattle.candidate_pool.proofs.Reading.{pool-count, pool-at, pool-list, pool-is, candidate-same, list-in, list-few}
@@ -36,7 +36,7 @@ view-kept u w o n m long few same =
     within : length (view u o n) ≤ n
     within = let c = cut u in omega arith
 
-module _ (n : ℕ) (w w' : List ℕ) (long : length w' ≡ length w) (same : (x : ℕ) → x < poolEnd n → getD w' x 0 ≡ getD w x 0) where
+module _ (n : ℕ) (w w' : List ℕ) (long : length w' ≡ length w) (same : (x : ℕ) → x < joinedAt n → getD w' x 0 ≡ getD w x 0) where
   pub count-same : countAt w' ≡ countAt w
   count-same = same 6 (omega arith)
 
@@ -61,7 +61,7 @@ module _ (n : ℕ) (w w' : List ℕ) (long : length w' ≡ length w) (same : (x 
         ∙ view-kept w w' (listAt n f) (getD w f 0) n long (subst (λ (l : List ℕ). length l ≤ n) (pool-list n w f h) (list-few n w few tidy f h))
         (λ i k. same (listAt n f + i) (omega (arith, list-in n f h))))
 
-module _ (eps : Float) (n : ℕ) (w w' : List ℕ) (H : Holds eps n w) (long : length w' ≡ length w) (same : (x : ℕ) → x < poolEnd n → getD w' x 0 ≡ getD w x 0) where
+module _ (eps : Float) (n : ℕ) (w w' : List ℕ) (H : Holds eps n w) (long : length w' ≡ length w) (same : (x : ℕ) → x < joinedAt n → getD w' x 0 ≡ getD w x 0) where
   few : countAt w ≤ n
   few = H .table .few
 

@@ -32,7 +32,7 @@ use Rattle.geometry.specs.Boxes.{faces}
 use Rattle.chains.specs.Links.{linkOf, linkTo}
 use Rattle.chains.proofs.Firsts.{places-link, link-found}
 use Rattle.mesh_weld.specs.Cells.{keyOf, sameKey}
-use Rattle.candidate_pool.specs.Offsets.{entryAt, keysAt, listsAt, listAt, poolEnd}
+use Rattle.candidate_pool.specs.Offsets.{entryAt, keysAt, listsAt, listAt, joinedAt, poolEnd}
 use Rattle.candidate_pool.specs.Pool.{Candidate, noCandidate, faceList, byKey, placeFor, pointOf}
 use Rattle.candidate_pool.specs.Room.{keyWords, keyAt}
 use Rattle.candidate_pool.specs.Standing.{facesIn, countAt, pointAt, candidateAt, poolAt, Holds, RoomFor, Tidy}
@@ -108,7 +108,7 @@ list-few n w few tidy f k =
     pigeonhole n (faceList (poolAt n w) f) (λ i j. tidy .once f i j k) (λ i h. omega (arith, pool-count n w, tidy .low f i k h))
 
 pub lists-same : (eps : Float) (n : ℕ) (u w : List ℕ) → Holds eps n u → length w ≡ length u → ((f : ℕ) → f < 6 → getD w f 0 ≡ getD u f 0)
-    → ((x : ℕ) → listsAt n ≤ x → x < poolEnd n → getD w x 0 ≡ getD u x 0) → (f : ℕ) → f < 6
+    → ((x : ℕ) → listsAt n ≤ x → x < joinedAt n → getD w x 0 ≡ getD u x 0) → (f : ℕ) → f < 6
     → view w (listAt n f) (getD w f 0) ≡ view u (listAt n f) (getD u f 0)
 lists-same eps n u w h long counts same f k =
     ap (λ (x : ℕ). view w (listAt n f) x) (counts f k)

@@ -2,7 +2,8 @@
 -- what each holds; they stand one behind the other, so that a further table is a change of this file and that one. Assumes nothing.
 --   entryAt         candidate c, as it is written out
 --   keysAt          the keys                                     chainAt         the bucket chains
---   listsAt, listAt the six face lists; that of face f           poolEnd         where the pool ends
+--   listsAt, listAt the six face lists; that of face f           joinedAt        the candidates that mesh vertices joined
+--   poolEnd         where the pool ends
 --   placesAt        places of candidates in a face's list        sideAt          places along a side
 --   pairsAt         pairs of places of a face                    constraintsAt   the constraints
 --   openEdgesAt     the open edges                               segmentsAt      segments of a face
@@ -24,29 +25,32 @@ listsAt n = 8 + 11 * n
 abbrev pub listAt : ℕ → ℕ → ℕ
 listAt n f = 8 + 11 * n + f * n
 
+abbrev pub joinedAt : ℕ → ℕ
+joinedAt n = 8 + 17 * n
+
 abbrev pub poolEnd : ℕ → ℕ
-poolEnd n = 8 + 17 * n
+poolEnd n = 8 + 18 * n
 
 abbrev pub placesAt : ℕ → ℕ
-placesAt n = 8 + 17 * n
+placesAt n = 8 + 18 * n
 
 abbrev pub sideAt : ℕ → ℕ
-sideAt n = 8 + 18 * n
+sideAt n = 8 + 19 * n
 
 abbrev pub pairsAt : ℕ → ℕ
-pairsAt n = 8 + 22 * n
+pairsAt n = 8 + 23 * n
 
 abbrev pub constraintsAt : ℕ → ℕ → ℕ
-constraintsAt n nf = 8 + 38 * n + 12 * nf
+constraintsAt n nf = 8 + 39 * n + 12 * nf
 
 abbrev pub openEdgesAt : ℕ → ℕ → ℕ
-openEdgesAt n nf = 8 + 62 * n + 30 * nf
+openEdgesAt n nf = 8 + 63 * n + 30 * nf
 
 abbrev pub segmentsAt : ℕ → ℕ → ℕ
-segmentsAt n nf = 8 + 62 * n + 39 * nf
+segmentsAt n nf = 8 + 63 * n + 39 * nf
 
 abbrev pub edgeTableAt : ℕ → ℕ → ℕ
-edgeTableAt n nf = 8 + 62 * n + 54 * nf
+edgeTableAt n nf = 8 + 63 * n + 54 * nf
 
 abbrev pub roomEnd : ℕ → ℕ → ℕ
-roomEnd n nf = 8 + 62 * n + 66 * nf
+roomEnd n nf = 8 + 63 * n + 66 * nf

@@ -1,7 +1,8 @@
 -- Candidates as they stand in the work room, of which the outer contract does not speak. For at most n candidates: from 0 on the lengths of the six face lists and the number
--- of candidates; from 8 on the candidates, five words each; from keysAt on their table (Room.antt); from listsAt on the six face lists, n words each. Assumes nothing.
+-- of candidates; from 8 on the candidates, five words each; from keysAt on their table (Room.antt); from listsAt on the six face lists, n words each;
+-- from joinedAt on a word for each mesh vertex: 1 more than the candidate that it became part of, or 0 while it was not inserted. Assumes nothing.
 --   facesIn        the faces whose bits a word has            candidate   from its parts
---   countAt        how many candidates stand in the room
+--   countAt        how many candidates stand in the room      joinedIn      the word of mesh vertex v
 --   pointAt        a point from three words of bits          candidateAt   candidate c
 --   poolAt         all of them, with the face lists
 --   PointIn        a point of no NaN and no infinity, as vertices and grid points are
@@ -9,12 +10,12 @@
 --   Tidy           what every pool that was filled by `insert` satisfies: a candidate is in a face's list exactly if it has the face, and once
 --   Holds          the room holds its pool, so that a candidate is found by its key
 --   RoomFor        there is room for an inserted one, should it be new
---   Inserted       w became w' by an insertion
+--   Inserted       w became w' by an insertion;   VertexInserted   by that of a mesh vertex, whose word names the candidate that it became part of
 --   withFace, FaceAdded   a pool whose candidate c has the face f too; w became w' so
 --   Cleared        w became w', which holds no candidate
 --   edgeAt, edgesAt   k open edges of three words each (two candidates, and the bits of the faces they are listed with), as the list of face and two candidates
 --   EdgesHeld      the ends of these edges are in the lists of the edge's faces
-use Prim.Native.Nat.{ℕ, _+_, _*_, _≤_, _<_, _^_}
+use Prim.Native.Nat.{ℕ, suc, _+_, _*_, _≤_, _<_, _^_}
 use mathlib.Core.Path.{_≡_}
 use mathlib.Core.Bool.{true}
 use mathlib.Core.List.{List, [], _∷_, map, flatMap}
@@ -30,8 +31,8 @@ use Rattle.geometry.specs.Boxes.{faces}
 use Rattle.geometry.specs.Triangles.{Triangle, tri}
 use Rattle.mesh_weld.specs.Cells.{keyOf}
 use Rattle.box_faces.specs.Faces.{hasBit}
-use Rattle.candidate_pool.specs.Offsets.{entryAt, keysAt, listAt, poolEnd}
-use Rattle.candidate_pool.specs.Pool.{Candidate, Pool, noCandidate, noPool, faceList, renewed, listed, byKey, placeFor, insert}
+use Rattle.candidate_pool.specs.Offsets.{entryAt, keysAt, listAt, joinedAt, poolEnd}
+use Rattle.candidate_pool.specs.Pool.{Candidate, Pool, noCandidate, noPool, faceList, renewed, listed, byKey, placeFor, numberFor, insert}
 use Rattle.candidate_pool.specs.Room.{keyWords, keyAt, KeyTable}
 
 abbrev pub facesIn : ℕ → List ℕ
@@ -42,6 +43,9 @@ candidate p mesh on = record { point = p; mesh = mesh; on = on }
 
 abbrev pub countAt : List ℕ → ℕ
 countAt w = getD w 6 0
+
+abbrev pub joinedIn : ℕ → List ℕ → ℕ → ℕ
+joinedIn n w v = getD w (joinedAt n + v) 0
 
 abbrev pub pointAt : List ℕ → ℕ → Point
 pointAt w at = pt (ofBits binary64 (getD w at 0)) (ofBits binary64 (getD w (at + 1) 0)) (ofBits binary64 (getD w (at + 2) 0))
@@ -80,12 +84,20 @@ pub record Holds (eps : Float) (n : ℕ) (w : List ℕ) : Type 0 where
 abbrev pub RoomFor : Float → ℕ → List ℕ → Candidate → Type 0
 RoomFor eps n w e = placeFor (byKey eps) (poolAt n w) e ≡ none → countAt w < n
 
--- only the words below poolEnd change
+-- only the words below joinedAt change
 pub record Inserted (eps : Float) (n : ℕ) (e : Candidate) (w w' : List ℕ) : Type 0 where
   pub pool : poolAt n w' ≡ insert (byKey eps) (poolAt n w) e
   pub holds : Holds eps n w'
   pub long : length w' ≡ length w
-  pub rest : (x : ℕ) → poolEnd n ≤ x → getD w' x 0 ≡ getD w x 0
+  pub rest : (x : ℕ) → joinedAt n ≤ x → getD w' x 0 ≡ getD w x 0
+
+-- a mesh vertex v, which has its word then
+pub record VertexInserted (eps : Float) (n v : ℕ) (e : Candidate) (w w' : List ℕ) : Type 0 where
+  pub pool : poolAt n w' ≡ insert (byKey eps) (poolAt n w) e
+  pub holds : Holds eps n w'
+  pub joined : joinedIn n w' v ≡ suc (numberFor (byKey eps) (poolAt n w) e)
+  pub long : length w' ≡ length w
+  pub rest : (x : ℕ) → joinedAt n ≤ x → (x ≡ joinedAt n + v → ⊥) → getD w' x 0 ≡ getD w x 0
 
 abbrev pub withFace : Pool → ℕ → ℕ → Pool
 withFace p c f =
@@ -98,12 +110,13 @@ pub record FaceAdded (eps : Float) (n c f : ℕ) (w w' : List ℕ) : Type 0 wher
   pub pool : poolAt n w' ≡ withFace (poolAt n w) c f
   pub holds : Holds eps n w'
   pub long : length w' ≡ length w
-  pub rest : (x : ℕ) → poolEnd n ≤ x → getD w' x 0 ≡ getD w x 0
+  pub rest : (x : ℕ) → joinedAt n ≤ x → getD w' x 0 ≡ getD w x 0
 
 pub record Cleared (eps : Float) (n : ℕ) (w w' : List ℕ) : Type 0 where
   pub pool : poolAt n w' ≡ noPool
   pub holds : Holds eps n w'
   pub long : length w' ≡ length w
+  pub joined : (v : ℕ) → v < n → joinedIn n w' v ≡ 0
   pub rest : (x : ℕ) → poolEnd n ≤ x → getD w' x 0 ≡ getD w x 0
 
 abbrev pub edgeAt : List ℕ → ℕ → List (Triangle ℕ)

@@ -12,7 +12,7 @@ use lib.Ieee.{Float, binary64, ofBits, toBits}
 use Rattle.geometry.specs.declared.point.Point.{Point}
 use Rattle.geometry.specs.Points.{origin}
 use Rattle.chains.specs.Chains.{entered}
-use Rattle.candidate_pool.specs.Offsets.{entryAt, keysAt, chainAt, poolEnd}
+use Rattle.candidate_pool.specs.Offsets.{entryAt, keysAt, chainAt, joinedAt}
 use Rattle.candidate_pool.specs.declared.keys.KeyWords.{KeyWords}
 use Rattle.candidate_pool.specs.Pool.{Pool, noCandidate, renewed, listed}
 use Rattle.candidate_pool.specs.Standing.{candidate, facesIn, poolAt, Holds}
@@ -43,4 +43,4 @@ pub record FacesAdded (eps : Float) (n c mask : ℕ) (w w' : List ℕ) : Type 0 
   pub pool : poolAt n w' ≡ withFaces (poolAt n w) c (facesIn mask)
   pub holds : Holds eps n w'
   pub long : length w' ≡ length w
-  pub rest : (x : ℕ) → poolEnd n ≤ x → getD w' x 0 ≡ getD w x 0
+  pub rest : (x : ℕ) → joinedAt n ≤ x → getD w' x 0 ≡ getD w x 0

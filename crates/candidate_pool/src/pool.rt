@@ -7,12 +7,13 @@ ghost use lib.ListN.{length};
 ghost use Rattle.candidate_pool.specs.Offsets.{entryAt, poolEnd};
 ghost use Rattle.candidate_pool.specs.Pool.{byKey, numberFor};
 ghost use Rattle.candidate_pool.specs.Room.{KeyTable};
-ghost use Rattle.candidate_pool.specs.Standing.{facesIn, countAt, pointAt, poolAt, candidate, PointIn, Stored, Holds, RoomFor, Inserted, FaceAdded, Cleared};
+ghost use Rattle.candidate_pool.specs.Standing.{facesIn, countAt, pointAt, poolAt, candidate, PointIn, Stored, Holds, RoomFor, Inserted, VertexInserted, FaceAdded, Cleared};
 ghost use Rattle.candidate_pool.specs.Steps.{BitsOf, pointPut, candidatePut, FacesAdded};
 use crate::keys::KeyWords;
 use crate::keys::find_key;
 use crate::keys::quantized_point_key;
 use crate::room::chain_at;
+use crate::room::joined_at;
 use crate::room::keys_at;
 use crate::room::list_at;
 use box_faces::faces::has_face;
@@ -30,6 +31,7 @@ pub fn clear_pool(w: &mut [u64], n: usize, eps: f64)
 {
     zero_part(w, 0, 8);
     zero_part(w, chain_at(n), 2 * n);
+    zero_part(w, joined_at(n), n);
 }
 
 fn put_point(w: &mut [u64], id: usize, p: Point, mesh: u64)
@@ -112,7 +114,7 @@ fn push_faces(w: &mut [u64], n: usize, id: usize, mask: u64, eps: f64)
     }
 }
 
-// `insert_candidate`, of a mesh vertex with the faces of a mask
+// `insert_candidate`, of a mesh vertex with the faces of a mask. The vertex's word then names the candidate that it became part of.
 pub fn insert_candidate(
     w: &mut [u64],
     n: usize,
@@ -122,12 +124,13 @@ pub fn insert_candidate(
     eps: f64,
 ) -> CandidateVertexId
     requires { ⌜ Holds eps n (now w) ⌝ }
-    requires { ⌜ PointIn p × (mask < 64) × (v .0 < 4294967296) ⌝ }
+    requires { ⌜ PointIn p × (mask < 64) × (v .0 < n) ⌝ }
     requires { ⌜ RoomFor eps n (now w) (candidate p (v .0 + 1) (facesIn mask)) ⌝ }
-    ensures { λ r. ⌜ Inserted eps n (candidate p (v .0 + 1) (facesIn mask)) (now (w .entry)) (now (w .exit)) × (r .0 ≡ numberFor (byKey eps) (poolAt n (now (w .entry))) (candidate p (v .0 + 1) (facesIn mask))) ⌝ }
+    ensures { λ r. ⌜ VertexInserted eps n (v .0) (candidate p (v .0 + 1) (facesIn mask)) (now (w .entry)) (now (w .exit)) × (r .0 ≡ numberFor (byKey eps) (poolAt n (now (w .entry))) (candidate p (v .0 + 1) (facesIn mask))) ⌝ }
 {
     let id = place_candidate(w, n, p, v.0 as u64 + 1, eps);
     push_faces(w, n, id, mask, eps);
+    w[joined_at(n) + v.0] = id as u64 + 1;
     CandidateVertexId(id)
 }
 

@@ -13,7 +13,7 @@ use native.Mathlib.Omega.{arith}
 use lib.ListN.{length, getD, drop, length-take}
 use Rattle.lists.specs.Regions.{view}
 use Rattle.geometry.specs.Triangles.{threes}
-use Rattle.candidate_pool.specs.Offsets.{entryAt, poolEnd, openEdgesAt}
+use Rattle.candidate_pool.specs.Offsets.{entryAt, joinedAt, poolEnd, openEdgesAt}
 use Rattle.candidate_pool.specs.Pool.{Pool}
 use Rattle.candidate_pool.specs.Standing.{countAt, poolAt, Tidy, edgesAt, EdgesHeld}
 use Rattle.candidate_pool.proofs.Frames.{view-kept, count-same, stored-kept, pool-agrees}
@@ -36,7 +36,7 @@ module _ (b : ℕ) (w w' : List ℕ) (above : Above b w w') where
   view-below o k m few end = view-kept w w' o k m (above .long) few (λ i h. above .below (o + i) (omega arith))
 
   module _ (n : ℕ) (pooled : Pooled n w) (end : poolEnd n ≤ b) where
-    words : (x : ℕ) → x < poolEnd n → getD w' x 0 ≡ getD w x 0
+    words : (x : ℕ) → x < joinedAt n → getD w' x 0 ≡ getD w x 0
     words x h = above .below x (omega arith)
 
     pub pool-kept : poolAt n w' ≡ poolAt n w

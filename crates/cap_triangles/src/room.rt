@@ -15,7 +15,7 @@
 //   27 nf + 42 nc + 2 n   4 nc             records (three corners packed, place), and the sort's scratch
 //   27 nf + 46 nc + 2 n   nc               of a facet left 1 if it is the first of its three corners
 //   27 nf + 47 nc + 2 n   1                how many vertices there are so far
-// In all 9 + 64 (vertices + G) + 93 facets + 47 triangles, of the 128 (vertices + facets + triangles + G) + 1,024 that are lent.
+// In all 9 + 65 (vertices + G) + 93 facets + 47 triangles, of the 128 (vertices + facets + triangles + G) + 1,024 that are lent.
 ghost use mathlib.Core.Path.{_≡_};
 ghost use Prim.Native.Nat.{_<_};
 ghost use Rattle.cap_triangles.specs.Room.{turnedAt, recordsAt, numbersAt, upAt, downAt, heldAt, labelsAt, componentsAt, seededAt, closingAt};

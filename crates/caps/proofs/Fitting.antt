@@ -2,11 +2,11 @@
 --   listable, listable-same   the cap list, once tests 1 to 7 have passed, and the room for it; a room of the same length serves as well
 --   tabled-room     the room for the open edges' table
 --   closable        what the closing asks, once tests 10 and 11 have passed
-use Prim.Native.Nat.{ℕ, _+_, _*_, _/_, _≤_}
+use Prim.Native.Nat.{ℕ, _+_, _*_, _/_, _≤_, _<_}
 use native.Mathlib.Omega.{arith}
 use mathlib.Core.Path.{_≡_, subst}
 use mathlib.Core.List.{List}
-use lib.ListN.{length}
+use lib.ListN.{length, getD}
 use lib.Ieee.{Float}
 use Rattle.geometry.specs.Meshes.{meshOf, pointsOf}
 use Rattle.refusals.specs.declared.refusal.Checked.{Checked}
@@ -15,8 +15,7 @@ use Rattle.candidate_pool.specs.Offsets.{roomEnd}
 use Rattle.refusals.specs.Refusals.{Passes}
 use Rattle.refusals.specs.Front.{ceiling}
 use Rattle.refusals.proofs.Replies.{cap-listed}
-use Rattle.candidate_pool.specs.Pool.{Pool}
-use Rattle.candidate_edges.specs.Steps.{Sourced}
+use Rattle.candidate_pool.specs.Pool.{Pool, noCandidate}
 use Rattle.boundary_closure.specs.Asked.{Asked, setting}
 use Rattle.boundary_closure.specs.Operation.{closureTests}
 use Rattle.boundary_closure.specs.Steps.{Sound, most, Surfaced, fullPool, Completed}
@@ -41,7 +40,7 @@ tabled-room vs fs capList n w L = let s = L .size in omega (arith, s)
 pub closable : (vs : List Float) (fs capList : List ℕ) (q : Asked) (n k : ℕ) (w₁ w w' : List ℕ) (r : Checked) → Sound vs fs q
     → Surfaced vs fs (q .box) (q .eps) n k w₁ → Completed vs fs q n k w → CapsChecked n (length fs / 3) k capList r w w' → r ≡ Passed → Closable vs fs capList n k w'
 closable vs fs capList q n k w₁ w w' r S F D C e =
-    let low = full-low vs fs q (subst (λ (p : Pool). Sourced (pointsOf vs) (q .eps) p) (F .pool) (F .sourced)) in
+    let low = full-low vs fs q (subst (λ (p : Pool). (c : ℕ) → c < length (p .all) → getD (p .all) c noCandidate .mesh ≤ length (pointsOf vs)) (F .pool) (F .sourced .low)) in
     record {
       lists = S .lists;
       within = vertices-in vs fs q S;

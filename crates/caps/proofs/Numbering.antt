@@ -28,7 +28,6 @@ use Rattle.candidate_pool.specs.Pool.{Candidate, Pool, noCandidate, byKey, rene
 use Rattle.candidate_pool.specs.Setting.{Setting}
 use Rattle.candidate_pool.specs.Standing.{countAt, candidateAt, poolAt}
 use Rattle.candidate_edges.specs.Surface.{meshCandidate, edgeFaces, cornerVertices, edgeSurface, meshPool}
-use Rattle.candidate_edges.specs.Steps.{Sourced}
 use Rattle.candidate_grids.specs.Grid.{gridPoint, interior, skipped, gridAt, faceGrid, grid, segmentsOf}
 use Rattle.boundary_closure.specs.Asked.{Asked, setting}
 use Rattle.boundary_closure.specs.Steps.{fullPool}
@@ -115,14 +114,16 @@ grid-low s edges p m =
     point-low f i j =
         one (interior s (uAxis f) i && (interior s (vAxis f) j && skipped s edges p f (project f (gridPoint s f i j)))) (gridPoint s f i j) (f ∷ [])
 
-pub full-low : (vs : List Float) (fs : List ℕ) (q : Asked) → Sourced (pointsOf vs) (q .eps) (edgeSurface (q .box) (q .eps) (byKey (q .eps)) (meshOf vs fs) .pool)
+pub full-low : (vs : List Float) (fs : List ℕ) (q : Asked)
+    → ((c : ℕ) → c < length (edgeSurface (q .box) (q .eps) (byKey (q .eps)) (meshOf vs fs) .pool .all)
+    → getD (edgeSurface (q .box) (q .eps) (byKey (q .eps)) (meshOf vs fs) .pool .all) c noCandidate .mesh ≤ length (pointsOf vs))
     → Low (length vs / 3) (fullPool (setting q) (meshOf vs fs))
 unfolding meshPool
 full-low vs fs q S =
     let mesh = meshOf vs fs in
     let first = edgeSurface (q .box) (q .eps) (byKey (q .eps)) mesh .pool in
     let m = length (pointsOf vs) in
-    let a : Low m first = low-all m (first .all) (S .low) in
+    let a : Low m first = low-all m (first .all) S in
     let b = low-fold (byKey (q .eps)) m first (cornerVertices (q .box) (q .eps) mesh) a (corners-low (q .box) (q .eps) mesh) in
     let c = low-fold (byKey (q .eps)) m (meshPool (q .box) (q .eps) (byKey (q .eps)) mesh) (grid (setting q) (edgeSurface (q .box) (q .eps) (byKey (q .eps)) mesh .edges) (meshPool (q .box) (q .eps) (byKey (q .eps)) mesh)) b
     (grid-low (setting q) (edgeSurface (q .box) (q .eps) (byKey (q .eps)) mesh .edges) (meshPool (q .box) (q .eps) (byKey (q .eps)) mesh) m) in

@@ -8,7 +8,7 @@ clear-pool-requires : tie.Need-clear-pool-requires
 clear-pool-requires c κs = ((c .before .before .before .before .pre .0 .small, omega (arith, c .before .before .before .before .pre .0 .size)))
 
 enter-edges-requires : tie.Need-enter-edges-requires
-enter-edges-requires c κs = let a = c .before .before .before .before .before .before .before .before .args in (fits-same (a .vertices .now) (a .facets .now) (a .n) (a .w .now) (c .before .before .before .clear-pool .last .0) (c .before .before .before .clear-pool .kept .0) (c .before .before .before .before .before .before .before .before .pre .0), (table-left (a .vertices .now) (a .facets .now) (a .extents) (a .eps) (a .n) (a .k) (a .w .now) (c .before .before .before .clear-pool .last .0) (c .before .before .before .clear-pool .ensures) (c .before .before .before .before .before .before .before .before .pre .1 .0), (c .before .before .before .before .before .before .before .before .pre .1 .1, ((c .before .before .before .clear-pool .ensures .holds, c .before .before .before .clear-pool .ensures .pool)))))
+enter-edges-requires c κs = let a = c .before .before .before .before .before .before .before .before .args in (fits-same (a .vertices .now) (a .facets .now) (a .n) (a .w .now) (c .before .before .before .clear-pool .last .0) (c .before .before .before .clear-pool .kept .0) (c .before .before .before .before .before .before .before .before .pre .0), (table-left (a .vertices .now) (a .facets .now) (a .extents) (a .eps) (a .n) (a .k) (a .w .now) (c .before .before .before .clear-pool .last .0) (c .before .before .before .clear-pool .ensures) (c .before .before .before .before .before .before .before .before .pre .1 .0), (c .before .before .before .before .before .before .before .before .pre .1 .1, (c .before .before .before .clear-pool .ensures .holds, c .before .before .before .clear-pool .ensures .pool, c .before .before .before .clear-pool .ensures .joined))))
 
 same-length : tie.Need-same-length
 same-length c = search needs

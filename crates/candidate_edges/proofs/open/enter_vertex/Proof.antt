@@ -15,7 +15,7 @@ insert-candidate-requires c κs =
     let s = c .before .before .before .before in
     let a = s .args in
     let v = c .vertex-point in
-    let small : a .v .0 < 4294967296 = omega (arith, s .pre .0 .holds .table .small, s .pre .0 .vertices, s .pre .1 .0) in
+    let small : a .v .0 < a .n = omega (arith, s .pre .0 .vertices, s .pre .1 .0) in
     (s .pre .0 .holds, ((vertex-in (a .vertices .now) (a .eps) (a .n) (a .w .now) (a .v .0) (v .result) (s .pre .0) (s .pre .1 .0) (v .ensures), s .pre .1 .1, small), vertex-room (a .vertices .now) (a .eps) (a .n) (a .w .now) (a .v .0) (v .result) (s .pre .0) (s .pre .1 .0) (v .ensures) (facesIn (a .mask))))
 
 same-length : tie.Need-same-length
