@@ -18,13 +18,14 @@ use Rattle.refusals.specs.declared.refusal.Checked.the-variants.{Passed}
 use Rattle.candidate_pool.specs.Offsets.{openEdgesAt}
 use Rattle.refusals.specs.Refusals.{firstRefusal}
 use Rattle.refusals.specs.Front.{ceiling, ListsPass, CapListPass}
+use Rattle.candidate_pool.specs.Offsets.{openEdgesAt}
 use Rattle.candidate_pool.specs.Pool.{Pool}
 use Rattle.candidate_pool.specs.Standing.{poolAt, edgesAt}
 use Rattle.candidate_edges.specs.Steps.{VerticesIn}
 use Rattle.boundary_closure.specs.Asked.{Asked}
 use Rattle.boundary_closure.specs.Operation.{noTwoEnds}
 use Rattle.cap_triangles.specs.Selection.{Cap, capsOf, outwardCaps, selected}
-use Rattle.cap_triangles.specs.Room.{turnedAt, Above, CapReady}
+use Rattle.cap_triangles.specs.Room.{turnedAt, capsEnd, Above, CapReady}
 use Rattle.cap_pairs.specs.Pairs.{PairsKnown}
 use Rattle.cap_closing.specs.Closing.{closed}
 use Rattle.cap_closing.specs.Entering.{MeshWords}
@@ -57,7 +58,7 @@ pub record Closable (vs : List Float) (fs capList : List ℕ) (n k : ℕ) (w : L
 -- a cap list that passed tests 1 and 2, and the room for it
 pub record Listable (vs : List Float) (fs capList : List ℕ) (n : ℕ) (w : List ℕ) : Type 0 where
   pub list : CapListPass (length capList)
-  pub size : 9 + 64 * n + 93 * (length fs / 3) + 47 * (length capList / 4) ≤ length w
+  pub size : capsEnd n (length fs / 3) (length capList / 4) ≤ length w
 
 abbrev pub surfaceMesh : List Float → List ℕ → List ℕ → Asked → BoundaryClosure → Mesh
 surfaceMesh vs fs capList q mode =
