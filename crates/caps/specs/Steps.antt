@@ -18,7 +18,6 @@ use Rattle.refusals.specs.declared.refusal.Checked.the-variants.{Passed}
 use Rattle.candidate_pool.specs.Offsets.{openEdgesAt}
 use Rattle.refusals.specs.Refusals.{firstRefusal}
 use Rattle.refusals.specs.Front.{ceiling, ListsPass, CapListPass}
-use Rattle.candidate_pool.specs.Offsets.{openEdgesAt}
 use Rattle.candidate_pool.specs.Pool.{Pool}
 use Rattle.candidate_pool.specs.Standing.{poolAt, edgesAt}
 use Rattle.candidate_edges.specs.Steps.{VerticesIn}
