@@ -19,6 +19,7 @@ use Rattle.lists.proofs.Mapped.{Each}
 use Rattle.lists.proofs.Members.{place-le}
 use Rattle.lists.proofs.Sequences.{flat-up, each-append, each-flat, each-any, each-mapped}
 use Rattle.sorting.specs.Buffer.{recordsAt}
+use Rattle.sorting.specs.Runs.{runs, firstKey}
 use Rattle.sorting.specs.Sorting.{sorted}
 use Rattle.sorting.proofs.Sorting.{SortedPart}
 use Rattle.geometry.specs.declared.aabb.AABB.{AABB}
@@ -30,7 +31,7 @@ use Rattle.candidate_pool.specs.Pool.{Pool, faceList}
 use Rattle.candidate_pool.specs.Standing.{poolAt, edgesAt, EdgesHeld}
 use Rattle.candidate_pool.proofs.Reading.{list-length}
 use Rattle.candidate_constraints.specs.Constraints.{neighbours, sideOrder, edgePlaces, faceConstraints}
-use Rattle.candidate_constraints.specs.Steps.{unpacked, Constrained, Kept, Shown, Roomy, Placed, sidePlaces, pairRecord, sidePairs, edgePairs, allPairs, Pushed, lasts, Distinct, FaceListed}
+use Rattle.candidate_constraints.specs.Steps.{unpacked, Constrained, Kept, Shown, Roomy, Placed, sidePlaces, pairRecord, sidePairs, edgePairs, allPairs, Pushed, Distinct, FaceListed}
 use Rattle.candidate_constraints.proofs.Frames.{kept-same, kept-wider, kept-then, kept-sorted, view-above}
 use Rattle.candidate_constraints.proofs.Showing.{pool-same, shown-same, edges-after, held-after}
 use Rattle.candidate_constraints.proofs.Noting.{placed-same}
@@ -149,8 +150,8 @@ module _ (box : AABB) (eps : Float) (n nf k f total : ℕ) (w : List ℕ) (o : S
         record {
           few = omega (arith, d .few, p .few);
           listed =
-              ap (map unpacked) (d .listed ∙ (λ t. view-above (placesAt n) C C total w w2 kept1 (omega arith) (omega (arith, room .room)) t ++ lasts (map (λ (x : ℕ × ℕ). x .0) (in-order t))))
-              ∙ map-append unpacked (view w C total) (lasts (map (λ (x : ℕ × ℕ). x .0) (sorted (map (pairRecord f) (allPairs box eps (poolAt n w) f E)))))
+              ap (map unpacked) (d .listed ∙ (λ t. view-above (placesAt n) C C total w w2 kept1 (omega arith) (omega (arith, room .room)) t ++ map firstKey (runs (in-order t))))
+              ∙ map-append unpacked (view w C total) (map firstKey (runs (sorted (map (pairRecord f) (allPairs box eps (poolAt n w) f E)))))
               ∙ ap (λ (l : List (Triangle ℕ)). map unpacked (view w C total) ++ l)
               (listed-once f (allPairs box eps (poolAt n w) f E) (pairs-low box eps (poolAt n w) f E (omega (arith, list-length n w f (o .size) (o .lengths f hf) hf, o .lengths f hf, room .small))) ∙ as-defined h);
           kept =

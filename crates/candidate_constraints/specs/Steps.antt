@@ -12,13 +12,12 @@
 --   NoNan, LowPlaces   what the records of a side ask
 --   keyed         a fraction by its order;   pairKey, pairRecord   a pair of places in one word; with nothing beside it
 --   sidePairs, allPairs   the neighbours along the four sides; all pairs of a face
---   lasts         the last of each run of equal numbers;   nextSame   the pair at place i of c is that of the next
 --   Fractioned, Collected, Pushed, Distinct, FaceListed   what the functions inside leave
 use Prim.Native.Nat.{ℕ, _+_, _*_, _≤_, _<_}
 use mathlib.Core.Path.{_≡_}
-use mathlib.Core.Bool.{Bool, true, not, cond, _&&_}
-use mathlib.Core.List.{List, [], _∷_, _++_, map, flatMap}
-use lib.Dec.{T, eqb, ltb}
+use mathlib.Core.Bool.{Bool, true, not}
+use mathlib.Core.List.{List, _++_, map, flatMap}
+use lib.Dec.{T, eqb}
 use lib.ListN.{length, getD}
 use lib.Ieee.{Float, isNan}
 use Rattle.lists.specs.Lists.{keep, has, place, sortBy, upTo}
@@ -27,6 +26,7 @@ use Rattle.root.specs.Doubles.{before}
 use Rattle.rounding.specs.Ordering.{orderKey}
 use Rattle.words.specs.Packed.{triple, tripleFirst, tripleSecond, tripleThird}
 use Rattle.sorting.specs.Buffer.{recordsAt}
+use Rattle.sorting.specs.Runs.{runs, firstKey}
 use Rattle.geometry.specs.declared.aabb.AABB.{AABB}
 use Rattle.geometry.specs.declared.fraction.Fraction.{Fraction}
 use Rattle.geometry.specs.declared.fraction.Fraction.the-variants.{At}
@@ -128,17 +128,9 @@ pub record Pushed (n f lo most : ℕ) (l : List (ℕ × ℕ)) (c r : ℕ) (w w' 
   pub kept : Kept lo (pairsAt n + 2 * r) w w'
 
 -- ---- constraints
-unfoldable pub lasts : List ℕ → List ℕ
-lasts [] = []
-lasts (x ∷ []) = x ∷ []
-lasts (x ∷ y ∷ l) = let r = lasts (y ∷ l) in cond (eqb x y) r (x ∷ r)
-
-abbrev pub nextSame : List ℕ → ℕ → ℕ → ℕ → Bool
-nextSame w at c i = ltb (i + 1) c && eqb (getD w (at + 2 * i) 0) (getD w (at + 2 * i + 2) 0)
-
 pub record Distinct (n nf c total r : ℕ) (w w' : List ℕ) : Type 0 where
   pub few : r ≤ total + c
-  pub listed : view w' (constraintsAt n nf) r ≡ view w (constraintsAt n nf) total ++ lasts (map (λ x. x .0) (recordsAt w (pairsAt n) c))
+  pub listed : view w' (constraintsAt n nf) r ≡ view w (constraintsAt n nf) total ++ map firstKey (runs (recordsAt w (pairsAt n) c))
   pub kept : Kept (constraintsAt n nf) (openEdgesAt n nf) w w'
 
 pub record FaceListed (box : AABB) (eps : Float) (n nf k f total r : ℕ) (w w' : List ℕ) : Type 0 where

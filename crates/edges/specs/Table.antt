@@ -8,10 +8,10 @@
 --   sameKey, openRecords     records of the same pair; those with a pair that no other record has
 --   SideRecords, EdgeTable, KeptOpen, OpenEdges   what `side_records`, `sort_sides`, `keep_open` and `open_edges` leave in the words w′ that were w
 use Prim.Native.Nat.{ℕ, suc, _+_, _*_, _-_, _%_, _≤_, _<_}
-use mathlib.Core.Bool.{Bool, cond, _&&_}
+use mathlib.Core.Bool.{Bool, cond}
 use mathlib.Core.List.{List, [], _∷_, map}
 use mathlib.Core.Path.{_≡_}
-use lib.Dec.{eqb, ltb}
+use lib.Dec.{eqb}
 use lib.ListN.{length, getD, take, drop, replicate}
 use Rattle.lists.specs.Lists.{keep, count, upTo}
 use Rattle.words.specs.Packed.{edge}
@@ -46,10 +46,6 @@ sameKey r q = eqb (r .0) (q .0)
 
 unfoldable pub openRecords : List (ℕ × ℕ) → List (ℕ × ℕ)
 openRecords l = keep (λ r. eqb (count (sameKey r) l) 1) l
-
--- the record at place i of n has the key of the next
-abbrev pub nextSame : List ℕ → ℕ → ℕ → Bool
-nextSame w n i = ltb (i + 1) n && eqb (getD w (2 * i) 0) (getD w (2 * i + 2) 0)
 
 pub record SideRecords (facets w w′ : List ℕ) : Type 0 where
   pub table : records (take (2 * length facets) w′) ≡ sideRecords (sides (threes facets))

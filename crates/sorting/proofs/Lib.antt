@@ -7,3 +7,4 @@ pub mod Sorting
 pub mod Stable
 pub mod Dealing
 pub mod ByColumns
+pub mod ByRuns

@@ -1,3 +1,4 @@
 pub mod Sorting
 pub mod Buffer
 pub mod Digits
+pub mod Runs

@@ -1,22 +1,23 @@
--- `keep_open` meets its contract: of the first i records those that stay are at the front. Assumes nothing.
+-- `keep_open` meets its contract: of the runs before i those of one record are at the front. Assumes nothing.
+use Rattle.edges.proofs.Running.{Keeping, keeping-start, keeping-turn, keeping-end, flag-small}
+use Prim.Native.Nat.{_+_, _-_}
 use lib.ListN.{length-set}
-use Prim.Native.Nat.{_-_}
+use lib.Dec.{eqb}
 use native.Mathlib.Omega.{arith}
-use Rattle.edges.proofs.Running.{Keeping, keeping-start, keeping-turn, keeping-end}
 use Rattle.edges.proofs.open.keep_open.Statement.{statement}
 use Rattle.edges.proofs.open.keep_open.Tie as tie
 
 abbrev Inv-loop : tie.InvT-loop
-Inv-loop w₀ n k₀ i₀ first₀ w k i first = Keeping w₀ n w k i first
+Inv-loop w₀ n k₀ i₀ w k i = Keeping w₀ n w k i
 
 abbrev μ-loop : tie.MeasureT-loop
-μ-loop w₀ n k₀ i₀ first₀ w k i first = n - i
+μ-loop w₀ n k₀ i₀ w k i = n - i
 
 loop-holds : tie.Need-loop-holds Inv-loop μ-loop
-loop-holds c = keeping-start (c .before .args .w .now) (c .before .args .n) (c .before .pre .0)
+loop-holds c = let s = c .before in keeping-start (s .args .w .now) (s .args .n) (s .pre .0)
 
-next-same-requires : tie.Need-next-same-requires Inv-loop μ-loop
-next-same-requires c κs = (omega arith, omega arith)
+run-end-requires : tie.Need-run-end-requires Inv-loop μ-loop
+run-end-requires c κs = let s = c .before .before .before .before in let l = c .before .before .loop in (omega arith, omega (arith, l .inv .room, l .inv .same))
 
 mul-key : tie.Need-mul-key Inv-loop μ-loop
 mul-key c = omega arith
@@ -60,33 +61,29 @@ mul-w-4 c = omega arith
 slice-write-w-2 : tie.Need-slice-write-w-2 Inv-loop μ-loop
 slice-write-w-2 c = simp length-set (omega arith)
 
-alone-requires : tie.Need-alone-requires Inv-loop μ-loop
-alone-requires c κs = tt
-
 add-k : tie.Need-add-k Inv-loop μ-loop
 add-k c = omega arith
 
-add-i : tie.Need-add-i Inv-loop μ-loop
-add-i c = omega arith
+cast-k : tie.Need-cast-k Inv-loop μ-loop
+cast-k c = omega arith
+
+add-k-2 : tie.Need-add-k-2 Inv-loop μ-loop
+add-k-2 c = let l = c .before .before .before .before .before .loop in omega (arith, flag-small (eqb (c .before .before .run-end .result) (l .i + 1)), l .inv .low, l .inv .room)
 
 loop-less : tie.Need-loop-less Inv-loop μ-loop
-loop-less c = omega arith
+loop-less c = omega (arith, c .before .before .run-end .ensures .more, c .before .before .run-end .ensures .within)
 
 loop-again : tie.Need-loop-again Inv-loop μ-loop
 loop-again c =
-    let l = c .before .before .before .before .before .before .loop in
-    let s = c .before .before .before .before .before .before .before .before in
-    let same = c .before .before .before .next-same in
-    keeping-turn (s .args .w .now) (s .args .n) (l .w) (l .k) (l .i) (l .first) (l .inv) (same .result) (c .alone .result) (omega arith) (same .ensures) (c .alone .ensures .1)
+    let s = c .before .before .before .before .before .before .before in
+    let l = c .before .before .before .before .before .loop in
+    keeping-turn (s .args .w .now) (s .args .n) (l .w) (l .k) (l .i) (l .inv) (omega arith) (c .before .before .run-end .result) (c .before .before .run-end .ensures)
 
 same-length : tie.Need-same-length Inv-loop μ-loop
-same-length c = omega arith
+same-length c = let l = c .before .loop in l .inv .same
 
 returns : tie.Need-returns Inv-loop μ-loop
-returns c =
-    let l = c .before .loop in
-    let s = c .before .before .before in
-    keeping-end (s .args .w .now) (s .args .n) (l .w) (l .k) (l .i) (l .first) (l .inv) (omega arith) (s .pre .1)
+returns c = let s = c .before .before .before in let l = c .before .loop in keeping-end (s .args .w .now) (s .args .n) (l .w) (l .k) (l .i) (l .inv) (omega arith) (s .pre .1)
 
 pub keep-open-spec : {M : Type 1} → statement M
 keep-open-spec =
@@ -95,7 +92,7 @@ keep-open-spec =
     Inv-loop
     μ-loop
     loop-holds
-    next-same-requires
+    run-end-requires
     mul-key
     mul-key-2
     slice-read-key
@@ -110,9 +107,9 @@ keep-open-spec =
     add-w
     mul-w-4
     slice-write-w-2
-    alone-requires
     add-k
-    add-i
+    cast-k
+    add-k-2
     loop-less
     loop-again
     same-length
