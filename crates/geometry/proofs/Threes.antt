@@ -1,11 +1,13 @@
 -- Laws of lists taken three at a time, and back (specs/Triangles.antt). Assumes nothing.
 --   length-threes, threes-at     how many triangles, and the corners of the i-th
 --   length-flat, flat-append     flat lists; flat-threes   taken three at a time and back, a list is itself
+--   three-set                    three stores, as a run of stores
 use Prim.Native.Nat.{ℕ, zero, suc, _+_, _*_, _/_, _%_, _<_}
 use mathlib.Core.Path.{_≡_, refl, ap, _∙_}
 use mathlib.Core.List.{List, [], _∷_, _++_, flatMap}
 use native.Mathlib.Omega.{arith}
-use lib.ListN.{getD, length}
+use lib.ListN.{getD, set, length}
+use lib.Seq.{sets}
 use Rattle.lists.proofs.Sequences.{flatMap-append}
 use Rattle.geometry.specs.Triangles.{Triangle, tri, vertices, threes, flat}
 
@@ -45,3 +47,9 @@ module _ {A : Type 0} where
   flat-threes (a ∷ []) h = absurd (omega arith)
   flat-threes (a ∷ b ∷ []) h = absurd (omega arith)
   flat-threes (a ∷ b ∷ c ∷ l) h = ap (λ (m : List A). a ∷ b ∷ c ∷ m) (flat-threes l (omega arith))
+
+  pub three-set : (out : List A) (at : ℕ) (a b c : A) → set (set (set out at a) (at + 1) b) (at + 2) c ≡ sets out at (a ∷ b ∷ c ∷ [])
+  three-set out at a b c =
+      let e : at + 1 ≡ suc at = omega arith in
+      let f : at + 2 ≡ suc (suc at) = omega arith in
+      (λ t. set (set (set out at a) (e t) b) (f t) c)

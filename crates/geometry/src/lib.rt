@@ -4,3 +4,4 @@ pub mod fraction;
 pub mod numbers;
 pub mod point;
 pub mod triangle;
+pub mod vertices;
