@@ -16,7 +16,7 @@ use Rattle.refusals.specs.Refusals.{documentedMesh, replyTo, Settled}
 use Rattle.refusals.specs.Front.{badIndex, farKeys, roomTests}
 use Rattle.mesh_weld.specs.Room.{vertexOf}
 use Rattle.mesh_compact.specs.declared.compact.Staged.{Staged}
-use Rattle.mesh_compact.specs.Room.{Delivered}
+use Rattle.mesh_compact.specs.Room.{StagedMesh}
 use Rattle.mesh_cleanup.specs.Clean.{cleanResult, cleanReply}
 
 pub record Ready (vs : List Float) (fs : List ℕ) (eps : Float) (lent : ℕ) : Type 0 where
@@ -33,7 +33,7 @@ pub record Staging (vs : List Float) (mesh : Mesh) (s : Staged) (m : List ℕ) :
   pub numbers-in : s .corners + s .numbers ≤ length m
   pub few : s .vertices ≤ 196608
   pub small : s .numbers ≤ 196608
-  pub delivered : Delivered (vertexOf vs) (length vs / 3) mesh s m
+  pub delivered : StagedMesh (vertexOf vs) (length vs / 3) mesh s m
 
 pub record Written (m : Mesh) (r : MeshReply) (v v' : List Float) (f f' : List ℕ) : Type 0 where
   pub replied : documentedMesh r ≡ replyTo (roomTests (meshLengths m) (length v ∷ length f ∷ [])) (meshLengths m)
