@@ -16,7 +16,8 @@ use Rattle.lists.proofs.Places.{of-up, up-of, length-up, at-up, at-map-up}
 use Rattle.lists.proofs.Regions.{view-at}
 use Rattle.geometry.specs.Triangles.{Triangle}
 use Rattle.components.specs.Joined.{Decides}
-use Rattle.components.specs.Components.{components, componentOf, ComponentNumbers}
+use Rattle.components.specs.Components.{components, componentOf}
+use Rattle.components.specs.Table.{ComponentNumbers}
 use Rattle.components.proofs.Once.{once-up, decides-same, decides-eqb}
 use Rattle.components.proofs.Numbers.{number-in, numbers-some}
 use Rattle.candidate_pool.specs.Offsets.{openEdgesAt}

@@ -13,7 +13,7 @@ use Rattle.lists.specs.Lists.{upTo}
 use Rattle.lists.specs.Regions.{view}
 use Rattle.lists.proofs.Regions.{Filled, view-length, view-at}
 use Rattle.lists.proofs.Places.{length-up, at-map-up}
-use Rattle.components.specs.Components.{ComponentNumbers, Joining, ComponentTable}
+use Rattle.components.specs.Table.{ComponentNumbers, LabelRoom, ComponentTable}
 use Rattle.cap_triangles.specs.Room.{labelsAt, componentsAt, Above}
 use Rattle.cap_selection.specs.Steps.{openIn, sideNumber, labelIn, SidesNumbered, Labelled, JoinedCaps}
 
@@ -44,7 +44,7 @@ module _ (n nf nc k : ℕ) (w : List ℕ) (room : SidesNumbered n nf nc k w) whe
     stands : (t : ℕ) → t < nc * 3 → getD (view v (labelsAt n nf nc) (nc * 3)) t 0 ≡ labelIn n nf nc k w t
     stands t h = view-at v (labelsAt n nf nc) (nc * 3) t h ∙ put .label t (omega arith)
 
-    joining-here : Joining v (labelsAt n nf nc) nc 3 (k + 6 * nc) (componentsAt n nf nc)
+    joining-here : LabelRoom v (labelsAt n nf nc) nc 3 (k + 6 * nc) (componentsAt n nf nc)
     joining-here =
         let z = room .size in
         let g = put .above .long in
@@ -61,9 +61,9 @@ module _ (n nf nc k : ℕ) (w : List ℕ) (room : SidesNumbered n nf nc k w) whe
               omega arith;
         }
 
-    pub labels-joining : (labels at : ℕ) → labels ≡ labelsAt n nf nc → at ≡ componentsAt n nf nc → Joining v labels nc 3 (k + 6 * nc) at
+    pub labels-joining : (labels at : ℕ) → labels ≡ labelsAt n nf nc → at ≡ componentsAt n nf nc → LabelRoom v labels nc 3 (k + 6 * nc) at
     labels-joining labels at e f =
-        subst (λ (x : ℕ). Joining v labels nc 3 (k + 6 * nc) x) (sym f) (subst (λ (x : ℕ). Joining v x nc 3 (k + 6 * nc) (componentsAt n nf nc)) (sym e) joining-here)
+        subst (λ (x : ℕ). LabelRoom v labels nc 3 (k + 6 * nc) x) (sym f) (subst (λ (x : ℕ). LabelRoom v x nc 3 (k + 6 * nc) (componentsAt n nf nc)) (sym e) joining-here)
 
     labels-are : view v (labelsAt n nf nc) (nc * 3) ≡ map (labelIn n nf nc k w) (upTo (3 * nc))
     labels-are =

@@ -18,7 +18,7 @@ use Rattle.lists.specs.Lists.{some, upTo}
 use Rattle.lists.specs.Regions.{view}
 use Rattle.box_faces.specs.Faces.{hasBit}
 use Rattle.edges.specs.Table.{nextSide}
-use Rattle.components.specs.Components.{ComponentNumbers}
+use Rattle.components.specs.Table.{ComponentNumbers}
 use Rattle.cap_triangles.specs.Room.{turnedAt, numbersAt, upAt, downAt, labelsAt, componentsAt, seededAt, Above}
 
 module _ (n nf nc : ℕ) where

@@ -10,7 +10,7 @@ use lib.ListN.{getD, set, length, length-set}
 use lib.Seq.{getD-set-same, getD-set-other}
 use borrow.Author.Tests.{eq-eqb, ne-eqb}
 use Rattle.lists.specs.Regions.{Outside, Zeroed}
-use Rattle.chains.specs.Links.{Absent, Found, First, Final, Last}
+use Rattle.chains.specs.Links.{Absent, FirstFound, First, Final, Last}
 use Rattle.chains.specs.Chains.{Linked, linkPlace, entered}
 use Rattle.chains.proofs.Firsts.{first-other, first-kept, last-other, first-new, last-new, first-empty, last-empty, first-cong, last-cong}
 

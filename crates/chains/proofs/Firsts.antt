@@ -14,7 +14,7 @@ use Rattle.lists.specs.Lists.{first, place, upFrom, upTo}
 use Rattle.lists.proofs.Bools.{is-true}
 use Rattle.lists.proofs.Places.{at-up, length-up}
 use Rattle.lists.proofs.Members.{place-before, place-at, place-le}
-use Rattle.chains.specs.Links.{linkOf, linkTo, Absent, Found, First, Final, Last}
+use Rattle.chains.specs.Links.{linkOf, linkTo, Absent, FirstFound, First, Final, Last}
 
 -- ---- one number more
 
@@ -26,7 +26,7 @@ module _ (P : ℕ → Type 0) (i n v : ℕ) where
       go (yes e) = lacks (subst P e has)
       go (no d) = a k ik (omega arith) has
 
-  found-more : (k : ℕ) → Found P i n k → Found P i (n + 1) k
+  found-more : (k : ℕ) → FirstFound P i n k → FirstFound P i (n + 1) k
   found-more k f = let w = f .within in record { from = f .from; within = omega arith; has = f .has; before = f .before }
 
   -- one without the property changes no link
@@ -93,7 +93,7 @@ last-cong P Q n v to from f = record {
 pub first-unique : (P : ℕ → Type 0) (i n v w : ℕ) → First P i n v → First P i n w → v ≡ w
 first-unique P i n v w f g = go (ℕ-discrete v 0) (ℕ-discrete w 0)
   where
-    both : (j k : ℕ) → Found P i n j → Found P i n k → j < k → ⊥
+    both : (j k : ℕ) → FirstFound P i n j → FirstFound P i n k → j < k → ⊥
     both j k s t h = t .before j (s .from) h (s .has)
 
     go : Dec (v ≡ 0) → Dec (w ≡ 0) → v ≡ w

@@ -10,7 +10,7 @@ use mathlib.Core.List.{List}
 use lib.Dec.{T}
 use lib.ListN.{getD, length}
 use Rattle.lists.specs.Lists.{upTo}
-use Rattle.chains.specs.Links.{linkTo, Absent, Found, First}
+use Rattle.chains.specs.Links.{linkTo, Absent, FirstFound, First}
 use Rattle.chains.specs.Chains.{Linked, Filed}
 use Rattle.chains.proofs.Firsts.{first-ids}
 
@@ -47,7 +47,7 @@ module _ (m : List ℕ) (at nb n b : ℕ) (t : ℕ → Bool) where
   walk-end p w z = first-ids t n 0 (record { none = λ e. skip p w n (omega arith) (w .here .none z); some = λ k e. absurd (omega arith) })
 
   module _ (p : ℕ) (w : Walk m at nb n b t p) (nz : p ≡ 0 → ⊥) where
-    found : Found (λ k. w .filed .h k ≡ b) (w .q) n (p - 1)
+    found : FirstFound (λ k. w .filed .h k ≡ b) (w .q) n (p - 1)
     found = w .here .some (p - 1) (omega arith)
 
     pub walk-low : p - 1 < n

@@ -25,7 +25,7 @@ abbrev pub Absent : (ℕ → Type 0) → ℕ → ℕ → Type 0
 Absent P i n = (k : ℕ) → i ≤ k → k < n → P k → ⊥
 
 -- k is the first number from i up to n with the property
-pub record Found (P : ℕ → Type 0) (i n k : ℕ) : Type 0 where
+pub record FirstFound (P : ℕ → Type 0) (i n k : ℕ) : Type 0 where
   pub from : i ≤ k
   pub within : k < n
   pub has : P k
@@ -33,7 +33,7 @@ pub record Found (P : ℕ → Type 0) (i n k : ℕ) : Type 0 where
 
 pub record First (P : ℕ → Type 0) (i n v : ℕ) : Type 0 where
   pub none : v ≡ 0 → Absent P i n
-  pub some : (k : ℕ) → v ≡ suc k → Found P i n k
+  pub some : (k : ℕ) → v ≡ suc k → FirstFound P i n k
 
 -- k is the last number below n with the property
 pub record Final (P : ℕ → Type 0) (n k : ℕ) : Type 0 where

@@ -14,8 +14,8 @@ use borrow.Author.Tests.{eq-eqb, ne-eqb}
 use Rattle.lists.specs.Regions.{view, Outside}
 use Rattle.lists.proofs.Regions.{at-set, view-length, view-at}
 use Rattle.lists.proofs.Counts.{count-append, count-one, count-nil, count-le}
-use Rattle.components.specs.Components.{size}
-use Rattle.components.specs.Forest.{Tallied}
+use Rattle.components.specs.Table.{size}
+use Rattle.components.specs.Forest.{SizesTallied}
 
 -- the numbers before i are counted
 pub record Counting (w₀ w : List ℕ) (o n i : ℕ) : Type 0 where
@@ -72,7 +72,7 @@ module _ (w₀ w : List ℕ) (o n i : ℕ) (in-w : o + n + n ≤ length w₀) (i
       go s l (inr a) =
           a .1 ∙ rw (size-more c i s i-long, number, ne-eqb s r (a .0)) (f .sizes s l ∙ omega arith)
 
-pub counting-end : (w₀ w : List ℕ) (o n i : ℕ) → o + n + n ≤ length w₀ → n ≤ i → Counting w₀ w o n i → Tallied w₀ w o n
+pub counting-end : (w₀ w : List ℕ) (o n i : ℕ) → o + n + n ≤ length w₀ → n ≤ i → Counting w₀ w o n i → SizesTallied w₀ w o n
 counting-end w₀ w o n i in-w e f = record {
   long = f .long;
   sizes = λ r h. f .sizes r h ∙ ap (λ (l : List ℕ). size l r) (take-all i (view w₀ o n) (omega (arith, view-length w₀ o n (omega arith))));

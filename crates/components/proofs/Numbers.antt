@@ -13,7 +13,8 @@ use Rattle.lists.proofs.Members.{some-of, of-some, keep-of, of-keep, has-of, of
 use Rattle.lists.proofs.Places.{of-up, up-of, at-up, length-up}
 use Rattle.lists.proofs.Counts.{count-places}
 use Rattle.components.specs.Joined.{Joined, one, same, back, via, Among, SharedLabel, LeastJoined, Once, ManyJoined, Decides}
-use Rattle.components.specs.Components.{components, componentOf, ComponentNumbers, size}
+use Rattle.components.specs.Components.{components, componentOf}
+use Rattle.components.specs.Table.{ComponentNumbers, size}
 use Rattle.components.proofs.Joined.{joined-into, joined-map, joined-keeps, joined-ends, least-le, least-unique, least-same, least-joined}
 use Rattle.components.proofs.Once.{decides-same, decides-eqb, decides-as, once-keep, once-up, once-shorter, place-once}
 use Rattle.components.proofs.Computed.{component-decides, component-some}

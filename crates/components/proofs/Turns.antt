@@ -14,25 +14,25 @@ use borrow.Author.Count.{below-more}
 use Rattle.lists.specs.Regions.{view, Outside, Apart, Zeroed}
 use Rattle.lists.proofs.Regions.{at-set, view-length, view-at, view-same}
 use Rattle.components.specs.Joined.{Joined, one, same, back, via, SharedLabel, LeastJoined}
-use Rattle.components.specs.Components.{Below, Joining, Seen, FirstWith, ComponentNumbers, ComponentTable, size}
-use Rattle.components.specs.Forest.{Link, Linked, Forest, Kept, Added, old, new, United, Flat, Entered, Hung, Going, Swept, Owned, Tallied}
+use Rattle.components.specs.Table.{LabelsBelow, LabelRoom, Seen, FirstWith, ComponentNumbers, ComponentTable, size}
+use Rattle.components.specs.Forest.{Link, SameTree, Forest, TreesKept, AddedLink, old, new, United, Flattened, LabelEntered, Hung, LabelsEntered, Swept, Owned, SizesTallied}
 use Rattle.components.proofs.Joined.{joined-into, joined-const, joined-keeps, joined-ends}
 use Rattle.components.proofs.Forest.{link}
 
 -- v is w after slot t
 record Turn (labels w v : List ℕ) (o p n k m t : ℕ) : Type 0 where
   pub long : length v ≡ length w
-  pub going : Going labels v o p n k m (t + 1)
+  pub going : LabelsEntered labels v o p n k m (t + 1)
   pub rest : (x : ℕ) → Outside x o n → Outside x p m → getD v x 0 ≡ getD w x 0
 
 -- lists with the same links have the same trees
-linked-as : (w v : List ℕ) (o n : ℕ) → ((i : ℕ) → i < n → getD v (o + i) 0 ≡ getD w (o + i) 0) → (i j : ℕ) → Linked w o n i j → Linked v o n i j
+linked-as : (w v : List ℕ) (o n : ℕ) → ((i : ℕ) → i < n → getD v (o + i) 0 ≡ getD w (o + i) 0) → (i j : ℕ) → SameTree w o n i j → SameTree v o n i j
 linked-as w v o n e = joined-into (λ i j l. link v o n i j (l .i-in) (e i (l .i-in) ∙ l .to))
 
 seen-more : (labels : List ℕ) (k t q f : ℕ) → Seen labels k t q f → Seen labels k (t + 1) q f
 seen-more labels k t q f h = let l = h .before in record { s = h .s; before = omega arith; item = h .item; label = h .label; first = h .first }
 
-module _ (labels : List ℕ) (o p n k m : ℕ) (k-pos : 0 < k) (long : length labels ≡ n * k) (small : Below labels m) (above : o + n ≤ p) where
+module _ (labels : List ℕ) (o p n k m : ℕ) (k-pos : 0 < k) (long : length labels ≡ n * k) (small : LabelsBelow labels m) (above : o + n ≤ p) where
   item-in : (s : ℕ) → s < n * k → s / k < n
   item-in s h = div-lt-iff-lt-mul k-pos .1 h
 
@@ -48,7 +48,7 @@ module _ (labels : List ℕ) (o p n k m : ℕ) (k-pos : 0 < k) (long : length la
   }
 
   going-start : (u v w : List ℕ) → Owned u v o n → ((i : ℕ) → i < n → getD w (o + i) 0 ≡ getD v (o + i) 0)
-      → ((q : ℕ) → q < m → getD w (p + q) 0 ≡ 0) → Going labels w o p n k m 0
+      → ((q : ℕ) → q < m → getD w (p + q) 0 ≡ 0) → LabelsEntered labels w o p n k m 0
   going-start u v w h e z = record {
     forest = λ i l. omega (arith, h .own i l, e i l);
     sound = joined-into (λ i j l. joined-ends refl (sym (l .to) ∙ e i (l .i-in) ∙ h .own i (l .i-in)) same);
@@ -56,7 +56,7 @@ module _ (labels : List ℕ) (o p n k m : ℕ) (k-pos : 0 < k) (long : length la
     hung = λ s l. absurd (omega arith);
   }
 
-  module _ (w : List ℕ) (t : ℕ) (t-in : t < length labels) (g : Going labels w o p n k m t) where
+  module _ (w : List ℕ) (t : ℕ) (t-in : t < length labels) (g : LabelsEntered labels w o p n k m t) where
     q-in : getD labels t 0 < m
     q-in = small t t-in
 
@@ -64,7 +64,7 @@ module _ (labels : List ℕ) (o p n k m : ℕ) (k-pos : 0 < k) (long : length la
     seen-in : (f : ℕ) → getD w (p + getD labels t 0) 0 ≡ f + 1 → f < n
     seen-in f e = let h = g .seen (getD labels t 0) f q-in e in rw (← (h .item)) (item-in (h .s) (omega (arith, h .before)))
 
-    going-new : p + m ≤ length w → getD w (p + getD labels t 0) 0 ≡ 0 → Going labels (set w (p + getD labels t 0) (t / k + 1)) o p n k m (t + 1)
+    going-new : p + m ≤ length w → getD w (p + getD labels t 0) 0 ≡ 0 → LabelsEntered labels (set w (p + getD labels t 0) (t / k + 1)) o p n k m (t + 1)
     going-new in-w e = record {
       forest = λ i h. rw (was i h) (g .forest i h);
       sound = λ i j l. g .sound i j (linked-as v w o n (λ i h. sym (was i h)) i j l);
@@ -99,7 +99,7 @@ module _ (labels : List ℕ) (o p n k m : ℕ) (k-pos : 0 < k) (long : length la
         was : (i : ℕ) → i < n → getD v (o + i) 0 ≡ getD w (o + i) 0
         was i h = getD-set-other w (p + q) (o + i) (t / k + 1) 0 (λ a. omega arith)
 
-    going-seen : (v : List ℕ) (f : ℕ) → getD w (p + getD labels t 0) 0 ≡ f + 1 → United w v o n (t / k) f → Going labels v o p n k m (t + 1)
+    going-seen : (v : List ℕ) (f : ℕ) → getD w (p + getD labels t 0) 0 ≡ f + 1 → United w v o n (t / k) f → LabelsEntered labels v o p n k m (t + 1)
     going-seen v f e h = record {
       forest = h .forest;
       sound = λ i j l. joined-into sound-one i j (h .less i j l);
@@ -113,13 +113,13 @@ module _ (labels : List ℕ) (o p n k m : ℕ) (k-pos : 0 < k) (long : length la
           (record { f = f; first = h .rest (p + getD labels t 0) (λ i a b. omega arith) ∙ e; tree = h .more _ _ (one new) });
     }
       where
-        sound-one : (i j : ℕ) → Added w o n (t / k) f i j → Joined (SharedLabel labels n k) i j
+        sound-one : (i j : ℕ) → AddedLink w o n (t / k) f i j → Joined (SharedLabel labels n k) i j
         sound-one i j (old l) = g .sound i j (one l)
         sound-one i j new =
             let b = g .seen (getD labels t 0) f q-in e in
             joined-ends refl (sym (b .item)) (one (slots-share t (b .s) (omega arith) (omega (arith, b .before)) (sym (b .label))))
 
-    turn : (v : List ℕ) → p + m ≤ length w → (r : ℕ) → Entered w v o n (p + getD labels t 0) (t / k) r → Turn labels w v o p n k m t
+    turn : (v : List ℕ) → p + m ≤ length w → (r : ℕ) → LabelEntered w v o n (p + getD labels t 0) (t / k) r → Turn labels w v o p n k m t
     turn v in-w r h = go (ℕ-discrete (getD w s 0) 0)
       where
         s : ℕ
@@ -138,8 +138,8 @@ module _ (labels : List ℕ) (o p n k m : ℕ) (k-pos : 0 < k) (long : length la
             record { long = u .long; going = going-seen v f e u; rest = λ x a b. u .rest x a }
 
   -- all the slots are done, and the links go to the roots
-  module _ (w v : List ℕ) (t : ℕ) (t-end : length labels ≤ t) (t-le : t ≤ length labels) (g : Going labels w o p n k m t) (h : Flat w v o n) where
-    share-linked : (i j : ℕ) → SharedLabel labels n k i j → Linked w o n i j
+  module _ (w v : List ℕ) (t : ℕ) (t-end : length labels ≤ t) (t-le : t ≤ length labels) (g : LabelsEntered labels w o p n k m t) (h : Flattened w v o n) where
+    share-linked : (i j : ℕ) → SharedLabel labels n k i j → SameTree w o n i j
     share-linked i j s =
         let x = g .hung (i * k + s .a) (omega (arith, digits-lt (s .i-in) (s .a-in))) in
         let y = g .hung (j * k + s .b) (omega (arith, digits-lt (s .j-in) (s .b-in))) in
@@ -168,7 +168,7 @@ swept-at labels n k m at u v t r e s = subst (λ (x : ℕ). Swept labels n k m a
 
 -- ---- the same for the finder's own layout: from `at` on n links, n sizes, m first items
 
-module _ (labels : List ℕ) (n k m at : ℕ) (k-pos : 0 < k) (long : length labels ≡ n * k) (small : Below labels m) where
+module _ (labels : List ℕ) (n k m at : ℕ) (k-pos : 0 < k) (long : length labels ≡ n * k) (small : LabelsBelow labels m) where
   abbrev p : ℕ
   p = at + n + n
 
@@ -186,7 +186,7 @@ module _ (labels : List ℕ) (n k m at : ℕ) (k-pos : 0 < k) (long : length lab
   }
 
   -- links that changed, and no tree did
-  pub swept-kept : (w₀ w v : List ℕ) (t : ℕ) → Swept labels n k m at w₀ w t → Kept w v at n → Swept labels n k m at w₀ v t
+  pub swept-kept : (w₀ w v : List ℕ) (t : ℕ) → Swept labels n k m at w₀ w t → TreesKept w v at n → Swept labels n k m at w₀ v t
   swept-kept w₀ w v t s f = record {
     upto = s .upto;
     long = f .long ∙ s .long;
@@ -208,7 +208,7 @@ module _ (labels : List ℕ) (n k m at : ℕ) (k-pos : 0 < k) (long : length lab
     pub swept-seen : (f : ℕ) → getD w (p + getD labels (i * k + j) 0) 0 ≡ f + 1 → f < n
     swept-seen = seen-in labels at p n k m k-pos long small above w (i * k + j) (omega (arith, slot-in)) (s .going)
 
-    pub swept-turn : (v : List ℕ) (r : ℕ) → Entered w v at n (p + getD labels (i * k + j) 0) i r → Swept labels n k m at w₀ v (i * k + (j + 1))
+    pub swept-turn : (v : List ℕ) (r : ℕ) → LabelEntered w v at n (p + getD labels (i * k + j) 0) i r → Swept labels n k m at w₀ v (i * k + (j + 1))
     swept-turn v r e =
         let q = turn labels at p n k m k-pos long small above w (i * k + j) (omega (arith, slot-in)) (s .going) v (omega (arith, s .long)) r
         (rw (digits-div i j-in) e) in
@@ -216,7 +216,7 @@ module _ (labels : List ℕ) (n k m at : ℕ) (k-pos : 0 < k) (long : length lab
         (record { upto = omega (arith, slot-in); long = q .long ∙ s .long; going = q .going; rest = λ x h l. q .rest x h l ∙ s .rest x h l })
 
   pub swept-end : (u v w x y z : List ℕ) → p + m ≤ length u → Owned u v at n → Zeroed v w (at + n) (n + m) → Swept labels n k m at w x (n * k)
-      → Flat x y at n → Tallied y z at n → ComponentTable labels n k m at u z
+      → Flattened x y at n → SizesTallied y z at n → ComponentTable labels n k m at u z
   swept-end u v w x y z room a b s f t = record {
     long = z-long;
     numbers = record {
@@ -243,7 +243,7 @@ module _ (labels : List ℕ) (n k m at : ℕ) (k-pos : 0 < k) (long : length lab
       first = going-first labels at p n k m k-pos long small above x y (n * k) (omega arith) (omega arith) (s .going) f
 
 -- the labels are where the table is not, and stay as they were
-pub labels-kept : (u w : List ℕ) (labels n k m at : ℕ) → Joining u labels n k m at → length w ≡ length u
+pub labels-kept : (u w : List ℕ) (labels n k m at : ℕ) → LabelRoom u labels n k m at → length w ≡ length u
     → ((x : ℕ) → Outside x at (n + n + m) → getD w x 0 ≡ getD u x 0) → view w labels (n * k) ≡ view u labels (n * k)
 labels-kept u w labels n k m at g long rest = view-same u w labels (n * k) (g .fits) long (λ i h. rest (labels + i) (g .apart i h))
 
@@ -251,8 +251,8 @@ labels-kept u w labels n k m at g long rest = view-same u w labels (n * k) (g .f
 pub swept-rest : (labels : List ℕ) (n k m at : ℕ) (u w : List ℕ) (t : ℕ) → Swept labels n k m at u w t → (x : ℕ) → Outside x at (n + n + m) → getD w x 0 ≡ getD u x 0
 swept-rest labels n k m at u w t s x h = s .rest x (λ j l e. h j (omega arith) e) (λ j l e. h (n + n + j) (omega arith) (omega arith))
 
-pub joining-kept : (u w : List ℕ) (labels n k m at : ℕ) → Joining u labels n k m at → length w ≡ length u
-    → ((x : ℕ) → Outside x at (n + n + m) → getD w x 0 ≡ getD u x 0) → Joining w labels n k m at
+pub joining-kept : (u w : List ℕ) (labels n k m at : ℕ) → LabelRoom u labels n k m at → length w ≡ length u
+    → ((x : ℕ) → Outside x at (n + n + m) → getD w x 0 ≡ getD u x 0) → LabelRoom w labels n k m at
 joining-kept u w labels n k m at g long rest = record {
   some = g .some;
   room = let r = g .room in omega arith;
@@ -273,14 +273,14 @@ pub swept-from : (labels : List ℕ) (n k m at : ℕ) (u w : List ℕ) (t r : �
 swept-from labels n k m at u w t r e s = swept-at labels n k m at w w t r e (record { upto = s .upto; long = refl; going = s .going; rest = λ x h l. refl })
 
 -- the sizes are still 0 when they are counted
-pub sizes-zero : (labels v w x y : List ℕ) (n k m at t : ℕ) → Zeroed v w (at + n) (n + m) → Swept labels n k m at w x t → Flat x y at n
+pub sizes-zero : (labels v w x y : List ℕ) (n k m at t : ℕ) → Zeroed v w (at + n) (n + m) → Swept labels n k m at w x t → Flattened x y at n
     → (r : ℕ) → r < n → getD y (at + n + r) 0 ≡ 0
 sizes-zero labels v w x y n k m at t b s f r h =
     f .kept .rest (at + n + r) (λ j l e. omega arith) ∙ s .rest (at + n + r) (λ j l e. omega arith) (λ j l e. omega arith) ∙ b .zero r (omega arith)
 
 -- ---- an item's turn, in a buffer u whose links `find` changes to w before its labels are entered
 
-module _ (u : List ℕ) (labels n k m at : ℕ) (g : Joining u labels n k m at) where
+module _ (u : List ℕ) (labels n k m at : ℕ) (g : LabelRoom u labels n k m at) where
   abbrev read : List ℕ
   read = view u labels (n * k)
 
@@ -294,11 +294,11 @@ module _ (u : List ℕ) (labels n k m at : ℕ) (g : Joining u labels n k m at) 
   pub label-low : (x : ℕ) → x < n * k → getD read x 0 < m
   label-low x h = g .below x (omega (arith, read-length))
 
-  module _ (w : List ℕ) (f : Kept u w at n) where
+  module _ (w : List ℕ) (f : TreesKept u w at n) where
     kept-rest : (x : ℕ) → Outside x at (n + n + m) → getD w x 0 ≡ getD u x 0
     kept-rest x h = f .rest x (λ j l e. h j (omega arith) e)
 
-    pub item-joining : Joining w labels n k m at
+    pub item-joining : LabelRoom w labels n k m at
     item-joining = joining-kept u w labels n k m at g (f .long) kept-rest
 
     same-labels : view w labels (n * k) ≡ view u labels (n * k)
@@ -316,15 +316,15 @@ module _ (u : List ℕ) (labels n k m at : ℕ) (g : Joining u labels n k m at) 
 
 -- ---- all items, one after the other
 
-pub join-again : (u w v : List ℕ) (labels n k m at i : ℕ) → Joining u labels n k m at → Swept (view u labels (n * k)) n k m at u w (i * k)
+pub join-again : (u w v : List ℕ) (labels n k m at i : ℕ) → LabelRoom u labels n k m at → Swept (view u labels (n * k)) n k m at u w (i * k)
     → Swept (view w labels (n * k)) n k m at w v (i * k + k) → Swept (view u labels (n * k)) n k m at u v ((i + 1) * k)
 join-again u w v labels n k m at i g s d =
     swept-at (view u labels (n * k)) n k m at u v (i * k + k) ((i + 1) * k) (rw (add-one, suc-mul))
     (swept-on (view u labels (n * k)) n k m at u w v (i * k) (i * k + k) s
     (rw (← (labels-kept u w labels n k m at g (s .long) (swept-rest (view u labels (n * k)) n k m at u w (i * k) s))) d))
 
-pub join-item-start : (u w : List ℕ) (labels n k m at t r : ℕ) → Joining u labels n k m at → Swept (view u labels (n * k)) n k m at u w t → t ≡ r
-    → Joining w labels n k m at × Swept (view w labels (n * k)) n k m at w w r
+pub join-item-start : (u w : List ℕ) (labels n k m at t r : ℕ) → LabelRoom u labels n k m at → Swept (view u labels (n * k)) n k m at u w t → t ≡ r
+    → LabelRoom w labels n k m at × Swept (view w labels (n * k)) n k m at w w r
 join-item-start u w labels n k m at t r g s e =
     let rest = swept-rest (view u labels (n * k)) n k m at u w t s in (
       joining-kept u w labels n k m at g (s .long) rest,

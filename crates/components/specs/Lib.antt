@@ -1,3 +1,4 @@
 pub mod Joined
 pub mod Components
+pub mod Table
 pub mod Forest

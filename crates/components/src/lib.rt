@@ -6,15 +6,15 @@ ghost use mathlib.Core.Path.{_≡_};
 ghost use Prim.Native.Nat.{ℕ, _+_, _*_, _≤_, _<_};
 ghost use lib.ListN.{length, getD};
 ghost use Rattle.lists.specs.Regions.{view};
-ghost use Rattle.components.specs.Components.{Joining, ComponentTable};
-ghost use Rattle.components.specs.Forest.{Forest, Found, Rooted, Flat, Entered, Owned, Swept, Tallied};
+ghost use Rattle.components.specs.Table.{LabelRoom, ComponentTable};
+ghost use Rattle.components.specs.Forest.{Forest, RootFound, RootOf, Flattened, LabelEntered, Owned, Swept, SizesTallied};
 
 // The root of x's tree, with the path to it halved.
 fn find(w: &mut [u64], at: usize, n: usize, x: usize) -> usize
     requires { ⌜ at + n ≤ length (now w) ⌝ }
     requires { ⌜ x < n ⌝ }
     requires { ⌜ Forest (now w) at n ⌝ }
-    ensures { λ r. ⌜ Found (now (w .entry)) (now (w .exit)) at n x r ⌝ }
+    ensures { λ r. ⌜ RootFound (now (w .entry)) (now (w .exit)) at n x r ⌝ }
 {
     let mut r = x;
     let mut p = w[at + r] as usize;
@@ -35,8 +35,8 @@ fn enter(w: &mut [u64], at: usize, n: usize, s: usize, i: usize, r: usize) -> us
     requires { ⌜ i < n ⌝ }
     requires { ⌜ ((f : ℕ) → getD (now w) s 0 ≡ f + 1 → f < n) ⌝ }
     requires { ⌜ Forest (now w) at n ⌝ }
-    requires { ⌜ Rooted (now w) at n i r ⌝ }
-    ensures { λ q. ⌜ Entered (now (w .entry)) (now (w .exit)) at n s i q ⌝ }
+    requires { ⌜ RootOf (now w) at n i r ⌝ }
+    ensures { λ q. ⌜ LabelEntered (now (w .entry)) (now (w .exit)) at n s i q ⌝ }
 {
     let f = w[s] as usize;
     if f == 0 {
@@ -68,7 +68,7 @@ fn own(w: &mut [u64], at: usize, n: usize)
 fn flatten(w: &mut [u64], at: usize, n: usize)
     requires { ⌜ at + n ≤ length (now w) ⌝ }
     requires { ⌜ Forest (now w) at n ⌝ }
-    ensures { λ _. ⌜ Flat (now (w .entry)) (now (w .exit)) at n ⌝ }
+    ensures { λ _. ⌜ Flattened (now (w .entry)) (now (w .exit)) at n ⌝ }
 {
     let mut i = 0;
     while i < n {
@@ -83,7 +83,7 @@ fn tally(w: &mut [u64], at: usize, n: usize)
     requires { ⌜ at + n + n ≤ length (now w) ⌝ }
     requires { ⌜ Forest (now w) at n ⌝ }
     requires { ⌜ ((r : ℕ) → r < n → getD (now w) (at + n + r) 0 ≡ 0) ⌝ }
-    ensures { λ _. ⌜ Tallied (now (w .entry)) (now (w .exit)) at n ⌝ }
+    ensures { λ _. ⌜ SizesTallied (now (w .entry)) (now (w .exit)) at n ⌝ }
 {
     let sizes = at + n;
     let mut i = 0;
@@ -96,7 +96,7 @@ fn tally(w: &mut [u64], at: usize, n: usize)
 
 // Enters the labels of item i.
 fn join_item(w: &mut [u64], labels: usize, n: usize, k: usize, m: usize, at: usize, i: usize)
-    requires { ⌜ Joining (now w) labels n k m at ⌝ }
+    requires { ⌜ LabelRoom (now w) labels n k m at ⌝ }
     requires { ⌜ i < n ⌝ }
     requires { ⌜ Swept (view (now w) labels (n * k)) n k m at (now w) (now w) (i * k) ⌝ }
     ensures { λ _. ⌜ Swept (view (now (w .entry)) labels (n * k)) n k m at (now (w .entry)) (now (w .exit)) (i * k + k) ⌝ }
@@ -113,7 +113,7 @@ fn join_item(w: &mut [u64], labels: usize, n: usize, k: usize, m: usize, at: usi
 }
 
 fn join(w: &mut [u64], labels: usize, n: usize, k: usize, m: usize, at: usize)
-    requires { ⌜ Joining (now w) labels n k m at ⌝ }
+    requires { ⌜ LabelRoom (now w) labels n k m at ⌝ }
     requires { ⌜ Swept (view (now w) labels (n * k)) n k m at (now w) (now w) 0 ⌝ }
     ensures { λ _. ⌜ Swept (view (now (w .entry)) labels (n * k)) n k m at (now (w .entry)) (now (w .exit)) (n * k) ⌝ }
 {
@@ -126,7 +126,7 @@ fn join(w: &mut [u64], labels: usize, n: usize, k: usize, m: usize, at: usize)
 
 // Finds the components of n items, whose labels, k an item and all below m, stand in the same buffer from `labels` on.
 pub fn components(w: &mut [u64], labels: usize, n: usize, k: usize, m: usize, at: usize)
-    requires { ⌜ Joining (now w) labels n k m at ⌝ }
+    requires { ⌜ LabelRoom (now w) labels n k m at ⌝ }
     ensures { λ _. ⌜ ComponentTable (view (now (w .entry)) labels (n * k)) n k m at (now (w .entry)) (now (w .exit)) ⌝ }
 {
     own(w, at, n);

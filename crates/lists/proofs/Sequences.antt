@@ -9,6 +9,7 @@
 --   place-stop, place-more, place-end   a loop that looks for the first that passes; none before i did
 --   place-is, place-all              the first that passes, and none passes, by places
 --   some-place, has-place, place-has   a member's place is one of the list, and the member stands there
+--   place-front, place-behind        the first that passes of two lists
 --   fold-more, fold-all, fold-flat   a fold over the first i of a list, over all of it, and over one list more
 --   at-map, getD-any                 what stands at a place after `map`; whatever would stand behind the end
 --   each-append, each-flat, each-any, each-mapped   what holds of each
@@ -174,6 +175,25 @@ module _ {A : Type 0} (p : A → Bool) where
       go : (b : Bool) → T (b || some p l) → (T (some p l) → place p l < length l) → cond b 0 (suc (place p l)) < suc (length l)
       go true t f = omega arith
       go false t f = let h = f t in omega arith
+
+module _ {A : Type 0} (p : A → Bool) where
+  pub place-front : (l m : List A) → some p l ≡ true → place p (l ++ m) ≡ place p l
+  unfolding place some
+  place-front [] m e = absurd (let z : _≡_ {A = ℕ} 0 1 = cc in omega arith)
+  place-front (x ∷ l) m e = go (p x) (place-front l m) e
+    where
+      go : (b : Bool) → (some p l ≡ true → place p (l ++ m) ≡ place p l) → (b || some p l) ≡ true → cond b 0 (suc (place p (l ++ m))) ≡ cond b 0 (suc (place p l))
+      go true below e = refl
+      go false below e = ap suc (below e)
+
+  pub place-behind : (l m : List A) → some p l ≡ false → place p (l ++ m) ≡ length l + place p m
+  unfolding place some
+  place-behind [] m e = omega arith
+  place-behind (x ∷ l) m e = go (p x) (place-behind l m) e
+    where
+      go : (b : Bool) → (some p l ≡ false → place p (l ++ m) ≡ length l + place p m) → (b || some p l) ≡ false → cond b 0 (suc (place p (l ++ m))) ≡ suc (length l) + place p m
+      go true below e = absurd (let z : _≡_ {A = ℕ} 0 1 = cc in omega arith)
+      go false below e = ap suc (below e) ∙ omega arith
 
 pub has-place : (l : List ℕ) (c : ℕ) → has l c ≡ true → place (eqb c) l < length l
 has-place l c e = some-place (eqb c) l (subst T (sym e) tt)

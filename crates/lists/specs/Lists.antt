@@ -1,7 +1,7 @@
 -- Lists: the few words about lists that the definitions use, beyond the library's (map, foldl, flatMap). A test is a function into Bool. Assumes nothing.
 --   every, some   all pass; one passes                has       a number stands in the list
 --   keep          those that pass, in order           count     how many pass
---   first         the first that passes, or none
+--   first         the first that passes, or none        isNone    it is none
 --   place         how many stand before the first that passes (all, if none does)
 --   insertBy, sortBy   an insertion sort: x goes behind y where `before y x` says so, else in front of it
 --   distinct      the first of each kind              upTo      0, 1, .. n - 1
@@ -28,6 +28,10 @@ module _ {A : Type 0} where
   unfoldable pub first : (A → Bool) → List A → Option A
   first p [] = none
   first p (x ∷ xs) = let r = first p xs in cond (p x) (just x) r
+
+  abbrev pub isNone : Option A → Bool
+  isNone none = true
+  isNone (just x) = false
 
   unfoldable pub place : (A → Bool) → List A → ℕ
   place p [] = 0

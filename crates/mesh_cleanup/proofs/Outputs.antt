@@ -4,6 +4,7 @@ use native.Mathlib.Omega.{arith}
 use mathlib.Core.Path.{_≡_, refl, sym, ap, subst, _∙_}
 use mathlib.Core.List.{List, [], _∷_, map, flatMap}
 use lib.ListN.{length, getD, set, length-map}
+use lib.Seq.{sets}
 use lib.Ieee.{Float, nan}
 use Rattle.lists.specs.Regions.{view}
 use Rattle.lists.proofs.Regions.{view-length, view-at}
@@ -14,6 +15,7 @@ use Rattle.geometry.specs.declared.point.Point.{Point}
 use Rattle.geometry.specs.Points.{origin}
 use Rattle.geometry.specs.Meshes.{coordinates}
 use Rattle.geometry.proofs.Meshes.{length-coordinates}
+use Rattle.geometry.proofs.Threes.{three-set}
 use Rattle.mesh_weld.specs.Room.{vertexOf}
 
 -- the coordinates of point k
@@ -52,8 +54,8 @@ module _ (vs : List Float) (m : List ℕ) (at n : ℕ) (room : at + n ≤ length
     pub vertex-room : 3 * k + 2 < length out
     vertex-room = let a = flat-long in let b = R .room in let c = R .same in omega arith
 
-    pub vertices-turn : (p : Point) → p ≡ vertexOf vs (getD m (at + k) 0) → Writing (coordinates points) old (set (set (set out (3 * k) (p .x)) (3 * k + 1) (p .y)) (3 * k + 2) (p .z)) (3 * (k + 1))
-    vertices-turn p e =
+    three-stores : (p : Point) → p ≡ vertexOf vs (getD m (at + k) 0) → Writing (coordinates points) old (set (set (set out (3 * k) (p .x)) (3 * k + 1) (p .y)) (3 * k + 2) (p .z)) (3 * (k + 1))
+    three-stores p e =
         let c = coordinates-at points k nan (let l = points-long in omega arith) in
         let q = e ∙ sym (point-is k h) in
         let a = flat-long in
@@ -64,6 +66,9 @@ module _ (vs : List Float) (m : List ℕ) (at n : ℕ) (room : at + n ≤ length
         subst (λ (i : ℕ). Writing (coordinates points) old (set (set (set out (3 * k) (p .x)) (3 * k + 1) (p .y)) (3 * k + 2) (p .z)) i) end
         (writing-turn (coordinates points) old (set (set out (3 * k) (p .x)) (3 * k + 1) (p .y)) (3 * k + 2) nan (p .z)
         (subst (λ (i : ℕ). Writing (coordinates points) old (set (set out (3 * k) (p .x)) (3 * k + 1) (p .y)) i) two R₂) (omega arith) (ap (λ (x : Point). x .z) q ∙ sym (c .1 .1)))
+
+    pub vertices-turn : (p : Point) → p ≡ vertexOf vs (getD m (at + k) 0) → Writing (coordinates points) old (sets out (3 * k) (p .x ∷ p .y ∷ p .z ∷ [])) (3 * (k + 1))
+    vertices-turn p e = subst (λ (l : List Float). Writing (coordinates points) old l (3 * (k + 1))) (three-set out (3 * k) (p .x) (p .y) (p .z)) (three-stores p e)
 
   pub vertices-end : (old out : List Float) (k : ℕ) → Writing (coordinates points) old out (3 * k) → n ≤ k → out ≡ overlay (coordinates points) old
   vertices-end old out k R h = writing-end (coordinates points) old out (3 * k) R (let a = flat-long in omega arith)

@@ -26,14 +26,14 @@ use Rattle.mesh_weld.proofs.Rule.{lawful}
 use Rattle.mesh_weld.proofs.Numbers.{Numbers, weld-numbers}
 use Rattle.mesh_filter.specs.declared.corners.WeldedAt.{WeldedAt}
 use Rattle.mesh_filter.specs.Filters.{facetAt, passed}
-use Rattle.mesh_filter.specs.Room.{pointsIn, facetsIn, Numbered, Filtered, Below}
+use Rattle.mesh_filter.specs.Room.{pointsInRoom, facetsInRoom, CornersNumbered, Filtered, Below}
 use Rattle.mesh_filter.proofs.Facets.{facets-long, facet-below}
 use Rattle.mesh_compact.specs.declared.compact.Staged.{Staged}
 use Rattle.mesh_compact.specs.Compact.{compacted}
-use Rattle.mesh_compact.specs.Room.{Delivered, Source, Lent, Compacted}
+use Rattle.mesh_compact.specs.Room.{StagedMesh, Source, Lent, MeshCompacted}
 use Rattle.mesh_compact.proofs.Statuses.{passed-low}
 use Rattle.mesh_compact.proofs.Shared.{label-at}
-use Rattle.mesh_cleanup.specs.Clean.{welded, cleaned, cleanResult}
+use Rattle.mesh_cleanup.specs.Clean.{weldedMesh, cleanedMesh, cleanResult}
 use Rattle.mesh_cleanup.specs.Steps.{Ready, Staging}
 
 module _ (vs : List Float) (fs : List ℕ) (eps : Float) (lent : ℕ) (R : Ready vs fs eps lent) where
@@ -80,7 +80,7 @@ module _ (vs : List Float) (fs : List ℕ) (eps : Float) (lent : ℕ) (R : Ready
     kept-low : (k : ℕ) → k < r → getD m₁ (9 * nv + k) 0 < nv
     kept-low k h = rw (sym (view-at m₁ (9 * nv) r k h), W .kept) (numbers .low k (let e = kept-long in omega arith))
 
-    pub numbered : Numbered at vs fs (14 * nv) nf m₁
+    pub numbered : CornersNumbered at vs fs (14 * nv) nf m₁
     unfolding badIndex
     numbered =
         let a = R .room in
@@ -99,10 +99,10 @@ module _ (vs : List Float) (fs : List ℕ) (eps : Float) (lent : ℕ) (R : Ready
         }
 
     abbrev P : List Point
-    P = pointsIn at vs m₁
+    P = pointsInRoom at vs m₁
 
     abbrev F : List (Triangle ℕ)
-    F = facetsIn at vs fs m₁
+    F = facetsInRoom at vs fs m₁
 
     -- ---- what the last step asks
 
@@ -162,7 +162,7 @@ module _ (vs : List Float) (fs : List ℕ) (eps : Float) (lent : ℕ) (R : Ready
 
       -- the welded mesh in the room is the one defined
       result-is : compacted eps 2 P F ≡ cleanResult vs fs eps
-      unfolding cleanResult cleaned welded
+      unfolding cleanResult cleanedMesh weldedMesh
       result-is = λ i.
           compacted eps 2 (map (vertexOf vs) ((W .kept ∙ again .0) i)) (map (mapped (λ v. getD ((W .oldToNew ∙ again .1) i) v 0)) (threes fs))
         where
@@ -171,12 +171,12 @@ module _ (vs : List Float) (fs : List ℕ) (eps : Float) (lent : ℕ) (R : Ready
               let e = sym (length-pointsOf vs) in
               (ap (λ (n : ℕ). weld (cells eps) (vertexOf vs) n .kept) e, ap (λ (n : ℕ). weld (cells eps) (vertexOf vs) n .oldToNew) e)
 
-      pub staged : (s : Staged) (m₃ : List ℕ) → Compacted (9 * nv) r (14 * nv + 11 * nf) p 2 s m₂ m₃ → Staging vs (cleanResult vs fs eps) s m₃
+      pub staged : (s : Staged) (m₃ : List ℕ) → MeshCompacted (9 * nv) r (14 * nv + 11 * nf) p 2 s m₂ m₃ → Staging vs (cleanResult vs fs eps) s m₃
       staged s m₃ C =
           record {
             vertices-in = C .vertices-in;
             numbers-in = C .numbers-in;
             few = C .few;
             small = C .small;
-            delivered = subst (λ (mesh : Mesh). Delivered (vertexOf vs) nv mesh s m₃) result-is (C .mesh (vertexOf vs) eps P F nv source);
+            delivered = subst (λ (mesh : Mesh). StagedMesh (vertexOf vs) nv mesh s m₃) result-is (C .mesh (vertexOf vs) eps P F nv source);
           }

@@ -1,11 +1,10 @@
 -- Cleaning (document 01, module 4, the table of refusals, and "Agreement"; `clean_mesh` of mesh_cleanup.rs): the cleaned mesh, the tests in the table's order, and what the operation
 -- promises. Assumes nothing.
---   welded, weldedPoints, weldedFacets   the mesh after welding by a joining rule
---   cleaned              the cleaned mesh, for a joining rule and the least number of facets of a component
+--   weldedMesh, weldedPoints, weldedFacets   the mesh after welding by a joining rule
+--   cleanedMesh          the cleaned mesh, for a joining rule and the least number of facets of a component
 --   minComponentFacets   "fewer than two facets" are dropped
 --   cleanResult          document 01's: the rule by cells, and two facets
 --   cleanTests           1, 2, 3, 4, 7, 8
-
 --   Cleaned              what the operation promises: the answer, and the rule for a kept facet without its computing
 use Prim.Native.Nat.{ℕ, _/_}
 use mathlib.Core.Bool.{not, _&&_}
@@ -27,8 +26,8 @@ use Rattle.mesh_weld.specs.Cells.{cells}
 use Rattle.mesh_compact.specs.Status.{Rule}
 use Rattle.mesh_compact.specs.Compact.{compacted}
 
-unfoldable pub welded : Joining Point → Mesh → Welded
-welded rule mesh = weld rule (vertex (mesh .points)) (length (mesh .points))
+unfoldable pub weldedMesh : Joining Point → Mesh → Welded
+weldedMesh rule mesh = weld rule (vertex (mesh .points)) (length (mesh .points))
 
 abbrev pub weldedPoints : Welded → List Point → List Point
 weldedPoints w points = map (vertex points) (w .kept)
@@ -36,10 +35,9 @@ weldedPoints w points = map (vertex points) (w .kept)
 abbrev pub weldedFacets : Welded → List (Triangle ℕ) → List (Triangle ℕ)
 weldedFacets w facets = map (mapped (λ v. getD (w .oldToNew) v 0)) facets
 
-unfoldable pub cleaned : Joining Point → Float → ℕ → Mesh → Mesh
-unfolding welded
-cleaned rule eps m mesh =
-    let w = welded rule mesh in
+unfoldable pub cleanedMesh : Joining Point → Float → ℕ → Mesh → Mesh
+cleanedMesh rule eps m mesh =
+    let w = weldedMesh rule mesh in
     compacted eps m (weldedPoints w (mesh .points)) (weldedFacets w (mesh .facets))
 
 abbrev pub minComponentFacets : ℕ
@@ -47,8 +45,7 @@ minComponentFacets = 2
 
 module _ (vs : List Float) (fs : List ℕ) (eps : Float) where
   unfoldable pub cleanResult : Mesh
-  unfolding cleaned
-  cleanResult = cleaned (cells eps) eps minComponentFacets (meshOf vs fs)
+  cleanResult = cleanedMesh (cells eps) eps minComponentFacets (meshOf vs fs)
 
   -- for so many words of work room lent; there is no cap list and no grid
   unfoldable pub cleanTests : ℕ → List Test
@@ -61,7 +58,7 @@ module _ (vs : List Float) (fs : List ℕ) (eps : Float) where
   -- the facets kept are exactly those that stay
   abbrev pub KeptRule : Type 0
   KeptRule =
-      let w = welded (cells eps) (meshOf vs fs) in
+      let w = weldedMesh (cells eps) (meshOf vs fs) in
       Rule eps (weldedPoints w (meshOf vs fs .points)) (weldedFacets w (meshOf vs fs .facets)) minComponentFacets
 
   -- from work room w and outputs v and f to w', v' and f', with the reply r

@@ -11,7 +11,7 @@ use Rattle.geometry.specs.Meshes.{Mesh}
 use Rattle.refusals.specs.Front.{ceiling, farKeys, ListsPass}
 use Rattle.mesh_weld.specs.Room.{vertexOf}
 use Rattle.mesh_compact.specs.declared.compact.Staged.{Staged}
-use Rattle.mesh_compact.specs.Room.{Delivered}
+use Rattle.mesh_compact.specs.Room.{StagedMesh}
 
 pub record Ready (vs : List Float) (fs : List ℕ) (eps : Float) (lent : ℕ) : Type 0 where
   pub lists : ListsPass ceiling vs fs
@@ -23,4 +23,4 @@ pub record Staging (vs : List Float) (mesh : Mesh) (s : Staged) (m : List ℕ) :
   pub numbers-in : s .corners + s .numbers ≤ length m
   pub few : s .vertices ≤ 196608
   pub small : s .numbers ≤ 196608
-  pub delivered : Delivered (vertexOf vs) (length vs / 3) mesh s m
+  pub delivered : StagedMesh (vertexOf vs) (length vs / 3) mesh s m

@@ -2,7 +2,7 @@
 ghost use mathlib.Core.Path.{_≡_};
 ghost use mathlib.Core.List.{[], map};
 ghost use Prim.Native.Nat.{ℕ, _+_, _*_, _/_, _≤_, _<_};
-ghost use lib.ListN.{length, getD, set};
+ghost use lib.ListN.{length, getD};
 ghost use Rattle.lists.specs.Regions.{view};
 ghost use Rattle.words.specs.Overlay.{overlay};
 ghost use Rattle.geometry.specs.Meshes.{coordinates};
@@ -11,12 +11,13 @@ ghost use Rattle.refusals.specs.Answers.{meshOutputs, Answer};
 ghost use Rattle.mesh_weld.specs.Room.{vertexOf};
 ghost use Rattle.mesh_cleanup.specs.Clean.{cleanTests, cleanResult, Cleaned};
 ghost use Rattle.mesh_cleanup.specs.Steps.{Ready, Staging};
-use geometry::point::Point;
+use geometry::numbers::MeshVertexId;
+use geometry::vertices::vertex_at;
+use geometry::vertices::write_point;
 use mesh_compact::compact::Staged;
 use mesh_compact::compact::remove_small_disconnected_components;
 use mesh_filter::corners::WeldedAt;
 use mesh_filter::filter::filter;
-use mesh_weld::cells::point_at;
 use mesh_weld::weld::weld;
 use refusals::front::all_in_range;
 use refusals::front::check_lists;
@@ -80,16 +81,6 @@ fn stage(vertices: &[f64], facets: &[u32], eps: f64, work: &mut [u64]) -> Staged
     )
 }
 
-// The coordinates of p as those of vertex k.
-fn write_vertex(out: &mut [f64], k: usize, p: Point)
-    requires { ⌜ 3 * k + 2 < length (now out) ⌝ }
-    ensures { λ _. ⌜ now (out .exit) ≡ set (set (set (now (out .entry)) (3 * k) (p .x)) (3 * k + 1) (p .y)) (3 * k + 2) (p .z) ⌝ }
-{
-    out[3 * k] = p.x;
-    out[3 * k + 1] = p.y;
-    out[3 * k + 2] = p.z;
-}
-
 // The coordinates of the n vertices whose numbers stand in m from `at` on.
 fn write_vertices(m: &[u64], at: usize, n: usize, vertices: &[f64], out: &mut [f64])
     requires { ⌜ (at + n ≤ length (now m)) × (3 * n ≤ length (now out)) ⌝ }
@@ -99,7 +90,7 @@ fn write_vertices(m: &[u64], at: usize, n: usize, vertices: &[f64], out: &mut [f
     let mut k = 0;
     while k < n {
         let v = m[at + k] as usize;
-        write_vertex(out, k, point_at(vertices, v));
+        write_point(out, 3 * k, vertex_at(vertices, MeshVertexId(v)));
         k += 1;
     }
 }

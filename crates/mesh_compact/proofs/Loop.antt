@@ -17,8 +17,7 @@ use Rattle.geometry.specs.declared.point.Point.{Point}
 use Rattle.geometry.specs.Triangles.{tri, vertices, flat}
 use Rattle.geometry.proofs.Threes.{flat-append}
 use Rattle.mesh_compact.specs.declared.renumber.Numbered.{Numbered}
-use Rattle.mesh_compact.specs.Compact.{numbering}
-use Rattle.mesh_compact.specs.Room.{cornersAt, isLarge, keptCorners, Pointed, Naming, Cornered, Faceted, Room, Turned, Going}
+use Rattle.mesh_compact.specs.Room.{numbering, cornersAt, isLargeAt, keptCorners, Pointed, Naming, Cornered, Faceted, RenumberRoom, FacetNumbered, NumberedSoFar}
 
 -- ---- the three corners of a facet
 
@@ -47,7 +46,7 @@ module _ (kept at n k : ℕ) (a b c : ℕ) (w x y z : Numbered) (m m₁ m₂ m�
 -- ---- a facet dropped, or numbered
 
 module _ (kept facets parts k at n least i : ℕ) (w : Numbered) (m : List ℕ) (few : w .vertices ≤ w .corners) (within : w .corners ≤ 3 * i) where
-  pub passed-over : isLarge m parts k least i ≡ false → Turned kept facets parts k at n least i w w m m
+  pub passed-over : isLargeAt m parts k least i ≡ false → FacetNumbered kept facets parts k at n least i w w m m
   passed-over e =
       record {
         few = few;
@@ -62,7 +61,7 @@ module _ (kept facets parts k at n least i : ℕ) (w : Numbered) (m : List ℕ) 
       append-nil [] = refl
       append-nil (x ∷ l) = ap (λ (r : List ℕ). x ∷ r) (append-nil l)
 
-  pub numbered : isLarge m parts k least i ≡ true → (r : Numbered) (v : List ℕ) → Faceted kept at n k (cornersAt m (facets + 3 * i)) w r m v → Turned kept facets parts k at n least i w r m v
+  pub numbered : isLargeAt m parts k least i ≡ true → (r : Numbered) (v : List ℕ) → Faceted kept at n k (cornersAt m (facets + 3 * i)) w r m v → FacetNumbered kept facets parts k at n least i w r m v
   numbered e r v F =
       record {
         few = F .few;
@@ -76,23 +75,23 @@ module _ (kept facets parts k at n least i : ℕ) (w : Numbered) (m : List ℕ) 
 -- ---- the corners kept, one facet more
 
 module _ (facets parts k least : ℕ) (m : List ℕ) where
-  one-more : (b : Bool) (i : ℕ) → isLarge m parts k least i ≡ b → flat (map (λ j. cornersAt m (facets + 3 * j)) (keep (isLarge m parts k least) (i ∷ []))) ≡ cond b (vertices (cornersAt m (facets + 3 * i))) []
+  one-more : (b : Bool) (i : ℕ) → isLargeAt m parts k least i ≡ b → flat (map (λ j. cornersAt m (facets + 3 * j)) (keep (isLargeAt m parts k least) (i ∷ []))) ≡ cond b (vertices (cornersAt m (facets + 3 * i))) []
   unfolding keep flatMap
   one-more true i e = rw e
   one-more false i e = rw e
 
-  pub corners-more : (i : ℕ) → keptCorners m facets parts k least (i + 1) ≡ keptCorners m facets parts k least i ++ cond (isLarge m parts k least i) (vertices (cornersAt m (facets + 3 * i))) []
+  pub corners-more : (i : ℕ) → keptCorners m facets parts k least (i + 1) ≡ keptCorners m facets parts k least i ++ cond (isLargeAt m parts k least i) (vertices (cornersAt m (facets + 3 * i))) []
   corners-more i =
-      ap (λ (l : List ℕ). flat (map (λ j. cornersAt m (facets + 3 * j)) (keep (isLarge m parts k least) l))) (up-snoc i)
-      ∙ ap (λ (l : List ℕ). flat (map (λ j. cornersAt m (facets + 3 * j)) l)) (keep-append (isLarge m parts k least) (upTo i) (i ∷ []))
-      ∙ ap flat (map-append (λ j. cornersAt m (facets + 3 * j)) (keep (isLarge m parts k least) (upTo i)) (keep (isLarge m parts k least) (i ∷ [])))
-      ∙ flat-append (map (λ j. cornersAt m (facets + 3 * j)) (keep (isLarge m parts k least) (upTo i))) (map (λ j. cornersAt m (facets + 3 * j)) (keep (isLarge m parts k least) (i ∷ [])))
-      ∙ ap (λ (l : List ℕ). keptCorners m facets parts k least i ++ l) (one-more (isLarge m parts k least i) i refl)
+      ap (λ (l : List ℕ). flat (map (λ j. cornersAt m (facets + 3 * j)) (keep (isLargeAt m parts k least) l))) (up-snoc i)
+      ∙ ap (λ (l : List ℕ). flat (map (λ j. cornersAt m (facets + 3 * j)) l)) (keep-append (isLargeAt m parts k least) (upTo i) (i ∷ []))
+      ∙ ap flat (map-append (λ j. cornersAt m (facets + 3 * j)) (keep (isLargeAt m parts k least) (upTo i)) (keep (isLargeAt m parts k least) (i ∷ [])))
+      ∙ flat-append (map (λ j. cornersAt m (facets + 3 * j)) (keep (isLargeAt m parts k least) (upTo i))) (map (λ j. cornersAt m (facets + 3 * j)) (keep (isLargeAt m parts k least) (i ∷ [])))
+      ∙ ap (λ (l : List ℕ). keptCorners m facets parts k least i ++ l) (one-more (isLargeAt m parts k least i) i refl)
 
 -- ---- a room that is as it was below the table
 
-module _ (kept facets parts k at n : ℕ) (m v : List ℕ) (R : Room kept facets parts k at n m) (len : length v ≡ length m) (rest : (x : ℕ) → x < at → getD v x 0 ≡ getD m x 0) where
-  pub still-room : Room kept facets parts k at n v
+module _ (kept facets parts k at n : ℕ) (m v : List ℕ) (R : RenumberRoom kept facets parts k at n m) (len : length v ≡ length m) (rest : (x : ℕ) → x < at → getD v x 0 ≡ getD m x 0) where
+  pub still-room : RenumberRoom kept facets parts k at n v
   still-room = record {
     few = R .few;
     small = R .small;
@@ -104,7 +103,7 @@ module _ (kept facets parts k at n : ℕ) (m v : List ℕ) (R : Room kept facets
     part = λ i h. rw (rest (parts + i) (let q = R .parts-in in omega arith)) (R .part i h);
   }
 
-  large-same : (least i : ℕ) → i < k → isLarge v parts k least i ≡ isLarge m parts k least i
+  large-same : (least i : ℕ) → i < k → isLargeAt v parts k least i ≡ isLargeAt m parts k least i
   large-same least i h =
       ap (λ (x : ℕ). leb least (getD v (parts + k + x) 0)) (rest (parts + i) (let q = R .parts-in in omega arith))
       ∙ ap (leb least) (rest (parts + k + getD m (parts + i) 0) (let q = R .parts-in in let p = R .part i h in omega arith))
@@ -112,7 +111,7 @@ module _ (kept facets parts k at n : ℕ) (m v : List ℕ) (R : Room kept facets
   facet-same : (i : ℕ) → i < k → cornersAt v (facets + 3 * i) ≡ cornersAt m (facets + 3 * i)
   facet-same i h = λ t. tri (rest (facets + 3 * i) (let q = R .facets-in in omega arith) t) (rest (facets + 3 * i + 1) (let q = R .facets-in in omega arith) t) (rest (facets + 3 * i + 2) (let q = R .facets-in in omega arith) t)
 
-  turn-same : (least i : ℕ) → i < k → cond (isLarge v parts k least i) (vertices (cornersAt v (facets + 3 * i))) [] ≡ cond (isLarge m parts k least i) (vertices (cornersAt m (facets + 3 * i))) []
+  turn-same : (least i : ℕ) → i < k → cond (isLargeAt v parts k least i) (vertices (cornersAt v (facets + 3 * i))) [] ≡ cond (isLargeAt m parts k least i) (vertices (cornersAt m (facets + 3 * i))) []
   turn-same least i h = λ t. cond (large-same least i h t) (vertices (facet-same i h t)) []
 
   corners-same : (least i : ℕ) → i ≤ k → keptCorners v facets parts k least i ≡ keptCorners m facets parts k least i
@@ -127,7 +126,7 @@ module _ (kept facets parts k at n : ℕ) (m v : List ℕ) (R : Room kept facets
 
   -- ---- a turn of the loop
 
-  pub going-on : (least i : ℕ) (w r : Numbered) (u : List ℕ) → i < k → Going kept facets parts k at n least i w m v → Turned kept facets parts k at n least i w r v u → Going kept facets parts k at n least (i + 1) r m u
+  pub going-on : (least i : ℕ) (w r : Numbered) (u : List ℕ) → i < k → NumberedSoFar kept facets parts k at n least i w m v → FacetNumbered kept facets parts k at n least i w r v u → NumberedSoFar kept facets parts k at n least (i + 1) r m u
   going-on least i w r u h G T =
       record {
         done = omega arith;
@@ -142,7 +141,7 @@ module _ (kept facets parts k at n : ℕ) (m v : List ℕ) (R : Room kept facets
       }
 
   -- the same, told from the room before it was cleared
-  pub going-from : (least i : ℕ) (w : Numbered) (u : List ℕ) → Going kept facets parts k at n least i w v u → Going kept facets parts k at n least i w m u
+  pub going-from : (least i : ℕ) (w : Numbered) (u : List ℕ) → NumberedSoFar kept facets parts k at n least i w v u → NumberedSoFar kept facets parts k at n least i w m u
   going-from least i w u G =
       record {
         done = G .done;
@@ -156,7 +155,7 @@ module _ (kept facets parts k at n : ℕ) (m v : List ℕ) (R : Room kept facets
 
 -- ---- the first facet
 
-pub going-start : (kept facets parts k at n least : ℕ) (m v : List ℕ) → at + n ≤ length m → Zeroed m v at n → Going kept facets parts k at n least 0 (record { vertices = 0; corners = 0 }) v v
+pub going-start : (kept facets parts k at n least : ℕ) (m v : List ℕ) → at + n ≤ length m → Zeroed m v at n → NumberedSoFar kept facets parts k at n least 0 (record { vertices = 0; corners = 0 }) v v
 unfolding numbering keep upFrom flatMap
 going-start kept facets parts k at n least m v room z =
     record {
@@ -185,8 +184,8 @@ going-start kept facets parts k at n least m v room z =
     zeros : view v at n ≡ replicate n 0
     zeros = ext-getD 0 (view v at n) (replicate n 0) (long ∙ sym (length-replicate {A = ℕ} n 0)) (λ i h. let h′ : i < n = omega (arith, long) in view-at v at n i h′ ∙ z .zero i h′ ∙ sym (getD-replicate n i 0 0 h′))
 
-pub going-end : (kept facets parts k at n least i : ℕ) (w : Numbered) (m u : List ℕ) → Going kept facets parts k at n least i w m u → k ≤ i → Going kept facets parts k at n least k w m u
-going-end kept facets parts k at n least i w m u G h = let e : i ≡ k = omega (arith, G .done) in subst (λ (j : ℕ). Going kept facets parts k at n least j w m u) e G
+pub going-end : (kept facets parts k at n least i : ℕ) (w : Numbered) (m u : List ℕ) → NumberedSoFar kept facets parts k at n least i w m u → k ≤ i → NumberedSoFar kept facets parts k at n least k w m u
+going-end kept facets parts k at n least i w m u G h = let e : i ≡ k = omega (arith, G .done) in subst (λ (j : ℕ). NumberedSoFar kept facets parts k at n least j w m u) e G
 
 -- ---- the corners that a facet's three words are
 

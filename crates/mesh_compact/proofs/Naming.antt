@@ -16,8 +16,7 @@ use Rattle.geometry.specs.declared.point.Point.{Point}
 use Rattle.geometry.specs.Meshes.{vertex, Named, newNumber, enter}
 use Rattle.geometry.proofs.Meshes.{enter-new, enter-old, enter-stays, entered}
 use Rattle.mesh_compact.specs.declared.renumber.Numbered.{Numbered}
-use Rattle.mesh_compact.specs.Compact.{numbering}
-use Rattle.mesh_compact.specs.Room.{afterVertex, countAfter, Vertexed, Pointed, Naming, Cornered}
+use Rattle.mesh_compact.specs.Room.{numbering, afterVertex, countAfter, Vertexed, Pointed, Naming, Cornered}
 
 pub numbering-more : (points : List Point) (cs : List ℕ) (v : ℕ) → numbering points (cs ++ (v ∷ [])) ≡ enter (vertex points) (numbering points cs) v
 unfolding numbering

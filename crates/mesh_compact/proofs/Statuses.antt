@@ -4,11 +4,12 @@ use native.Mathlib.Omega.{arith}
 use mathlib.Core.Path.{_≡_, refl, sym, ap, subst, _∙_}
 use mathlib.Core.Bool.{Bool, true, false, cond, not, _&&_}
 use mathlib.Core.List.{List, [], _∷_, _++_, List·Memᴰ}
+use mathlib.Core.Option.{Option, none, some, orElse}
 use lib.Dec.{T, ltb, leb}
 use lib.ListN.{length, getD}
 use borrow.Author.Tests.{ltb-true, ltb-false, lt-leb, le-leb}
 use lib.Ieee.{Float}
-use Rattle.lists.specs.Lists.{has, keep, count, upFrom, upTo}
+use Rattle.lists.specs.Lists.{isNone, has, keep, count, upFrom, upTo}
 use Rattle.lists.proofs.Counts.{keep-append, keep-same}
 use Rattle.lists.proofs.Members.{some-of, of-some, has-of, of-has, keep-of, of-keep, getD-mem}
 use Rattle.lists.proofs.Places.{of-up, up-of}
@@ -19,8 +20,8 @@ use Rattle.components.specs.Joined.{Among, ManyJoined, Once, Decides}
 use Rattle.components.specs.Components.{components, componentOf}
 use Rattle.components.proofs.Once.{once-keep, once-up}
 use Rattle.components.proofs.Many.{component-many}
-use Rattle.mesh_filter.specs.Filters.{facetAt, hasRepeatedCorner, isFlat, isDuplicate, passes, passedNext, passed}
-use Rattle.mesh_compact.specs.Status.{kept, repeatedCorner, flat, duplicate, alone, isKept, shareVertex, allPassed, isAlone, status, keptFacets, Rule}
+use Rattle.mesh_filter.specs.Filters.{Reason, alone, facetAt, filtered, passes, passedNext, passed}
+use Rattle.mesh_compact.specs.Status.{shareVertex, allPassed, isAlone, status, keptFacets, Rule}
 
 -- ---- sharing a vertex goes both ways
 
@@ -43,12 +44,11 @@ keep-both {A} p q (x ∷ l) = go (p x) (keep-both p q l)
 
 -- ---- what the three filters and the components say together
 
-told : (r f d a : Bool) → isKept (cond r repeatedCorner (cond f flat (cond d duplicate (cond a alone kept)))) ≡ ((not r && (not f && not d)) && not a)
-told true f d a = refl
-told false true d a = refl
-told false false true a = refl
-told false false false true = refl
-told false false false false = refl
+told : (o : Option Reason) (a : Bool) → isNone (orElse o (cond a (some alone) none)) ≡ (isNone o && not a)
+unfolding orElse
+told none true = refl
+told none false = refl
+told (some r) a = refl
 
 and-left : (a b : Bool) → T (a && b) → T a
 and-left true b t = tt
@@ -102,16 +102,15 @@ module _ (eps : Float) (points : List Point) (facets : List (Triangle ℕ)) wher
       let q = getD-mem (passed eps points facets n) i 0 h in
       let h = of-up 0 n (of-keep goes (upTo n) (subst (List·Memᴰ (getD (passed eps points facets n) i 0)) (passed-keeps n) q) .0) .1 in omega arith
 
-  status-kept : (m i : ℕ) → isKept (status eps points facets m i) ≡ (goes i && not (isAlone eps points facets m i))
-  unfolding status passes
-  status-kept m i =
-      told (hasRepeatedCorner (facetAt facets i)) (isFlat eps points (facetAt facets i)) (isDuplicate facets (passed eps points facets i) (facetAt facets i)) (isAlone eps points facets m i)
+  status-kept : (m i : ℕ) → isNone (status eps points facets m i) ≡ (goes i && not (isAlone eps points facets m i))
+  unfolding status
+  status-kept m i = told (filtered eps points facets (passed eps points facets i) (facetAt facets i)) (isAlone eps points facets m i)
 
   -- the facets kept are those that passed and are not alone
   pub kept-passed : (m : ℕ) → keptFacets eps points facets m ≡ keep (λ i. not (isAlone eps points facets m i)) (allPassed eps points facets)
   unfolding keptFacets
   kept-passed m =
-      keep-same (λ i. isKept (status eps points facets m i)) (λ i. goes i && not (isAlone eps points facets m i)) (upTo (length facets)) (λ i q. status-kept m i)
+      keep-same (λ i. isNone (status eps points facets m i)) (λ i. goes i && not (isAlone eps points facets m i)) (upTo (length facets)) (λ i q. status-kept m i)
       ∙ keep-both goes (λ i. not (isAlone eps points facets m i)) (upTo (length facets))
       ∙ ap (keep (λ i. not (isAlone eps points facets m i))) (sym (passed-keeps (length facets)))
 

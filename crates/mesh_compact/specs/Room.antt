@@ -1,38 +1,39 @@
 -- What the functions of the last step ask and keep in the work room, of which the outer contract does not speak. Of k facets that passed the corners stand from `facets` on, the
 -- components' numbers from `parts` on and their sizes behind; renumbering among n welded vertices has, from `at` on, 1 more than the new number of each, or 0 while it has none; from
 -- at + n on the old numbers of those used, in order of first use; from at + n + 3 k on the new numbers of the kept facets' corners. Assumes nothing.
---   cornersAt, isLarge    facet i of the k, and whether its component has at least `least` facets
+--   cornersAt, isLargeAt    facet i of the k, and whether its component has at least `least` facets
 --   afterVertex, countAfter, afterCorner   the room after a vertex, and after a corner, was numbered
+--   numbering             the numbers given to the corners cs in turn, as a table
 --   Naming                the corners cs have been numbered, among the points
---   Room                  where the tables stand, and what renumbering reads there
+--   RenumberRoom                  where the tables stand, and what renumbering reads there
 --   Cornered, Faceted     one corner more, one facet more
---   Going, Turned         the first i facets have been numbered or dropped; one more
---   Delivered             a mesh stands in the room, to be written
+--   NumberedSoFar, FacetNumbered         the first i facets have been numbered or dropped; one more
+--   StagedMesh             a mesh stands in the room, to be written
 --   Source, Lent          what the last step is given, and asks
---   Compacted             what it leaves
+--   MeshCompacted             what it leaves
 use Prim.Native.Nat.{ℕ, _+_, _*_, _-_, _≤_, _<_}
 use mathlib.Core.Path.{_≡_}
 use mathlib.Core.Bool.{Bool, cond}
-use mathlib.Core.List.{List, [], _∷_, _++_, map, List·Memᴰ}
+use mathlib.Core.List.{List, [], _∷_, _++_, map, foldl, List·Memᴰ}
 use lib.Dec.{eqb, leb}
-use lib.ListN.{length, getD, set}
+use lib.ListN.{length, getD, set, replicate}
 use lib.Ieee.{Float}
 use Rattle.lists.specs.Lists.{keep, upTo}
 use Rattle.lists.specs.Regions.{view}
 use Rattle.geometry.specs.declared.point.Point.{Point}
 use Rattle.geometry.specs.Triangles.{Triangle, tri, vertices, flat}
-use Rattle.geometry.specs.Meshes.{Mesh, vertex, Named, newNumber}
+use Rattle.geometry.specs.Meshes.{Mesh, vertex, Named, newNumber, enter}
 use Rattle.mesh_filter.specs.Filters.{facetAt}
 use Rattle.mesh_compact.specs.declared.renumber.Numbered.{Numbered}
 use Rattle.mesh_compact.specs.declared.compact.Staged.{Staged}
 use Rattle.mesh_compact.specs.Status.{allPassed}
-use Rattle.mesh_compact.specs.Compact.{numbering, compacted}
+use Rattle.mesh_compact.specs.Compact.{compacted}
 
 abbrev pub cornersAt : List ℕ → ℕ → Triangle ℕ
 cornersAt m o = tri (getD m o 0) (getD m (o + 1) 0) (getD m (o + 2) 0)
 
-abbrev pub isLarge : List ℕ → ℕ → ℕ → ℕ → ℕ → Bool
-isLarge m parts k least i = leb least (getD m (parts + k + getD m (parts + i) 0) 0)
+abbrev pub isLargeAt : List ℕ → ℕ → ℕ → ℕ → ℕ → Bool
+isLargeAt m parts k least i = leb least (getD m (parts + k + getD m (parts + i) 0) 0)
 
 abbrev pub afterVertex : List ℕ → ℕ → ℕ → ℕ → ℕ → ℕ → List ℕ
 afterVertex m kept at n count v = cond (eqb (getD m (at + v) 0) 0) (set (set m (at + n + count) (getD m (kept + v) 0)) (at + v) (count + 1)) m
@@ -48,6 +49,9 @@ pub record Vertexed (kept at n count v r : ℕ) (old new : List ℕ) : Type 0 wh
 pub record Pointed (point : ℕ → Point) (points : List Point) (top kept u : ℕ) (m : List ℕ) : Type 0 where
   pub is : vertex points u ≡ point (getD m (kept + u) 0)
   pub low : getD m (kept + u) 0 < top
+
+unfoldable pub numbering : List Point → List ℕ → Named
+numbering points cs = foldl (enter (vertex points)) (record { given = replicate (length points) 0; points = [] }) cs
 
 pub record Naming (point : ℕ → Point) (points : List Point) (top at n k a c : ℕ) (cs : List ℕ) (m : List ℕ) : Type 0 where
   pub given : view m at n ≡ numbering points cs .given
@@ -74,9 +78,9 @@ pub record Faceted (kept at n k : ℕ) (t : Triangle ℕ) (w r : Numbered) (old 
 
 -- the corners of the facets kept, of the first i that passed
 abbrev pub keptCorners : List ℕ → ℕ → ℕ → ℕ → ℕ → ℕ → List ℕ
-keptCorners m facets parts k least i = flat (map (λ j. cornersAt m (facets + 3 * j)) (keep (isLarge m parts k least) (upTo i)))
+keptCorners m facets parts k least i = flat (map (λ j. cornersAt m (facets + 3 * j)) (keep (isLargeAt m parts k least) (upTo i)))
 
-pub record Room (kept facets parts k at n : ℕ) (m : List ℕ) : Type 0 where
+pub record RenumberRoom (kept facets parts k at n : ℕ) (m : List ℕ) : Type 0 where
   pub few : n ≤ 65536
   pub small : k ≤ 65536
   pub kept-in : kept + n ≤ at
@@ -86,7 +90,7 @@ pub record Room (kept facets parts k at n : ℕ) (m : List ℕ) : Type 0 where
   pub corner : (j : ℕ) → j < 3 * k → getD m (facets + j) 0 < n
   pub part : (i : ℕ) → i < k → getD m (parts + i) 0 < k
 
-pub record Going (kept facets parts k at n least i : ℕ) (w : Numbered) (old new : List ℕ) : Type 0 where
+pub record NumberedSoFar (kept facets parts k at n least i : ℕ) (w : Numbered) (old new : List ℕ) : Type 0 where
   pub done : i ≤ k
   pub few : w .vertices ≤ w .corners
   pub within : w .corners ≤ 3 * i
@@ -95,18 +99,18 @@ pub record Going (kept facets parts k at n least i : ℕ) (w : Numbered) (old ne
       → Naming point points top at n k (w .vertices) (w .corners) (keptCorners old facets parts k least i) new
 
 -- facet i dropped or numbered, from the room old to new
-pub record Turned (kept facets parts k at n least i : ℕ) (w r : Numbered) (old new : List ℕ) : Type 0 where
+pub record FacetNumbered (kept facets parts k at n least i : ℕ) (w r : Numbered) (old new : List ℕ) : Type 0 where
   pub few : r .vertices ≤ r .corners
   pub within : r .corners ≤ 3 * (i + 1)
   pub rest : (x : ℕ) → x < at → getD new x 0 ≡ getD old x 0
   pub naming : (point : ℕ → Point) (points : List Point) (top : ℕ) (cs : List ℕ) → ((u : ℕ) → u < n → Pointed point points top kept u old)
       → Naming point points top at n k (w .vertices) (w .corners) cs old
-      → Naming point points top at n k (r .vertices) (r .corners) (cs ++ cond (isLarge old parts k least i) (vertices (cornersAt old (facets + 3 * i))) []) new
+      → Naming point points top at n k (r .vertices) (r .corners) (cs ++ cond (isLargeAt old parts k least i) (vertices (cornersAt old (facets + 3 * i))) []) new
 
 -- ---- the mesh to be written
 
 -- it stands in m where s says; the vertices by old numbers below top, whose points `point` gives
-pub record Delivered (point : ℕ → Point) (top : ℕ) (mesh : Mesh) (s : Staged) (m : List ℕ) : Type 0 where
+pub record StagedMesh (point : ℕ → Point) (top : ℕ) (mesh : Mesh) (s : Staged) (m : List ℕ) : Type 0 where
   pub vertices : map point (view m (s .order) (s .vertices)) ≡ mesh .points
   pub numbers : view m (s .corners) (s .numbers) ≡ flat (mesh .facets)
   pub low : (j : ℕ) → j < s .vertices → getD m (s .order + j) 0 < top
@@ -127,10 +131,10 @@ pub record Lent (kept n facets k at : ℕ) (m : List ℕ) : Type 0 where
   pub all-in : at + 2 * n + 8 * k ≤ length m
   pub corner : (j : ℕ) → j < 3 * k → getD m (facets + j) 0 < n
 
-pub record Compacted (kept n facets k least : ℕ) (s : Staged) (old new : List ℕ) : Type 0 where
+pub record MeshCompacted (kept n facets k least : ℕ) (s : Staged) (old new : List ℕ) : Type 0 where
   pub vertices-in : s .order + s .vertices ≤ length new
   pub numbers-in : s .corners + s .numbers ≤ length new
   pub few : s .vertices ≤ 196608
   pub small : s .numbers ≤ 196608
   pub mesh : (point : ℕ → Point) (eps : Float) (points : List Point) (fs : List (Triangle ℕ)) (top : ℕ) → Source point eps points fs top kept n facets k old
-      → Delivered point top (compacted eps least points fs) s new
+      → StagedMesh point top (compacted eps least points fs) s new

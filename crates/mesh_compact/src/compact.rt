@@ -1,5 +1,5 @@
 // The facets that are kept, and their vertices (`remove_small_disconnected_components` of mesh_cleanup.rs).
-ghost use Rattle.mesh_compact.specs.Room.{Lent, Compacted};
+ghost use Rattle.mesh_compact.specs.Room.{Lent, MeshCompacted};
 use crate::renumber::renumber;
 use components::components;
 
@@ -23,7 +23,7 @@ pub fn remove_small_disconnected_components(
     least: u64,
 ) -> Staged
     requires { ⌜ Lent kept n facets k at (now m) ⌝ }
-    ensures { λ r. ⌜ Compacted kept n facets k least r (now (m .entry)) (now (m .exit)) ⌝ }
+    ensures { λ r. ⌜ MeshCompacted kept n facets k least r (now (m .entry)) (now (m .exit)) ⌝ }
 {
     if k == 0 {
         return Staged {

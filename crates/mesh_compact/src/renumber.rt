@@ -2,7 +2,8 @@
 ghost use mathlib.Core.Path.{_≡_};
 ghost use Prim.Native.Nat.{_+_, _*_, _≤_, _<_};
 ghost use lib.ListN.{length, getD};
-ghost use Rattle.mesh_compact.specs.Room.{cornersAt, isLarge, Vertexed, Cornered, Faceted, Room, Turned, Going};
+ghost use Rattle.mesh_compact.specs.Room.{cornersAt, isLargeAt, Vertexed, Cornered, Faceted, RenumberRoom, FacetNumbered, NumberedSoFar};
+use geometry::numbers::MeshVertexId;
 use words::zero_part;
 
 // How many vertices and how many corners have been numbered.
@@ -12,16 +13,23 @@ pub struct Numbered {
 }
 
 // Gives the welded vertex v a number if this is its first use; how many have one then.
-fn number_vertex(m: &mut [u64], kept: usize, at: usize, n: usize, count: usize, v: usize) -> usize
-    requires { ⌜ (v < n) × (kept + n ≤ at) ⌝ }
+fn number_vertex(
+    m: &mut [u64],
+    kept: usize,
+    at: usize,
+    n: usize,
+    count: usize,
+    v: MeshVertexId,
+) -> usize
+    requires { ⌜ (v .0 < n) × (kept + n ≤ at) ⌝ }
     requires { ⌜ at + n + count < length (now m) ⌝ }
-    ensures { λ r. ⌜ Vertexed kept at n count v r (now (m .entry)) (now (m .exit)) ⌝ }
+    ensures { λ r. ⌜ Vertexed kept at n count (v .0) r (now (m .entry)) (now (m .exit)) ⌝ }
 {
-    if m[at + v] != 0 {
+    if m[at + v.0] != 0 {
         return count;
     }
-    m[at + n + count] = m[kept + v];
-    m[at + v] = count as u64 + 1;
+    m[at + n + count] = m[kept + v.0];
+    m[at + v.0] = count as u64 + 1;
     count + 1
 }
 
@@ -33,17 +41,17 @@ fn number_corner(
     n: usize,
     k: usize,
     w: Numbered,
-    v: usize,
+    v: MeshVertexId,
 ) -> Numbered
-    requires { ⌜ (v < n) × (kept + n ≤ at) ⌝ }
+    requires { ⌜ (v .0 < n) × (kept + n ≤ at) ⌝ }
     requires { ⌜ at + n + 6 * k ≤ length (now m) ⌝ }
     requires { ⌜ (w .corners < 3 * k) × (w .vertices ≤ w .corners) ⌝ }
-    ensures { λ r. ⌜ Cornered kept at n k v w r (now (m .entry)) (now (m .exit)) ⌝ }
+    ensures { λ r. ⌜ Cornered kept at n k (v .0) w r (now (m .entry)) (now (m .exit)) ⌝ }
 {
     let count = w.vertices;
     let corners = w.corners;
     let vertices = number_vertex(m, kept, at, n, count, v);
-    m[at + n + 3 * k + corners] = m[at + v] - 1;
+    m[at + n + 3 * k + corners] = m[at + v.0] - 1;
     Numbered {
         vertices: vertices,
         corners: corners + 1,
@@ -69,16 +77,16 @@ fn number_facet(
     let a = m[facet] as usize;
     let b = m[facet + 1] as usize;
     let c = m[facet + 2] as usize;
-    let w1 = number_corner(m, kept, at, n, k, w, a);
-    let w2 = number_corner(m, kept, at, n, k, w1, b);
-    number_corner(m, kept, at, n, k, w2, c)
+    let w1 = number_corner(m, kept, at, n, k, w, MeshVertexId(a));
+    let w2 = number_corner(m, kept, at, n, k, w1, MeshVertexId(b));
+    number_corner(m, kept, at, n, k, w2, MeshVertexId(c))
 }
 
 // Whether the component of item i, of k items whose components stand from `parts` on, has at least `least` items.
 fn is_large(m: &[u64], parts: usize, k: usize, i: usize, least: u64) -> bool
     requires { ⌜ (i < k) × (parts + k + k ≤ length (now m)) ⌝ }
     requires { ⌜ getD (now m) (parts + i) 0 < k ⌝ }
-    ensures { λ r. ⌜ r ≡ isLarge (now (m .entry)) parts k least i ⌝ }
+    ensures { λ r. ⌜ r ≡ isLargeAt (now (m .entry)) parts k least i ⌝ }
 {
     let part = m[parts + i] as usize;
     m[parts + k + part] >= least
@@ -98,9 +106,9 @@ fn number_if_kept(
     i: usize,
 ) -> Numbered
     requires { ⌜ i < k ⌝ }
-    requires { ⌜ Room kept facets parts k at n (now m) ⌝ }
+    requires { ⌜ RenumberRoom kept facets parts k at n (now m) ⌝ }
     requires { ⌜ (w .vertices ≤ w .corners) × (w .corners ≤ 3 * i) ⌝ }
-    ensures { λ r. ⌜ Turned kept facets parts k at n least i w r (now (m .entry)) (now (m .exit)) ⌝ }
+    ensures { λ r. ⌜ FacetNumbered kept facets parts k at n least i w r (now (m .entry)) (now (m .exit)) ⌝ }
 {
     if !is_large(m, parts, k, i, least) {
         return w;
@@ -119,8 +127,8 @@ pub fn renumber(
     n: usize,
     least: u64,
 ) -> Numbered
-    requires { ⌜ Room kept facets parts k at n (now m) ⌝ }
-    ensures { λ r. ⌜ Going kept facets parts k at n least k r (now (m .entry)) (now (m .exit)) ⌝ }
+    requires { ⌜ RenumberRoom kept facets parts k at n (now m) ⌝ }
+    ensures { λ r. ⌜ NumberedSoFar kept facets parts k at n least k r (now (m .entry)) (now (m .exit)) ⌝ }
 {
     zero_part(m, at, n);
     let mut w = Numbered {

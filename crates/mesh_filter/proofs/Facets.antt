@@ -23,24 +23,24 @@ use Rattle.mesh_weld.specs.Room.{vertexOf}
 use Rattle.chains.proofs.Firsts.{link-found, link-absent, link-map}
 use Rattle.mesh_filter.specs.declared.corners.WeldedAt.{WeldedAt}
 use Rattle.mesh_filter.specs.Filters.{facetAt, isFlat, sameCorners, isDuplicate}
-use Rattle.mesh_filter.specs.Room.{keptIn, numbersIn, pointsIn, facetsIn, rawFacet, cornersKey, Below, Numbered}
+use Rattle.mesh_filter.specs.Room.{keptInRoom, numbersInRoom, pointsInRoom, facetsInRoom, rawFacet, cornersKey, Below, CornersNumbered}
 use Rattle.mesh_filter.proofs.Keys.{same-key}
 
-module _ (w : WeldedAt) (vs : List Float) (fs : List ℕ) (at n : ℕ) (m : List ℕ) (N : Numbered w vs fs at n m) where
+module _ (w : WeldedAt) (vs : List Float) (fs : List ℕ) (at n : ℕ) (m : List ℕ) (N : CornersNumbered w vs fs at n m) where
   abbrev F : List (Triangle ℕ)
-  F = facetsIn w vs fs m
+  F = facetsInRoom w vs fs m
 
   -- there are n facets
   pub facets-long : length F ≡ n
-  facets-long = length-map (threes fs) (mapped (λ v. getD (numbersIn w vs m) v 0)) ∙ length-threes fs ∙ (let e = N .facets in omega arith)
+  facets-long = length-map (threes fs) (mapped (λ v. getD (numbersInRoom w vs m) v 0)) ∙ length-threes fs ∙ (let e = N .facets in omega arith)
 
   pub facet-is : (f : ℕ) → f < n → facetAt F f ≡ mapped (λ v. getD m (w .numbers + v) 0) (rawFacet fs f)
   facet-is f h =
-      at-map (mapped (λ v. getD (numbersIn w vs m) v 0)) (threes fs) f (tri 0 0 0) (tri 0 0 0) (let e = N .facets in omega (arith, length-threes fs))
-      ∙ ap (mapped (λ v. getD (numbersIn w vs m) v 0)) (threes-at fs f (tri 0 0 0) 0 (let e = N .facets in omega arith))
+      at-map (mapped (λ v. getD (numbersInRoom w vs m) v 0)) (threes fs) f (tri 0 0 0) (tri 0 0 0) (let e = N .facets in omega (arith, length-threes fs))
+      ∙ ap (mapped (λ v. getD (numbersInRoom w vs m) v 0)) (threes-at fs f (tri 0 0 0) 0 (let e = N .facets in omega arith))
       ∙ (λ i. tri (read (3 * f) (let e = N .facets in omega arith) i) (read (3 * f + 1) (let e = N .facets in omega arith) i) (read (3 * f + 2) (let e = N .facets in omega arith) i))
     where
-      read : (j : ℕ) → j < length fs → getD (numbersIn w vs m) (getD fs j 0) 0 ≡ getD m (w .numbers + getD fs j 0) 0
+      read : (j : ℕ) → j < length fs → getD (numbersInRoom w vs m) (getD fs j 0) 0 ≡ getD m (w .numbers + getD fs j 0) 0
       read j lt = view-at m (w .numbers) (length vs / 3) (getD fs j 0) (N .corner j lt)
 
   pub facet-below : (f : ℕ) → f < n → Below (w .count) (facetAt F f)
@@ -61,13 +61,13 @@ module _ (w : WeldedAt) (vs : List Float) (fs : List ℕ) (at n : ℕ) (m : List
       go (no h) = subst (Below 2097152) (sym (List·getD-eq-default F (tri 0 0 0) {n = f} (let e = facets-long in omega arith))) (record { a = omega arith; b = omega arith; c = omega arith })
 
   -- the welded points
-  point-is : (v : ℕ) → v < w .count → vertex (pointsIn w vs m) v ≡ vertexOf vs (getD m (w .kept + v) 0)
+  point-is : (v : ℕ) → v < w .count → vertex (pointsInRoom w vs m) v ≡ vertexOf vs (getD m (w .kept + v) 0)
   point-is v h =
-      at-map (vertexOf vs) (keptIn w m) v 0 origin (let e = view-length m (w .kept) (w .count) (let k = N .kept-in in let r = N .room in omega arith) in omega arith)
+      at-map (vertexOf vs) (keptInRoom w m) v 0 origin (let e = view-length m (w .kept) (w .count) (let k = N .kept-in in let r = N .room in omega arith) in omega arith)
       ∙ ap (vertexOf vs) (view-at m (w .kept) (w .count) v h)
 
   pub flat-is : (eps : Float) (t : Triangle ℕ) → Below (w .count) t
-      → le (norm2 (normal (mapped (λ v. vertexOf vs (getD m (w .kept + v) 0)) t))) (eps ⊗ eps ⊗ (eps ⊗ eps)) ≡ isFlat eps (pointsIn w vs m) t
+      → le (norm2 (normal (mapped (λ v. vertexOf vs (getD m (w .kept + v) 0)) t))) (eps ⊗ eps ⊗ (eps ⊗ eps)) ≡ isFlat eps (pointsInRoom w vs m) t
   unfolding isFlat
   flat-is eps t h = λ i.
       le (norm2 (normal (tri (sym (point-is (t .a) (h .a)) i) (sym (point-is (t .b) (h .b)) i) (sym (point-is (t .c) (h .c)) i)))) (eps ⊗ eps ⊗ (eps ⊗ eps))

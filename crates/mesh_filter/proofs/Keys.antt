@@ -13,28 +13,28 @@ use Rattle.words.proofs.Packed.{triple-injective}
 use Rattle.geometry.specs.Triangles.{Triangle, tri, vertices, sortedVertices}
 use Rattle.geometry.proofs.Triangles.{sorted-three}
 use Rattle.mesh_filter.specs.Filters.{sameCorners}
-use Rattle.mesh_filter.specs.Room.{ascending, cornersKey, Below}
+use Rattle.mesh_filter.specs.Room.{inOrder, cornersKey, Below}
 
 -- ---- equal triangles in order, equal keys
 
-key-eq : (t u : Triangle ℕ) → ascending t .a ≡ ascending u .a → ascending t .b ≡ ascending u .b → ascending t .c ≡ ascending u .c → cornersKey t ≡ cornersKey u
+key-eq : (t u : Triangle ℕ) → inOrder t .a ≡ inOrder u .a → inOrder t .b ≡ inOrder u .b → inOrder t .c ≡ inOrder u .c → cornersKey t ≡ cornersKey u
 unfolding cornersKey
 key-eq t u p q r = λ i. triple (p i) (q i) (r i)
 
-pub ascending-below : (k : ℕ) (t : Triangle ℕ) → Below k t → Below k (ascending t)
+pub ascending-below : (k : ℕ) (t : Triangle ℕ) → Below k t → Below k (inOrder t)
 ascending-below k t h = let p = h .a in let q = h .b in let r = h .c in record { a = omega arith; b = omega arith; c = omega arith }
 
 key-parts : (t u : Triangle ℕ) → Below 2097152 t → Below 2097152 u → cornersKey t ≡ cornersKey u
-    → (ascending t .a ≡ ascending u .a) × ((ascending t .b ≡ ascending u .b) × (ascending t .c ≡ ascending u .c))
+    → (inOrder t .a ≡ inOrder u .a) × ((inOrder t .b ≡ inOrder u .b) × (inOrder t .c ≡ inOrder u .c))
 unfolding cornersKey
 key-parts t u h k e =
     let p = ascending-below 2097152 t h in
     let q = ascending-below 2097152 u k in
-    triple-injective (ascending t .a) (ascending t .b) (ascending t .c) (ascending u .a) (ascending u .b) (ascending u .c) (p .b) (p .c) (q .b) (q .c) e
+    triple-injective (inOrder t .a) (inOrder t .b) (inOrder t .c) (inOrder u .a) (inOrder u .b) (inOrder u .c) (p .b) (p .c) (q .b) (q .c) e
 
 -- ---- the same three corners, sorted
 
-sorted-parts : (t : Triangle ℕ) → (getD (sortedVertices t) 0 0 ≡ ascending t .a) × ((getD (sortedVertices t) 1 0 ≡ ascending t .b) × (getD (sortedVertices t) 2 0 ≡ ascending t .c))
+sorted-parts : (t : Triangle ℕ) → (getD (sortedVertices t) 0 0 ≡ inOrder t .a) × ((getD (sortedVertices t) 1 0 ≡ inOrder t .b) × (getD (sortedVertices t) 2 0 ≡ inOrder t .c))
 sorted-parts t =
     let e = sym (sorted-three (t .a) (t .b) (t .c)) in
     (ap (λ (l : List ℕ). getD l 0 0) e, (ap (λ (l : List ℕ). getD l 1 0) e, ap (λ (l : List ℕ). getD l 2 0) e))
@@ -42,7 +42,7 @@ sorted-parts t =
 abbrev alike : Triangle ℕ → Triangle ℕ → Bool
 alike t u = eqb (t .a) (u .a) && (eqb (t .b) (u .b) && eqb (t .c) (u .c))
 
-sorted-alike : (t u : Triangle ℕ) → sameCorners t u ≡ alike (ascending t) (ascending u)
+sorted-alike : (t u : Triangle ℕ) → sameCorners t u ≡ alike (inOrder t) (inOrder u)
 unfolding sameCorners
 sorted-alike t u =
     let p = sorted-parts t in
@@ -67,14 +67,14 @@ both-ways false false f g = refl
 pub same-key : (t u : Triangle ℕ) → Below 2097152 t → Below 2097152 u → sameCorners t u ≡ eqb (cornersKey u) (cornersKey t)
 same-key t u h k =
     sorted-alike t u
-    ∙ both-ways (alike (ascending t) (ascending u)) (eqb (cornersKey u) (cornersKey t))
-    (λ e. let p = alike-parts (ascending t) (ascending u) e in eq-eqb (cornersKey u) (cornersKey t) (sym (key-eq t u (p .0) (p .1 .0) (p .1 .1))))
-    (λ e. let p = key-parts t u h k (sym (eqb-true (cornersKey u) (cornersKey t) e)) in parts-alike (ascending t) (ascending u) (p .0) (p .1 .0) (p .1 .1))
+    ∙ both-ways (alike (inOrder t) (inOrder u)) (eqb (cornersKey u) (cornersKey t))
+    (λ e. let p = alike-parts (inOrder t) (inOrder u) e in eq-eqb (cornersKey u) (cornersKey t) (sym (key-eq t u (p .0) (p .1 .0) (p .1 .1))))
+    (λ e. let p = key-parts t u h k (sym (eqb-true (cornersKey u) (cornersKey t) e)) in parts-alike (inOrder t) (inOrder u) (p .0) (p .1 .0) (p .1 .1))
 
 -- ---- what `corners_key` packs
 
 module _ (t s : Triangle ℕ) (e : vertices s ≡ sortedVertices t) where
-  pub sorted-is : s ≡ ascending t
+  pub sorted-is : s ≡ inOrder t
   sorted-is =
       let q = e ∙ sym (sorted-three (t .a) (t .b) (t .c)) in
       λ i. tri (getD (q i) 0 0) (getD (q i) 1 0) (getD (q i) 2 0)

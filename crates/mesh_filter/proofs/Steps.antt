@@ -19,10 +19,10 @@ use Rattle.chains.proofs.Entering.{linked-none, linked-cong, linked-same, linke
 use Rattle.mesh_weld.specs.Room.{vertexOf}
 use Rattle.mesh_filter.specs.declared.corners.WeldedAt.{WeldedAt}
 use Rattle.mesh_filter.specs.Filters.{facetAt, passes, passed}
-use Rattle.mesh_filter.specs.Room.{cornersKey, pointsIn, facetsIn, keptIn, numbersIn, Numbered, Going, Turned, Filtered}
+use Rattle.mesh_filter.specs.Room.{cornersKey, pointsInRoom, facetsInRoom, keptInRoom, numbersInRoom, CornersNumbered, FilteredSoFar, FacetFiltered, Filtered}
 use Rattle.mesh_filter.proofs.Passing.{passed-not, passed-too}
 
-module _ (eps : Float) (points : List Point) (facets : List (Triangle ℕ)) (at n f count : ℕ) (m : List ℕ) (G : Going eps points facets at n f count m) (room : at + 14 * n ≤ length m) (h : f < n) where
+module _ (eps : Float) (points : List Point) (facets : List (Triangle ℕ)) (at n f count : ℕ) (m : List ℕ) (G : FilteredSoFar eps points facets at n f count m) (room : at + 14 * n ≤ length m) (h : f < n) where
   abbrev before : List ℕ
   before = passed eps points facets f
 
@@ -31,7 +31,7 @@ module _ (eps : Float) (points : List Point) (facets : List (Triangle ℕ)) (at 
 
   -- ---- the facet is dropped
 
-  pub dropped : passes eps points facets (passed eps points facets f) (facetAt facets f) ≡ false → Turned eps points facets at n (f + 1) count m m
+  pub dropped : passes eps points facets (passed eps points facets f) (facetAt facets f) ≡ false → FacetFiltered eps points facets at n (f + 1) count m m
   dropped e =
       let s = sym (passed-not eps points facets f e) in
       record {
@@ -200,7 +200,7 @@ module _ (eps : Float) (points : List Point) (facets : List (Triangle ℕ)) (at 
         new-is = view-at v (at + 9 * n) (count + 1) count (omega arith)
 
     pub through : passes eps points facets (passed eps points facets f) (facetAt facets f) ≡ true
-        → Turned eps points facets at n (f + 1) (count + 1) m
+        → FacetFiltered eps points facets at n (f + 1) (count + 1) m
         (set (set (set (set (set (entered m at (4 * n) count b) (at + 9 * n + count) key) (at + 10 * n + count) f) (at + 11 * n + 3 * count) (t .a)) (at + 11 * n + 3 * count + 1) (t .b)) (at + 11 * n + 3 * count + 2) (t .c))
     unfolding v s₄ s₃ s₂ s₁ m₁ flatMap
     through e =
@@ -228,7 +228,7 @@ module _ (eps : Float) (points : List Point) (facets : List (Triangle ℕ)) (at 
 
 -- ---- the first facet and the last
 
-pub going-start : (eps : Float) (points : List Point) (facets : List (Triangle ℕ)) (at n : ℕ) (m v : List ℕ) → at + 14 * n ≤ length m → Zeroed m v at (8 * n) → Turned eps points facets at n 0 0 m v
+pub going-start : (eps : Float) (points : List Point) (facets : List (Triangle ℕ)) (at n : ℕ) (m v : List ℕ) → at + 14 * n ≤ length m → Zeroed m v at (8 * n) → FacetFiltered eps points facets at n 0 0 m v
 unfolding passed flatMap
 going-start eps points facets at n m v room z =
     record {
@@ -248,15 +248,15 @@ going-start eps points facets at n m v room z =
     none = refl
 
 -- the same welded vertices, in a room that is as it was below the table
-module _ (w : WeldedAt) (vs : List Float) (fs : List ℕ) (at n : ℕ) (m v : List ℕ) (N : Numbered w vs fs at n m) (e : length v ≡ length m) (rest : (x : ℕ) → x < at → getD v x 0 ≡ getD m x 0) where
-  pub same-kept : keptIn w v ≡ keptIn w m
+module _ (w : WeldedAt) (vs : List Float) (fs : List ℕ) (at n : ℕ) (m v : List ℕ) (N : CornersNumbered w vs fs at n m) (e : length v ≡ length m) (rest : (x : ℕ) → x < at → getD v x 0 ≡ getD m x 0) where
+  pub same-kept : keptInRoom w v ≡ keptInRoom w m
   same-kept = view-same m v (w .kept) (w .count) (let k = N .kept-in in let r = N .room in omega arith) e (λ i h. rest (w .kept + i) (let k = N .kept-in in omega arith))
 
-  pub same-numbers : numbersIn w vs v ≡ numbersIn w vs m
+  pub same-numbers : numbersInRoom w vs v ≡ numbersInRoom w vs m
   same-numbers =
       view-same m v (w .numbers) (length vs / 3) (let k = N .numbers-in in let r = N .room in omega arith) e (λ i h. rest (w .numbers + i) (let k = N .numbers-in in omega arith))
 
-  pub still-numbered : Numbered w vs fs at n v
+  pub still-numbered : CornersNumbered w vs fs at n v
   still-numbered = record {
     kept-in = N .kept-in;
     numbers-in = N .numbers-in;
@@ -270,25 +270,25 @@ module _ (w : WeldedAt) (vs : List Float) (fs : List ℕ) (at n : ℕ) (m v : Li
   }
 
   module _ (eps : Float) (f count : ℕ) where
-    pub turn-same : (u : List ℕ) → Going eps (pointsIn w vs m) (facetsIn w vs fs m) at n f count u → Going eps (pointsIn w vs v) (facetsIn w vs fs v) at n f count u
+    pub turn-same : (u : List ℕ) → FilteredSoFar eps (pointsInRoom w vs m) (facetsInRoom w vs fs m) at n f count u → FilteredSoFar eps (pointsInRoom w vs v) (facetsInRoom w vs fs v) at n f count u
     turn-same u G =
-        subst (λ (l : List ℕ). Going eps (map (vertexOf vs) l) (facetsIn w vs fs v) at n f count u) (sym same-kept)
-        (subst (λ (l : List ℕ). Going eps (pointsIn w vs m) (map (mapped (λ x. getD l x 0)) (threes fs)) at n f count u) (sym same-numbers) G)
+        subst (λ (l : List ℕ). FilteredSoFar eps (map (vertexOf vs) l) (facetsInRoom w vs fs v) at n f count u) (sym same-kept)
+        (subst (λ (l : List ℕ). FilteredSoFar eps (pointsInRoom w vs m) (map (mapped (λ x. getD l x 0)) (threes fs)) at n f count u) (sym same-numbers) G)
 
-    pub turned-on : (u : List ℕ) → Turned eps (pointsIn w vs v) (facetsIn w vs fs v) at n f count v u → Turned eps (pointsIn w vs m) (facetsIn w vs fs m) at n f count m u
+    pub turned-on : (u : List ℕ) → FacetFiltered eps (pointsInRoom w vs v) (facetsInRoom w vs fs v) at n f count v u → FacetFiltered eps (pointsInRoom w vs m) (facetsInRoom w vs fs m) at n f count m u
     turned-on u U =
         record {
           going =
-              subst (λ (l : List ℕ). Going eps (map (vertexOf vs) l) (facetsIn w vs fs m) at n f count u) same-kept
-              (subst (λ (l : List ℕ). Going eps (pointsIn w vs v) (map (mapped (λ x. getD l x 0)) (threes fs)) at n f count u) same-numbers (U .going));
+              subst (λ (l : List ℕ). FilteredSoFar eps (map (vertexOf vs) l) (facetsInRoom w vs fs m) at n f count u) same-kept
+              (subst (λ (l : List ℕ). FilteredSoFar eps (pointsInRoom w vs v) (map (mapped (λ x. getD l x 0)) (threes fs)) at n f count u) same-numbers (U .going));
           rest = λ x q. U .rest x q ∙ rest x q;
         }
 
-pub filtered : (eps : Float) (points : List Point) (facets : List (Triangle ℕ)) (at n f count : ℕ) (m v : List ℕ) → Turned eps points facets at n f count m v → length v ≡ length m → n ≤ f
+pub filtered : (eps : Float) (points : List Point) (facets : List (Triangle ℕ)) (at n f count : ℕ) (m v : List ℕ) → FacetFiltered eps points facets at n f count m v → length v ≡ length m → n ≤ f
     → Filtered eps points facets at n count m v
 filtered eps points facets at n f count m v U e h =
     let z : f ≡ n = omega (arith, U .going .done) in
-    let g = subst (λ (k : ℕ). Going eps points facets at n k count v) z (U .going) in
+    let g = subst (λ (k : ℕ). FilteredSoFar eps points facets at n k count v) z (U .going) in
     record { few = g .within; numbers = g .numbers; corners = g .corners; long = e; rest = U .rest }
 
 pub none-filtered : (eps : Float) (points : List Point) (facets : List (Triangle ℕ)) (at n : ℕ) (m : List ℕ) → n ≡ 0 → Filtered eps points facets at n 0 m m

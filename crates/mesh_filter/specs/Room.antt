@@ -1,10 +1,10 @@
 -- What the functions of the filter ask and keep in the work room, of which the outer contract does not speak. For n facets, from `at` on: 4 n heads, 4 n tails and n nexts (crate
 -- chains); of those that passed the keys from 9 n on, the numbers from 10 n on, the corners from 11 n on, three words each. Assumes nothing.
---   keptIn, numbersIn       the kept vertices, and each old vertex's new number, as they stand in the room
---   pointsIn, facetsIn      the welded points, and the facets by welded vertices
---   ascending, cornersKey   three numbers in order, and packed into one word
---   Numbered                the numbers that a facet leads to are there
---   Going                   the first f facets have been through the filter
+--   keptInRoom, numbersInRoom       the kept vertices, and each old vertex's new number, as they stand in the room
+--   pointsInRoom, facetsInRoom      the welded points, and the facets by welded vertices
+--   inOrder, cornersKey   three numbers in order, and packed into one word
+--   CornersNumbered                the numbers that a facet leads to are there
+--   FilteredSoFar                   the first f facets have been through the filter
 --   Filtered                what the filter leaves: the facets that passed, their corners, and all below its table as it was
 use Prim.Native.Nat.{ℕ, _+_, _*_, _/_, _≤_, _<_, min, max}
 use mathlib.Core.Path.{_≡_}
@@ -21,34 +21,34 @@ use Rattle.mesh_weld.specs.Room.{vertexOf}
 use Rattle.mesh_filter.specs.declared.corners.WeldedAt.{WeldedAt}
 use Rattle.mesh_filter.specs.Filters.{facetAt, passed}
 
-abbrev pub keptIn : WeldedAt → List ℕ → List ℕ
-keptIn w m = view m (w .kept) (w .count)
+abbrev pub keptInRoom : WeldedAt → List ℕ → List ℕ
+keptInRoom w m = view m (w .kept) (w .count)
 
-abbrev pub numbersIn : WeldedAt → List Float → List ℕ → List ℕ
-numbersIn w vs m = view m (w .numbers) (length vs / 3)
+abbrev pub numbersInRoom : WeldedAt → List Float → List ℕ → List ℕ
+numbersInRoom w vs m = view m (w .numbers) (length vs / 3)
 
-abbrev pub pointsIn : WeldedAt → List Float → List ℕ → List Point
-pointsIn w vs m = map (vertexOf vs) (keptIn w m)
+abbrev pub pointsInRoom : WeldedAt → List Float → List ℕ → List Point
+pointsInRoom w vs m = map (vertexOf vs) (keptInRoom w m)
 
-abbrev pub facetsIn : WeldedAt → List Float → List ℕ → List ℕ → List (Triangle ℕ)
-facetsIn w vs fs m = map (mapped (λ v. getD (numbersIn w vs m) v 0)) (threes fs)
+abbrev pub facetsInRoom : WeldedAt → List Float → List ℕ → List ℕ → List (Triangle ℕ)
+facetsInRoom w vs fs m = map (mapped (λ v. getD (numbersInRoom w vs m) v 0)) (threes fs)
 
 abbrev pub rawFacet : List ℕ → ℕ → Triangle ℕ
 rawFacet fs f = tri (getD fs (3 * f) 0) (getD fs (3 * f + 1) 0) (getD fs (3 * f + 2) 0)
 
-abbrev pub ascending : Triangle ℕ → Triangle ℕ
-ascending t =
+abbrev pub inOrder : Triangle ℕ → Triangle ℕ
+inOrder t =
     tri (min (t .a) (min (t .b) (t .c))) (min (max (t .a) (min (t .b) (t .c))) (max (t .b) (t .c))) (max (max (t .a) (min (t .b) (t .c))) (max (t .b) (t .c)))
 
 unfoldable pub cornersKey : Triangle ℕ → ℕ
-cornersKey t = triple (ascending t .a) (ascending t .b) (ascending t .c)
+cornersKey t = triple (inOrder t .a) (inOrder t .b) (inOrder t .c)
 
 pub record Below (k : ℕ) (t : Triangle ℕ) : Type 0 where
   pub a : t .a < k
   pub b : t .b < k
   pub c : t .c < k
 
-pub record Numbered (w : WeldedAt) (vs : List Float) (fs : List ℕ) (at n : ℕ) (m : List ℕ) : Type 0 where
+pub record CornersNumbered (w : WeldedAt) (vs : List Float) (fs : List ℕ) (at n : ℕ) (m : List ℕ) : Type 0 where
   pub kept-in : w .kept + w .count ≤ at
   pub numbers-in : w .numbers + length vs / 3 ≤ at
   pub room : at + 14 * n ≤ length m
@@ -59,7 +59,7 @@ pub record Numbered (w : WeldedAt) (vs : List Float) (fs : List ℕ) (at n : ℕ
   pub new : (i : ℕ) → i < length vs / 3 → getD m (w .numbers + i) 0 < w .count
   pub old : (k : ℕ) → k < w .count → 3 * getD m (w .kept + k) 0 + 2 < length vs
 
-pub record Going (eps : Float) (points : List Point) (facets : List (Triangle ℕ)) (at n f count : ℕ) (m : List ℕ) : Type 0 where
+pub record FilteredSoFar (eps : Float) (points : List Point) (facets : List (Triangle ℕ)) (at n f count : ℕ) (m : List ℕ) : Type 0 where
   pub done : f ≤ n
   pub within : count ≤ f
   pub linked : Linked (wordBucket (view m (at + 9 * n) count) (4 * n)) m at (4 * n) count
@@ -75,6 +75,6 @@ pub record Filtered (eps : Float) (points : List Point) (facets : List (Triangle
   pub rest : (x : ℕ) → x < at → getD new x 0 ≡ getD old x 0
 
 -- one facet more: the table goes on, and all below it is as it was
-pub record Turned (eps : Float) (points : List Point) (facets : List (Triangle ℕ)) (at n f count : ℕ) (old new : List ℕ) : Type 0 where
-  pub going : Going eps points facets at n f count new
+pub record FacetFiltered (eps : Float) (points : List Point) (facets : List (Triangle ℕ)) (at n f count : ℕ) (old new : List ℕ) : Type 0 where
+  pub going : FilteredSoFar eps points facets at n f count new
   pub rest : (x : ℕ) → x < at → getD new x 0 ≡ getD old x 0

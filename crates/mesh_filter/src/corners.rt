@@ -14,7 +14,7 @@ use geometry::numbers::MeshVertexId;
 use geometry::point::Point;
 use geometry::triangle::MeshTriangle;
 use geometry::triangle::Triangle3;
-use mesh_weld::cells::point_at;
+use geometry::vertices::vertex_at;
 use words::pack_triple;
 
 // Where the welded vertices stand in the work room: the `count` kept ones, by their old numbers, from `kept` on; each old vertex's new number from `numbers` on.
@@ -59,13 +59,13 @@ pub fn has_repeated_corner(t: MeshTriangle) -> bool
 }
 
 // The point of the welded vertex v.
-fn welded_point(m: &[u64], kept: usize, vertices: &[f64], v: usize) -> Point
-    requires { ⌜ kept + v < length (now m) ⌝ }
-    requires { ⌜ 3 * getD (now m) (kept + v) 0 + 2 < length (now vertices) ⌝ }
-    ensures { λ r. ⌜ r ≡ vertexOf (now (vertices .entry)) (getD (now (m .entry)) (kept + v) 0) ⌝ }
+fn welded_point(m: &[u64], kept: usize, vertices: &[f64], v: MeshVertexId) -> Point
+    requires { ⌜ kept + v .0 < length (now m) ⌝ }
+    requires { ⌜ 3 * getD (now m) (kept + v .0) 0 + 2 < length (now vertices) ⌝ }
+    ensures { λ r. ⌜ r ≡ vertexOf (now (vertices .entry)) (getD (now (m .entry)) (kept + v .0) 0) ⌝ }
 {
-    let old = m[kept + v] as usize;
-    point_at(vertices, old)
+    let old = m[kept + v.0] as usize;
+    vertex_at(vertices, MeshVertexId(old))
 }
 
 pub fn is_flat(
@@ -81,9 +81,9 @@ pub fn is_flat(
     requires { ⌜ ((k : ℕ) → k < count → 3 * getD (now m) (kept + k) 0 + 2 < length (now vertices)) ⌝ }
     ensures { λ r. ⌜ r ≡ le (norm2 (normal (mapped (λ v. vertexOf (now (vertices .entry)) (getD (now (m .entry)) (kept + v) 0)) (meshVerticesOf t)))) (eps ⊗ eps ⊗ (eps ⊗ eps)) ⌝ }
 {
-    let i = t.a.0;
-    let j = t.b.0;
-    let k = t.c.0;
+    let i = t.a;
+    let j = t.b;
+    let k = t.c;
     let a = welded_point(m, kept, vertices, i);
     let b = welded_point(m, kept, vertices, j);
     let c = welded_point(m, kept, vertices, k);

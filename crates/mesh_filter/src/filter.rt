@@ -7,7 +7,7 @@ ghost use Rattle.chains.specs.Links.{linkTo};
 ghost use Rattle.chains.specs.Chains.{Linked};
 ghost use Rattle.chains.specs.ByWord.{wordBucket};
 ghost use lib.Dec.{eqb};
-ghost use Rattle.mesh_filter.specs.Room.{pointsIn, facetsIn, Numbered, Going, Turned, Filtered};
+ghost use Rattle.mesh_filter.specs.Room.{pointsInRoom, facetsInRoom, CornersNumbered, FilteredSoFar, FacetFiltered, Filtered};
 use crate::corners::WeldedAt;
 use crate::corners::corners_key;
 use crate::corners::corners_of;
@@ -58,9 +58,9 @@ fn filter_facet(
     eps: f64,
 ) -> usize
     requires { ⌜ f < n ⌝ }
-    requires { ⌜ Numbered welded (now vertices) (now facets) at n (now m) ⌝ }
-    requires { ⌜ Going eps (pointsIn welded (now vertices) (now m)) (facetsIn welded (now vertices) (now facets) (now m)) at n f count (now m) ⌝ }
-    ensures { λ r. ⌜ Turned eps (pointsIn welded (now (vertices .entry)) (now (m .entry))) (facetsIn welded (now (vertices .entry)) (now (facets .entry)) (now (m .entry))) at n (f + 1) r (now (m .entry)) (now (m .exit)) ⌝ }
+    requires { ⌜ CornersNumbered welded (now vertices) (now facets) at n (now m) ⌝ }
+    requires { ⌜ FilteredSoFar eps (pointsInRoom welded (now vertices) (now m)) (facetsInRoom welded (now vertices) (now facets) (now m)) at n f count (now m) ⌝ }
+    ensures { λ r. ⌜ FacetFiltered eps (pointsInRoom welded (now (vertices .entry)) (now (m .entry))) (facetsInRoom welded (now (vertices .entry)) (now (facets .entry)) (now (m .entry))) at n (f + 1) r (now (m .entry)) (now (m .exit)) ⌝ }
 {
     let t = corners_of(m, welded.numbers, facets, f);
     if has_repeated_corner(t) {
@@ -89,8 +89,8 @@ pub fn filter(
     n: usize,
     eps: f64,
 ) -> usize
-    requires { ⌜ Numbered welded (now vertices) (now facets) at n (now m) ⌝ }
-    ensures { λ r. ⌜ Filtered eps (pointsIn welded (now (vertices .entry)) (now (m .entry))) (facetsIn welded (now (vertices .entry)) (now (facets .entry)) (now (m .entry))) at n r (now (m .entry)) (now (m .exit)) ⌝ }
+    requires { ⌜ CornersNumbered welded (now vertices) (now facets) at n (now m) ⌝ }
+    ensures { λ r. ⌜ Filtered eps (pointsInRoom welded (now (vertices .entry)) (now (m .entry))) (facetsInRoom welded (now (vertices .entry)) (now (facets .entry)) (now (m .entry))) at n r (now (m .entry)) (now (m .exit)) ⌝ }
 {
     if n == 0 {
         return 0;

@@ -14,7 +14,7 @@ use borrow.Author.Tests.{ltb-true}
 use Rattle.rounding.specs.Rounding.{key, beyond, farKey}
 use Rattle.geometry.specs.declared.point.Point.{Point}
 use Rattle.mesh_weld.specs.Cells.{keyOf}
-use Rattle.mesh_weld.specs.Room.{word, KeyWord, CellOf}
+use Rattle.mesh_weld.specs.Room.{word, WordOfKey, CellOf}
 use Rattle.mesh_weld.proofs.Words.{abs-low, beyond-word}
 
 -- ---- a key within range fits a signed word
@@ -80,7 +80,7 @@ module _ (k : ℤ) (h : beyond k ≡ false) where
     pub sub-low : natAbs turned ≤ 4611686018427387905
     sub-low = subst (λ (y : ℤ). natAbs y ≤ 4611686018427387905) (sym turned-is) (negative-low k h (known true t))
 
-    pub sub-word : KeyWord k (4611686018427387905 - natAbs turned)
+    pub sub-word : WordOfKey k (4611686018427387905 - natAbs turned)
     sub-word =
         let e = ap (λ (y : ℤ). 4611686018427387905 - natAbs y) turned-is ∙ negative-word k h (known true t) in
         record { is = e; reach = rw e (beyond-word k h) }
@@ -92,7 +92,7 @@ module _ (k : ℤ) (h : beyond k ≡ false) where
     pub add-fits : Fits w64 (4611686018427387905 + natAbs z)
     add-fits = subst (λ (y : ℤ). Fits w64 (4611686018427387905 + natAbs y)) (sym (read-key k h)) (positive-fits k h)
 
-    pub add-word : KeyWord k (4611686018427387905 + natAbs z)
+    pub add-word : WordOfKey k (4611686018427387905 + natAbs z)
     add-word =
         let e = ap (λ (y : ℤ). 4611686018427387905 + natAbs y) (read-key k h) ∙ positive-word k (known false t) in
         record { is = e; reach = rw e (beyond-word k h) }
@@ -107,10 +107,10 @@ module _ (eps x : Float) (k : ℤ) (e : k ≡ key eps x) (h : farKey eps x ≡ f
   pub asked : beyond (toZ w64 (ofZ w64 k)) ≡ false
   asked = ap beyond (read-key k near-key) ∙ near-key
 
-  pub told : (r : ℕ) → KeyWord (toZ w64 (ofZ w64 k)) r → KeyWord (key eps x) r
-  told r w = subst (λ (y : ℤ). KeyWord y r) (read-key k near-key ∙ e) w
+  pub told : (r : ℕ) → WordOfKey (toZ w64 (ofZ w64 k)) r → WordOfKey (key eps x) r
+  told r w = subst (λ (y : ℤ). WordOfKey y r) (read-key k near-key ∙ e) w
 
-pub cell-is : (eps : Float) (p : Point) (x y z : ℕ) → KeyWord (key eps (p .x)) x → KeyWord (key eps (p .y)) y → KeyWord (key eps (p .z)) z
+pub cell-is : (eps : Float) (p : Point) (x y z : ℕ) → WordOfKey (key eps (p .x)) x → WordOfKey (key eps (p .y)) y → WordOfKey (key eps (p .z)) z
     → CellOf eps p (record { x = x; y = y; z = z })
 unfolding keyOf
 cell-is eps p x y z a b c =

@@ -19,13 +19,13 @@ use Rattle.chains.proofs.Entering.{linked-none, linked-cong, linked-same, linke
 use Rattle.mesh_weld.specs.declared.cells.Cell.{Cell}
 use Rattle.mesh_weld.specs.Weld.{Welded, welding, weldNext, weld}
 use Rattle.mesh_weld.specs.Cells.{keyOf, cells}
-use Rattle.mesh_weld.specs.Room.{vertexOf, wordsOf, cellAt, keptPoints, cellBucket, Index, CellOf, Going, Welds}
+use Rattle.mesh_weld.specs.Room.{vertexOf, wordsOf, cellAt, keptPoints, cellBucket, Index, CellOf, WeldedSoFar, Welds}
 use Rattle.mesh_weld.proofs.Searching.{kept-long}
 
 pub cell-same : (m v : List ℕ) (o : ℕ) → getD v o 0 ≡ getD m o 0 → getD v (o + 1) 0 ≡ getD m (o + 1) 0 → getD v (o + 2) 0 ≡ getD m (o + 2) 0 → cellAt v o ≡ cellAt m o
 cell-same m v o a b c = λ i. record { x = a i; y = b i; z = c i }
 
-module _ (vs : List Float) (eps : Float) (n i count : ℕ) (m : List ℕ) (G : Going vs eps n i count m) (h : i < n) where
+module _ (vs : List Float) (eps : Float) (n i count : ℕ) (m : List ℕ) (G : WeldedSoFar vs eps n i count m) (h : i < n) where
   abbrev I : Index vs eps n count m
   I = G .index
 
@@ -46,7 +46,7 @@ module _ (vs : List Float) (eps : Float) (n i count : ℕ) (m : List ℕ) (G : G
 
   -- ---- the vertex is taken for a kept one
 
-  pub taken : (r : ℕ) → Answers r → (r ≡ 0 → ⊥) → Going vs eps n (i + 1) count (set m (10 * n + i) (r - 1))
+  pub taken : (r : ℕ) → Answers r → (r ≡ 0 → ⊥) → WeldedSoFar vs eps n (i + 1) count (set m (10 * n + i) (r - 1))
   taken r e nz =
       record {
         index =
@@ -217,7 +217,7 @@ module _ (vs : List Float) (eps : Float) (n i count : ℕ) (m : List ℕ) (G : G
             linked-more hash m 0 (4 * n) count b (B .is ∙ ap (cellBucket n) (sym cell-new)) (B .low) (omega (arith, I .room, few))
             (linked-cong (λ k. cellBucket n (cellAt m (11 * n + 3 * k))) hash m 0 (4 * n) count (λ k lt. ap (cellBucket n) (sym (cell-old k lt))) (I .linked))
 
-    pub kept-new : (r : ℕ) → Answers r → r ≡ 0 → Going vs eps n (i + 1) (count + 1) (stored (entered m 0 (4 * n) count b) c)
+    pub kept-new : (r : ℕ) → Answers r → r ≡ 0 → WeldedSoFar vs eps n (i + 1) (count + 1) (stored (entered m 0 (4 * n) count b) c)
     unfolding v s₄ s₃ s₂ s₁ m₁
     kept-new r e z =
         record {
@@ -260,7 +260,7 @@ module _ (vs : List Float) (eps : Float) (n i count : ℕ) (m : List ℕ) (G : G
 
 -- ---- the first vertex and the last
 
-pub going-start : (vs : List Float) (eps : Float) (n : ℕ) (m v : List ℕ) → 0 < n → n < 268435456 → 3 * n ≤ length vs → 14 * n ≤ length m → Zeroed m v 0 (8 * n) → Going vs eps n 0 0 v
+pub going-start : (vs : List Float) (eps : Float) (n : ℕ) (m v : List ℕ) → 0 < n → n < 268435456 → 3 * n ≤ length vs → 14 * n ≤ length m → Zeroed m v 0 (8 * n) → WeldedSoFar vs eps n 0 0 v
 unfolding weld
 going-start vs eps n m v any small size room z =
     record {
@@ -281,10 +281,10 @@ going-start vs eps n m v any small size room z =
       oldToNew = refl;
     }
 
-pub going-end : (vs : List Float) (eps : Float) (n i count : ℕ) (m : List ℕ) → Going vs eps n i count m → n ≤ i → Welds vs eps n m count
+pub going-end : (vs : List Float) (eps : Float) (n i count : ℕ) (m : List ℕ) → WeldedSoFar vs eps n i count m → n ≤ i → Welds vs eps n m count
 going-end vs eps n i count m G h =
     let e : i ≡ n = omega (arith, G .done) in
-    let g = subst (λ (k : ℕ). Going vs eps n k count m) e G in
+    let g = subst (λ (k : ℕ). WeldedSoFar vs eps n k count m) e G in
     record { few = g .within; kept = g .kept; oldToNew = g .oldToNew }
 
 pub none-welds : (vs : List Float) (eps : Float) (n : ℕ) (m : List ℕ) → n ≡ 0 → Welds vs eps n m 0

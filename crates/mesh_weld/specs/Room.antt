@@ -7,8 +7,8 @@
 --   row, layer, block    3, 9 and 27 cells from one up
 --   HashOf, cellBucket   what the hash of a cell is congruent to, and its bucket
 --   InReach, Inner       a word, a cell has one on every side      KeyIn, KeysIn   "Rounded keys at most 2^62 in magnitude"
---   KeyWord, CellOf      what the functions from keys and points answer
---   Index                the table of the vertices kept             Going     the first i vertices are welded
+--   WordOfKey, CellOf      what the functions from keys and points answer
+--   Index                the table of the vertices kept             WeldedSoFar     the first i vertices are welded
 --   Welds                what welding leaves
 use Prim.Native.Nat.{ℕ, _+_, _*_, _-_, _%_, _≤_, _<_}
 use mathlib.Core.Path.{_≡_}
@@ -90,7 +90,7 @@ pub record InReach (r : ℕ) : Type 0 where
   pub low : 1 ≤ r
   pub high : r ≤ 9223372036854775809
 
-pub record KeyWord (k : ℤ) (r : ℕ) : Type 0 where
+pub record WordOfKey (k : ℤ) (r : ℕ) : Type 0 where
   pub is : r ≡ word k
   pub reach : InReach r
 
@@ -123,7 +123,7 @@ pub record Index (vs : List Float) (eps : Float) (n count : ℕ) (m : List ℕ) 
   pub linked : Linked (λ k. cellBucket n (cellAt m (11 * n + 3 * k))) m 0 (4 * n) count
   pub stands : (k : ℕ) → k < count → cellAt m (11 * n + 3 * k) ≡ wordsOf (keyOf eps (vertexOf vs (getD m (9 * n + k) 0)))
 
-pub record Going (vs : List Float) (eps : Float) (n i count : ℕ) (m : List ℕ) : Type 0 where
+pub record WeldedSoFar (vs : List Float) (eps : Float) (n i count : ℕ) (m : List ℕ) : Type 0 where
   pub index : Index vs eps n count m
   pub done : i ≤ n
   pub within : count ≤ i

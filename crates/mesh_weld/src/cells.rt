@@ -1,11 +1,9 @@
 // The cell of a point, each key as a word; and the distance test.
 ghost use mathlib.Core.Path.{_≡_};
 ghost use mathlib.Core.Bool.{false};
-ghost use Prim.Native.Nat.{_+_, _*_, _<_};
-ghost use lib.ListN.{length};
 ghost use Rattle.rounding.specs.Rounding.{beyond};
 ghost use Rattle.mesh_weld.specs.Cells.{near};
-ghost use Rattle.mesh_weld.specs.Room.{vertexOf, KeyWord, KeyIn, CellOf};
+ghost use Rattle.mesh_weld.specs.Room.{WordOfKey, KeyIn, CellOf};
 use geometry::point::Point;
 use rounding::quantized_key;
 
@@ -16,21 +14,10 @@ pub struct Cell {
     pub z: u64,
 }
 
-pub fn point_at(vertices: &[f64], v: usize) -> Point
-    requires { ⌜ 3 * v + 2 < length (now vertices) ⌝ }
-    ensures { λ r. ⌜ r ≡ vertexOf (now (vertices .entry)) v ⌝ }
-{
-    Point {
-        x: vertices[3 * v],
-        y: vertices[3 * v + 1],
-        z: vertices[3 * v + 2],
-    }
-}
-
 // 2^62 + 1 is 4611686018427387905
 fn word_of_key(k: i64) -> u64
     requires { ⌜ beyond k ≡ false ⌝ }
-    ensures { λ r. ⌜ KeyWord k r ⌝ }
+    ensures { λ r. ⌜ WordOfKey k r ⌝ }
 {
     if k < 0 {
         4611686018427387905 - (0 - k) as u64

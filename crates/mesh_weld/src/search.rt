@@ -11,12 +11,13 @@ ghost use Rattle.mesh_weld.specs.Cells.{near, cells};
 ghost use Rattle.mesh_weld.specs.Room.{vertexOf, cellAt, sameCell, keptPoints, foundIn, row, layer, block, HashOf, Index, KeysIn, CellOf};
 use crate::cells::Cell;
 use crate::cells::is_near;
-use crate::cells::point_at;
 use chains::bucket_at;
 use chains::first;
 use chains::mix;
 use chains::next;
+use geometry::numbers::MeshVertexId;
 use geometry::point::Point;
+use geometry::vertices::vertex_at;
 
 // Whether the kept vertex at k is in the cell c and near p.
 fn holds(m: &[u64], vs: &[f64], n: usize, k: usize, c: Cell, p: Point, eps: f64) -> bool
@@ -34,7 +35,7 @@ fn holds(m: &[u64], vs: &[f64], n: usize, k: usize, c: Cell, p: Point, eps: f64)
         return false;
     }
     let v = m[9 * n + k] as usize;
-    let q = point_at(vs, v);
+    let q = vertex_at(vs, MeshVertexId(v));
     is_near(p, q, eps)
 }
 

@@ -2,21 +2,22 @@
 ghost use mathlib.Core.Path.{_≡_};
 ghost use Prim.Native.Nat.{_+_, _*_, _≤_, _<_};
 ghost use lib.ListN.{length, set};
-ghost use Rattle.mesh_weld.specs.Room.{KeysIn, Going, Welds};
+ghost use Rattle.mesh_weld.specs.Room.{KeysIn, WeldedSoFar, Welds};
 use crate::cells::Cell;
 use crate::cells::cell_of;
-use crate::cells::point_at;
 use crate::search::search;
 use chains::bucket;
 use chains::enter;
+use geometry::numbers::MeshVertexId;
+use geometry::vertices::vertex_at;
 use words::zero_part;
 
-// Enters the vertex i, of the cell c, as the kept vertex at `count`.
-fn keep(m: &mut [u64], n: usize, count: usize, i: usize, c: Cell)
-    requires { ⌜ (14 * n ≤ length (now m)) × (count < n) × (i < n) ⌝ }
-    ensures { λ _. ⌜ now (m .exit) ≡ set (set (set (set (now (m .entry)) (9 * n + count) i) (11 * n + 3 * count) (c .x)) (11 * n + 3 * count + 1) (c .y)) (11 * n + 3 * count + 2) (c .z) ⌝ }
+// Enters the vertex v, of the cell c, as the kept vertex at `count`.
+fn keep(m: &mut [u64], n: usize, count: usize, v: MeshVertexId, c: Cell)
+    requires { ⌜ (14 * n ≤ length (now m)) × (count < n) ⌝ }
+    ensures { λ _. ⌜ now (m .exit) ≡ set (set (set (set (now (m .entry)) (9 * n + count) (v .0)) (11 * n + 3 * count) (c .x)) (11 * n + 3 * count + 1) (c .y)) (11 * n + 3 * count + 2) (c .z) ⌝ }
 {
-    m[9 * n + count] = i as u64;
+    m[9 * n + count] = v.0 as u64;
     let at = 11 * n + 3 * count;
     m[at] = c.x;
     m[at + 1] = c.y;
@@ -25,12 +26,13 @@ fn keep(m: &mut [u64], n: usize, count: usize, i: usize, c: Cell)
 
 // Welds the vertex i; how many are kept then.
 fn weld_vertex(m: &mut [u64], vs: &[f64], n: usize, i: usize, count: usize, eps: f64) -> usize
-    requires { ⌜ Going (now vs) eps n i count (now m) ⌝ }
+    requires { ⌜ WeldedSoFar (now vs) eps n i count (now m) ⌝ }
     requires { ⌜ KeysIn (now vs) eps n ⌝ }
     requires { ⌜ i < n ⌝ }
-    ensures { λ r. ⌜ Going (now (vs .entry)) eps n (i + 1) r (now (m .exit)) ⌝ }
+    ensures { λ r. ⌜ WeldedSoFar (now (vs .entry)) eps n (i + 1) r (now (m .exit)) ⌝ }
 {
-    let p = point_at(vs, i);
+    let v = MeshVertexId(i);
+    let p = vertex_at(vs, v);
     let c = cell_of(p, eps);
     let found = search(m, vs, n, count, c, p, eps);
     if found != 0 {
@@ -39,7 +41,7 @@ fn weld_vertex(m: &mut [u64], vs: &[f64], n: usize, i: usize, count: usize, eps:
     }
     let b = bucket(c.x, c.y, c.z, (4 * n) as u64) as usize;
     enter(m, 0, 4 * n, count, b);
-    keep(m, n, count, i, c);
+    keep(m, n, count, v, c);
     m[10 * n + i] = count as u64;
     count + 1
 }

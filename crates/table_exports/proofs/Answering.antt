@@ -10,7 +10,7 @@ use lib.ListN.{getD, set, length}
 use lib.Seq.{getD-set-same, getD-set-other}
 use Rattle.lists.specs.Regions.{view}
 use Rattle.lists.proofs.Regions.{view-length, view-at}
-use Rattle.components.specs.Components.{Below}
+use Rattle.components.specs.Table.{LabelsBelow}
 use Rattle.chains.specs.Links.{linkTo}
 use Rattle.table_exports.specs.Exports.{BelowUpTo, Answers}
 
@@ -22,7 +22,7 @@ answers-more keys asked found i v h f e j l = go (ℕ-discrete j i)
     go (yes d) = rw d (getD-set-same found i v 0 h ∙ e)
     go (no d) = getD-set-other found i j v 0 d ∙ f j (omega arith)
 
-pub labels-below : (w : List ℕ) (at e m : ℕ) → at + e ≤ length w → BelowUpTo w at e m → Below (view w at e) m
+pub labels-below : (w : List ℕ) (at e m : ℕ) → at + e ≤ length w → BelowUpTo w at e m → LabelsBelow (view w at e) m
 labels-below w at e m fits f t h = let l = view-length w at e fits in rw (view-at w at e t (omega arith)) (f t (omega arith))
 
 -- as many items as the room has labels for

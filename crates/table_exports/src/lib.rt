@@ -6,7 +6,7 @@ ghost use Prim.Native.Nat.{ℕ, _+_, _*_, _≤_, _<_};
 ghost use lib.Dec.{eqb};
 ghost use lib.ListN.{length, getD};
 ghost use Rattle.lists.specs.Regions.{view};
-ghost use Rattle.components.specs.Components.{ComponentTable};
+ghost use Rattle.components.specs.Table.{ComponentTable};
 ghost use Rattle.chains.specs.Links.{linkTo};
 ghost use Rattle.chains.specs.Chains.{Linked};
 ghost use Rattle.chains.specs.ByWord.{wordBucket};

@@ -4,9 +4,10 @@ use mathlib.Core.Path.{_≡_, refl, subst⁻¹}
 use Prim.Native.Nat.{ℕ}
 use mathlib.Core.Bool.{Bool, true, false}
 use mathlib.Core.List.{List, [], _∷_, map, flatMap, List·Memᴰ, List·Memᴰ·head, List·Memᴰ·tail}
+use mathlib.Core.Option.{orElse}
 use lib.Ieee.{Float, ofBits, ofInt, round, add, sub, mul, div, neg, lt, le, eq}
 use lib.IntN.{ℤ, pos, negsuc}
-use Rattle.lists.specs.Lists.{every, some, first, keep, place, insertBy, sortBy, upFrom}
+use Rattle.lists.specs.Lists.{every, some, first, keep, place, insertBy, sortBy, distinctFrom, upFrom}
 use Rattle.root.specs.Doubles.{bits, 1e-10, magnitude, within, larger, one, units}
 use Rattle.root.specs.Root.{root, rootOfSquare, wholeRoot}
 use Rattle.rounding.specs.Rounding as rounding
@@ -23,10 +24,10 @@ use Rattle.refusals.specs.Front.{ragged, tooMany, badIndex, inRange, epsInRange
 use Rattle.components.specs.Components.{components}
 use Rattle.mesh_weld.specs.Weld.{weldNext, weld}
 use Rattle.mesh_weld.specs.Cells.{keyOf, sameKey, around, near, neighbours, cells}
-use Rattle.mesh_filter.specs.Filters.{hasRepeatedCorner, isFlat, sameCorners, isDuplicate, passes, passedNext, passed}
+use Rattle.mesh_filter.specs.Filters.{hasRepeatedCorner, isFlat, sameCorners, isDuplicate, filtered, passedNext, passed}
 use Rattle.mesh_compact.specs.Status.{shareVertex, isAlone, status, keptFacets}
-use Rattle.mesh_compact.specs.Compact.{numbering, renumbered, compacted}
-use Rattle.mesh_cleanup.specs.Clean.{welded, cleaned, cleanResult, cleanTests}
+use Rattle.mesh_compact.specs.Compact.{renumbered, compacted}
+use Rattle.mesh_cleanup.specs.Clean.{weldedMesh, cleanedMesh, cleanResult, cleanTests}
 use Rattle.aabb_polygons.specs.Polygons.{inside, snapTo, snapped, crossing, interpolated, onPlane, crossed, sideClipped, walk, clipToPlane, clipPolygon}
 use Rattle.aabb_facets.specs.Clipped.{fan, fanned, insideBox, sharing, clipFacet, made, clipped}
 use Rattle.aabb_clipping.specs.Clip.{clipTests, clipResult}
@@ -153,7 +154,7 @@ c5 =
     (clipReply points5 (0 ∷ 1 ∷ 2 ∷ []) box5 2^-20 1536 (12 ∷ 6 ∷ []), clipResult points5 (0 ∷ 1 ∷ 2 ∷ []) box5 2^-20)
     (0 ∷ 12 ∷ 6 ∷ [], meshOf (+0 ∷ +0 ∷ +0 ∷ +2 ∷ +0 ∷ +0 ∷ +2 ∷ +2 ∷ +0 ∷ +0 ∷ +4 ∷ +0 ∷ []) (0 ∷ 1 ∷ 2 ∷ 0 ∷ 2 ∷ 3 ∷ []))
 
--- C6: "one sound facet cleaned: no vertex, no facet". C7: "facet 0 1 2 and facet 2 1 0: the same". With no room in the outputs
+-- C6: "one sound facet cleanedMesh: no vertex, no facet". C7: "facet 0 1 2 and facet 2 1 0: the same". With no room in the outputs
 abbrev pub points6 : List Float
 points6 = +0 ∷ +0 ∷ +0 ∷ +1 ∷ +0 ∷ +0 ∷ +0 ∷ +1 ∷ +0 ∷ []
 
@@ -205,7 +206,7 @@ of-all a {r} (List·Memᴰ·head {x} {xs} e) = subst⁻¹ (λ (q : Row). q .give
 of-all a {r} (List·Memᴰ·tail {x} {xs} m) = of-all (a .1) m
 
 computed : All starred
-unfolding every some upFrom threes magnitude within inside snapTo snapped crossing interpolated onPlane crossed sideClipped walk clipToPlane clipPolygon along enter fan fanned insideBox sharing clipFacet made clipped flatMap firstRefusal documented ragged tooMany badIndex inRange epsInRange boxInRange badBox workNeed roomTests clipTests clipResult keep place insertBy sortBy halfUp rounded key beyond farKey farKeys minus dot cross keyOf sameKey around near neighbours cells first weldNext weld hasRepeatedCorner isFlat sortedVertices sameCorners isDuplicate passes passedNext passed components shareVertex isAlone status keptFacets numbering renumbered compacted welded cleaned cleanResult cleanTests larger one units root rootOfSquare wholeRoot wholeUp ceil rounding.segments segments gridLine axisPoints gridSize resolutionInRange gridTooFine samePair pairBefore openEdges onFace facesOf closureTests strayEdge edgeTests ofBits ofInt round add sub mul div neg lt le eq
+unfolding every some distinctFrom upFrom threes magnitude within inside snapTo snapped crossing interpolated onPlane crossed sideClipped walk clipToPlane clipPolygon along enter fan fanned insideBox sharing clipFacet made clipped flatMap firstRefusal documented ragged tooMany badIndex inRange epsInRange boxInRange badBox workNeed roomTests clipTests clipResult keep place insertBy sortBy halfUp rounded key beyond farKey farKeys minus dot cross keyOf sameKey around near neighbours cells first weldNext weld hasRepeatedCorner isFlat sortedVertices sameCorners isDuplicate filtered passedNext passed components shareVertex isAlone status orElse keptFacets renumbered compacted weldedMesh cleanedMesh cleanResult cleanTests larger one units root rootOfSquare wholeRoot wholeUp ceil rounding.segments segments gridLine axisPoints gridSize resolutionInRange gridTooFine samePair pairBefore openEdges onFace facesOf closureTests strayEdge edgeTests ofBits ofInt round add sub mul div neg lt le eq
 computed = (refl, (refl, (refl, (refl, (refl, (refl, (refl, (refl, (refl, (refl, tt))))))))))
 
 pub every-row : {r : Row} → List·Memᴰ r starred → r .given ≡ r .stated

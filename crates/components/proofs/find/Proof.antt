@@ -4,7 +4,7 @@ use Prim.Native.Nat.{ℕ, _+_, _*_, _≤_, _<_, _-_, _/_}
 use native.Mathlib.Omega.{arith}
 use lib.ListN.{getD, length, length-set}
 use Rattle.components.specs.Joined.{same}
-use Rattle.components.specs.Forest.{Linked, Kept}
+use Rattle.components.specs.Forest.{SameTree, TreesKept}
 use Rattle.components.proofs.Forest.{kept-refl, halve-at}
 use Rattle.components.proofs.find.Statement.{statement}
 use Rattle.components.proofs.find.Tie as tie
@@ -12,7 +12,7 @@ use Rattle.components.proofs.find.Reads as reads
 use Rattle.components.proofs.find.Lts as lts
 
 abbrev Inv-loop : tie.InvT-loop
-Inv-loop w₀ at n x r₀ p₀ w r p = (r ≤ x) × (p ≡ getD w (at + r) 0) × Kept w₀ w at n × Linked w at n x r
+Inv-loop w₀ at n x r₀ p₀ w r p = (r ≤ x) × (p ≡ getD w (at + r) 0) × TreesKept w₀ w at n × SameTree w at n x r
 
 abbrev μ-loop : tie.MeasureT-loop
 μ-loop w₀ at n x r₀ p₀ w r p = r

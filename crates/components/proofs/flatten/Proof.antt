@@ -4,7 +4,7 @@ use Prim.Native.Nat.{ℕ, _+_, _*_, _≤_, _<_, _-_, _/_}
 use native.Mathlib.Omega.{arith}
 use lib.ListN.{getD, length, length-set}
 use native.Mathlib.Nat.{not-suc-le-zero}
-use Rattle.components.specs.Forest.{Kept}
+use Rattle.components.specs.Forest.{TreesKept}
 use Rattle.components.proofs.Forest.{Flat-below, kept-refl, flatten-kept, flatten-more}
 use Rattle.components.proofs.flatten.Statement.{statement}
 use Rattle.components.proofs.flatten.Tie as tie
@@ -12,7 +12,7 @@ use Rattle.components.proofs.flatten.Reads as reads
 use Rattle.components.proofs.flatten.Lts as lts
 
 abbrev Inv-loop : tie.InvT-loop
-Inv-loop w₀ at n i₀ w i = (i ≤ n) × Kept w₀ w at n × Flat-below w at i
+Inv-loop w₀ at n i₀ w i = (i ≤ n) × TreesKept w₀ w at n × Flat-below w at i
 
 abbrev μ-loop : tie.MeasureT-loop
 μ-loop w₀ at n i₀ w i = n - i

@@ -5,8 +5,8 @@ use native.Mathlib.Omega.{arith}
 use lib.ListN.{getD, length, length-set}
 use lib.Arith.{digits-lt}
 use Rattle.lists.specs.Regions.{view}
-use Rattle.components.specs.Components.{Joining}
-use Rattle.components.specs.Forest.{Swept, Rooted}
+use Rattle.components.specs.Table.{LabelRoom}
+use Rattle.components.specs.Forest.{Swept, RootOf}
 use Rattle.components.proofs.Forest.{found-rooted}
 use Rattle.components.proofs.Turns.{read-length, label-read, label-low, item-joining, item-start, item-end, swept-seen, swept-turn}
 use Rattle.components.proofs.join_item.Statement.{statement}
@@ -17,7 +17,7 @@ use Rattle.components.proofs.enter.Reads as enter-reads
 use Rattle.components.proofs.find.Reads as find-reads
 
 abbrev Inv-loop : tie.InvT-loop
-Inv-loop w₀ labels n k m at i firsts from r₀ j₀ w r j = Joining w₀ labels n k m at × (j ≤ k) × Swept (view w₀ labels (n * k)) n k m at w₀ w (i * k + j) × Rooted w at n i r
+Inv-loop w₀ labels n k m at i firsts from r₀ j₀ w r j = LabelRoom w₀ labels n k m at × (j ≤ k) × Swept (view w₀ labels (n * k)) n k m at w₀ w (i * k + j) × RootOf w at n i r
 
 abbrev μ-loop : tie.MeasureT-loop
 μ-loop w₀ labels n k m at i firsts from r₀ j₀ w r j = k - j

@@ -1,5 +1,5 @@
 use Rattle.mesh_compact.proofs.Loop.{still-room, going-on, going-from, going-start, going-end}
-use Rattle.mesh_compact.specs.Room.{Going}
+use Rattle.mesh_compact.specs.Room.{NumberedSoFar}
 use lib.ListN.{length}
 use native.Mathlib.Omega.{arith}
 use Prim.Native.Nat.{_-_}
@@ -8,7 +8,7 @@ use Rattle.mesh_compact.proofs.renumber.renumber.Statement.{statement}
 use Rattle.mesh_compact.proofs.renumber.renumber.Tie as tie
 
 abbrev Inv-loop : tie.InvT-loop
-Inv-loop m₀ kept facets parts k at n least w₀ i₀ m w i = Going kept facets parts k at n least i w m₀ m × (length m ≡ length m₀)
+Inv-loop m₀ kept facets parts k at n least w₀ i₀ m w i = NumberedSoFar kept facets parts k at n least i w m₀ m × (length m ≡ length m₀)
 
 abbrev μ-loop : tie.MeasureT-loop
 μ-loop m₀ kept facets parts k at n least w₀ i₀ m w i = k - i

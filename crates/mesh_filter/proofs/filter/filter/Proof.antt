@@ -1,5 +1,5 @@
 use Rattle.mesh_filter.proofs.Steps.{going-start, still-numbered, turn-same, turned-on, filtered, none-filtered}
-use Rattle.mesh_filter.specs.Room.{pointsIn, facetsIn, Turned}
+use Rattle.mesh_filter.specs.Room.{pointsInRoom, facetsInRoom, FacetFiltered}
 use lib.ListN.{length}
 use native.Mathlib.Omega.{arith}
 use Prim.Native.Nat.{_+_, _-_}
@@ -8,7 +8,7 @@ use Rattle.mesh_filter.proofs.filter.filter.Statement.{statement}
 use Rattle.mesh_filter.proofs.filter.filter.Tie as tie
 
 abbrev Inv-loop : tie.InvT-loop
-Inv-loop m₀ welded vertices facets at n eps count₀ f₀ m count f = Turned eps (pointsIn welded vertices m₀) (facetsIn welded vertices facets m₀) at n f count m₀ m × (length m ≡ length m₀)
+Inv-loop m₀ welded vertices facets at n eps count₀ f₀ m count f = FacetFiltered eps (pointsInRoom welded vertices m₀) (facetsInRoom welded vertices facets m₀) at n f count m₀ m × (length m ≡ length m₀)
 
 abbrev μ-loop : tie.MeasureT-loop
 μ-loop m₀ welded vertices facets at n eps count₀ f₀ m count f = n - f

@@ -67,14 +67,14 @@ mul-v-2 c = search needs
 shared-slice-read-v : tie.Need-shared-slice-read-v
 shared-slice-read-v c = search needs
 
-point-at-requires : tie.Need-point-at-requires
-point-at-requires c κs = search needs
+vertex-at-requires : tie.Need-vertex-at-requires
+vertex-at-requires c κs = search needs
 
 is-near-requires : tie.Need-is-near-requires
 is-near-requires c κs = search needs
 
 returns-4 : tie.Need-returns-4
-returns-4 c = c .is-near .ensures ∙ ap (near (c .before .before .before .before .before .before .before .before .before .before .before .before .before .before .args .eps) (c .before .before .before .before .before .before .before .before .before .before .before .before .before .before .args .p)) (c .before .point-at .ensures) ∙ differ-no (cellAt (c .before .before .before .before .before .before .before .before .before .before .before .before .before .before .args .m .now) (11 * c .before .before .before .before .before .before .before .before .before .before .before .before .before .before .args .n + 3 * c .before .before .before .before .before .before .before .before .before .before .before .before .before .before .args .k)) (c .before .before .before .before .before .before .before .before .before .before .before .before .before .before .args .c) (near-of (c .before .before .before .before .before .before .before .before .before .before .before .before .before .before)) (c .before .before .before .before .before .before .before .before .before .if1 .left) (c .before .before .before .before .before .before .if2 .left) (c .before .before .before .if3 .left)
+returns-4 c = c .is-near .ensures ∙ ap (near (c .before .before .before .before .before .before .before .before .before .before .before .before .before .before .args .eps) (c .before .before .before .before .before .before .before .before .before .before .before .before .before .before .args .p)) (c .before .vertex-at .ensures) ∙ differ-no (cellAt (c .before .before .before .before .before .before .before .before .before .before .before .before .before .before .args .m .now) (11 * c .before .before .before .before .before .before .before .before .before .before .before .before .before .before .args .n + 3 * c .before .before .before .before .before .before .before .before .before .before .before .before .before .before .args .k)) (c .before .before .before .before .before .before .before .before .before .before .before .before .before .before .args .c) (near-of (c .before .before .before .before .before .before .before .before .before .before .before .before .before .before)) (c .before .before .before .before .before .before .before .before .before .if1 .left) (c .before .before .before .before .before .before .if2 .left) (c .before .before .before .if3 .left)
 
 pub holds-spec : {M : Type 1} → statement M
 holds-spec =
@@ -98,6 +98,6 @@ holds-spec =
     add-v
     mul-v-2
     shared-slice-read-v
-    point-at-requires
+    vertex-at-requires
     is-near-requires
     returns-4)

@@ -1,5 +1,5 @@
 use Rattle.mesh_weld.proofs.Steps.{going-start, going-end, none-welds}
-use Rattle.mesh_weld.specs.Room.{Going}
+use Rattle.mesh_weld.specs.Room.{WeldedSoFar}
 use lib.ListN.{length}
 use native.Mathlib.Omega.{arith}
 use Prim.Native.Nat.{_-_}
@@ -8,7 +8,7 @@ use Rattle.mesh_weld.proofs.weld.weld.Statement.{statement}
 use Rattle.mesh_weld.proofs.weld.weld.Tie as tie
 
 abbrev Inv-loop : tie.InvT-loop
-Inv-loop m₀ vs n eps count₀ i₀ m count i = Going vs eps n i count m × (length m ≡ length m₀)
+Inv-loop m₀ vs n eps count₀ i₀ m count i = WeldedSoFar vs eps n i count m × (length m ≡ length m₀)
 
 abbrev μ-loop : tie.MeasureT-loop
 μ-loop m₀ vs n eps count₀ i₀ m count i = n - i

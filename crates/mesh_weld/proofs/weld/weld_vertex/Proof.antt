@@ -1,5 +1,5 @@
 use Rattle.mesh_weld.proofs.Steps.{taken, tail-low, kept-new}
-use Rattle.mesh_weld.specs.Room.{keptPoints, KeyIn, CellOf, Going}
+use Rattle.mesh_weld.specs.Room.{keptPoints, KeyIn, CellOf, WeldedSoFar}
 use Rattle.mesh_weld.specs.Cells.{cells}
 use Rattle.geometry.specs.declared.point.Point.{Point}
 use Rattle.chains.specs.Links.{linkOf}
@@ -12,11 +12,11 @@ use borrow.Author.Needs.{needs}
 use Rattle.mesh_weld.proofs.weld.weld_vertex.Statement.{statement}
 use Rattle.mesh_weld.proofs.weld.weld_vertex.Tie as tie
 
-point-at-requires : tie.Need-point-at-requires
-point-at-requires c κs = search needs
+vertex-at-requires : tie.Need-vertex-at-requires
+vertex-at-requires c κs = search needs
 
 cell-of-requires : tie.Need-cell-of-requires
-cell-of-requires c κs = let s = c .before .before .before in let a = s .args in subst (λ (q : Point). KeyIn (a .eps) q) (sym (c .point-at .ensures)) (s .pre .1 .0 (a .i) (s .pre .1 .1))
+cell-of-requires c κs = let s = c .before .before .before in let a = s .args in subst (λ (q : Point). KeyIn (a .eps) q) (sym (c .vertex-at .ensures)) (s .pre .1 .0 (a .i) (s .pre .1 .1))
 
 search-requires : tie.Need-search-requires
 search-requires c κs = search needs
@@ -40,7 +40,7 @@ same-length : tie.Need-same-length
 same-length c = search needs
 
 returns : tie.Need-returns
-returns c = let s = c .before .before .before .before .before .before .before in let a = s .args in taken (a .vs .now) (a .eps) (a .n) (a .i) (a .count) (a .m .now) (s .pre .0) (s .pre .1 .1) (c .before .search .result) (c .before .search .ensures ∙ ap (λ (q : Point). linkOf (cells (a .eps) .find q (keptPoints (a .vs .now) (a .n) (a .count) (a .m .now)))) (c .before .before .before .before .point-at .ensures)) (c .if1 .taken)
+returns c = let s = c .before .before .before .before .before .before .before in let a = s .args in taken (a .vs .now) (a .eps) (a .n) (a .i) (a .count) (a .m .now) (s .pre .0) (s .pre .1 .1) (c .before .search .result) (c .before .search .ensures ∙ ap (λ (q : Point). linkOf (cells (a .eps) .find q (keptPoints (a .vs .now) (a .n) (a .count) (a .m .now)))) (c .before .before .before .before .vertex-at .ensures)) (c .if1 .taken)
 
 mul-bucket : tie.Need-mul-bucket
 mul-bucket c = search needs
@@ -76,13 +76,13 @@ same-length-2 : tie.Need-same-length-2
 same-length-2 c = simp length-set (c .before .before .keep .kept .0 ∙ c .before .before .before .before .before .before .enter .kept .0)
 
 returns-2 : tie.Need-returns-2
-returns-2 c = let s = c .before .before .before .before .before .before .before .before .before .before .before .before .before .before .before .before in let a = s .args in let E = subst (λ (q : Point). CellOf (a .eps) q (c .before .before .before .before .before .before .before .before .before .before .before .before .cell-of .result)) (c .before .before .before .before .before .before .before .before .before .before .before .before .before .point-at .ensures) (c .before .before .before .before .before .before .before .before .before .before .before .before .cell-of .ensures) in subst (λ (l : List ℕ). Going (a .vs .now) (a .eps) (a .n) (a .i + 1) (a .count + 1) (set l (10 * a .n + a .i) (a .count))) (sym (c .before .before .keep .ensures ∙ ap (λ (l : List ℕ). set (set (set (set l (9 * a .n + a .count) (a .i)) (11 * a .n + 3 * a .count) (c .before .before .before .before .before .before .before .before .before .before .before .before .cell-of .result .x)) (11 * a .n + 3 * a .count + 1) (c .before .before .before .before .before .before .before .before .before .before .before .before .cell-of .result .y)) (11 * a .n + 3 * a .count + 2) (c .before .before .before .before .before .before .before .before .before .before .before .before .cell-of .result .z)) (c .before .before .before .before .before .before .enter .ensures))) (kept-new (a .vs .now) (a .eps) (a .n) (a .i) (a .count) (a .m .now) (s .pre .0) (s .pre .1 .1) (c .before .before .before .before .before .before .before .before .bucket .result) (c .before .before .before .before .before .before .before .before .before .before .before .before .cell-of .result) E (c .before .before .before .before .before .before .before .before .bucket .ensures) (c .before .before .before .before .before .before .before .before .before .before .search .result) (c .before .before .before .before .before .before .before .before .before .before .search .ensures ∙ ap (λ (q : Point). linkOf (cells (a .eps) .find q (keptPoints (a .vs .now) (a .n) (a .count) (a .m .now)))) (c .before .before .before .before .before .before .before .before .before .before .before .before .before .point-at .ensures)) (c .before .before .before .before .before .before .before .before .before .if1 .left))
+returns-2 c = let s = c .before .before .before .before .before .before .before .before .before .before .before .before .before .before .before .before in let a = s .args in let E = subst (λ (q : Point). CellOf (a .eps) q (c .before .before .before .before .before .before .before .before .before .before .before .before .cell-of .result)) (c .before .before .before .before .before .before .before .before .before .before .before .before .before .vertex-at .ensures) (c .before .before .before .before .before .before .before .before .before .before .before .before .cell-of .ensures) in subst (λ (l : List ℕ). WeldedSoFar (a .vs .now) (a .eps) (a .n) (a .i + 1) (a .count + 1) (set l (10 * a .n + a .i) (a .count))) (sym (c .before .before .keep .ensures ∙ ap (λ (l : List ℕ). set (set (set (set l (9 * a .n + a .count) (a .i)) (11 * a .n + 3 * a .count) (c .before .before .before .before .before .before .before .before .before .before .before .before .cell-of .result .x)) (11 * a .n + 3 * a .count + 1) (c .before .before .before .before .before .before .before .before .before .before .before .before .cell-of .result .y)) (11 * a .n + 3 * a .count + 2) (c .before .before .before .before .before .before .before .before .before .before .before .before .cell-of .result .z)) (c .before .before .before .before .before .before .enter .ensures))) (kept-new (a .vs .now) (a .eps) (a .n) (a .i) (a .count) (a .m .now) (s .pre .0) (s .pre .1 .1) (c .before .before .before .before .before .before .before .before .bucket .result) (c .before .before .before .before .before .before .before .before .before .before .before .before .cell-of .result) E (c .before .before .before .before .before .before .before .before .bucket .ensures) (c .before .before .before .before .before .before .before .before .before .before .search .result) (c .before .before .before .before .before .before .before .before .before .before .search .ensures ∙ ap (λ (q : Point). linkOf (cells (a .eps) .find q (keptPoints (a .vs .now) (a .n) (a .count) (a .m .now)))) (c .before .before .before .before .before .before .before .before .before .before .before .before .before .vertex-at .ensures)) (c .before .before .before .before .before .before .before .before .before .if1 .left))
 
 pub weld-vertex-spec : {M : Type 1} → statement M
 weld-vertex-spec =
     tie.close
     (tie.spec
-    point-at-requires
+    vertex-at-requires
     cell-of-requires
     search-requires
     sub-m
