@@ -28,7 +28,7 @@ use Rattle.mesh_compact.specs.Status.{shareVertex, isAlone, status, keptFacets}
 use Rattle.mesh_compact.specs.Compact.{numbering, renumbered, compacted}
 use Rattle.mesh_cleanup.specs.Clean.{welded, cleaned, cleanResult, cleanTests, cleanReply}
 use Rattle.aabb_polygons.specs.Polygons.{inside, snapTo, snapped, crossing, interpolated, onPlane, crossed, sideClipped, walk, clipToPlane, clipPolygon}
-use Rattle.aabb_facets.specs.Clipped.{fan, fanned, insideBox, sharing, clipFacet, made, clipped}
+use Rattle.aabb_facets.specs.Clipped.{sharedNumber, fan, fanned, insideBox, shareOnce, sharing, clipFacet, clipFacets, clipped}
 use Rattle.aabb_clipping.specs.Clip.{clipTests, clipResult, clipReply}
 use Rattle.geometry.specs.Axes.{segments, gridLine, axisPoints, gridSize}
 use Rattle.edges.specs.Edges.{samePair, pairBefore, openEdges}
@@ -194,7 +194,7 @@ of-all a {r} (List·Memᴰ·head {x} {xs} e) = subst⁻¹ (λ (q : Row). q .give
 of-all a {r} (List·Memᴰ·tail {x} {xs} m) = of-all (a .1) m
 
 computed : All starred
-unfolding every some upFrom threes magnitude within inside snapTo snapped crossing interpolated onPlane crossed sideClipped walk clipToPlane clipPolygon along enter fan fanned insideBox sharing clipFacet made clipped flatMap firstRefusal documented ragged tooMany badIndex inRange epsInRange boxInRange badBox workNeed roomTests clipTests clipResult clipReply keep place insertBy sortBy halfUp rounded key beyond farKey farKeys minus dot cross keyOf sameKey around near firstIn neighbours cells linkTo weldNext weld hasRepeatedCorner isFlat sortedVertices sameCorners isDuplicate passes passedNext passed components shareVertex isAlone status keptFacets numbering renumbered compacted welded cleaned cleanResult cleanTests cleanReply larger one units root rootOfSquare wholeRoot wholeUp ceil rounding.segments segments gridLine axisPoints gridSize resolutionInRange gridTooFine samePair pairBefore openEdges onFace facesOf closureTests strayEdge edgeTests candidatesReply ofBits ofInt round add sub mul div neg lt le eq
+unfolding every some upFrom threes magnitude within inside snapTo snapped crossing interpolated onPlane crossed sideClipped walk clipToPlane clipPolygon along enter sharedNumber fan fanned insideBox shareOnce sharing clipFacet clipFacets clipped flatMap firstRefusal documented ragged tooMany badIndex inRange epsInRange boxInRange badBox workNeed roomTests clipTests clipResult clipReply keep place insertBy sortBy halfUp rounded key beyond farKey farKeys minus dot cross keyOf sameKey around near firstIn neighbours cells linkTo weldNext weld hasRepeatedCorner isFlat sortedVertices sameCorners isDuplicate passes passedNext passed components shareVertex isAlone status keptFacets numbering renumbered compacted welded cleaned cleanResult cleanTests cleanReply larger one units root rootOfSquare wholeRoot wholeUp ceil rounding.segments segments gridLine axisPoints gridSize resolutionInRange gridTooFine samePair pairBefore openEdges onFace facesOf closureTests strayEdge edgeTests candidatesReply ofBits ofInt round add sub mul div neg lt le eq
 computed = (refl, (refl, (refl, (refl, (refl, (refl, (refl, (refl, (refl, (refl, tt))))))))))
 
 pub every-row : {r : Row} → List·Memᴰ r starred → r .given ≡ r .stated
