@@ -1,7 +1,8 @@
--- Laws of what the operation leaves behind: after a refusal, and after the two passes. Assumes nothing.
---   none-front, back-zero, still-zero, cleared, all-zero   parts of the lists that were lent to a pass, and came back
+-- Laws of what the operation leaves behind: after a refusal, and after the passes. Assumes nothing.
+--   none-front                           an empty part of an output, lent to a pass, that came back
+--   ample, inside                        outputs that hold whatever the facets could give, and a mesh wholly inside
 --   short-vertices, short-facets, done   what Written asks, on each of the three ways
---   refused, accepted                    what Clipped asks, after the tests in front
+--   refused, accepted, answered          what Replied asks, after the tests in front, and ClipAnswered
 --   Ready, ready                         what is known once the tests in front have passed
 --   lists-refused, number-refused, box-refused, room-refused, all-passed   the tests in front, one after the other
 use Prim.Native.Nat.{ℕ, _+_, _*_, _/_, _≤_, _<_}
@@ -11,15 +12,16 @@ use mathlib.Core.Path.{_≡_, refl, sym, ap, _∙_}
 use native.Mathlib.Omega.{arith}
 use borrow.Author.Tests.{ltb-false, lt-ltb, le-ltb}
 use lib.Dec.{ltb}
-use lib.ListN.{take, drop, length, replicate, length-replicate, take-append-drop}
-use lib.Seq.{sets, length-take-le}
+use lib.ListN.{length, replicate, length-replicate}
+use lib.Seq.{sets}
 use lib.Ieee.{Float}
 use Rattle.lists.specs.Lists.{every}
 use Rattle.words.specs.Overlay.{overlay}
-use Rattle.words.proofs.Overlay.{take-zeros, sets-overlay, overlay-whole}
+use Rattle.words.proofs.Overlay.{sets-overlay, overlay-whole}
 use Rattle.geometry.specs.declared.aabb.AABB.{AABB}
 use Rattle.geometry.specs.Triangles.{flat}
-use Rattle.geometry.specs.Meshes.{Mesh, coordinates, meshLengths}
+use Rattle.geometry.specs.Meshes.{Mesh, meshOf, pointsOf, coordinates, meshLengths}
+use Rattle.geometry.proofs.Threes.{length-threes}
 use Rattle.geometry.proofs.Meshes.{length-coordinates}
 use Rattle.refusals.specs.declared.refusal.Refusal.{Refusal}
 use Rattle.refusals.specs.declared.refusal.Refusal.the-variants.{BadNumber, BadBox, NoWorkRoom, NoRoom}
@@ -32,40 +34,30 @@ use Rattle.refusals.specs.Refusals.{documented, documentedMesh, Test, firstRefu
 use Rattle.refusals.specs.Front.{ceiling, listTests, badIndex, inRange, epsInRange, boxInRange, badBox, workNeed, roomTests}
 use Rattle.refusals.proofs.Refusals.{holds, passes, none-left, row-passed, row-refused, untouched}
 use Rattle.refusals.proofs.Replies.{reply-refused, reply-passed, short-first, short-second, roomy, head-passed, tail-passed, row-front, row-rest, listed}
-use Rattle.aabb_clipping.specs.Clip.{clipTests, clipResult, clipReply, Clipped}
-use Rattle.aabb_clipping.specs.Steps.{Written}
+use Rattle.aabb_facets.specs.Clipped.{insideBox}
+use Rattle.aabb_facets.proofs.Bounds.{most, inside-most}
+use Rattle.aabb_clipping.specs.Clip.{clipTests, clipResult, clipReply, ClipAnswered}
+use Rattle.aabb_clipping.specs.Steps.{Fits, Written, Replied}
 
--- ---- parts that were lent
-
--- an empty part of an output
 pub none-front : {A : Type 0} (e old : List A) → length e ≡ 0 → e ++ old ≡ old
 none-front [] old h = refl
 none-front (x ∷ xs) old h = absurd (omega arith)
 
--- the front of the work room, which came back zero
-pub back-zero : (w y : List ℕ) (n : ℕ) → w ≡ replicate (length w) 0 → n ≤ length w → y ≡ replicate (length (take n w)) 0 → y ++ drop n w ≡ w
-back-zero w y n e h g =
-    ap (λ (l : List ℕ). l ++ drop n w)
-    (g ∙ ap (λ (k : ℕ). replicate k 0) (length-take-le n w h) ∙ sym (ap (take n) e ∙ take-zeros n (length w) h))
-    ∙ take-append-drop n w
+-- ---- ample outputs
+module _ (vs : List Float) (fs : List ℕ) (box : AABB) (eps : Float) (a b : ℕ) where
+  pub ample : 84 * (length fs / 3) ≤ a → 78 * (length fs / 3) ≤ b → Fits (clipResult vs fs box eps) a b
+  unfolding clipResult
+  ample h g =
+      let k = most box eps (meshOf vs fs) in
+      let t = length-threes fs in
+      record { vertices = omega (arith, k .0, t); facets = omega (arith, k .1, t) }
 
-pub still-zero : (w x : List ℕ) → x ≡ w → w ≡ replicate (length w) 0 → x ≡ replicate (length x) 0
-still-zero w x e h = e ∙ h ∙ ap (λ (k : ℕ). replicate k 0) (sym (ap length e))
-
--- the whole of it, cleared
-pub cleared : (w z : List ℕ) → z ≡ overlay (replicate (length w) 0) w → z ≡ replicate (length w) 0
-cleared w z e = e ∙ overlay-whole (replicate (length w) 0) w (omega (arith, length-replicate {A = ℕ} (length w) 0))
-
-pub cleared-length : (w z : List ℕ) → z ≡ replicate (length w) 0 → length z ≡ length w
-cleared-length w z e = ap length e ∙ length-replicate {A = ℕ} (length w) 0
-
--- so many zeros as the list is long
-pub all-zero : (w z : List ℕ) → z ≡ replicate (length w) 0 → z ≡ replicate (length z) 0
-all-zero w z e = e ∙ ap (λ (k : ℕ). replicate k 0) (sym (cleared-length w z e))
+  pub inside : badIndex (length vs / 3) fs ≡ false → length vs ≤ a → length fs ≤ b → every (insideBox box eps) (pointsOf vs) ≡ true → Fits (clipResult vs fs box eps) a b
+  unfolding clipResult
+  inside e h g w = let k = inside-most box eps vs fs e w in record { vertices = omega (arith, k .0); facets = omega (arith, k .1) }
 
 -- ---- test 12, and the writing. The counts k of vertices and j of facet numbers are the mesh's
-module _ (m : Mesh) (w w' : List ℕ) (v v' : List Float) (f f' : List ℕ) (k j : ℕ) (ek : k ≡ length (m .points)) (ej : j ≡ length (flat (m .facets)))
-    (z : w' ≡ replicate (length w) 0) where
+module _ (m : Mesh) (v v' : List Float) (f f' : List ℕ) (k j : ℕ) (ek : k ≡ length (m .points)) (ej : j ≡ length (flat (m .facets))) where
   abbrev nv : ℕ
   nv = length (coordinates (m .points))
 
@@ -79,17 +71,16 @@ module _ (m : Mesh) (w w' : List ℕ) (v v' : List Float) (f f' : List ℕ) (k j
   unfolding documentedMesh
   same x new old now e = record { ends = e ∙ sym (untouched x new old) }
 
-  pub short-vertices : length v < 3 * k → v' ≡ v → f' ≡ f → Written m (mesh.Refused (NoRoom (3 * k))) w w' v v' f f'
+  pub short-vertices : length v < 3 * k → v' ≡ v → f' ≡ f → Written m (mesh.Refused (NoRoom (3 * k))) v v' f f'
   unfolding documentedMesh
   short-vertices h a b =
       record {
         replied = ap (λ (x : ℕ). documented (NoRoom x)) length-is ∙ sym (short-first nv nf (length v) (length f) (meshLengths m) (omega (arith, length-is)));
         vertices = same (NoRoom (3 * k)) (coordinates (m .points)) v v' a;
         facets = same (NoRoom (3 * k)) (flat (m .facets)) f f' b;
-        work = record { ends = z };
       }
 
-  pub short-facets : 3 * k ≤ length v → length f < j → v' ≡ v → f' ≡ f → Written m (mesh.Refused (NoRoom j)) w w' v v' f f'
+  pub short-facets : 3 * k ≤ length v → length f < j → v' ≡ v → f' ≡ f → Written m (mesh.Refused (NoRoom j)) v v' f f'
   unfolding documentedMesh
   short-facets h g a b =
       record {
@@ -97,11 +88,10 @@ module _ (m : Mesh) (w w' : List ℕ) (v v' : List Float) (f f' : List ℕ) (k j
             ∙ sym (short-second nv nf (length v) (length f) (meshLengths m) (omega (arith, length-is)) (omega (arith, ej)));
         vertices = same (NoRoom j) (coordinates (m .points)) v v' a;
         facets = same (NoRoom j) (flat (m .facets)) f f' b;
-        work = record { ends = z };
       }
 
   pub done : 3 * k ≤ length v → j ≤ length f → v' ≡ sets v 0 (coordinates (m .points)) → f' ≡ sets f 0 (flat (m .facets))
-      → Written m (Done (3 * k) j) w w' v v' f f'
+      → Written m (Done (3 * k) j) v v' f f'
   unfolding documentedMesh settle
   done h g a b =
       record {
@@ -109,12 +99,11 @@ module _ (m : Mesh) (w w' : List ℕ) (v v' : List Float) (f f' : List ℕ) (k j
             ∙ sym (roomy nv nf (length v) (length f) (meshLengths m) (omega (arith, length-is)) (omega (arith, ej)));
         vertices = record { ends = a ∙ sets-overlay (coordinates (m .points)) v (omega (arith, length-is)) };
         facets = record { ends = b ∙ sets-overlay (flat (m .facets)) f (omega (arith, ej)) };
-        work = record { ends = z };
       }
 
--- ---- the tests in front, made when the work room z was all zero
-module _ (vs : List Float) (fs : List ℕ) (box : AABB) (eps : Float) (w z : List ℕ) (x : Checked) (hz : z ≡ replicate (length w) 0)
-    (found : x ≡ firstRefusal (clipTests vs fs box eps (length w))) (v : List Float) (f : List ℕ) where
+-- ---- the tests in front
+module _ (vs : List Float) (fs : List ℕ) (box : AABB) (eps : Float) (lent : ℕ) (x : Checked) (found : x ≡ firstRefusal (clipTests vs fs box eps lent))
+    (v : List Float) (f : List ℕ) where
   abbrev m : Mesh
   m = clipResult vs fs box eps
 
@@ -125,25 +114,33 @@ module _ (vs : List Float) (fs : List ℕ) (box : AABB) (eps : Float) (w z : Lis
   unfolding documentedMesh
   untouched-by r new old = record { ends = sym (untouched r new old) }
 
-  pub refused : (r : Refusal) → x ≡ Refused r → Clipped vs fs box eps (mesh.Refused r) w z v v f f
+  pub refused : (r : Refusal) → x ≡ Refused r → Replied vs fs box eps lent (mesh.Refused r) v v f f
   unfolding clipReply documentedMesh
   refused r e =
       record {
-        replied = sym (reply-refused (clipTests vs fs box eps (length w)) rooms (meshLengths m) r (sym found ∙ e));
+        replied = sym (reply-refused (clipTests vs fs box eps lent) rooms (meshLengths m) r (sym found ∙ e));
         vertices = untouched-by r (coordinates (m .points)) v;
         facets = untouched-by r (flat (m .facets)) f;
-        work = record { ends = hz };
       }
 
-  pub accepted : x ≡ Passed → (r : MeshReply) (z' : List ℕ) (v' : List Float) (f' : List ℕ) → Written m r z z' v v' f f' → Clipped vs fs box eps r w z' v v' f f'
+  pub accepted : x ≡ Passed → (r : MeshReply) (v' : List Float) (f' : List ℕ) → Written m r v v' f f' → Replied vs fs box eps lent r v v' f f'
   unfolding clipReply
-  accepted e r z' v' f' d =
+  accepted e r v' f' d =
       record {
-        replied = d .replied ∙ sym (reply-passed (clipTests vs fs box eps (length w)) rooms (meshLengths m) (sym found ∙ e));
+        replied = d .replied ∙ sym (reply-passed (clipTests vs fs box eps lent) rooms (meshLengths m) (sym found ∙ e));
         vertices = d .vertices;
         facets = d .facets;
-        work = record { ends = d .work .ends ∙ ap (λ (n : ℕ). replicate n 0) (cleared-length w z hz) };
       }
+
+pub answered : (vs : List Float) (fs : List ℕ) (box : AABB) (eps : Float) (r : MeshReply) (w w' z : List ℕ) (v v' : List Float) (f f' : List ℕ)
+    → Replied vs fs box eps (length w) r v v' f f' → length w' ≡ length w → z ≡ overlay (replicate (length w) 0) w' → ClipAnswered vs fs box eps r w z v v' f f'
+answered vs fs box eps r w w' z v v' f f' d l e =
+    record {
+      replied = d .replied;
+      vertices = d .vertices;
+      facets = d .facets;
+      work = record { ends = e ∙ overlay-whole (replicate (length w) 0) w' (omega (arith, l, length-replicate {A = ℕ} (length w) 0)) };
+    }
 
 pub record Ready (vs : List Float) (fs : List ℕ) (lent : ℕ) : Type 0 where
   pub few : (length vs / 3 ≤ 65536) × (length fs / 3 ≤ 65536)

@@ -1,7 +1,7 @@
 -- The operation clip (document 01, the table of refusals, module 3 and "Agreement"): its tests in the table's order, its reply, and what it leaves in
 -- outputs and work room. Assumes nothing.
 --   clipTests     1, 2, 3, 4, 5, 7                  clipResult    the mesh clipped
---   clipReply     the reply as numbers, with 12     Clipped       what the operation promises
+--   clipReply     the reply as numbers, with 12     ClipAnswered  what the operation promises
 use Prim.Native.Nat.{ℕ, _/_}
 use mathlib.Core.Path.{_≡_}
 use mathlib.Core.Bool.{not, _&&_}
@@ -35,7 +35,7 @@ module _ (vs : List Float) (fs : List ℕ) (box : AABB) (eps : Float) where
   clipReply lent outs = replyTo (clipTests lent ++ roomTests (meshLengths clipResult) outs) (meshLengths clipResult)
 
 -- from work room w and outputs v and f to w', v' and f', with the reply r
-pub record Clipped (vs : List Float) (fs : List ℕ) (box : AABB) (eps : Float) (r : MeshReply) (w w' : List ℕ) (v v' : List Float) (f f' : List ℕ) : Type 0 where
+pub record ClipAnswered (vs : List Float) (fs : List ℕ) (box : AABB) (eps : Float) (r : MeshReply) (w w' : List ℕ) (v v' : List Float) (f f' : List ℕ) : Type 0 where
   pub replied : documentedMesh r ≡ clipReply vs fs box eps (length w) (length v ∷ length f ∷ [])
   pub vertices : Settled (documentedMesh r) (coordinates (clipResult vs fs box eps .points)) v v'
   pub facets : Settled (documentedMesh r) (flat (clipResult vs fs box eps .facets)) f f'

@@ -1,13 +1,14 @@
 // The operation clip (document 01, module 3; `clip_mesh_to_aabb` of aabb_clipping.rs). `bbox_eps` of that file stands in the crate tolerance;
 // `facet_fully_inside_aabb` is left out, since no operation uses it.
 ghost use mathlib.Core.Path.{_≡_};
-ghost use mathlib.Core.Bool.{false};
+ghost use mathlib.Core.Bool.{true, false};
 ghost use Prim.Native.Nat.{_/_, _≤_};
-ghost use lib.ListN.{length, replicate};
+ghost use lib.ListN.{length};
 ghost use Rattle.refusals.specs.Front.{badIndex};
 ghost use Rattle.refusals.specs.Refusals.{firstRefusal};
-ghost use Rattle.aabb_clipping.specs.Clip.{clipTests, clipResult, Clipped};
-ghost use Rattle.aabb_clipping.specs.Steps.{Written};
+ghost use Rattle.aabb_clipping.specs.Clip.{clipTests, clipResult, ClipAnswered};
+ghost use Rattle.aabb_clipping.specs.Steps.{Fits, Written, Replied};
+use aabb_facets::marks::wholly_inside;
 use aabb_facets::passes::run_pass;
 use geometry::aabb::AABB;
 use refusals::boxes::box_in_range;
@@ -48,28 +49,56 @@ fn check(vertices: &[f64], facets: &[u32], extents: AABB, eps: f64, lent: usize)
     Checked::Passed
 }
 
-// Two passes: the first counts, into no room, and the second writes.
-fn clip_checked(
+// Whether the outputs hold whatever the facets could give, so that 12 cannot arise: 28 corners and 26 facets of each facet, or of a mesh
+// wholly inside no more than it has.
+fn is_ample(
     vertices: &[f64],
     facets: &[u32],
     extents: AABB,
     eps: f64,
-    work: &mut [u64],
+    vertex_room: usize,
+    facet_room: usize,
+) -> bool
+    requires { ⌜ (length (now vertices) / 3 ≤ 65536) × (length (now facets) / 3 ≤ 65536) ⌝ }
+    requires { ⌜ badIndex (length (now vertices) / 3) (now facets) ≡ false ⌝ }
+    ensures { λ r. ⌜ (r ≡ true → Fits (clipResult (now (vertices .entry)) (now (facets .entry)) extents eps) «vertex_room» «facet_room») ⌝ }
+{
+    let n = facets.len() / 3;
+    if 84 * n <= vertex_room {
+        if 78 * n <= facet_room {
+            return true;
+        }
+    }
+    if vertex_room < vertices.len() {
+        return false;
+    }
+    if facet_room < facets.len() {
+        return false;
+    }
+    wholly_inside(vertices, extents, eps)
+}
+
+// Two passes: the first counts, into no room, and the second writes.
+fn clip_counted(
+    vertices: &[f64],
+    facets: &[u32],
+    extents: AABB,
+    eps: f64,
+    ids: &mut [u64],
     out_vertices: &mut [f64],
     out_facets: &mut [u32],
 ) -> MeshReply
     requires { ⌜ (length (now vertices) / 3 ≤ 65536) × (length (now facets) / 3 ≤ 65536) ⌝ }
     requires { ⌜ badIndex (length (now vertices) / 3) (now facets) ≡ false ⌝ }
-    requires { ⌜ (now work ≡ replicate (length (now work)) 0) × (length (now vertices) / 3 ≤ length (now work)) ⌝ }
-    ensures { λ r. ⌜ Written (clipResult (now (vertices .entry)) (now (facets .entry)) extents eps) r (now (work .entry)) (now (work .exit)) (now («out_vertices» .entry)) (now («out_vertices» .exit)) (now («out_facets» .entry)) (now («out_facets» .exit)) ⌝ }
+    requires { ⌜ length (now ids) ≡ length (now vertices) / 3 ⌝ }
+    ensures { λ r. ⌜ Written (clipResult (now (vertices .entry)) (now (facets .entry)) extents eps) r (now («out_vertices» .entry)) (now («out_vertices» .exit)) (now («out_facets» .entry)) (now («out_facets» .exit)) ⌝ }
 {
-    let nv = vertices.len() / 3;
     let need = run_pass(
         vertices,
         facets,
         extents,
         eps,
-        &mut work[..nv],
+        ids,
         &mut out_vertices[..0],
         &mut out_facets[..0],
     );
@@ -86,11 +115,87 @@ fn clip_checked(
         facets,
         extents,
         eps,
-        &mut work[..nv],
+        ids,
         out_vertices,
         out_facets,
     );
     MeshReply::Done(need_vertices, need_facets)
+}
+
+// One pass where the outputs are ample.
+fn clip_checked(
+    vertices: &[f64],
+    facets: &[u32],
+    extents: AABB,
+    eps: f64,
+    ids: &mut [u64],
+    out_vertices: &mut [f64],
+    out_facets: &mut [u32],
+) -> MeshReply
+    requires { ⌜ (length (now vertices) / 3 ≤ 65536) × (length (now facets) / 3 ≤ 65536) ⌝ }
+    requires { ⌜ badIndex (length (now vertices) / 3) (now facets) ≡ false ⌝ }
+    requires { ⌜ length (now ids) ≡ length (now vertices) / 3 ⌝ }
+    ensures { λ r. ⌜ Written (clipResult (now (vertices .entry)) (now (facets .entry)) extents eps) r (now («out_vertices» .entry)) (now («out_vertices» .exit)) (now («out_facets» .entry)) (now («out_facets» .exit)) ⌝ }
+{
+    if !is_ample(
+        vertices,
+        facets,
+        extents,
+        eps,
+        out_vertices.len(),
+        out_facets.len(),
+    ) {
+        return clip_counted(
+            vertices,
+            facets,
+            extents,
+            eps,
+            ids,
+            out_vertices,
+            out_facets,
+        );
+    }
+    let made = run_pass(
+        vertices,
+        facets,
+        extents,
+        eps,
+        ids,
+        out_vertices,
+        out_facets,
+    );
+    MeshReply::Done(3 * made.vertices, made.numbers)
+}
+
+// The refusal found, or the mesh clipped.
+fn clip_or_refuse(
+    found: Checked,
+    vertices: &[f64],
+    facets: &[u32],
+    extents: AABB,
+    eps: f64,
+    work: &mut [u64],
+    out_vertices: &mut [f64],
+    out_facets: &mut [u32],
+) -> MeshReply
+    requires { ⌜ found ≡ firstRefusal (clipTests (now vertices) (now facets) extents eps (length (now work))) ⌝ }
+    ensures { λ r. ⌜ Replied (now (vertices .entry)) (now (facets .entry)) extents eps (length (now (work .entry))) r (now («out_vertices» .entry)) (now («out_vertices» .exit)) (now («out_facets» .entry)) (now («out_facets» .exit)) ⌝ }
+{
+    match found {
+        Checked::Passed => {
+            let n = vertices.len() / 3;
+            clip_checked(
+                vertices,
+                facets,
+                extents,
+                eps,
+                &mut work[..n],
+                out_vertices,
+                out_facets,
+            )
+        }
+        Checked::Refused(r) => MeshReply::Refused(r),
+    }
 }
 
 pub fn clip_mesh_to_aabb(
@@ -102,20 +207,20 @@ pub fn clip_mesh_to_aabb(
     out_vertices: &mut [f64],
     out_facets: &mut [u32],
 ) -> MeshReply
-    ensures { λ r. ⌜ Clipped (now (vertices .entry)) (now (facets .entry)) extents eps r (now (work .entry)) (now (work .exit)) (now («out_vertices» .entry)) (now («out_vertices» .exit)) (now («out_facets» .entry)) (now («out_facets» .exit)) ⌝ }
+    ensures { λ r. ⌜ ClipAnswered (now (vertices .entry)) (now (facets .entry)) extents eps r (now (work .entry)) (now (work .exit)) (now («out_vertices» .entry)) (now («out_vertices» .exit)) (now («out_facets» .entry)) (now («out_facets» .exit)) ⌝ }
 {
     let lent = work.len();
+    let found = check(vertices, facets, extents, eps, lent);
+    let reply = clip_or_refuse(
+        found,
+        vertices,
+        facets,
+        extents,
+        eps,
+        work,
+        out_vertices,
+        out_facets,
+    );
     zero_front(work, lent);
-    match check(vertices, facets, extents, eps, lent) {
-        Checked::Passed => clip_checked(
-            vertices,
-            facets,
-            extents,
-            eps,
-            work,
-            out_vertices,
-            out_facets,
-        ),
-        Checked::Refused(r) => MeshReply::Refused(r),
-    }
+    reply
 }

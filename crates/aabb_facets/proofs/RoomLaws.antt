@@ -18,9 +18,8 @@ use Rattle.geometry.specs.declared.aabb.AABB.{AABB}
 use borrow.Author.Tests.{lt-ltb, le-ltb}
 use Rattle.geometry.specs.Boxes.{faces}
 use Rattle.geometry.specs.Triangles.{flat}
-use Rattle.geometry.specs.Meshes.{coordinates}
+use Rattle.geometry.specs.Meshes.{coordinates, vertexOf}
 use Rattle.aabb_polygons.specs.Polygons.{snapped, clipPolygon}
-use Rattle.aabb_polygons.specs.Steps.{cornerAt}
 use Rattle.aabb_facets.specs.declared.facets.Counts.{Counts}
 use Rattle.aabb_facets.specs.Clipped.{fan}
 use Rattle.aabb_facets.specs.Rooms.{Room, room, grow, shareRoomAs, shareRoom, fanRoom, facetRoom, shareTo, marked, Low}
@@ -32,13 +31,15 @@ pub room-eq : {a b : ℕ} {c d : ℕ} {e f : List ℕ} {g h : List Float} {i j :
 room-eq p q r s t = λ x. record { nv = p x; nf = q x; ids = r x; vs = s x; fs = t x }
 
 module _ (at : Counts) (i : List ℕ) (v : List Float) (f : List ℕ) (w : ℕ) (p : Point) where
-  share-zero : (k : ℕ) → k ≡ 0 → (i' : List ℕ) (v' : List Float) (f' : List ℕ) → i' ≡ set i w (at .vertices + 2) → v' ≡ sets v (3 * at .vertices) (coordinates (p ∷ [])) → f' ≡ set f (at .numbers) (at .vertices)
+  share-zero : (k : ℕ) → k ≡ 0 → (i' : List ℕ) (v' : List Float) (f' : List ℕ) → i' ≡ set i w (at .vertices + 2) → v' ≡ sets v (3 * at .vertices) (coordinates (p ∷ []))
+      → f' ≡ set f (at .numbers) (at .vertices)
       → record { nv = at .vertices + 1; nf = at .numbers + 1; ids = i'; vs = v'; fs = f' } ≡ shareRoomAs k (room at i v f) w p
   unfolding shareRoomAs
   share-zero zero z i' v' f' a b c = room-eq refl refl a b c
   share-zero (suc k) z i' v' f' a b c = absurd (omega arith)
 
-  pub share-new : (i' : List ℕ) (v' : List Float) (f' : List ℕ) → getD i w 0 ≤ 1 → i' ≡ set i w (at .vertices + 2) → v' ≡ sets v (3 * at .vertices) (coordinates (p ∷ [])) → f' ≡ set f (at .numbers) (at .vertices)
+  pub share-new : (i' : List ℕ) (v' : List Float) (f' : List ℕ) → getD i w 0 ≤ 1 → i' ≡ set i w (at .vertices + 2) → v' ≡ sets v (3 * at .vertices) (coordinates (p ∷ []))
+      → f' ≡ set f (at .numbers) (at .vertices)
       → room (record { vertices = at .vertices + 1; numbers = at .numbers + 1 }) i' v' f' ≡ shareRoom (room at i v f) w p
   share-new i' v' f' z a b c = share-zero (getD i w 0 - 1) (omega arith) i' v' f' a b c
 
@@ -86,7 +87,8 @@ module _ (at : Counts) (i : List ℕ) (v : List Float) (f : List ℕ) (l : List 
   unfolding fanRoom
   fan-few h = sym (ap (λ (b : Bool). cond b (room at i v f) (grow (room at i v f) l (flat (fan (at .vertices) (length l - 2))))) (lt-ltb _ _ h))
 
-  pub fan-put : (n : ℕ) (v' : List Float) (f' : List ℕ) → n ≡ length l → 3 ≤ n → v' ≡ sets v (3 * at .vertices) (coordinates l) → f' ≡ sets f (at .numbers) (flat (fan (at .vertices) (n - 2)))
+  pub fan-put : (n : ℕ) (v' : List Float) (f' : List ℕ) → n ≡ length l → 3 ≤ n → v' ≡ sets v (3 * at .vertices) (coordinates l)
+      → f' ≡ sets f (at .numbers) (flat (fan (at .vertices) (n - 2)))
       → room (record { vertices = at .vertices + n; numbers = at .numbers + 3 * (n - 2) }) i v' f' ≡ fanRoom (room at i v f) l
   unfolding fanRoom
   fan-put n v' f' e h a b =
@@ -109,7 +111,7 @@ module _ (vs : List Float) (fs : List ℕ) (box : AABB) (eps : Float) (r : Room)
   all-of = marked (r .ids) (getD fs (3 * i) 0) && (marked (r .ids) (getD fs (3 * i + 1) 0) && marked (r .ids) (getD fs (3 * i + 2) 0))
 
   abbrev cut : List Point
-  cut = clipPolygon box eps faces (cornerAt vs (getD fs (3 * i) 0) ∷ cornerAt vs (getD fs (3 * i + 1) 0) ∷ cornerAt vs (getD fs (3 * i + 2) 0) ∷ [])
+  cut = clipPolygon box eps faces (vertexOf vs (getD fs (3 * i) 0) ∷ vertexOf vs (getD fs (3 * i + 1) 0) ∷ vertexOf vs (getD fs (3 * i + 2) 0) ∷ [])
 
   pub facet-shared : (t : Room) (x : Bool) → x ≡ all-of → x ≡ true → t ≡ shareTo vs fs box eps r i 3 → t ≡ facetRoom vs fs box eps r i
   unfolding facetRoom
@@ -120,7 +122,8 @@ module _ (vs : List Float) (fs : List ℕ) (box : AABB) (eps : Float) (r : Room)
   facet-fanned t x e f g = g ∙ sym (ap (λ (y : Bool). cond y (shareTo vs fs box eps r i 3) (fanRoom r cut)) (sym e ∙ f))
 
 -- ---- the loop over the three corners
-pub record Sharing (vs : List Float) (fs : List ℕ) (box : AABB) (eps : Float) (at : Counts) (i : ℕ) (ids₀ : List ℕ) (ov : List Float) (of ids : List ℕ) (outv : List Float) (outf : List ℕ) (to : Counts) (j : ℕ) : Type 0 where
+pub record Sharing (vs : List Float) (fs : List ℕ) (box : AABB) (eps : Float) (at : Counts) (i : ℕ) (ids₀ : List ℕ) (ov : List Float) (of ids : List ℕ) (outv : List Float)
+    (outf : List ℕ) (to : Counts) (j : ℕ) : Type 0 where
   pub few : j ≤ 3
   pub shown : room to ids outv outf ≡ shareTo vs fs box eps (room at ids₀ ov of) i j
   pub low : Low (room to ids outv outf)
@@ -137,15 +140,15 @@ module _ (vs : List Float) (fs : List ℕ) (box : AABB) (eps : Float) (at : Coun
 
   pub sharing-more : (ids : List ℕ) (v : List Float) (f : List ℕ) (to : Counts) (j : ℕ) → Sharing vs fs box eps at i ids₀ ov of ids v f to j → j < 3
       → (ids' : List ℕ) (v' : List Float) (f' : List ℕ) (r : Counts)
-      → room r ids' v' f' ≡ shareRoom (room to ids v f) (getD fs (3 * i + j) 0) (snapped box eps (cornerAt vs (getD fs (3 * i + j) 0)))
+      → room r ids' v' f' ≡ shareRoom (room to ids v f) (getD fs (3 * i + j) 0) (snapped box eps (vertexOf vs (getD fs (3 * i + j) 0)))
       → length ids' ≡ length ids → length v' ≡ length v → length f' ≡ length f
       → Sharing vs fs box eps at i ids₀ ov of ids' v' f' r (j + 1)
   unfolding shareTo
   sharing-more ids v f to j s h ids' v' f' r e a b c =
-      let n = after (room to ids v f) (room r ids' v' f') (getD fs (3 * i + j) 0) (snapped box eps (cornerAt vs (getD fs (3 * i + j) 0))) e (s .low) in
+      let n = after (room to ids v f) (room r ids' v' f') (getD fs (3 * i + j) 0) (snapped box eps (vertexOf vs (getD fs (3 * i + j) 0))) e (s .low) in
       record {
         few = omega arith;
-        shown = e ∙ ap (λ (x : Room). shareRoom x (getD fs (3 * i + j) 0) (snapped box eps (cornerAt vs (getD fs (3 * i + j) 0)))) (s .shown)
+        shown = e ∙ ap (λ (x : Room). shareRoom x (getD fs (3 * i + j) 0) (snapped box eps (vertexOf vs (getD fs (3 * i + j) 0)))) (s .shown)
             ∙ ap (λ (k : ℕ). shareTo vs fs box eps (room at ids₀ ov of) i k) (sym (add-one j));
         low = n .low;
         nv = omega (arith, n .nv, s .nv);
@@ -175,7 +178,7 @@ to-low : (vs : List Float) (fs : List ℕ) (box : AABB) (eps : Float) (r : Room)
 unfolding shareTo
 to-low vs fs box eps r i l zero = l
 to-low vs fs box eps r i l (suc j) =
-    share-low (shareTo vs fs box eps r i j) (getD fs (3 * i + j) 0) (snapped box eps (cornerAt vs (getD fs (3 * i + j) 0))) (to-low vs fs box eps r i l j)
+    share-low (shareTo vs fs box eps r i j) (getD fs (3 * i + j) 0) (snapped box eps (vertexOf vs (getD fs (3 * i + j) 0))) (to-low vs fs box eps r i l j)
 
 pub facet-low : (vs : List Float) (fs : List ℕ) (box : AABB) (eps : Float) (r : Room) (i : ℕ) → Low r → Low (facetRoom vs fs box eps r i)
 unfolding facetRoom

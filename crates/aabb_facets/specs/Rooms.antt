@@ -1,26 +1,27 @@
 -- What the inner functions do to the lists lent to them, step by step: counts, and the contents of three lists. Contracts of inner functions cite
 -- this; the product promises nothing by it. `sets old i new` stores new from the place i on, as far as there is room. Assumes nothing.
 --   Room, room        counts and contents                   grow          more vertices and more facet numbers
---   mark, marks       the word of a vertex, and of all      marked        a vertex inside
+--   link              0, or 1 more than the number that a vertex is shared by
+--   mark, word, words the word of a vertex, and of all      marked        a vertex inside
 --   shareRoom, shareTo, fanRoom, facetRoom   what a shared corner, a facet's first corners, a fan and a facet do
 --   shows             the room that shows what was made     Ran           what a whole pass does
 use Prim.Native.Nat.{ℕ, zero, suc, _+_, _*_, _-_, _≤_}
 use mathlib.Core.Path.{_≡_}
 use mathlib.Core.Bool.{Bool, cond, not, _&&_}
-use mathlib.Core.List.{List, [], _∷_}
+use mathlib.Core.List.{List, [], _∷_, map}
 use lib.Dec.{ltb, eqb}
 use lib.Seq.{sets}
-use lib.ListN.{getD, set, length, replicate}
+use lib.ListN.{getD, set, length}
 use lib.Ieee.{Float}
+use Rattle.lists.specs.Lists.{upTo}
 use Rattle.geometry.specs.declared.point.Point.{Point}
 use Rattle.geometry.specs.declared.aabb.AABB.{AABB}
 use Rattle.geometry.specs.Boxes.{faces}
 use Rattle.geometry.specs.Triangles.{flat}
-use Rattle.geometry.specs.Meshes.{Mesh, coordinates, Named}
+use Rattle.geometry.specs.Meshes.{Mesh, coordinates, vertexOf}
 use Rattle.aabb_polygons.specs.Polygons.{snapped, clipPolygon}
-use Rattle.aabb_polygons.specs.Steps.{cornerAt}
 use Rattle.aabb_facets.specs.declared.facets.Counts.{Counts}
-use Rattle.aabb_facets.specs.Clipped.{Made, insideBox, fan}
+use Rattle.aabb_facets.specs.Clipped.{Clipping, insideBox, fan}
 
 pub record Room : Type 0 where
   pub nv : ℕ
@@ -66,42 +67,47 @@ module _ (vs : List Float) (fs : List ℕ) (box : AABB) (eps : Float) where
   -- the first j corners of the facet i shared
   unfoldable pub shareTo : Room → ℕ → ℕ → Room
   shareTo r i zero = r
-  shareTo r i (suc j) = shareRoom (shareTo r i j) (getD fs (3 * i + j) 0) (snapped box eps (cornerAt vs (getD fs (3 * i + j) 0)))
+  shareTo r i (suc j) = shareRoom (shareTo r i j) (getD fs (3 * i + j) 0) (snapped box eps (vertexOf vs (getD fs (3 * i + j) 0)))
 
   unfoldable pub facetRoom : Room → ℕ → Room
   facetRoom r i =
       cond (marked (r .ids) (getD fs (3 * i) 0) && (marked (r .ids) (getD fs (3 * i + 1) 0) && marked (r .ids) (getD fs (3 * i + 2) 0)))
       (shareTo r i 3)
-      (fanRoom r (clipPolygon box eps faces (cornerAt vs (getD fs (3 * i) 0) ∷ cornerAt vs (getD fs (3 * i + 1) 0) ∷ cornerAt vs (getD fs (3 * i + 2) 0) ∷ [])))
+      (fanRoom r (clipPolygon box eps faces (vertexOf vs (getD fs (3 * i) 0) ∷ vertexOf vs (getD fs (3 * i + 1) 0) ∷ vertexOf vs (getD fs (3 * i + 2) 0) ∷ [])))
+
+unfoldable pub link : List (ℕ × ℕ) → ℕ → ℕ
+link [] v = 0
+link (s ∷ l) v = cond (eqb v (s .0)) (s .1 + 1) (link l v)
 
 module _ (vs : List Float) (box : AABB) (eps : Float) where
-  -- the words of the vertices from k on
-  unfoldable pub marks : ℕ → List ℕ → List ℕ
-  marks k [] = []
-  marks k (s ∷ ss) = mark (insideBox box eps (cornerAt vs k)) s ∷ marks (suc k) ss
+  abbrev pub word : List (ℕ × ℕ) → ℕ → ℕ
+  word shared v = mark (insideBox box eps (vertexOf vs v)) (link shared v)
 
-  -- new vertices and facet numbers, over old contents
-  abbrev pub showsNamed : Named → List ℕ → List Float → List ℕ → Room
-  showsNamed n ks ov of =
+  -- of n vertices, as shared so far
+  abbrev pub words : ℕ → List (ℕ × ℕ) → List ℕ
+  words n shared = map (word shared) (upTo n)
+
+  -- new vertices, facet numbers and words, over old contents
+  abbrev pub showsAs : ℕ → List Point → List ℕ → List (ℕ × ℕ) → List Float → List ℕ → Room
+  showsAs n ps ks shared ov of =
       record {
-        nv = length (n .points);
+        nv = length ps;
         nf = length ks;
-        ids = marks 0 (n .given);
-        vs = sets ov 0 (coordinates (n .points));
+        ids = words n shared;
+        vs = sets ov 0 (coordinates ps);
         fs = sets of 0 ks;
       }
 
-  abbrev pub shows : Made → List Float → List ℕ → Room
-  shows m ov of = showsNamed (m .named) (flat (m .facets)) ov of
+  abbrev pub shows : ℕ → Clipping → List Float → List ℕ → Room
+  shows n c ov of = showsAs n (c .points) (flat (c .facets)) (c .shared) ov of
 
 -- no word is beyond the vertices made
 abbrev pub Low : Room → Type 0
 Low r = (w : ℕ) → getD (r .ids) w 0 ≤ r .nv + 1
 
--- a whole pass: the counts, the outputs as far as there is room, and the words zero
-pub record Ran (m : Mesh) (r : Counts) (v v' : List Float) (f f' w w' : List ℕ) : Type 0 where
+-- a whole pass: the counts, and the outputs as far as there is room
+pub record Ran (m : Mesh) (r : Counts) (v v' : List Float) (f f' : List ℕ) : Type 0 where
   pub count : r .vertices ≡ length (m .points)
   pub numbers : r .numbers ≡ length (flat (m .facets))
   pub vertices : v' ≡ sets v 0 (coordinates (m .points))
   pub facets : f' ≡ sets f 0 (flat (m .facets))
-  pub zero : w' ≡ replicate (length w) 0

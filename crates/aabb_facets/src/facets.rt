@@ -4,17 +4,20 @@ ghost use mathlib.Core.List.{List, [], _∷_};
 ghost use Prim.Native.Nat.{ℕ, _+_, _*_, _<_, _≤_};
 ghost use lib.ListN.{length, getD};
 ghost use Rattle.geometry.specs.Boxes.{faces};
+ghost use Rattle.geometry.specs.Meshes.{vertexOf};
 ghost use Rattle.aabb_polygons.specs.Polygons.{snapped, clipPolygon};
-ghost use Rattle.aabb_polygons.specs.Steps.{cornerAt, corners};
+ghost use Rattle.aabb_polygons.specs.Steps.{corners};
 ghost use Rattle.aabb_facets.specs.Rooms.{room, shareRoom, shareTo, fanRoom, facetRoom};
 use crate::marks::all_marked;
 use crate::outputs::push_vertex;
 use crate::outputs::put_corners;
 use crate::outputs::put_fan;
-use aabb_polygons::corners::vertex_at;
 use aabb_polygons::polygon::clip_polygon;
 use aabb_polygons::snapping::snap_near_bbox;
 use geometry::aabb::AABB;
+use geometry::numbers::MeshVertexId;
+use geometry::vertices::corner_at;
+use geometry::vertices::vertex_at;
 use words::put_number;
 
 // How many vertices and how many facet numbers have been made.
@@ -26,7 +29,7 @@ pub struct Counts {
 // A corner of a facet that is inside: its shared vertex, made at first use.
 fn share_vertex(
     vertices: &[f64],
-    v: usize,
+    v: MeshVertexId,
     extents: AABB,
     eps: f64,
     ids: &mut [u64],
@@ -34,12 +37,13 @@ fn share_vertex(
     out_facets: &mut [u32],
     at: Counts,
 ) -> Counts
-    requires { ⌜ (v < length (now ids)) × ((3 * v + 2 < length (now vertices)) × ((getD (now ids) v 0 ≤ at .vertices + 1) × ((at .vertices < 4294967000) × (at .numbers < 4294967296)))) ⌝ }
-    ensures { λ r. ⌜ room r (now (ids .exit)) (now («out_vertices» .exit)) (now («out_facets» .exit)) ≡ shareRoom (room at (now (ids .entry)) (now («out_vertices» .entry)) (now («out_facets» .entry))) v (snapped extents eps (cornerAt (now (vertices .entry)) v)) ⌝ }
+    requires { ⌜ (v .0 < length (now ids)) × ((3 * v .0 + 2 < length (now vertices)) × ((getD (now ids) (v .0) 0 ≤ at .vertices + 1) × ((at .vertices < 4294967000) × (at .numbers < 4294967296)))) ⌝ }
+    ensures { λ r. ⌜ room r (now (ids .exit)) (now («out_vertices» .exit)) (now («out_facets» .exit)) ≡ shareRoom (room at (now (ids .entry)) (now («out_vertices» .entry)) (now («out_facets» .entry))) (v .0) (snapped extents eps (vertexOf (now (vertices .entry)) (v .0))) ⌝ }
 {
     let nv = at.vertices;
     let nf = at.numbers;
-    let k = ids[v];
+    let i = v.0;
+    let k = ids[i];
     if k <= 1 {
         push_vertex(
             out_vertices,
@@ -47,7 +51,7 @@ fn share_vertex(
             snap_near_bbox(vertex_at(vertices, v), extents, eps),
         );
         put_number(out_facets, nf, nv as u32);
-        ids[v] = (nv + 2) as u64;
+        ids[i] = (nv + 2) as u64;
         return Counts {
             vertices: nv + 1,
             numbers: nf + 1,
@@ -84,7 +88,7 @@ fn share_facet(
     while j < 3 {
         to = share_vertex(
             vertices,
-            facets[3 * i + j] as usize,
+            corner_at(facets, 3 * i + j),
             extents,
             eps,
             ids,
@@ -125,9 +129,9 @@ fn put_fanned(
 // A facet that is not wholly inside.
 fn cut_facet(
     vertices: &[f64],
-    a: usize,
-    b: usize,
-    c: usize,
+    a: MeshVertexId,
+    b: MeshVertexId,
+    c: MeshVertexId,
     extents: AABB,
     eps: f64,
     polygon: &mut [f64],
@@ -137,9 +141,9 @@ fn cut_facet(
     at: Counts,
 ) -> Counts
     requires { ⌜ (84 ≤ length (now polygon)) × (84 ≤ length (now spare)) ⌝ }
-    requires { ⌜ (3 * a + 2 < length (now vertices)) × ((3 * b + 2 < length (now vertices)) × (3 * c + 2 < length (now vertices))) ⌝ }
+    requires { ⌜ (3 * a .0 + 2 < length (now vertices)) × ((3 * b .0 + 2 < length (now vertices)) × (3 * c .0 + 2 < length (now vertices))) ⌝ }
     requires { ⌜ (at .vertices < 4200000000) × (at .numbers < 4200000000) ⌝ }
-    ensures { λ r. ⌜ ((i : List ℕ) → room r i (now («out_vertices» .exit)) (now («out_facets» .exit)) ≡ fanRoom (room at i (now («out_vertices» .entry)) (now («out_facets» .entry))) (clipPolygon extents eps faces (cornerAt (now (vertices .entry)) a ∷ cornerAt (now (vertices .entry)) b ∷ cornerAt (now (vertices .entry)) c ∷ []))) ⌝ }
+    ensures { λ r. ⌜ ((i : List ℕ) → room r i (now («out_vertices» .exit)) (now («out_facets» .exit)) ≡ fanRoom (room at i (now («out_vertices» .entry)) (now («out_facets» .entry))) (clipPolygon extents eps faces (vertexOf (now (vertices .entry)) (a .0) ∷ vertexOf (now (vertices .entry)) (b .0) ∷ vertexOf (now (vertices .entry)) (c .0) ∷ []))) ⌝ }
     ensures { λ r. ⌜ (r .vertices ≤ at .vertices + 28) × (r .numbers ≤ at .numbers + 78) ⌝ }
 {
     let p = vertex_at(vertices, a);
@@ -171,9 +175,9 @@ pub fn clip_facet(
     ensures { λ r. ⌜ room r (now (ids .exit)) (now («out_vertices» .exit)) (now («out_facets» .exit)) ≡ facetRoom (now (vertices .entry)) (now (facets .entry)) extents eps (room at (now (ids .entry)) (now («out_vertices» .entry)) (now («out_facets» .entry))) i ⌝ }
     ensures { λ r. ⌜ (r .vertices ≤ at .vertices + 28) × (r .numbers ≤ at .numbers + 78) ⌝ }
 {
-    let a = facets[3 * i] as usize;
-    let b = facets[3 * i + 1] as usize;
-    let c = facets[3 * i + 2] as usize;
+    let a = corner_at(facets, 3 * i);
+    let b = corner_at(facets, 3 * i + 1);
+    let c = corner_at(facets, 3 * i + 2);
     if all_marked(ids, a, b, c) {
         return share_facet(
             vertices,

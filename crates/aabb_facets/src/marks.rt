@@ -1,14 +1,19 @@
 // One word of work room for each vertex: 0 outside the box; 1 inside; 2 + k inside, and shared as the new vertex k.
 ghost use mathlib.Core.Path.{_≡_};
+ghost use mathlib.Core.List.{[]};
 ghost use mathlib.Core.Bool.{_&&_};
 ghost use Prim.Native.Nat.{_*_, _<_, _≤_};
-ghost use lib.ListN.{length, replicate};
+ghost use lib.ListN.{length};
+ghost use Rattle.lists.specs.Lists.{every};
+ghost use Rattle.geometry.specs.Meshes.{pointsOf};
 ghost use Rattle.aabb_facets.specs.Clipped.{insideBox};
-ghost use Rattle.aabb_facets.specs.Rooms.{mark, marks, marked};
-use aabb_polygons::corners::vertex_at;
+ghost use Rattle.aabb_facets.specs.Rooms.{mark, marked, words};
 use aabb_polygons::plane::point_inside_aabb;
 use geometry::aabb::AABB;
+use geometry::numbers::MeshVertexId;
 use geometry::point::Point;
+use geometry::vertices::point_at;
+use geometry::vertices::vertex_at;
 
 fn mark_of(p: Point, extents: AABB, eps: f64) -> u64
     ensures { λ r. ⌜ r ≡ mark (insideBox extents eps p) 0 ⌝ }
@@ -22,24 +27,42 @@ fn mark_of(p: Point, extents: AABB, eps: f64) -> u64
 
 pub fn mark_all(vertices: &[f64], extents: AABB, eps: f64, ids: &mut [u64])
     requires { ⌜ 3 * length (now ids) ≤ length (now vertices) ⌝ }
-    ensures { λ _. ⌜ now (ids .exit) ≡ marks (now (vertices .entry)) extents eps 0 (replicate (length (now (ids .entry))) 0) ⌝ }
+    ensures { λ _. ⌜ now (ids .exit) ≡ words (now (vertices .entry)) extents eps (length (now (ids .entry))) [] ⌝ }
 {
     let mut v = 0;
     while v < ids.len() {
-        ids[v] = mark_of(vertex_at(vertices, v), extents, eps);
+        ids[v] = mark_of(vertex_at(vertices, MeshVertexId(v)), extents, eps);
         v += 1;
     }
 }
 
-pub fn all_marked(ids: &[u64], a: usize, b: usize, c: usize) -> bool
-    requires { ⌜ (a < length (now ids)) × ((b < length (now ids)) × (c < length (now ids))) ⌝ }
-    ensures { λ r. ⌜ r ≡ (marked (now (ids .entry)) a && (marked (now (ids .entry)) b && marked (now (ids .entry)) c)) ⌝ }
+pub fn all_marked(ids: &[u64], a: MeshVertexId, b: MeshVertexId, c: MeshVertexId) -> bool
+    requires { ⌜ (a .0 < length (now ids)) × ((b .0 < length (now ids)) × (c .0 < length (now ids))) ⌝ }
+    ensures { λ r. ⌜ r ≡ (marked (now (ids .entry)) (a .0) && (marked (now (ids .entry)) (b .0) && marked (now (ids .entry)) (c .0))) ⌝ }
 {
-    if ids[a] == 0 {
+    let i = a.0;
+    if ids[i] == 0 {
         return false;
     }
-    if ids[b] == 0 {
+    let j = b.0;
+    if ids[j] == 0 {
         return false;
     }
-    ids[c] != 0
+    let k = c.0;
+    ids[k] != 0
+}
+
+// No vertex is outside, so no facet is cut.
+pub fn wholly_inside(vertices: &[f64], extents: AABB, eps: f64) -> bool
+    ensures { λ r. ⌜ r ≡ every (insideBox extents eps) (pointsOf (now (vertices .entry))) ⌝ }
+{
+    let n = vertices.len() / 3;
+    let mut k = 0;
+    while k < n {
+        if !point_inside_aabb(point_at(vertices, k), extents, eps) {
+            return false;
+        }
+        k += 1;
+    }
+    true
 }

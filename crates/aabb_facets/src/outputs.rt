@@ -8,8 +8,8 @@ ghost use Rattle.geometry.specs.Meshes.{coordinates};
 ghost use Rattle.geometry.specs.Triangles.{flat};
 ghost use Rattle.aabb_polygons.specs.Steps.{corners};
 ghost use Rattle.aabb_facets.specs.Clipped.{fan};
-use aabb_polygons::corners::vertex_at;
 use geometry::point::Point;
+use geometry::vertices::point_at;
 use words::put_double;
 use words::put_number;
 
@@ -31,7 +31,7 @@ pub fn put_corners(out: &mut [f64], k: usize, polygon: &[f64], n: usize)
 {
     let mut j = 0;
     while j < n {
-        push_vertex(out, k + j, vertex_at(polygon, j));
+        push_vertex(out, k + j, point_at(polygon, j));
         j += 1;
     }
 }

@@ -1,17 +1,17 @@
 // One pass over the facets: it counts, and writes as far as the outputs have room.
 ghost use mathlib.Core.Path.{_≡_};
-ghost use mathlib.Core.Bool.{true, false};
-ghost use Prim.Native.Nat.{_/_, _≤_};
-ghost use lib.ListN.{length, replicate};
+ghost use mathlib.Core.Bool.{false};
+ghost use mathlib.Core.List.{[]};
+ghost use Prim.Native.Nat.{_*_, _/_, _≤_};
+ghost use lib.ListN.{length};
 ghost use Rattle.refusals.specs.Front.{badIndex};
 ghost use Rattle.geometry.specs.Meshes.{meshOf};
-ghost use Rattle.aabb_facets.specs.Clipped.{made, clipped};
-ghost use Rattle.aabb_facets.specs.Rooms.{room, marks, shows, Ran};
+ghost use Rattle.aabb_facets.specs.Clipped.{clipFacets, clipped};
+ghost use Rattle.aabb_facets.specs.Rooms.{room, words, shows, Ran};
 use crate::facets::Counts;
 use crate::facets::clip_facet;
 use crate::marks::mark_all;
 use geometry::aabb::AABB;
-use words::zero;
 
 fn clip_pass(
     vertices: &[f64],
@@ -24,9 +24,9 @@ fn clip_pass(
 ) -> Counts
     requires { ⌜ (length (now vertices) / 3 ≤ 65536) × (length (now facets) / 3 ≤ 65536) ⌝ }
     requires { ⌜ badIndex (length (now vertices) / 3) (now facets) ≡ false ⌝ }
-    requires { ⌜ now ids ≡ marks (now vertices) extents eps 0 (replicate (length (now vertices) / 3) 0) ⌝ }
-    ensures { λ r. ⌜ room r (now (ids .exit)) (now («out_vertices» .exit)) (now («out_facets» .exit)) ≡ shows (now (vertices .entry)) extents eps (made extents eps (meshOf (now (vertices .entry)) (now (facets .entry)))) (now («out_vertices» .entry)) (now («out_facets» .entry)) ⌝ }
-    ensures { λ r. ⌜ (r .vertices ≤ 1835008) × (r .numbers ≤ 5111808) ⌝ }
+    requires { ⌜ now ids ≡ words (now vertices) extents eps (length (now vertices) / 3) [] ⌝ }
+    ensures { λ r. ⌜ room r (now (ids .exit)) (now («out_vertices» .exit)) (now («out_facets» .exit)) ≡ shows (now (vertices .entry)) extents eps (length (now (vertices .entry)) / 3) (clipFacets extents eps (meshOf (now (vertices .entry)) (now (facets .entry)))) (now («out_vertices» .entry)) (now («out_facets» .entry)) ⌝ }
+    ensures { λ r. ⌜ (r .vertices ≤ 28 * (length (now (facets .entry)) / 3)) × (r .numbers ≤ 78 * (length (now (facets .entry)) / 3)) ⌝ }
 {
     let n = facets.len() / 3;
     let mut polygon = [0.0; 84];
@@ -55,7 +55,7 @@ fn clip_pass(
     at
 }
 
-// The same with words of work room that are zero afterwards.
+// The same with words of work room whatever they hold.
 pub fn run_pass(
     vertices: &[f64],
     facets: &[u32],
@@ -68,11 +68,11 @@ pub fn run_pass(
     requires { ⌜ (length (now vertices) / 3 ≤ 65536) × (length (now facets) / 3 ≤ 65536) ⌝ }
     requires { ⌜ badIndex (length (now vertices) / 3) (now facets) ≡ false ⌝ }
     requires { ⌜ length (now ids) ≡ length (now vertices) / 3 ⌝ }
-    ensures { λ r. ⌜ Ran (clipped extents eps (meshOf (now (vertices .entry)) (now (facets .entry)))) r (now («out_vertices» .entry)) (now («out_vertices» .exit)) (now («out_facets» .entry)) (now («out_facets» .exit)) (now (ids .entry)) (now (ids .exit)) ⌝ }
-    ensures { λ r. ⌜ (r .vertices ≤ 1835008) × (r .numbers ≤ 5111808) ⌝ }
+    ensures { λ r. ⌜ Ran (clipped extents eps (meshOf (now (vertices .entry)) (now (facets .entry)))) r (now («out_vertices» .entry)) (now («out_vertices» .exit)) (now («out_facets» .entry)) (now («out_facets» .exit)) ⌝ }
+    ensures { λ r. ⌜ (r .vertices ≤ 28 * (length (now (facets .entry)) / 3)) × (r .numbers ≤ 78 * (length (now (facets .entry)) / 3)) ⌝ }
 {
     mark_all(vertices, extents, eps, ids);
-    let r = clip_pass(
+    clip_pass(
         vertices,
         facets,
         extents,
@@ -80,7 +80,5 @@ pub fn run_pass(
         ids,
         out_vertices,
         out_facets,
-    );
-    zero(ids);
-    r
+    )
 }

@@ -50,7 +50,8 @@ parts-short false false x q h = omega arith
 module _ (k : ℕ) (box : AABB) (eps : Float) where
   side-short : (prev curr : Point) → 2 * length (sideUnsnapped box eps k prev curr) + outside (inside box eps k curr) ≤ 3 + outside (inside box eps k prev)
   unfolding sideUnsnapped
-  side-short prev curr = parts-short (inside box eps k curr) (inside box eps k prev) _ _ (crossed-short (crossing eps (plane box k) (along prev (axis k)) (along curr (axis k))) prev curr k box eps)
+  side-short prev curr = parts-short (inside box eps k curr) (inside box eps k prev) _ _
+      (crossed-short (crossing eps (plane box k) (along prev (axis k)) (along curr (axis k))) prev curr k box eps)
 
   walk-short : (prev : Point) (l : List Point)
       → 2 * length (walkUnsnapped box eps k prev l) + outside (inside box eps k (lastOf prev l)) ≤ 3 * length l + outside (inside box eps k prev)
@@ -97,12 +98,14 @@ module _ (box : AABB) (eps : Float) where
   module _ (k : ℕ) where
     side-snapped : (prev curr : Point) → map (snapped box eps) (sideUnsnapped box eps k prev curr) ≡ sideClipped box eps k prev curr
     unfolding sideUnsnapped sideClipped
-    side-snapped prev curr = parts-snapped (Bool·beq (inside box eps k curr) (inside box eps k prev)) (inside box eps k curr) _ curr (crossed-snapped (crossing eps (plane box k) (along prev (axis k)) (along curr (axis k))) prev curr k)
+    side-snapped prev curr = parts-snapped (Bool·beq (inside box eps k curr) (inside box eps k prev)) (inside box eps k curr) _ curr
+        (crossed-snapped (crossing eps (plane box k) (along prev (axis k)) (along curr (axis k))) prev curr k)
 
     walk-snapped : (prev : Point) (l : List Point) → map (snapped box eps) (walkUnsnapped box eps k prev l) ≡ walk box eps k prev l
     unfolding walkUnsnapped walk
     walk-snapped prev [] = refl
-    walk-snapped prev (curr ∷ rest) = snap-append box eps (sideUnsnapped box eps k prev curr) (walkUnsnapped box eps k curr rest) ∙ (λ i. side-snapped prev curr i ++ walk-snapped curr rest i)
+    walk-snapped prev (curr ∷ rest) = snap-append box eps (sideUnsnapped box eps k prev curr) (walkUnsnapped box eps k curr rest)
+        ∙ (λ i. side-snapped prev curr i ++ walk-snapped curr rest i)
 
     -- the first plane
     pub unsnapped-snapped : (l : List Point) → map (snapped box eps) (clipUnsnapped box eps k l) ≡ clipToPlane box eps l k

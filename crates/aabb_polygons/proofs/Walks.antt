@@ -17,7 +17,8 @@ use Rattle.geometry.specs.declared.aabb.AABB.{AABB}
 use Rattle.geometry.specs.Points.{origin}
 use Rattle.geometry.specs.Boxes.{faces}
 use Rattle.aabb_polygons.specs.Polygons.{inside, snapped, clipToPlane, clipPolygon}
-use Rattle.aabb_polygons.specs.Steps.{cornerAt, points, corners, sideCrossed, sideUnsnapped, walkUnsnapped, clipUnsnapped}
+use Rattle.geometry.specs.Meshes.{vertexOf}
+use Rattle.aabb_polygons.specs.Steps.{points, corners, sideCrossed, sideUnsnapped, walkUnsnapped, clipUnsnapped}
 use Rattle.aabb_polygons.proofs.CornerLists.{points-length, points-at, points-cons, counted}
 use Rattle.aabb_polygons.proofs.Planes.{unsnapped-short, clip-short, clip-snapped}
 
@@ -57,13 +58,13 @@ pub record Walked (a : List Float) (n : ℕ) (k : ℕ) (box : AABB) (eps : Float
   pub rest : corners out r ++ walkUnsnapped box eps k prev (points a i (n - i)) ≡ clipUnsnapped box eps k (corners a n)
 
 module _ (a : List Float) (n : ℕ) (some : 0 < n) (few : n ≤ 19) (k : ℕ) (box : AABB) (eps : Float) where
-  last-one : getD (corners a n) (length (corners a n) - 1) origin ≡ cornerAt a (n - 1)
+  last-one : getD (corners a n) (length (corners a n) - 1) origin ≡ vertexOf a (n - 1)
   last-one =
       let e : length (corners a n) - 1 ≡ n - 1 = omega (arith, points-length a 0 n) in
       let f : 0 + (n - 1) ≡ n - 1 = omega arith in
-      ap (λ (j : ℕ). getD (corners a n) j origin) e ∙ points-at a 0 n (n - 1) origin (omega arith) ∙ ap (cornerAt a) f
+      ap (λ (j : ℕ). getD (corners a n) j origin) e ∙ points-at a 0 n (n - 1) origin (omega arith) ∙ ap (vertexOf a) f
 
-  pub walked-start : (out : List Float) (prev : Point) → prev ≡ cornerAt a (n - 1) → Walked a n k box eps out 0 prev 0
+  pub walked-start : (out : List Float) (prev : Point) → prev ≡ vertexOf a (n - 1) → Walked a n k box eps out 0 prev 0
   unfolding clipUnsnapped points
   walked-start out prev h =
       let e : n - 0 ≡ n = omega arith in
@@ -78,7 +79,7 @@ module _ (a : List Float) (n : ℕ) (some : 0 < n) (few : n ≤ 19) (k : ℕ) (b
         let e : n - i ≡ 0 = omega arith in
         sym (append-nil (corners out r)) ∙ ap (λ (m : ℕ). corners out r ++ walkUnsnapped box eps k prev (points a i m)) (sym e) ∙ w .rest
 
-    module _ (curr : Point) (hc : curr ≡ cornerAt a i) (h : i < n) where
+    module _ (curr : Point) (hc : curr ≡ vertexOf a i) (h : i < n) where
       one-side : walkUnsnapped box eps k prev (points a i (n - i)) ≡ sideUnsnapped box eps k prev curr ++ walkUnsnapped box eps k curr (points a (i + 1) (n - (i + 1)))
       unfolding walkUnsnapped
       one-side =

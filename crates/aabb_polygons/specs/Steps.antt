@@ -1,26 +1,24 @@
 -- What the inner functions do, step by step: polygons in a lent list of coordinates, and clipping that leaves the corners that stay unsnapped.
 -- Contracts of inner functions cite this; the product promises nothing by it. Assumes nothing.
---   cornerAt        the point of three coordinates            points, corners   n points of a list of coordinates
+--   points, corners n points of a list of coordinates
 --   sideCrossed     the corner where a side crosses
 --   sideUnsnapped, walkUnsnapped, clipUnsnapped   as sideClipped, walk, clipToPlane, but a corner that stays is left as it is
-use Prim.Native.Nat.{ℕ, zero, suc, _+_, _*_, _-_}
+use Prim.Native.Nat.{ℕ, zero, suc, _-_}
 use mathlib.Core.Bool.{cond, Bool·beq}
 use mathlib.Core.List.{List, [], _∷_, _++_}
 use lib.ListN.{getD, length}
-use lib.Ieee.{Float, nan}
+use lib.Ieee.{Float}
 use Rattle.geometry.specs.declared.point.Point.{Point}
 use Rattle.geometry.specs.declared.aabb.AABB.{AABB}
-use Rattle.geometry.specs.Points.{pt, origin, along}
+use Rattle.geometry.specs.Points.{origin, along}
 use Rattle.geometry.specs.Boxes.{axis, plane}
+use Rattle.geometry.specs.Meshes.{vertexOf}
 use Rattle.aabb_polygons.specs.Polygons.{inside, crossing, crossed}
-
-abbrev pub cornerAt : List Float → ℕ → Point
-cornerAt l v = pt (getD l (3 * v) nan) (getD l (3 * v + 1) nan) (getD l (3 * v + 2) nan)
 
 -- n points from the point k on
 unfoldable pub points : List Float → ℕ → ℕ → List Point
 points l k zero = []
-points l k (suc n) = cornerAt l k ∷ points l (suc k) n
+points l k (suc n) = vertexOf l k ∷ points l (suc k) n
 
 abbrev pub corners : List Float → ℕ → List Point
 corners l n = points l 0 n

@@ -3,35 +3,24 @@
 ghost use mathlib.Core.Path.{_≡_};
 ghost use mathlib.Core.Bool.{not};
 ghost use mathlib.Core.List.{[], _∷_, _++_, map};
-ghost use Prim.Native.Nat.{_+_, _*_, _<_, _≤_};
+ghost use Prim.Native.Nat.{_+_, _<_, _≤_};
 ghost use lib.ListN.{length};
 ghost use Rattle.lists.specs.Lists.{every};
 ghost use Rattle.aabb_polygons.specs.Polygons.{faceOf, inside, snapped};
-ghost use Rattle.aabb_polygons.specs.Steps.{cornerAt, corners};
+ghost use Rattle.aabb_polygons.specs.Steps.{corners};
 use crate::plane::BoxPlane;
 use crate::plane::point_inside_plane;
 use crate::snapping::snap_near_bbox;
 use geometry::aabb::AABB;
 use geometry::point::Point;
-
-pub fn vertex_at(vertices: &[f64], v: usize) -> Point
-    requires { ⌜ 3 * v + 2 < length (now vertices) ⌝ }
-    ensures { λ r. ⌜ r ≡ cornerAt (now (vertices .entry)) v ⌝ }
-{
-    Point {
-        x: vertices[3 * v],
-        y: vertices[3 * v + 1],
-        z: vertices[3 * v + 2],
-    }
-}
+use geometry::vertices::point_at;
+use geometry::vertices::write_point;
 
 pub fn push_corner(out: &mut [f64], n: usize, p: Point)
     requires { ⌜ (n < 28) × (84 ≤ length (now out)) ⌝ }
     ensures { λ _. ⌜ corners (now (out .exit)) (n + 1) ≡ corners (now (out .entry)) n ++ (p ∷ []) ⌝ }
 {
-    out[3 * n] = p.x;
-    out[3 * n + 1] = p.y;
-    out[3 * n + 2] = p.z;
+    write_point(out, 3 * n, p);
 }
 
 pub fn put_triangle(out: &mut [f64], a: Point, b: Point, c: Point)
@@ -50,7 +39,7 @@ pub fn all_inside(polygon: &[f64], n: usize, plane: BoxPlane, extents: AABB, eps
 {
     let mut i = 0;
     while i < n {
-        if !point_inside_plane(vertex_at(polygon, i), plane, extents, eps) {
+        if !point_inside_plane(point_at(polygon, i), plane, extents, eps) {
             return false;
         }
         i += 1;
@@ -65,7 +54,7 @@ pub fn none_inside(polygon: &[f64], n: usize, plane: BoxPlane, extents: AABB, ep
 {
     let mut i = 0;
     while i < n {
-        if point_inside_plane(vertex_at(polygon, i), plane, extents, eps) {
+        if point_inside_plane(point_at(polygon, i), plane, extents, eps) {
             return false;
         }
         i += 1;
@@ -80,7 +69,7 @@ pub fn copy_corners(to: &mut [f64], from: &[f64], n: usize)
 {
     let mut i = 0;
     while i < n {
-        push_corner(to, i, vertex_at(from, i));
+        push_corner(to, i, point_at(from, i));
         i += 1;
     }
 }
@@ -92,7 +81,7 @@ pub fn snap_corners(to: &mut [f64], from: &[f64], n: usize, extents: AABB, eps: 
 {
     let mut i = 0;
     while i < n {
-        push_corner(to, i, snap_near_bbox(vertex_at(from, i), extents, eps));
+        push_corner(to, i, snap_near_bbox(point_at(from, i), extents, eps));
         i += 1;
     }
 }

@@ -16,7 +16,6 @@ use crate::corners::none_inside;
 use crate::corners::push_corner;
 use crate::corners::put_triangle;
 use crate::corners::snap_corners;
-use crate::corners::vertex_at;
 use crate::crossing::interpolate_points;
 use crate::crossing::segment_plane_t;
 use crate::plane::BoxPlane;
@@ -26,6 +25,7 @@ use crate::snapping::snap_near_bbox;
 use geometry::aabb::AABB;
 use geometry::fraction::Fraction;
 use geometry::point::Point;
+use geometry::vertices::point_at;
 
 // The crossing of a side, unless both ends are inside or both outside.
 fn add_crossing(
@@ -109,10 +109,10 @@ fn walk_sides(
     ensures { λ r. ⌜ corners (now (out .exit)) r ≡ clipUnsnapped extents eps (faceOf plane) (corners (now (polygon .entry)) n) ⌝ }
 {
     let mut k = 0;
-    let mut prev = vertex_at(polygon, n - 1);
+    let mut prev = point_at(polygon, n - 1);
     let mut i = 0;
     while i < n {
-        let curr = vertex_at(polygon, i);
+        let curr = point_at(polygon, i);
         k = add_side(out, k, prev, curr, plane, extents, eps);
         prev = curr;
         i += 1;

@@ -2,7 +2,7 @@
 --   Mesh, meshOf           vertices as points, facets as triangles of vertex numbers; from the flat lists handed in
 --   pointsOf, coordinates  flat coordinates to points, and back
 --   meshLengths            of a mesh as flat lists: coordinates and vertex numbers
---   vertex                 the point of vertex v
+--   vertex, vertexOf       the point of vertex v, of a list of points and of a list of coordinates
 --   Named, enter           numbers given out by first use: clipping, cleaning and closing all number vertices so
 use Prim.Native.Nat.{ℕ, _+_, _-_}
 use mathlib.Core.Bool.{cond}
@@ -33,6 +33,9 @@ meshLengths m = length (coordinates (m .points)) ∷ length (flat (m .facets)) �
 
 abbrev pub vertex : List Point → ℕ → Point
 vertex l v = getD l v origin
+
+abbrev pub vertexOf : List Float → ℕ → Point
+vertexOf vs v = vertex (pointsOf vs) v
 
 -- of each old number 1 more than its new one, or 0 while it has none; and the vertices numbered so far
 pub record Named : Type 0 where

@@ -24,7 +24,10 @@ enum-told : tie.Need-enum-told
 enum-told c = search needs
 
 returns : tie.Need-returns
-returns c = let s = c .before .before .before .before .before in lists-refused (s .args .vertices .now) (s .args .facets .now) (s .args .extents) (s .args .eps) (s .args .lent) _ _ (c .before .before .check-lists .ensures) (c .enum-told .given .1)
+returns c =
+    let check-lists = c .before .before .check-lists in
+    let s = c .before .before .before .before .before in
+    lists-refused (s .args .vertices .now) (s .args .facets .now) (s .args .extents) (s .args .eps) (s .args .lent) _ _ (check-lists .ensures) (c .enum-told .given .1)
 
 enum-told-2 : tie.Need-enum-told-2
 enum-told-2 c = search needs
@@ -33,34 +36,107 @@ all-in-range-requires : tie.Need-all-in-range-requires
 all-in-range-requires c κs = search needs
 
 returns-2 : tie.Need-returns-2
-returns-2 c = let s = c .before .before .before .before .before .before .before in number-refused (s .args .vertices .now) (s .args .facets .now) (s .args .extents) (s .args .eps) (s .args .lent) (sym (c .before .before .before .before .check-lists .ensures) ∙ c .before .before .enum-told2 .given .1) (ap not (and-stop _ _ (sym (c .before .all-in-range .ensures) ∙ not-true _ (c .if1 .taken))))
+returns-2 c =
+    let check-lists = c .before .before .before .before .check-lists in
+    let enum-told2 = c .before .before .enum-told2 in
+    let all-in-range = c .before .all-in-range in
+    let s = c .before .before .before .before .before .before .before in
+    number-refused (s .args .vertices .now) (s .args .facets .now) (s .args .extents) (s .args .eps) (s .args .lent) (sym (check-lists .ensures) ∙ enum-told2 .given .1)
+    (ap not (and-stop _ _ (sym (all-in-range .ensures) ∙ not-true _ (c .if1 .taken))))
 
 box-in-range-requires : tie.Need-box-in-range-requires
 box-in-range-requires c κs = search needs
 
 returns-3 : tie.Need-returns-3
-returns-3 c = let s = c .before .before .before .before .before .before .before .before .before in number-refused (s .args .vertices .now) (s .args .facets .now) (s .args .extents) (s .args .eps) (s .args .lent) (sym (c .before .before .before .before .before .before .check-lists .ensures) ∙ c .before .before .before .before .enum-told2 .given .1) (ap not (and-next _ _ _ (sym (c .before .before .before .all-in-range .ensures) ∙ not-false _ (c .before .before .if1 .left)) (and-stop _ _ (sym (c .before .box-in-range .ensures) ∙ not-true _ (c .if2 .taken)))))
+returns-3 c =
+    let check-lists = c .before .before .before .before .before .before .check-lists in
+    let enum-told2 = c .before .before .before .before .enum-told2 in
+    let all-in-range = c .before .before .before .all-in-range in
+    let if1 = c .before .before .if1 in
+    let box-in-range = c .before .box-in-range in
+    let s = c .before .before .before .before .before .before .before .before .before in
+    number-refused (s .args .vertices .now) (s .args .facets .now) (s .args .extents) (s .args .eps) (s .args .lent) (sym (check-lists .ensures) ∙ enum-told2 .given .1)
+    (ap not (and-next _ _ _ (sym (all-in-range .ensures) ∙ not-false _ (if1 .left)) (and-stop _ _ (sym (box-in-range .ensures) ∙ not-true _ (c .if2 .taken)))))
 
 eps-in-range-requires : tie.Need-eps-in-range-requires
 eps-in-range-requires c κs = search needs
 
 returns-4 : tie.Need-returns-4
-returns-4 c = let s = c .before .before .before .before .before .before .before .before .before .before .before in number-refused (s .args .vertices .now) (s .args .facets .now) (s .args .extents) (s .args .eps) (s .args .lent) (sym (c .before .before .before .before .before .before .before .before .check-lists .ensures) ∙ c .before .before .before .before .before .before .enum-told2 .given .1) (ap not (and-next _ _ _ (sym (c .before .before .before .before .before .all-in-range .ensures) ∙ not-false _ (c .before .before .before .before .if1 .left)) (and-next _ _ _ (sym (c .before .before .before .box-in-range .ensures) ∙ not-false _ (c .before .before .if2 .left)) (sym (c .before .eps-in-range .ensures) ∙ not-true _ (c .if3 .taken)))))
+returns-4 c =
+    let check-lists = c .before .before .before .before .before .before .before .before .check-lists in
+    let enum-told2 = c .before .before .before .before .before .before .enum-told2 in
+    let all-in-range = c .before .before .before .before .before .all-in-range in
+    let if1 = c .before .before .before .before .if1 in
+    let box-in-range = c .before .before .before .box-in-range in
+    let if2 = c .before .before .if2 in
+    let eps-in-range = c .before .eps-in-range in
+    let s = c .before .before .before .before .before .before .before .before .before .before .before in
+    number-refused (s .args .vertices .now) (s .args .facets .now) (s .args .extents) (s .args .eps) (s .args .lent) (sym (check-lists .ensures) ∙ enum-told2 .given .1)
+    (ap not (and-next _ _ _ (sym (all-in-range .ensures) ∙ not-false _ (if1 .left)) (and-next _ _ _ (sym (box-in-range .ensures) ∙ not-false _ (if2 .left)) (sym
+    (eps-in-range .ensures) ∙ not-true _ (c .if3 .taken)))))
 
 is-bad-box-requires : tie.Need-is-bad-box-requires
 is-bad-box-requires c κs = search needs
 
 returns-5 : tie.Need-returns-5
-returns-5 c = let s = c .before .before .before .before .before .before .before .before .before .before .before .before .before in box-refused (s .args .vertices .now) (s .args .facets .now) (s .args .extents) (s .args .eps) (s .args .lent) (sym (c .before .before .before .before .before .before .before .before .before .before .check-lists .ensures) ∙ c .before .before .before .before .before .before .before .before .enum-told2 .given .1) (ap not (and-next _ _ _ (sym (c .before .before .before .before .before .before .before .all-in-range .ensures) ∙ not-false _ (c .before .before .before .before .before .before .if1 .left)) (and-next _ _ _ (sym (c .before .before .before .before .before .box-in-range .ensures) ∙ not-false _ (c .before .before .before .before .if2 .left)) (sym (c .before .before .before .eps-in-range .ensures) ∙ not-false _ (c .before .before .if3 .left))))) (sym (c .before .is-bad-box .ensures) ∙ c .if4 .taken)
+returns-5 c =
+    let check-lists = c .before .before .before .before .before .before .before .before .before .before .check-lists in
+    let enum-told2 = c .before .before .before .before .before .before .before .before .enum-told2 in
+    let all-in-range = c .before .before .before .before .before .before .before .all-in-range in
+    let if1 = c .before .before .before .before .before .before .if1 in
+    let box-in-range = c .before .before .before .before .before .box-in-range in
+    let if2 = c .before .before .before .before .if2 in
+    let eps-in-range = c .before .before .before .eps-in-range in
+    let if3 = c .before .before .if3 in
+    let is-bad-box = c .before .is-bad-box in
+    let s = c .before .before .before .before .before .before .before .before .before .before .before .before .before in
+    box-refused (s .args .vertices .now) (s .args .facets .now) (s .args .extents) (s .args .eps) (s .args .lent) (sym (check-lists .ensures) ∙ enum-told2 .given .1) (ap
+    not (and-next _ _ _ (sym (all-in-range .ensures) ∙ not-false _ (if1 .left)) (and-next _ _ _ (sym (box-in-range .ensures) ∙ not-false _ (if2 .left)) (sym
+    (eps-in-range .ensures) ∙ not-false _ (if3 .left))))) (sym (is-bad-box .ensures) ∙ c .if4 .taken)
 
 work-need-requires : tie.Need-work-need-requires
-work-need-requires c κs = let s = c .before .before .before .before .before .before .before .before .before .before .before .before .before in let l = listed _ (s .args .vertices .now) (s .args .facets .now) _ (sym (c .before .before .before .before .before .before .before .before .before .before .check-lists .ensures) ∙ c .before .before .before .before .before .before .before .before .enum-told2 .given .1) in omega (arith, l .few-vertices, l .few-facets)
+work-need-requires c κs =
+    let check-lists = c .before .before .before .before .before .before .before .before .before .before .check-lists in
+    let enum-told2 = c .before .before .before .before .before .before .before .before .enum-told2 in
+    let s = c .before .before .before .before .before .before .before .before .before .before .before .before .before in
+    let l = listed _ (s .args .vertices .now) (s .args .facets .now) _ (sym (check-lists .ensures) ∙ enum-told2 .given .1) in
+    omega (arith, l .few-vertices, l .few-facets)
 
 returns-6 : tie.Need-returns-6
-returns-6 c = let s = c .before .before .before .before .before .before .before .before .before .before .before .before .before .before .before in room-refused (s .args .vertices .now) (s .args .facets .now) (s .args .extents) (s .args .eps) (s .args .lent) (sym (c .before .before .before .before .before .before .before .before .before .before .before .before .check-lists .ensures) ∙ c .before .before .before .before .before .before .before .before .before .before .enum-told2 .given .1) (ap not (and-next _ _ _ (sym (c .before .before .before .before .before .before .before .before .before .all-in-range .ensures) ∙ not-false _ (c .before .before .before .before .before .before .before .before .if1 .left)) (and-next _ _ _ (sym (c .before .before .before .before .before .before .before .box-in-range .ensures) ∙ not-false _ (c .before .before .before .before .before .before .if2 .left)) (sym (c .before .before .before .before .before .eps-in-range .ensures) ∙ not-false _ (c .before .before .before .before .if3 .left))))) (sym (c .before .before .before .is-bad-box .ensures) ∙ c .before .before .if4 .left) _ (c .before .work-need .ensures) (c .if5 .taken)
+returns-6 c =
+    let check-lists = c .before .before .before .before .before .before .before .before .before .before .before .before .check-lists in
+    let enum-told2 = c .before .before .before .before .before .before .before .before .before .before .enum-told2 in
+    let all-in-range = c .before .before .before .before .before .before .before .before .before .all-in-range in
+    let if1 = c .before .before .before .before .before .before .before .before .if1 in
+    let box-in-range = c .before .before .before .before .before .before .before .box-in-range in
+    let if2 = c .before .before .before .before .before .before .if2 in
+    let eps-in-range = c .before .before .before .before .before .eps-in-range in
+    let if3 = c .before .before .before .before .if3 in
+    let is-bad-box = c .before .before .before .is-bad-box in
+    let if4 = c .before .before .if4 in
+    let work-need = c .before .work-need in
+    let s = c .before .before .before .before .before .before .before .before .before .before .before .before .before .before .before in
+    room-refused (s .args .vertices .now) (s .args .facets .now) (s .args .extents) (s .args .eps) (s .args .lent) (sym (check-lists .ensures) ∙ enum-told2 .given .1) (ap
+    not (and-next _ _ _ (sym (all-in-range .ensures) ∙ not-false _ (if1 .left)) (and-next _ _ _ (sym (box-in-range .ensures) ∙ not-false _ (if2 .left)) (sym
+    (eps-in-range .ensures) ∙ not-false _ (if3 .left))))) (sym (is-bad-box .ensures) ∙ if4 .left) _ (work-need .ensures) (c .if5 .taken)
 
 returns-7 : tie.Need-returns-7
-returns-7 c = let s = c .before .before .before .before .before .before .before .before .before .before .before .before .before .before .before in all-passed (s .args .vertices .now) (s .args .facets .now) (s .args .extents) (s .args .eps) (s .args .lent) (sym (c .before .before .before .before .before .before .before .before .before .before .before .before .check-lists .ensures) ∙ c .before .before .before .before .before .before .before .before .before .before .enum-told2 .given .1) (ap not (and-next _ _ _ (sym (c .before .before .before .before .before .before .before .before .before .all-in-range .ensures) ∙ not-false _ (c .before .before .before .before .before .before .before .before .if1 .left)) (and-next _ _ _ (sym (c .before .before .before .before .before .before .before .box-in-range .ensures) ∙ not-false _ (c .before .before .before .before .before .before .if2 .left)) (sym (c .before .before .before .before .before .eps-in-range .ensures) ∙ not-false _ (c .before .before .before .before .if3 .left))))) (sym (c .before .before .before .is-bad-box .ensures) ∙ c .before .before .if4 .left) _ (c .before .work-need .ensures) (c .if5 .left)
+returns-7 c =
+    let check-lists = c .before .before .before .before .before .before .before .before .before .before .before .before .check-lists in
+    let enum-told2 = c .before .before .before .before .before .before .before .before .before .before .enum-told2 in
+    let all-in-range = c .before .before .before .before .before .before .before .before .before .all-in-range in
+    let if1 = c .before .before .before .before .before .before .before .before .if1 in
+    let box-in-range = c .before .before .before .before .before .before .before .box-in-range in
+    let if2 = c .before .before .before .before .before .before .if2 in
+    let eps-in-range = c .before .before .before .before .before .eps-in-range in
+    let if3 = c .before .before .before .before .if3 in
+    let is-bad-box = c .before .before .before .is-bad-box in
+    let if4 = c .before .before .if4 in
+    let work-need = c .before .work-need in
+    let s = c .before .before .before .before .before .before .before .before .before .before .before .before .before .before .before in
+    all-passed (s .args .vertices .now) (s .args .facets .now) (s .args .extents) (s .args .eps) (s .args .lent) (sym (check-lists .ensures) ∙ enum-told2 .given .1) (ap
+    not (and-next _ _ _ (sym (all-in-range .ensures) ∙ not-false _ (if1 .left)) (and-next _ _ _ (sym (box-in-range .ensures) ∙ not-false _ (if2 .left)) (sym
+    (eps-in-range .ensures) ∙ not-false _ (if3 .left))))) (sym (is-bad-box .ensures) ∙ if4 .left) _ (work-need .ensures) (c .if5 .left)
 
 pub check-spec : {M : Type 1} → statement M
 check-spec =

@@ -1,61 +1,52 @@
 use Rattle.aabb_facets.proofs.RoomLaws.{facet-shared, facet-fanned}
-use Rattle.aabb_facets.specs.Rooms.{room}
-use Rattle.aabb_polygons.proofs.CornerLists.{at}
-use Prim.Native.Nat.{_+_, _*_}
+use Rattle.aabb_facets.specs.Rooms.{room, marked, fanRoom}
+use Rattle.aabb_polygons.specs.Polygons.{clipPolygon}
+use Rattle.geometry.specs.Meshes.{vertexOf}
+use Rattle.geometry.specs.Boxes.{faces}
+use mathlib.Core.List.{[], _∷_}
+use mathlib.Core.Bool.{_&&_}
+use mathlib.Core.Path.{_∙_}
 use native.Mathlib.Omega.{arith}
+use Prim.Native.Nat.{_+_, _*_}
 use borrow.Author.Needs.{needs}
 use Rattle.aabb_facets.proofs.facets.clip_facet.Statement.{statement}
 use Rattle.aabb_facets.proofs.facets.clip_facet.Tie as tie
-use Rattle.aabb_facets.proofs.facets.clip_facet.Reads as reads
-use Rattle.aabb_facets.proofs.facets.clip_facet.Lts as lts
-use Rattle.aabb_facets.proofs.facets.cut_facet.Reads as cut-facet-reads
-use Rattle.aabb_facets.proofs.facets.share_facet.Reads as share-facet-reads
-use Rattle.aabb_facets.proofs.marks.all_marked.Reads as all-marked-reads
 
-mul-a : tie.Need-mul-a
-mul-a c = search needs
+mul-corner-at : tie.Need-mul-corner-at
+mul-corner-at c = search needs
 
-mul-a-2 : tie.Need-mul-a-2
-mul-a-2 c = search needs
+corner-at-requires : tie.Need-corner-at-requires
+corner-at-requires c κs = search needs
 
-shared-slice-read-a : tie.Need-shared-slice-read-a
-shared-slice-read-a c = search needs
+mul-corner-at-2 : tie.Need-mul-corner-at-2
+mul-corner-at-2 c = search needs
 
-cast-a : tie.Need-cast-a
-cast-a c = let s = c .before .before .before .before .before .before .before .before in omega (arith, c .shared-slice-known3 .given (3 * s .args .i))
+add-corner-at : tie.Need-add-corner-at
+add-corner-at c = search needs
 
-mul-b : tie.Need-mul-b
-mul-b c = search needs
+corner-at-requires-2 : tie.Need-corner-at-requires-2
+corner-at-requires-2 c κs = search needs
 
-add-b : tie.Need-add-b
-add-b c = search needs
+mul-corner-at-3 : tie.Need-mul-corner-at-3
+mul-corner-at-3 c = search needs
 
-mul-b-2 : tie.Need-mul-b-2
-mul-b-2 c = search needs
+add-corner-at-2 : tie.Need-add-corner-at-2
+add-corner-at-2 c = search needs
 
-shared-slice-read-b : tie.Need-shared-slice-read-b
-shared-slice-read-b c = search needs
-
-cast-b : tie.Need-cast-b
-cast-b c = let s = c .before .before .before .before .before .before .before .before .before in omega (arith, c .shared-slice-known4 .given (3 * s .args .i + 1))
-
-mul-c : tie.Need-mul-c
-mul-c c = search needs
-
-add-c : tie.Need-add-c
-add-c c = search needs
-
-mul-c-2 : tie.Need-mul-c-2
-mul-c-2 c = search needs
-
-shared-slice-read-c : tie.Need-shared-slice-read-c
-shared-slice-read-c c = search needs
-
-cast-c : tie.Need-cast-c
-cast-c c = let s = c .before .before .before .before .before .before .before .before .before .before in omega (arith, c .shared-slice-known5 .given (3 * s .args .i + 2))
+corner-at-requires-3 : tie.Need-corner-at-requires-3
+corner-at-requires-3 c κs = search needs
 
 all-marked-requires : tie.Need-all-marked-requires
-all-marked-requires c κs = let s = c .before .before .before .before .before .before .before .before .before .before .before in ((s .pre .1 .1 .0 (3 * s .args .i) (omega (arith, s .pre .1 .0))) .0, ((s .pre .1 .1 .0 (3 * s .args .i + 1) (omega (arith, s .pre .1 .0))) .0, (s .pre .1 .1 .0 (3 * s .args .i + 2) (omega (arith, s .pre .1 .0))) .0))
+all-marked-requires c κs =
+    let corner-at = c .before .before .before .corner-at in
+    let corner-at2 = c .before .before .corner-at2 in
+    let corner-at3 = c .before .corner-at3 in
+    let s = c .before .before .before .before .before .before .before .before .before .before .before in
+    let a = s .args in
+    let b0 = s .pre .1 .1 .0 (3 * a .i) (omega (arith, s .pre .1 .0)) in
+    let b1 = s .pre .1 .1 .0 (3 * a .i + 1) (omega (arith, s .pre .1 .0)) in
+    let b2 = s .pre .1 .1 .0 (3 * a .i + 2) (omega (arith, s .pre .1 .0)) in
+    (omega (arith, b0 .0, corner-at .ensures), (omega (arith, b1 .0, corner-at2 .ensures), omega (arith, b2 .0, corner-at3 .ensures)))
 
 share-facet-requires : tie.Need-share-facet-requires
 share-facet-requires c κs = search needs
@@ -70,10 +61,38 @@ same-length-3 : tie.Need-same-length-3
 same-length-3 c = search needs
 
 returns : tie.Need-returns
-returns c = let s = c .before .before .before .before .before .before .before .before .before .before .before .before .before .before .before .before .before .before .before .before .before .before .before in (facet-shared (s .args .vertices .now) (s .args .facets .now) (s .args .extents) (s .args .eps) (room (s .args .at) (s .args .ids .now) (s .args .out-vertices .now) (s .args .out-facets .now)) (s .args .i) _ (c .before .before .before .before .before .before .before .before .before .before .before .all-marked .result) (c .before .before .before .before .before .before .before .before .before .before .before .all-marked .ensures) (c .before .before .before .before .before .before .before .before .before .before .if1 .taken) (c .before .before .before .before .before .before .share-facet .ensures .0), (omega (arith, c .before .before .before .before .before .before .share-facet .ensures .1), omega (arith, c .before .before .before .before .before .before .share-facet .ensures .1)))
+returns c =
+    let all-marked = c .before .before .before .before .before .before .before .before .before .before .before .all-marked in
+    let corner-at = c .before .before .before .before .before .before .before .before .before .before .before .before .before .before .before .corner-at in
+    let corner-at2 = c .before .before .before .before .before .before .before .before .before .before .before .before .before .before .corner-at2 in
+    let corner-at3 = c .before .before .before .before .before .before .before .before .before .before .before .before .before .corner-at3 in
+    let if1 = c .before .before .before .before .before .before .before .before .before .before .if1 in
+    let share-facet = c .before .before .before .before .before .before .share-facet in
+    let s = c .before .before .before .before .before .before .before .before .before .before .before .before .before .before .before
+    .before .before .before .before .before .before .before .before in
+    let a = s .args in
+    let w = a .ids .now in
+    let r = room (a .at) w (a .out-vertices .now) (a .out-facets .now) in (
+      facet-shared (a .vertices .now) (a .facets .now) (a .extents) (a .eps) r (a .i) _ (all-marked .result) (all-marked .ensures ∙ (λ t. marked w (corner-at .ensures t)
+          && (marked w (corner-at2 .ensures t) && marked w (corner-at3 .ensures t)))) (if1 .taken) (share-facet .ensures .0),
+      (
+        omega (arith, share-facet .ensures .1),
+        omega
+            (arith, share-facet .ensures .1),
+      ),
+    )
 
 cut-facet-requires : tie.Need-cut-facet-requires
-cut-facet-requires c κs = let s = c .before .before .before .before .before .before .before .before .before .before .before .before .before .before .before .before .before in (s .pre .0, (((s .pre .1 .1 .0 (3 * s .args .i) (omega (arith, s .pre .1 .0))) .1, ((s .pre .1 .1 .0 (3 * s .args .i + 1) (omega (arith, s .pre .1 .0))) .1, (s .pre .1 .1 .0 (3 * s .args .i + 2) (omega (arith, s .pre .1 .0))) .1)), s .pre .1 .1 .1 .1))
+cut-facet-requires c κs =
+    let corner-at = c .before .before .before .before .before .before .before .before .before .corner-at in
+    let corner-at2 = c .before .before .before .before .before .before .before .before .corner-at2 in
+    let corner-at3 = c .before .before .before .before .before .before .before .corner-at3 in
+    let s = c .before .before .before .before .before .before .before .before .before .before .before .before .before .before .before .before .before in
+    let a = s .args in
+    let b0 = s .pre .1 .1 .0 (3 * a .i) (omega (arith, s .pre .1 .0)) in
+    let b1 = s .pre .1 .1 .0 (3 * a .i + 1) (omega (arith, s .pre .1 .0)) in
+    let b2 = s .pre .1 .1 .0 (3 * a .i + 2) (omega (arith, s .pre .1 .0)) in
+    (s .pre .0, ((omega (arith, b0 .1, corner-at .ensures), (omega (arith, b1 .1, corner-at2 .ensures), omega (arith, b2 .1, corner-at3 .ensures))), s .pre .1 .1 .1 .1))
 
 same-length-4 : tie.Need-same-length-4
 same-length-4 c = search needs
@@ -91,26 +110,39 @@ same-length-8 : tie.Need-same-length-8
 same-length-8 c = search needs
 
 returns-2 : tie.Need-returns-2
-returns-2 c = let s = c .before .before .before .before .before .before .before .before .before .before .before .before .before .before .before .before .before .before .before .before .before .before .before .before .before .before in (facet-fanned (s .args .vertices .now) (s .args .facets .now) (s .args .extents) (s .args .eps) (room (s .args .at) (s .args .ids .now) (s .args .out-vertices .now) (s .args .out-facets .now)) (s .args .i) _ (c .before .before .before .before .before .before .before .before .before .before .before .before .before .before .all-marked .result) (c .before .before .before .before .before .before .before .before .before .before .before .before .before .before .all-marked .ensures) (c .before .before .before .before .before .before .before .before .before .before .before .before .before .if1 .left) (c .before .before .before .before .before .before .before .before .cut-facet .ensures .0 (s .args .ids .now)), c .before .before .before .before .before .before .before .before .cut-facet .ensures .1)
+returns-2 c =
+    let all-marked = c .before .before .before .before .before .before .before .before .before .before .before .before .before .before .all-marked in
+    let corner-at = c .before .before .before .before .before .before .before .before .before .before .before .before .before .before .before
+    .before .before .before .corner-at in
+    let corner-at2 = c .before .before .before .before .before .before .before .before .before .before .before .before .before .before .before .before .before .corner-at2
+    in
+    let corner-at3 = c .before .before .before .before .before .before .before .before .before .before .before .before .before .before .before .before .corner-at3 in
+    let if1 = c .before .before .before .before .before .before .before .before .before .before .before .before .before .if1 in
+    let cut-facet = c .before .before .before .before .before .before .before .before .cut-facet in
+    let s = c .before .before .before .before .before .before .before .before .before .before .before .before .before .before .before
+    .before .before .before .before .before .before .before .before .before .before .before in
+    let a = s .args in
+    let w = a .ids .now in
+    let r = room (a .at) w (a .out-vertices .now) (a .out-facets .now) in (
+      facet-fanned (a .vertices .now) (a .facets .now) (a .extents) (a .eps) r (a .i) _ (all-marked .result) (all-marked .ensures ∙ (λ t. marked w (corner-at .ensures t)
+          && (marked w (corner-at2 .ensures t) && marked w (corner-at3 .ensures t)))) (if1 .left) (cut-facet .ensures .0 w ∙ (λ t. fanRoom r (clipPolygon (a .extents) (a .eps)
+          faces (vertexOf (a .vertices .now) (corner-at .ensures t) ∷ vertexOf (a .vertices .now) (corner-at2 .ensures t) ∷ vertexOf (a .vertices .now) (corner-at3 .ensures t)
+          ∷ [])))),
+      cut-facet .ensures .1,
+    )
 
 pub clip-facet-spec : {M : Type 1} → statement M
 clip-facet-spec =
     tie.close
     (tie.spec
-    mul-a
-    mul-a-2
-    shared-slice-read-a
-    cast-a
-    mul-b
-    add-b
-    mul-b-2
-    shared-slice-read-b
-    cast-b
-    mul-c
-    add-c
-    mul-c-2
-    shared-slice-read-c
-    cast-c
+    mul-corner-at
+    corner-at-requires
+    mul-corner-at-2
+    add-corner-at
+    corner-at-requires-2
+    mul-corner-at-3
+    add-corner-at-2
+    corner-at-requires-3
     all-marked-requires
     share-facet-requires
     same-length

@@ -12,7 +12,13 @@ use Rattle.aabb_facets.proofs.outputs.put_corners.Reads as put-corners-
 use Rattle.aabb_facets.proofs.outputs.put_fan.Reads as put-fan-reads
 
 returns : tie.Need-returns
-returns c = let s = c .before .before .before .before in λ i. fan-few (s .args .at) i (s .args .out-vertices .now) (s .args .out-facets .now) (corners (s .args .polygon .now) (s .args .n)) (omega (arith, c .if1 .taken, points-length (s .args .polygon .now) 0 (s .args .n)))
+returns c =
+    let s = c .before .before .before .before in
+    λ i. fan-few (s .args .at) i (s .args .out-vertices .now) (s .args .out-facets .now) (corners (s .args .polygon .now) (s .args .n)) (omega (
+      arith,
+      c .if1 .taken,
+      points-length (s .args .polygon .now) 0 (s .args .n),
+    ))
 
 put-corners-requires : tie.Need-put-corners-requires
 put-corners-requires c κs = search needs
@@ -42,7 +48,13 @@ same-length-2 : tie.Need-same-length-2
 same-length-2 c = search needs
 
 returns-2 : tie.Need-returns-2
-returns-2 c = let s = c .before .before .before .before .before .before .before .before .before .before .before .before in λ i. fan-put (s .args .at) i (s .args .out-vertices .now) (s .args .out-facets .now) (corners (s .args .polygon .now) (s .args .n)) (s .args .n) _ _ (sym (points-length (s .args .polygon .now) 0 (s .args .n))) (c .before .before .before .before .before .before .before .before .if1 .left) (c .before .before .before .before .before .before .put-corners .ensures) (c .before .before .put-fan .ensures)
+returns-2 c =
+    let if1 = c .before .before .before .before .before .before .before .before .if1 in
+    let put-corners = c .before .before .before .before .before .before .put-corners in
+    let put-fan = c .before .before .put-fan in
+    let s = c .before .before .before .before .before .before .before .before .before .before .before .before in
+    λ i. fan-put (s .args .at) i (s .args .out-vertices .now) (s .args .out-facets .now) (corners (s .args .polygon .now) (s .args .n)) (s .args .n) _ _ (sym
+    (points-length (s .args .polygon .now) 0 (s .args .n))) (if1 .left) (put-corners .ensures) (put-fan .ensures)
 
 pub put-fanned-spec : {M : Type 1} → statement M
 put-fanned-spec =

@@ -1,22 +1,14 @@
-use Rattle.geometry.specs.Meshes.{coordinates}
 use Rattle.aabb_facets.proofs.RoomLaws.{share-new, share-old}
-use Rattle.aabb_polygons.proofs.CornerLists.{at}
-use Rattle.aabb_polygons.specs.Steps.{cornerAt}
 use Rattle.aabb_polygons.specs.Polygons.{snapped}
+use Rattle.geometry.specs.Meshes.{coordinates, vertexOf}
 use Rattle.geometry.specs.declared.point.Point.{Point}
 use lib.Seq.{sets}
+use mathlib.Core.Path.{refl, ap, _∙_}
 use mathlib.Core.List.{[], _∷_}
 use Prim.Native.Nat.{_*_}
-use mathlib.Core.Path.{refl, ap, _∙_}
 use borrow.Author.Needs.{needs}
 use Rattle.aabb_facets.proofs.facets.share_vertex.Statement.{statement}
 use Rattle.aabb_facets.proofs.facets.share_vertex.Tie as tie
-use Rattle.aabb_facets.proofs.facets.share_vertex.Reads as reads
-use Rattle.aabb_facets.proofs.facets.share_vertex.Lts as lts
-use Rattle.aabb_facets.proofs.outputs.push_vertex.Reads as push-vertex-reads
-use Rattle.aabb_polygons.proofs.corners.vertex_at.Reads as vertex-at-reads
-use Rattle.aabb_polygons.proofs.snapping.snap_near_bbox.Reads as snap-near-bbox-reads
-use Rattle.words.proofs.put_number.Reads as put-number-reads
 
 mul-k : tie.Need-mul-k
 mul-k c = search needs
@@ -48,11 +40,11 @@ mul-ids c = search needs
 slice-write-ids : tie.Need-slice-write-ids
 slice-write-ids c = search needs
 
-add-t24 : tie.Need-add-t24
-add-t24 c = search needs
+add-t25 : tie.Need-add-t25
+add-t25 c = search needs
 
-add-t26 : tie.Need-add-t26
-add-t26 c = search needs
+add-t27 : tie.Need-add-t27
+add-t27 c = search needs
 
 same-length : tie.Need-same-length
 same-length c = search needs
@@ -64,7 +56,17 @@ same-length-3 : tie.Need-same-length-3
 same-length-3 c = search needs
 
 returns : tie.Need-returns
-returns c = let s = c .before .before .before .before .before .before .before .before .before .before .before .before .before .before .before .before in share-new (s .args .at) (s .args .ids .now) (s .args .out-vertices .now) (s .args .out-facets .now) (s .args .v) (snapped (s .args .extents) (s .args .eps) (cornerAt (s .args .vertices .now) (s .args .v))) _ (c .before .before .before .before .before .before .push-vertex .last .0) (c .before .before .put-number .last .0) (c .before .before .before .before .before .before .before .before .before .before .if1 .taken) refl (c .before .before .before .before .before .before .push-vertex .ensures ∙ ap (λ (q : Point). sets (s .args .out-vertices .now) (3 * s .args .at .vertices) (coordinates (q ∷ []))) (c .before .before .before .before .before .before .before .snap-near-bbox .ensures ∙ ap (λ (x : Point). snapped (s .args .extents) (s .args .eps) x) (c .before .before .before .before .before .before .before .before .vertex-at .ensures))) (c .before .before .put-number .ensures)
+returns c =
+    let push-vertex = c .before .before .before .before .before .before .push-vertex in
+    let put-number = c .before .before .put-number in
+    let if1 = c .before .before .before .before .before .before .before .before .before .before .if1 in
+    let snap-near-bbox = c .before .before .before .before .before .before .before .snap-near-bbox in
+    let vertex-at = c .before .before .before .before .before .before .before .before .vertex-at in
+    let s = c .before .before .before .before .before .before .before .before .before .before .before .before .before .before .before .before in
+    let a = s .args in
+    share-new (a .at) (a .ids .now) (a .out-vertices .now) (a .out-facets .now) (a .v .0) (snapped (a .extents) (a .eps) (vertexOf (a .vertices .now) (a .v .0))) _
+    (push-vertex .last .0) (put-number .last .0) (if1 .taken) refl (push-vertex .ensures ∙ ap (λ (q : Point). sets (a .out-vertices .now) (3 * a .at .vertices)
+    (coordinates (q ∷ []))) (snap-near-bbox .ensures ∙ ap (λ (x : Point). snapped (a .extents) (a .eps) x) (vertex-at .ensures))) (put-number .ensures)
 
 sub-put-number : tie.Need-sub-put-number
 sub-put-number c = search needs
@@ -75,14 +77,18 @@ cast-put-number-2 c = search needs
 put-number-requires-2 : tie.Need-put-number-requires-2
 put-number-requires-2 c κs = search needs
 
-add-t12 : tie.Need-add-t12
-add-t12 c = search needs
+add-t13 : tie.Need-add-t13
+add-t13 c = search needs
 
 same-length-4 : tie.Need-same-length-4
 same-length-4 c = search needs
 
 returns-2 : tie.Need-returns-2
-returns-2 c = let s = c .before .before .before .before .before .before .before .before .before .before in share-old (s .args .at) (s .args .ids .now) (s .args .out-vertices .now) (s .args .out-facets .now) (s .args .v) (snapped (s .args .extents) (s .args .eps) (cornerAt (s .args .vertices .now) (s .args .v))) (c .before .before .put-number2 .last .0) (c .before .before .before .before .if1 .left) (c .before .before .put-number2 .ensures)
+returns-2 c =
+    let s = c .before .before .before .before .before .before .before .before .before .before in
+    let a = s .args in
+    share-old (a .at) (a .ids .now) (a .out-vertices .now) (a .out-facets .now) (a .v .0) (snapped (a .extents) (a .eps) (vertexOf (a .vertices .now) (a .v .0)))
+    (c .before .before .put-number2 .last .0) (c .before .before .before .before .if1 .left) (c .before .before .put-number2 .ensures)
 
 pub share-vertex-spec : {M : Type 1} → statement M
 share-vertex-spec =
@@ -98,8 +104,8 @@ share-vertex-spec =
     add-ids
     mul-ids
     slice-write-ids
-    add-t24
-    add-t26
+    add-t25
+    add-t27
     same-length
     same-length-2
     same-length-3
@@ -107,6 +113,6 @@ share-vertex-spec =
     sub-put-number
     cast-put-number-2
     put-number-requires-2
-    add-t12
+    add-t13
     same-length-4
     returns-2)

@@ -12,7 +12,7 @@ use Rattle.aabb_facets.proofs.marks.mark_all.Tie as tie
 use Rattle.aabb_facets.proofs.marks.mark_all.Reads as reads
 use Rattle.aabb_facets.proofs.marks.mark_all.Lts as lts
 use Rattle.aabb_facets.proofs.marks.mark_of.Reads as mark-of-reads
-use Rattle.aabb_polygons.proofs.corners.vertex_at.Reads as vertex-at-reads
+use Rattle.geometry.proofs.vertices.vertex_at.Reads as vertex-at-reads
 
 abbrev Inv-loop : tie.InvT-loop
 Inv-loop vertices extents eps ids₀ v₀ ids v = (v ≤ length ids₀) × MarkedTo vertices extents eps ids₀ ids v
@@ -24,7 +24,16 @@ loop-holds : tie.Need-loop-holds Inv-loop μ-loop
 loop-holds c = let s = c .before .before in (search needs, marking-none (s .args .vertices .now) (s .args .extents) (s .args .eps) (s .args .ids .now))
 
 vertex-at-requires : tie.Need-vertex-at-requires Inv-loop μ-loop
-vertex-at-requires c κs = let s = c .before .before .before .before in omega (arith, s .pre, c .loop-test .taken, marking-same (s .args .vertices .now) (s .args .extents) (s .args .eps) (s .args .ids .now) (c .before .loop .ids) (c .before .loop .v) (c .before .loop .inv .1) (c .before .loop .inv .0))
+vertex-at-requires c κs =
+    let loop = c .before .loop in
+    let s = c .before .before .before .before in
+    omega (
+      arith,
+      s .pre,
+      c .loop-test .taken,
+      marking-same (s .args .vertices .now) (s .args .extents) (s .args .eps) (s .args .ids .now) (loop .ids) (loop .v)
+          (loop .inv .1) (loop .inv .0),
+    )
 
 mark-of-requires : tie.Need-mark-of-requires Inv-loop μ-loop
 mark-of-requires c κs = search needs
@@ -39,16 +48,37 @@ add-v : tie.Need-add-v Inv-loop μ-loop
 add-v c = search needs
 
 loop-less : tie.Need-loop-less Inv-loop μ-loop
-loop-less c = let s = c .before .before .before .before .before .before in omega (arith, c .before .before .loop-test .taken, marking-same (s .args .vertices .now) (s .args .extents) (s .args .eps) (s .args .ids .now) (c .before .before .before .loop .ids) (c .before .before .before .loop .v) (c .before .before .before .loop .inv .1) (c .before .before .before .loop .inv .0))
+loop-less c =
+    let loop-test = c .before .before .loop-test in
+    let loop = c .before .before .before .loop in
+    let s = c .before .before .before .before .before .before in
+    omega (
+      arith,
+      loop-test .taken,
+      marking-same (s .args .vertices .now) (s .args .extents) (s .args .eps) (s .args .ids .now) (loop .ids) (loop .v) (loop .inv .1)
+          (loop .inv .0),
+    )
 
 loop-again : tie.Need-loop-again Inv-loop μ-loop
-loop-again c = let s = c .before .before .before .before .before .before in marking-more (s .args .vertices .now) (s .args .extents) (s .args .eps) (s .args .ids .now) (c .before .before .before .loop .ids) (c .before .before .before .loop .v) (c .mark-of .result) (c .before .before .before .loop .inv .1) (c .before .before .before .loop .inv .0) (c .before .before .loop-test .taken) (c .mark-of .ensures ∙ ap (λ (p : Point). mark (insideBox (s .args .extents) (s .args .eps) p) 0) (c .before .vertex-at .ensures))
+loop-again c =
+    let loop = c .before .before .before .loop in
+    let loop-test = c .before .before .loop-test in
+    let vertex-at = c .before .vertex-at in
+    let s = c .before .before .before .before .before .before in
+    marking-more (s .args .vertices .now) (s .args .extents) (s .args .eps) (s .args .ids .now) (loop .ids) (loop .v) (c .mark-of .result) (loop .inv .1) (loop .inv .0)
+    (loop-test .taken) (c .mark-of .ensures ∙ ap (λ (p : Point). mark (insideBox (s .args .extents) (s .args .eps) p) 0) (vertex-at .ensures))
 
 same-length : tie.Need-same-length Inv-loop μ-loop
-same-length c = let s = c .before .before .before .before in marking-same (s .args .vertices .now) (s .args .extents) (s .args .eps) (s .args .ids .now) (c .before .loop .ids) (c .before .loop .v) (c .before .loop .inv .1) (c .before .loop .inv .0)
+same-length c =
+    let loop = c .before .loop in
+    let s = c .before .before .before .before in
+    marking-same (s .args .vertices .now) (s .args .extents) (s .args .eps) (s .args .ids .now) (loop .ids) (loop .v) (loop .inv .1) (loop .inv .0)
 
 returns : tie.Need-returns Inv-loop μ-loop
-returns c = let s = c .before .before .before .before in marking-end (s .args .vertices .now) (s .args .extents) (s .args .eps) (s .args .ids .now) (c .before .loop .ids) (c .before .loop .v) (c .before .loop .inv .1) (c .before .loop .inv .0) (c .loop-test .left)
+returns c =
+    let loop = c .before .loop in
+    let s = c .before .before .before .before in
+    marking-end (s .args .vertices .now) (s .args .extents) (s .args .eps) (s .args .ids .now) (loop .ids) (loop .v) (loop .inv .1) (loop .inv .0) (c .loop-test .left)
 
 pub mark-all-spec : {M : Type 1} → statement M
 mark-all-spec =

@@ -34,7 +34,12 @@ same-length : tie.Need-same-length
 same-length c = search needs
 
 returns : tie.Need-returns
-returns c = let s = c .before .before .before .before .before .before .before .before .before .before .before .before .before in point-put _ _ _ _ _ (s .args .p) (c .before .before .before .before .before .before .before .before .before .before .put-double .ensures) (c .before .before .before .before .before .before .put-double2 .ensures) (c .before .before .put-double3 .ensures)
+returns c =
+    let put-double = c .before .before .before .before .before .before .before .before .before .before .put-double in
+    let put-double2 = c .before .before .before .before .before .before .put-double2 in
+    let put-double3 = c .before .before .put-double3 in
+    let s = c .before .before .before .before .before .before .before .before .before .before .before .before .before in
+    point-put _ _ _ _ _ (s .args .p) (put-double .ensures) (put-double2 .ensures) (put-double3 .ensures)
 
 pub push-vertex-spec : {M : Type 1} → statement M
 push-vertex-spec =

@@ -13,10 +13,11 @@ use Rattle.aabb_facets.proofs.outputs.put_corners.Tie as tie
 use Rattle.aabb_facets.proofs.outputs.put_corners.Reads as reads
 use Rattle.aabb_facets.proofs.outputs.put_corners.Lts as lts
 use Rattle.aabb_facets.proofs.outputs.push_vertex.Reads as push-vertex-reads
-use Rattle.aabb_polygons.proofs.corners.vertex_at.Reads as vertex-at-reads
+use Rattle.geometry.proofs.vertices.point_at.Reads as point-at-reads
 
 abbrev Inv-loop : tie.InvT-loop
-Inv-loop out₀ k polygon n j₀ out j = (j ≤ n) × ((length out ≡ length out₀) × (sets out (3 * (k + j)) (coordinates (drop j (corners polygon n))) ≡ sets out₀ (3 * k) (coordinates (corners polygon n))))
+Inv-loop out₀ k polygon n j₀ out j =
+    (j ≤ n) × ((length out ≡ length out₀) × (sets out (3 * (k + j)) (coordinates (drop j (corners polygon n))) ≡ sets out₀ (3 * k) (coordinates (corners polygon n))))
 
 abbrev μ-loop : tie.MeasureT-loop
 μ-loop out₀ k polygon n j₀ out j = n - j
@@ -27,8 +28,8 @@ loop-holds c = let s = c .before .before in (search needs, (refl, corners-start 
 add-push-vertex : tie.Need-add-push-vertex Inv-loop μ-loop
 add-push-vertex c = omega (arith, c .before .before .before .before .before .pre, c .before .loop-test .taken)
 
-vertex-at-requires : tie.Need-vertex-at-requires Inv-loop μ-loop
-vertex-at-requires c κs = omega (arith, c .before .before .before .before .before .pre, c .before .loop-test .taken)
+point-at-requires : tie.Need-point-at-requires Inv-loop μ-loop
+point-at-requires c κs = omega (arith, c .before .before .before .before .before .pre, c .before .loop-test .taken)
 
 push-vertex-requires : tie.Need-push-vertex-requires Inv-loop μ-loop
 push-vertex-requires c κs = let s = c .before .before .before .before .before .before in omega (arith, s .pre, c .before .before .loop-test .taken)
@@ -40,13 +41,34 @@ loop-less : tie.Need-loop-less Inv-loop μ-loop
 loop-less c = search needs
 
 loop-again : tie.Need-loop-again Inv-loop μ-loop
-loop-again c = let s = c .before .before .before .before .before .before .before .before .before in (search needs, (c .before .before .push-vertex .kept .0 ∙ c .before .before .before .before .before .before .loop .inv .1 .0, corners-more (c .before .before .before .before .before .before .loop .out) (c .before .before .push-vertex .last .0) (corners (s .args .polygon .now) (s .args .n)) (s .args .k) (c .before .before .before .before .before .before .loop .j) (c .before .before .before .vertex-at .result) (c .before .before .before .vertex-at .result) (omega (arith, c .before .before .before .before .before .loop-test .taken, points-length (s .args .polygon .now) 0 (s .args .n))) (at (s .args .polygon .now) (s .args .n) (c .before .before .before .before .before .before .loop .j) (c .before .before .before .vertex-at .result) (c .before .before .before .before .before .loop-test .taken) ∙ sym (c .before .before .before .vertex-at .ensures)) (c .before .before .push-vertex .ensures) ∙ c .before .before .before .before .before .before .loop .inv .1 .1))
+loop-again c =
+    let push-vertex = c .before .before .push-vertex in
+    let loop = c .before .before .before .before .before .before .loop in
+    let point-at = c .before .before .before .point-at in
+    let loop-test = c .before .before .before .before .before .loop-test in
+    let s = c .before .before .before .before .before .before .before .before .before in (
+      search needs,
+      (
+        push-vertex .kept .0 ∙ loop .inv .1 .0,
+        corners-more (loop .out) (push-vertex .last .0) (corners (s .args .polygon .now) (s .args .n)) (s .args .k)
+            (loop .j) (point-at .result) (point-at .result) (omega (arith, loop-test .taken, points-length (s .args .polygon .now) 0 (s .args .n))) (at (s .args .polygon .now)
+            (s .args .n) (loop .j) (point-at .result) (loop-test .taken) ∙ sym (point-at .ensures)) (push-vertex .ensures) ∙ loop .inv .1 .1,
+      ),
+    )
 
 same-length : tie.Need-same-length Inv-loop μ-loop
 same-length c = c .before .loop .inv .1 .0
 
 returns : tie.Need-returns Inv-loop μ-loop
-returns c = let s = c .before .before .before .before in sym (corners-end (c .before .loop .out) _ (corners (s .args .polygon .now) (s .args .n)) (c .before .loop .j) (omega (arith, c .loop-test .left, points-length (s .args .polygon .now) 0 (s .args .n)))) ∙ c .before .loop .inv .1 .1
+returns c =
+    let loop = c .before .loop in
+    let s = c .before .before .before .before in
+    sym (corners-end (loop .out) _ (corners (s .args .polygon .now) (s .args .n)) (loop .j) (omega (
+      arith,
+      c .loop-test .left,
+      points-length (s .args .polygon .now) 0
+          (s .args .n),
+    ))) ∙ loop .inv .1 .1
 
 pub put-corners-spec : {M : Type 1} → statement M
 put-corners-spec =
@@ -56,7 +78,7 @@ put-corners-spec =
     μ-loop
     loop-holds
     add-push-vertex
-    vertex-at-requires
+    point-at-requires
     push-vertex-requires
     add-j
     loop-less

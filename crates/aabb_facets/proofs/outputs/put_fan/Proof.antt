@@ -80,7 +80,19 @@ loop-less : tie.Need-loop-less Inv-loop μ-loop
 loop-less c = search needs
 
 loop-again : tie.Need-loop-again Inv-loop μ-loop
-loop-again c = (search needs, (c .before .before .put-number3 .kept .0 ∙ c .before .before .before .before .before .before .put-number2 .kept .0 ∙ c .before .before .before .before .before .before .before .before .before .before .put-number .kept .0 ∙ c .before .before .before .before .before .before .before .before .before .before .before .before .before .loop .inv .1 .0, fan-more _ _ _ _ _ _ _ _ (c .before .before .before .before .before .before .before .before .before .before .before .before .loop-test .taken) (c .before .before .before .before .before .before .before .before .before .before .put-number .ensures) (c .before .before .before .before .before .before .put-number2 .ensures) (c .before .before .put-number3 .ensures) ∙ c .before .before .before .before .before .before .before .before .before .before .before .before .before .loop .inv .1 .1))
+loop-again c =
+    let put-number3 = c .before .before .put-number3 in
+    let put-number2 = c .before .before .before .before .before .before .put-number2 in
+    let put-number = c .before .before .before .before .before .before .before .before .before .before .put-number in
+    let loop = c .before .before .before .before .before .before .before .before .before .before .before .before .before .loop in
+    let loop-test = c .before .before .before .before .before .before .before .before .before .before .before .before .loop-test in (
+      search needs,
+      (
+        put-number3 .kept .0 ∙ put-number2 .kept .0 ∙ put-number .kept .0 ∙ loop .inv .1 .0,
+        fan-more _ _ _ _ _ _ _ _ (loop-test .taken) (put-number .ensures)
+            (put-number2 .ensures) (put-number3 .ensures) ∙ loop .inv .1 .1,
+      ),
+    )
 
 same-length : tie.Need-same-length Inv-loop μ-loop
 same-length c = search needs

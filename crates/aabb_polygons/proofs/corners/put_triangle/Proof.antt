@@ -19,7 +19,13 @@ same-length : tie.Need-same-length
 same-length c = search needs
 
 returns : tie.Need-returns
-returns c = let s = c .before .before .before .before .before .before .before .before .before .before .before .before .before in three-put (s .args .out .now) (c .before .before .before .before .before .before .before .before .before .before .push-corner .last .0) (c .before .before .before .before .before .before .push-corner2 .last .0) (c .before .before .push-corner3 .last .0) (s .args .a) (s .args .b) (s .args .c) (c .before .before .before .before .before .before .before .before .before .before .push-corner .ensures) (c .before .before .before .before .before .before .push-corner2 .ensures) (c .before .before .push-corner3 .ensures)
+returns c =
+    let push-corner = c .before .before .before .before .before .before .before .before .before .before .push-corner in
+    let push-corner2 = c .before .before .before .before .before .before .push-corner2 in
+    let push-corner3 = c .before .before .push-corner3 in
+    let s = c .before .before .before .before .before .before .before .before .before .before .before .before .before in
+    three-put (s .args .out .now) (push-corner .last .0) (push-corner2 .last .0) (push-corner3 .last .0) (s .args .a) (s .args .b) (s .args .c) (push-corner .ensures)
+    (push-corner2 .ensures) (push-corner3 .ensures)
 
 pub put-triangle-spec : {M : Type 1} → statement M
 put-triangle-spec =

@@ -12,7 +12,7 @@ use Rattle.aabb_polygons.proofs.corners.snap_corners.Tie as tie
 use Rattle.aabb_polygons.proofs.corners.snap_corners.Reads as reads
 use Rattle.aabb_polygons.proofs.corners.snap_corners.Lts as lts
 use Rattle.aabb_polygons.proofs.corners.push_corner.Reads as push-corner-reads
-use Rattle.aabb_polygons.proofs.corners.vertex_at.Reads as vertex-at-reads
+use Rattle.geometry.proofs.vertices.point_at.Reads as point-at-reads
 use Rattle.aabb_polygons.proofs.snapping.snap_near_bbox.Reads as snap-near-bbox-reads
 
 abbrev Inv-loop : tie.InvT-loop
@@ -24,14 +24,18 @@ abbrev μ-loop : tie.MeasureT-loop
 loop-holds : tie.Need-loop-holds Inv-loop μ-loop
 loop-holds c = let s = c .before .before in (search needs, (refl, snap-none (s .args .to .now) (s .args .from .now) (s .args .extents) (s .args .eps)))
 
-vertex-at-requires : tie.Need-vertex-at-requires Inv-loop μ-loop
-vertex-at-requires c κs = omega (arith, c .before .before .before .before .before .pre, c .before .before .loop .inv .0, c .before .loop-test .taken)
+point-at-requires : tie.Need-point-at-requires Inv-loop μ-loop
+point-at-requires c κs = omega (arith, c .before .before .before .before .before .pre, c .before .before .loop .inv .0, c .before .loop-test .taken)
 
 snap-near-bbox-requires : tie.Need-snap-near-bbox-requires Inv-loop μ-loop
 snap-near-bbox-requires c κs = search needs
 
 push-corner-requires : tie.Need-push-corner-requires Inv-loop μ-loop
-push-corner-requires c κs = let s = c .before .before .before .before .before .before .before in (omega (arith, s .pre, c .before .before .before .loop-test .taken), omega (arith, s .pre, c .before .before .before .before .loop .inv .1 .0))
+push-corner-requires c κs =
+    let loop-test = c .before .before .before .loop-test in
+    let loop = c .before .before .before .before .loop in
+    let s = c .before .before .before .before .before .before .before in
+    (omega (arith, s .pre, loop-test .taken), omega (arith, s .pre, loop .inv .1 .0))
 
 add-i : tie.Need-add-i Inv-loop μ-loop
 add-i c = search needs
@@ -40,13 +44,29 @@ loop-less : tie.Need-loop-less Inv-loop μ-loop
 loop-less c = search needs
 
 loop-again : tie.Need-loop-again Inv-loop μ-loop
-loop-again c = let s = c .before .before .before .before .before .before .before .before .before .before in (search needs, (c .before .before .push-corner .kept .0 ∙ c .before .before .before .before .before .before .before .loop .inv .1 .0, snap-more (s .args .extents) (s .args .eps) (c .before .before .before .before .before .before .before .loop .to) (s .args .from .now) (c .before .before .push-corner .last .0) (c .before .before .before .before .before .before .before .loop .i) (c .before .before .before .before .vertex-at .result) (c .before .before .before .snap-near-bbox .result) (c .before .before .before .before .before .before .before .loop .inv .1 .1) (c .before .before .before .before .vertex-at .ensures) (c .before .before .before .snap-near-bbox .ensures) (c .before .before .push-corner .ensures)))
+loop-again c =
+    let push-corner = c .before .before .push-corner in
+    let loop = c .before .before .before .before .before .before .before .loop in
+    let point-at = c .before .before .before .before .point-at in
+    let snap-near-bbox = c .before .before .before .snap-near-bbox in
+    let s = c .before .before .before .before .before .before .before .before .before .before in (
+      search needs,
+      (
+        push-corner .kept .0 ∙ loop .inv .1 .0,
+        snap-more (s .args .extents) (s .args .eps) (loop .to) (s .args .from .now) (push-corner .last .0) (loop .i)
+            (point-at .result) (snap-near-bbox .result) (loop .inv .1 .1) (point-at .ensures) (snap-near-bbox .ensures) (push-corner .ensures),
+      ),
+    )
 
 same-length : tie.Need-same-length Inv-loop μ-loop
 same-length c = c .before .loop .inv .1 .0
 
 returns : tie.Need-returns Inv-loop μ-loop
-returns c = let s = c .before .before .before .before in let e : c .before .loop .i ≡ s .args .n = omega (arith, c .loop-test .left, c .before .loop .inv .0) in ap (corners (c .before .loop .to)) (sym e) ∙ c .before .loop .inv .1 .1 ∙ ap (λ (k : ℕ). map (snapped (s .args .extents) (s .args .eps)) (corners (s .args .from .now) k)) e
+returns c =
+    let loop = c .before .loop in
+    let s = c .before .before .before .before in
+    let e : loop .i ≡ s .args .n = omega (arith, c .loop-test .left, loop .inv .0) in
+    ap (corners (loop .to)) (sym e) ∙ loop .inv .1 .1 ∙ ap (λ (k : ℕ). map (snapped (s .args .extents) (s .args .eps)) (corners (s .args .from .now) k)) e
 
 pub snap-corners-spec : {M : Type 1} → statement M
 snap-corners-spec =
@@ -55,7 +75,7 @@ snap-corners-spec =
     Inv-loop
     μ-loop
     loop-holds
-    vertex-at-requires
+    point-at-requires
     snap-near-bbox-requires
     push-corner-requires
     add-i

@@ -23,11 +23,21 @@ returns-2 c = simp (sym (c .before .before .before .within .ensures) ∙ c .befo
 
 returns-3 : tie.Need-returns-3
 unfolding crossing
-returns-3 c = simp (sym (c .before .before .before .before .within .ensures) ∙ c .before .before .before .if1 .left, sym (c .before .before .within2 .ensures) ∙ c .before .if2 .left, c .if3 .taken)
+returns-3 c =
+    let within = c .before .before .before .before .within in
+    let if1 = c .before .before .before .if1 in
+    let within2 = c .before .before .within2 in
+    let if2 = c .before .if2 in
+    simp (sym (within .ensures) ∙ if1 .left, sym (within2 .ensures) ∙ if2 .left, c .if3 .taken)
 
 returns-4 : tie.Need-returns-4
 unfolding crossing
-returns-4 c = simp (sym (c .before .before .before .before .within .ensures) ∙ c .before .before .before .if1 .left, sym (c .before .before .within2 .ensures) ∙ c .before .if2 .left, c .if3 .left)
+returns-4 c =
+    let within = c .before .before .before .before .within in
+    let if1 = c .before .before .before .if1 in
+    let within2 = c .before .before .within2 in
+    let if2 = c .before .if2 in
+    simp (sym (within .ensures) ∙ if1 .left, sym (within2 .ensures) ∙ if2 .left, c .if3 .left)
 
 pub crossing-at-spec : {M : Type 1} → statement M
 crossing-at-spec =

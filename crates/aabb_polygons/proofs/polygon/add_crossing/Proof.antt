@@ -34,7 +34,13 @@ snap-near-bbox-requires c κs = search needs
 
 push-corner-requires : tie.Need-push-corner-requires
 unfolding crossed
-push-corner-requires c κs = let s = c .before .before .before .before .before .before .before .before .before .before in let e = sym (c .before .before .before .before .before .before .before .segment-plane-t .ensures) ∙ c .before .before .before .before .before .t .given .1 in (omega (arith, simp (c .before .before .before .before .before .before .before .before .if1 .left, e) at (s .pre .1)), s .pre .0)
+push-corner-requires c κs =
+    let segment-plane-t = c .before .before .before .before .before .before .before .segment-plane-t in
+    let t = c .before .before .before .before .before .t in
+    let if1 = c .before .before .before .before .before .before .before .before .if1 in
+    let s = c .before .before .before .before .before .before .before .before .before .before in
+    let e = sym (segment-plane-t .ensures) ∙ t .given .1 in
+    (omega (arith, simp (if1 .left, e) at (s .pre .1)), s .pre .0)
 
 add-result : tie.Need-add-result
 add-result c = search needs
@@ -47,11 +53,25 @@ same-length c = search needs
 
 returns-2 : tie.Need-returns-2
 unfolding crossed
-returns-2 c = let e = sym (c .before .before .before .before .before .before .before .before .before .before .segment-plane-t .ensures) ∙ c .before .before .before .before .before .before .before .before .t .given .1 in simp (c .before .before .before .before .before .before .before .before .before .before .before .if1 .left, e) (simp (c .before .before .before .snap-near-bbox .ensures, c .before .before .before .before .snap-to-plane .ensures, c .before .before .before .before .before .interpolate-points .ensures) at (c .before .before .push-corner .ensures))
+returns-2 c =
+    let segment-plane-t = c .before .before .before .before .before .before .before .before .before .before .segment-plane-t in
+    let t = c .before .before .before .before .before .before .before .before .t in
+    let if1 = c .before .before .before .before .before .before .before .before .before .before .before .if1 in
+    let snap-near-bbox = c .before .before .before .snap-near-bbox in
+    let snap-to-plane = c .before .before .before .before .snap-to-plane in
+    let interpolate-points = c .before .before .before .before .before .interpolate-points in
+    let push-corner = c .before .before .push-corner in
+    let e = sym (segment-plane-t .ensures) ∙ t .given .1 in
+    simp (if1 .left, e) (simp (snap-near-bbox .ensures, snap-to-plane .ensures, interpolate-points .ensures) at (push-corner .ensures))
 
 returns-3 : tie.Need-returns-3
 unfolding crossed
-returns-3 c = let s = c .before .before .before .before .before in let e = sym (c .before .before .segment-plane-t .ensures) ∙ c .enum-told .given .1 in simp (c .before .before .before .if1 .left, e) (sym (append-nil (corners (s .args .out .now) (s .args .n))))
+returns-3 c =
+    let segment-plane-t = c .before .before .segment-plane-t in
+    let if1 = c .before .before .before .if1 in
+    let s = c .before .before .before .before .before in
+    let e = sym (segment-plane-t .ensures) ∙ c .enum-told .given .1 in
+    simp (if1 .left, e) (sym (append-nil (corners (s .args .out .now) (s .args .n))))
 
 pub add-crossing-spec : {M : Type 1} → statement M
 add-crossing-spec =

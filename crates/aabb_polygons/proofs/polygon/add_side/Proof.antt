@@ -20,25 +20,67 @@ point-inside-plane-requires-2 : tie.Need-point-inside-plane-requires-2
 point-inside-plane-requires-2 c κs = search needs
 
 add-crossing-requires : tie.Need-add-crossing-requires
-add-crossing-requires c κs = let s = c .before .before .before .before in (s .pre .0, side-room (s .args .prev) (s .args .curr) (faceOf (s .args .plane)) (s .args .extents) (s .args .eps) [] _ _ (c .before .point-inside-plane2 .ensures) (c .before .before .point-inside-plane .ensures) (s .args .n) (s .pre .1))
+add-crossing-requires c κs =
+    let point-inside-plane2 = c .before .point-inside-plane2 in
+    let point-inside-plane = c .before .before .point-inside-plane in
+    let s = c .before .before .before .before in (
+      s .pre .0,
+      side-room (s .args .prev) (s .args .curr) (faceOf (s .args .plane)) (s .args .extents) (s .args .eps) [] _ _ (point-inside-plane2 .ensures)
+          (point-inside-plane .ensures) (s .args .n) (s .pre .1),
+    )
 
 push-corner-requires : tie.Need-push-corner-requires
-push-corner-requires c κs = let s = c .before .before .before .before .before .before .before .before .before in (room-left (c .before .before .before .before .add-crossing .last .0) (s .args .out .now) (c .before .before .before .before .add-crossing .result) (s .args .n) _ (c .before .before .before .before .add-crossing .ensures) (side-more (s .args .prev) (s .args .curr) (faceOf (s .args .plane)) (s .args .extents) (s .args .eps) [] _ _ (c .before .before .before .before .before .before .point-inside-plane2 .ensures) (c .before .before .before .before .before .before .before .point-inside-plane .ensures) (s .args .n) (s .pre .1) (c .before .if1 .taken)), omega (arith, s .pre .0, c .before .before .before .before .add-crossing .kept .0))
+push-corner-requires c κs =
+    let add-crossing = c .before .before .before .before .add-crossing in
+    let point-inside-plane2 = c .before .before .before .before .before .before .point-inside-plane2 in
+    let point-inside-plane = c .before .before .before .before .before .before .before .point-inside-plane in
+    let if1 = c .before .if1 in
+    let s = c .before .before .before .before .before .before .before .before .before in (
+      room-left (add-crossing .last .0) (s .args .out .now) (add-crossing .result) (s .args .n) _ (add-crossing .ensures) (side-more (s .args .prev) (s .args .curr)
+          (faceOf (s .args .plane)) (s .args .extents) (s .args .eps) [] _ _ (point-inside-plane2 .ensures) (point-inside-plane .ensures) (s .args .n) (s .pre .1)
+          (if1 .taken)),
+      omega (arith, s .pre .0, add-crossing .kept .0),
+    )
 
 add-result : tie.Need-add-result
-add-result c = let s = c .before .before .before .before .before .before .before .before .before .before .before .before in omega (arith, room-left (c .before .before .before .before .before .before .before .add-crossing .last .0) (s .args .out .now) (c .before .before .before .before .before .before .before .add-crossing .result) (s .args .n) _ (c .before .before .before .before .before .before .before .add-crossing .ensures) (side-more (s .args .prev) (s .args .curr) (faceOf (s .args .plane)) (s .args .extents) (s .args .eps) [] _ _ (c .before .before .before .before .before .before .before .before .before .point-inside-plane2 .ensures) (c .before .before .before .before .before .before .before .before .before .before .point-inside-plane .ensures) (s .args .n) (s .pre .1) (c .before .before .before .before .if1 .taken)))
+add-result c =
+    let add-crossing = c .before .before .before .before .before .before .before .add-crossing in
+    let point-inside-plane2 = c .before .before .before .before .before .before .before .before .before .point-inside-plane2 in
+    let point-inside-plane = c .before .before .before .before .before .before .before .before .before .before .point-inside-plane in
+    let if1 = c .before .before .before .before .if1 in
+    let s = c .before .before .before .before .before .before .before .before .before .before .before .before in
+    omega (
+      arith,
+      room-left (add-crossing .last .0) (s .args .out .now) (add-crossing .result) (s .args .n) _ (add-crossing .ensures) (side-more (s .args .prev)
+          (s .args .curr) (faceOf (s .args .plane)) (s .args .extents) (s .args .eps) [] _ _ (point-inside-plane2 .ensures) (point-inside-plane .ensures) (s .args .n)
+          (s .pre .1) (if1 .taken)),
+    )
 
 same-length : tie.Need-same-length
 same-length c = search needs
 
 returns : tie.Need-returns
-returns c = let s = c .before .before .before .before .before .before .before .before .before .before .before .before in onto _ _ _ _ (c .before .before .push-corner .ensures) (c .before .before .before .before .before .before .before .add-crossing .ensures) ∙ side-in (s .args .prev) (s .args .curr) (faceOf (s .args .plane)) (s .args .extents) (s .args .eps) (corners (s .args .out .now) (s .args .n)) _ _ (c .before .before .before .before .before .before .before .before .before .point-inside-plane2 .ensures) (c .before .before .before .before .before .before .before .before .before .before .point-inside-plane .ensures) (c .before .before .before .before .if1 .taken)
+returns c =
+    let push-corner = c .before .before .push-corner in
+    let add-crossing = c .before .before .before .before .before .before .before .add-crossing in
+    let point-inside-plane2 = c .before .before .before .before .before .before .before .before .before .point-inside-plane2 in
+    let point-inside-plane = c .before .before .before .before .before .before .before .before .before .before .point-inside-plane in
+    let if1 = c .before .before .before .before .if1 in
+    let s = c .before .before .before .before .before .before .before .before .before .before .before .before in
+    onto _ _ _ _ (push-corner .ensures) (add-crossing .ensures) ∙ side-in (s .args .prev) (s .args .curr) (faceOf (s .args .plane)) (s .args .extents) (s .args .eps)
+    (corners (s .args .out .now) (s .args .n)) _ _ (point-inside-plane2 .ensures) (point-inside-plane .ensures) (if1 .taken)
 
 same-length-2 : tie.Need-same-length-2
 same-length-2 c = search needs
 
 returns-2 : tie.Need-returns-2
-returns-2 c = let s = c .before .before .before .before .before .before .before .before in c .before .before .before .add-crossing .ensures ∙ side-out (s .args .prev) (s .args .curr) (faceOf (s .args .plane)) (s .args .extents) (s .args .eps) (corners (s .args .out .now) (s .args .n)) _ _ (c .before .before .before .before .before .point-inside-plane2 .ensures) (c .before .before .before .before .before .before .point-inside-plane .ensures) (c .if1 .left)
+returns-2 c =
+    let add-crossing = c .before .before .before .add-crossing in
+    let point-inside-plane2 = c .before .before .before .before .before .point-inside-plane2 in
+    let point-inside-plane = c .before .before .before .before .before .before .point-inside-plane in
+    let s = c .before .before .before .before .before .before .before .before in
+    add-crossing .ensures ∙ side-out (s .args .prev) (s .args .curr) (faceOf (s .args .plane)) (s .args .extents) (s .args .eps) (corners (s .args .out .now)
+    (s .args .n)) _ _ (point-inside-plane2 .ensures) (point-inside-plane .ensures) (c .if1 .left)
 
 pub add-side-spec : {M : Type 1} → statement M
 add-side-spec =

@@ -33,16 +33,51 @@ same-length-2 : tie.Need-same-length-2
 same-length-2 c = search needs
 
 returns : tie.Need-returns
-returns c = let s = c .before .before .before .before .before .before .before .before .before .before .before .before .before .before in c .before .before .snap-corners .ensures ∙ whole-first (s .args .extents) (s .args .eps) 0 (corners (c .before .before .before .before .before .before .before .before .before .before .put-triangle .last .0) 3) (omega (arith, points-length (c .before .before .before .before .before .before .before .before .before .before .put-triangle .last .0) 0 3)) (sym (c .before .before .before .before .before .before .all-inside .ensures) ∙ c .before .before .before .before .before .if1 .taken) ∙ ap (λ (l : List Point). clipToPlane (s .args .extents) (s .args .eps) l 0) (c .before .before .before .before .before .before .before .before .before .before .put-triangle .ensures)
+returns c =
+    let snap-corners = c .before .before .snap-corners in
+    let put-triangle = c .before .before .before .before .before .before .before .before .before .before .put-triangle in
+    let all-inside = c .before .before .before .before .before .before .all-inside in
+    let if1 = c .before .before .before .before .before .if1 in
+    let s = c .before .before .before .before .before .before .before .before .before .before .before .before .before .before in
+    snap-corners .ensures ∙ whole-first (s .args .extents) (s .args .eps) 0 (corners (put-triangle .last .0) 3) (omega (arith, points-length (put-triangle .last .0) 0 3))
+    (sym (all-inside .ensures) ∙ if1 .taken) ∙ ap (λ (l : List Point). clipToPlane (s .args .extents) (s .args .eps) l 0) (put-triangle .ensures)
 
 walk-sides-requires : tie.Need-walk-sides-requires
 walk-sides-requires c κs = search needs
 
 copy-corners-requires : tie.Need-copy-corners-requires
-copy-corners-requires c κs = let s = c .before .before .before .before .before .before .before .before .before .before .before .before .before .before .before .before in ((omega (arith, s .pre, c .before .before .before .before .before .before .before .before .before .before .before .before .put-triangle .kept), omega (arith, s .pre, c .before .before .before .before .walk-sides .kept)), omega (arith, counted (c .before .before .before .before .walk-sides .last .1 .1 .1 .1 .1 .0) (c .before .before .before .before .walk-sides .result) _ (c .before .before .before .before .walk-sides .ensures), unsnapped-short 0 (s .args .extents) (s .args .eps) (corners (c .before .before .before .before .before .before .before .before .before .before .before .before .put-triangle .last .0) 3), points-length (c .before .before .before .before .before .before .before .before .before .before .before .before .put-triangle .last .0) 0 3))
+copy-corners-requires c κs =
+    let put-triangle = c .before .before .before .before .before .before .before .before .before .before .before .before .put-triangle in
+    let walk-sides = c .before .before .before .before .walk-sides in
+    let s = c .before .before .before .before .before .before .before .before .before .before .before .before .before .before .before .before in (
+      (omega (arith, s .pre, put-triangle .kept), omega (arith, s .pre, walk-sides .kept)),
+      omega (
+        arith,
+        counted (walk-sides .last .1 .1 .1 .1 .1 .0) (walk-sides .result)
+            _ (walk-sides .ensures),
+        unsnapped-short 0 (s .args .extents) (s .args .eps) (corners (put-triangle .last .0) 3),
+        points-length (put-triangle .last .0) 0 3,
+      ),
+    )
 
 snap-corners-requires-2 : tie.Need-snap-corners-requires-2
-snap-corners-requires-2 c κs = let s = c .before .before .before .before .before .before .before .before .before .before .before .before .before .before .before .before .before .before .before .before .before in ((omega (arith, s .pre, c .before .before .before .before .before .before .before .before .before .walk-sides .kept), omega (arith, s .pre, c .before .before .before .before .before .before .before .before .before .before .before .before .before .before .before .before .before .put-triangle .kept, c .before .before .before .before .copy-corners .kept)), omega (arith, counted (c .before .before .before .before .before .before .before .before .before .walk-sides .last .1 .1 .1 .1 .1 .0) (c .before .before .before .before .before .before .before .before .before .walk-sides .result) _ (c .before .before .before .before .before .before .before .before .before .walk-sides .ensures), unsnapped-short 0 (s .args .extents) (s .args .eps) (corners (c .before .before .before .before .before .before .before .before .before .before .before .before .before .before .before .before .before .put-triangle .last .0) 3), points-length (c .before .before .before .before .before .before .before .before .before .before .before .before .before .before .before .before .before .put-triangle .last .0) 0 3))
+snap-corners-requires-2 c κs =
+    let walk-sides = c .before .before .before .before .before .before .before .before .before .walk-sides in
+    let put-triangle = c .before .before .before .before .before .before .before .before .before .before .before .before .before .before .before
+    .before .before .put-triangle in
+    let copy-corners = c .before .before .before .before .copy-corners in
+    let s = c .before .before .before .before .before .before .before .before .before .before .before .before .before .before .before
+    .before .before .before .before .before .before in (
+      (omega (arith, s .pre, walk-sides .kept), omega (arith, s .pre, put-triangle .kept, copy-corners .kept)),
+      omega (
+        arith,
+        counted (walk-sides .last .1 .1 .1 .1 .1 .0)
+            (walk-sides .result) _ (walk-sides .ensures),
+        unsnapped-short 0 (s .args .extents) (s .args .eps) (corners (put-triangle .last .0) 3),
+        points-length
+            (put-triangle .last .0) 0 3,
+      ),
+    )
 
 same-length-3 : tie.Need-same-length-3
 same-length-3 c = search needs
@@ -51,7 +86,17 @@ same-length-4 : tie.Need-same-length-4
 same-length-4 c = search needs
 
 returns-2 : tie.Need-returns-2
-returns-2 c = let s = c .before .before .before .before .before .before .before .before .before .before .before .before .before .before .before .before .before .before .before .before .before .before .before .before in c .before .before .snap-corners2 .ensures ∙ ap (λ (l : List Point). map (snapped (s .args .extents) (s .args .eps)) l) (c .before .before .before .before .before .before .before .copy-corners .ensures ∙ c .before .before .before .before .before .before .before .before .before .before .before .before .walk-sides .ensures) ∙ unsnapped-snapped (s .args .extents) (s .args .eps) 0 (corners (c .before .before .before .before .before .before .before .before .before .before .before .before .before .before .before .before .before .before .before .before .put-triangle .last .0) 3) ∙ ap (λ (l : List Point). clipToPlane (s .args .extents) (s .args .eps) l 0) (c .before .before .before .before .before .before .before .before .before .before .before .before .before .before .before .before .before .before .before .before .put-triangle .ensures)
+returns-2 c =
+    let snap-corners2 = c .before .before .snap-corners2 in
+    let copy-corners = c .before .before .before .before .before .before .before .copy-corners in
+    let walk-sides = c .before .before .before .before .before .before .before .before .before .before .before .before .walk-sides in
+    let put-triangle = c .before .before .before .before .before .before .before .before .before .before .before .before .before .before .before
+    .before .before .before .before .before .put-triangle in
+    let s = c .before .before .before .before .before .before .before .before .before .before .before .before .before .before .before
+    .before .before .before .before .before .before .before .before .before in
+    snap-corners2 .ensures ∙ ap (λ (l : List Point). map (snapped (s .args .extents) (s .args .eps)) l) (copy-corners .ensures ∙ walk-sides .ensures) ∙ unsnapped-snapped
+    (s .args .extents) (s .args .eps) 0 (corners (put-triangle .last .0) 3) ∙ ap (λ (l : List Point). clipToPlane (s .args .extents) (s .args .eps) l 0)
+    (put-triangle .ensures)
 
 pub clip-first-spec : {M : Type 1} → statement M
 clip-first-spec =

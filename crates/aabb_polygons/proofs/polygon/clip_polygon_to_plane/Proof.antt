@@ -22,7 +22,15 @@ same-length : tie.Need-same-length
 same-length c = search needs
 
 returns : tie.Need-returns
-returns c = let s = c .before .before .before .before .before in whole (s .args .extents) (s .args .eps) (faceOf (s .args .plane)) (corners (s .args .polygon .now) (s .args .n)) (omega (arith, s .pre, points-length (s .args .polygon .now) 0 (s .args .n))) (s .pre .1 .1) (sym (c .before .all-inside .ensures) ∙ c .if1 .taken)
+returns c =
+    let all-inside = c .before .all-inside in
+    let s = c .before .before .before .before .before in
+    whole (s .args .extents) (s .args .eps) (faceOf (s .args .plane)) (corners (s .args .polygon .now) (s .args .n)) (omega (
+      arith,
+      s .pre,
+      points-length
+          (s .args .polygon .now) 0 (s .args .n),
+    )) (s .pre .1 .1) (sym (all-inside .ensures) ∙ c .if1 .taken)
 
 none-inside-requires : tie.Need-none-inside-requires
 none-inside-requires c κs = search needs
@@ -31,13 +39,31 @@ same-length-2 : tie.Need-same-length-2
 same-length-2 c = search needs
 
 returns-2 : tie.Need-returns-2
-returns-2 c = let s = c .before .before .before .before .before .before .before .before in gone (s .args .extents) (s .args .eps) (faceOf (s .args .plane)) (s .args .polygon .now) (corners (s .args .polygon .now) (s .args .n)) (omega (arith, s .pre, points-length (s .args .polygon .now) 0 (s .args .n))) (sym (c .before .none-inside .ensures) ∙ c .if2 .taken)
+returns-2 c =
+    let none-inside = c .before .none-inside in
+    let s = c .before .before .before .before .before .before .before .before in
+    gone (s .args .extents) (s .args .eps) (faceOf (s .args .plane)) (s .args .polygon .now) (corners (s .args .polygon .now) (s .args .n)) (omega (
+      arith,
+      s .pre,
+      points-length (s .args .polygon .now) 0 (s .args .n),
+    )) (sym (none-inside .ensures) ∙ c .if2 .taken)
 
 walk-sides-requires : tie.Need-walk-sides-requires
 walk-sides-requires c κs = search needs
 
 copy-corners-requires : tie.Need-copy-corners-requires
-copy-corners-requires c κs = let s = c .before .before .before .before .before .before .before .before .before .before .before .before .before .before .before in ((omega (arith, s .pre), omega (arith, s .pre, c .before .before .before .before .walk-sides .kept)), omega (arith, s .pre, grown (s .args .polygon .now) (c .before .before .before .before .walk-sides .last .1 .1 .1 .1 .1 .0) (s .args .n) (c .before .before .before .before .walk-sides .result) (faceOf (s .args .plane)) (s .args .extents) (s .args .eps) (c .before .before .before .before .walk-sides .ensures ∙ unsnapped-same (s .args .extents) (s .args .eps) (faceOf (s .args .plane)) (corners (s .args .polygon .now) (s .args .n)) (s .pre .1 .1))))
+copy-corners-requires c κs =
+    let walk-sides = c .before .before .before .before .walk-sides in
+    let s = c .before .before .before .before .before .before .before .before .before .before .before .before .before .before .before in (
+      (omega (arith, s .pre), omega (arith, s .pre, walk-sides .kept)),
+      omega (
+        arith,
+        s .pre,
+        grown (s .args .polygon .now) (walk-sides .last .1 .1 .1 .1 .1 .0)
+            (s .args .n) (walk-sides .result) (faceOf (s .args .plane)) (s .args .extents) (s .args .eps) (walk-sides .ensures ∙ unsnapped-same (s .args .extents) (s .args .eps)
+            (faceOf (s .args .plane)) (corners (s .args .polygon .now) (s .args .n)) (s .pre .1 .1)),
+      ),
+    )
 
 same-length-3 : tie.Need-same-length-3
 same-length-3 c = search needs
@@ -46,7 +72,12 @@ same-length-4 : tie.Need-same-length-4
 same-length-4 c = search needs
 
 returns-3 : tie.Need-returns-3
-returns-3 c = let s = c .before .before .before .before .before .before .before .before .before .before .before .before .before .before .before .before .before .before in c .before .before .copy-corners .ensures ∙ (c .before .before .before .before .before .before .before .walk-sides .ensures ∙ unsnapped-same (s .args .extents) (s .args .eps) (faceOf (s .args .plane)) (corners (s .args .polygon .now) (s .args .n)) (s .pre .1 .1))
+returns-3 c =
+    let copy-corners = c .before .before .copy-corners in
+    let walk-sides = c .before .before .before .before .before .before .before .walk-sides in
+    let s = c .before .before .before .before .before .before .before .before .before .before .before .before .before .before .before .before .before .before in
+    copy-corners .ensures ∙ (walk-sides .ensures ∙ unsnapped-same (s .args .extents) (s .args .eps) (faceOf (s .args .plane)) (corners (s .args .polygon .now)
+    (s .args .n)) (s .pre .1 .1))
 
 pub clip-polygon-to-plane-spec : {M : Type 1} → statement M
 clip-polygon-to-plane-spec =

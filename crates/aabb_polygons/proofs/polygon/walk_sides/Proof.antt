@@ -9,7 +9,7 @@ use Rattle.aabb_polygons.proofs.polygon.walk_sides.Statement.{statement
 use Rattle.aabb_polygons.proofs.polygon.walk_sides.Tie as tie
 use Rattle.aabb_polygons.proofs.polygon.walk_sides.Reads as reads
 use Rattle.aabb_polygons.proofs.polygon.walk_sides.Lts as lts
-use Rattle.aabb_polygons.proofs.corners.vertex_at.Reads as vertex-at-reads
+use Rattle.geometry.proofs.vertices.point_at.Reads as point-at-reads
 use Rattle.aabb_polygons.proofs.polygon.add_side.Reads as add-side-reads
 
 abbrev Inv-loop : tie.InvT-loop
@@ -18,20 +18,36 @@ Inv-loop polygon n plane extents eps out₀ k₀ prev₀ i₀ out k prev i = (i 
 abbrev μ-loop : tie.MeasureT-loop
 μ-loop polygon n plane extents eps out₀ k₀ prev₀ i₀ out k prev i = n - i
 
-sub-vertex-at : tie.Need-sub-vertex-at Inv-loop μ-loop
-sub-vertex-at c = search needs
+sub-point-at : tie.Need-sub-point-at Inv-loop μ-loop
+sub-point-at c = search needs
 
-vertex-at-requires : tie.Need-vertex-at-requires Inv-loop μ-loop
-vertex-at-requires c κs = omega (arith, c .before .before .pre)
+point-at-requires : tie.Need-point-at-requires Inv-loop μ-loop
+point-at-requires c κs = omega (arith, c .before .before .pre)
 
 loop-holds : tie.Need-loop-holds Inv-loop μ-loop
-loop-holds c = let s = c .before .before .before in (search needs, (refl, walked-start (s .args .polygon .now) (s .args .n) (s .pre .1 .0) (s .pre .1 .1) (faceOf (s .args .plane)) (s .args .extents) (s .args .eps) (s .args .out .now) _ (c .vertex-at .ensures)))
+loop-holds c =
+    let s = c .before .before .before in (
+      search needs,
+      (
+        refl,
+        walked-start (s .args .polygon .now) (s .args .n) (s .pre .1 .0) (s .pre .1 .1) (faceOf (s .args .plane)) (s .args .extents) (s .args .eps)
+            (s .args .out .now) _ (c .point-at .ensures),
+      ),
+    )
 
-vertex-at-requires-2 : tie.Need-vertex-at-requires-2 Inv-loop μ-loop
-vertex-at-requires-2 c κs = omega (arith, c .before .before .before .before .before .pre, c .before .loop .inv .0, c .loop-test .taken)
+point-at-requires-2 : tie.Need-point-at-requires-2 Inv-loop μ-loop
+point-at-requires-2 c κs = omega (arith, c .before .before .before .before .before .pre, c .before .loop .inv .0, c .loop-test .taken)
 
 add-side-requires : tie.Need-add-side-requires Inv-loop μ-loop
-add-side-requires c κs = let s = c .before .before .before .before .before .before .before in (omega (arith, s .pre, c .before .before .before .loop .inv .1 .0), walked-room (s .args .polygon .now) (s .args .n) (s .pre .1 .0) (s .pre .1 .1) (faceOf (s .args .plane)) (s .args .extents) (s .args .eps) (c .before .before .before .loop .out) (c .before .before .before .loop .k) (c .before .before .before .loop .prev) (c .before .before .before .loop .i) (c .before .before .before .loop .inv .1 .1) (c .before .vertex-at2 .result) (c .before .vertex-at2 .ensures) (c .before .before .loop-test .taken))
+add-side-requires c κs =
+    let loop = c .before .before .before .loop in
+    let point-at2 = c .before .point-at2 in
+    let loop-test = c .before .before .loop-test in
+    let s = c .before .before .before .before .before .before .before in (
+      omega (arith, s .pre, loop .inv .1 .0),
+      walked-room (s .args .polygon .now) (s .args .n) (s .pre .1 .0) (s .pre .1 .1) (faceOf (s .args .plane)) (s .args .extents)
+          (s .args .eps) (loop .out) (loop .k) (loop .prev) (loop .i) (loop .inv .1 .1) (point-at2 .result) (point-at2 .ensures) (loop-test .taken),
+    )
 
 add-i : tie.Need-add-i Inv-loop μ-loop
 add-i c = search needs
@@ -40,13 +56,30 @@ loop-less : tie.Need-loop-less Inv-loop μ-loop
 loop-less c = search needs
 
 loop-again : tie.Need-loop-again Inv-loop μ-loop
-loop-again c = let s = c .before .before .before .before .before .before .before .before .before .before in (search needs, (c .before .before .add-side .kept .0 ∙ c .before .before .before .before .before .before .loop .inv .1 .0, walked-more (s .args .polygon .now) (s .args .n) (s .pre .1 .0) (s .pre .1 .1) (faceOf (s .args .plane)) (s .args .extents) (s .args .eps) (c .before .before .before .before .before .before .loop .out) (c .before .before .before .before .before .before .loop .k) (c .before .before .before .before .before .before .loop .prev) (c .before .before .before .before .before .before .loop .i) (c .before .before .before .before .before .before .loop .inv .1 .1) (c .before .before .before .before .vertex-at2 .result) (c .before .before .before .before .vertex-at2 .ensures) (c .before .before .before .before .before .loop-test .taken) (c .before .before .add-side .last .0) (c .before .before .add-side .result) (c .before .before .add-side .ensures)))
+loop-again c =
+    let add-side = c .before .before .add-side in
+    let loop = c .before .before .before .before .before .before .loop in
+    let point-at2 = c .before .before .before .before .point-at2 in
+    let loop-test = c .before .before .before .before .before .loop-test in
+    let s = c .before .before .before .before .before .before .before .before .before .before in (
+      search needs,
+      (
+        add-side .kept .0 ∙ loop .inv .1 .0,
+        walked-more (s .args .polygon .now) (s .args .n) (s .pre .1 .0) (s .pre .1 .1) (faceOf (s .args .plane))
+            (s .args .extents) (s .args .eps) (loop .out) (loop .k) (loop .prev) (loop .i) (loop .inv .1 .1) (point-at2 .result) (point-at2 .ensures) (loop-test .taken)
+            (add-side .last .0) (add-side .result) (add-side .ensures),
+      ),
+    )
 
 same-length : tie.Need-same-length Inv-loop μ-loop
 same-length c = c .before .loop .inv .1 .0
 
 returns : tie.Need-returns Inv-loop μ-loop
-returns c = let s = c .before .before .before .before .before in walked-end (s .args .polygon .now) (s .args .n) (s .pre .1 .0) (s .pre .1 .1) (faceOf (s .args .plane)) (s .args .extents) (s .args .eps) (c .before .loop .out) (c .before .loop .k) (c .before .loop .prev) (c .before .loop .i) (c .before .loop .inv .1 .1) (c .loop-test .left)
+returns c =
+    let loop = c .before .loop in
+    let s = c .before .before .before .before .before in
+    walked-end (s .args .polygon .now) (s .args .n) (s .pre .1 .0) (s .pre .1 .1) (faceOf (s .args .plane)) (s .args .extents) (s .args .eps) (loop .out) (loop .k)
+    (loop .prev) (loop .i) (loop .inv .1 .1) (c .loop-test .left)
 
 pub walk-sides-spec : {M : Type 1} → statement M
 walk-sides-spec =
@@ -54,10 +87,10 @@ walk-sides-spec =
     (tie.spec
     Inv-loop
     μ-loop
-    sub-vertex-at
-    vertex-at-requires
+    sub-point-at
+    point-at-requires
     loop-holds
-    vertex-at-requires-2
+    point-at-requires-2
     add-side-requires
     add-i
     loop-less
