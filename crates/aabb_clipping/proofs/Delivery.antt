@@ -1,8 +1,7 @@
 -- Laws of what the operation leaves behind: after a refusal, and after the passes. Assumes nothing.
 --   none-front                           an empty part of an output, lent to a pass, that came back
 --   ample, inside                        outputs that hold whatever the facets could give, and a mesh wholly inside
---   short-vertices, short-facets, done   what Written asks, on each of the three ways
---   refused, accepted, answered          what Replied asks, after the tests in front, and ClipAnswered
+--   short-vertices, short-facets, done   test 12, and the mesh written
 --   Ready, ready                         what is known once the tests in front have passed
 --   lists-refused, number-refused, box-refused, room-refused, all-passed   the tests in front, one after the other
 use Prim.Native.Nat.{ℕ, _+_, _*_, _/_, _≤_, _<_}
@@ -12,32 +11,32 @@ use mathlib.Core.Path.{_≡_, refl, sym, ap, _∙_}
 use native.Mathlib.Omega.{arith}
 use borrow.Author.Tests.{ltb-false, lt-ltb, le-ltb}
 use lib.Dec.{ltb}
-use lib.ListN.{length, replicate, length-replicate}
+use lib.ListN.{length}
 use lib.Seq.{sets}
 use lib.Ieee.{Float}
 use Rattle.lists.specs.Lists.{every}
-use Rattle.words.specs.Overlay.{overlay}
-use Rattle.words.proofs.Overlay.{sets-overlay, overlay-whole}
+use Rattle.words.proofs.Overlay.{sets-overlay}
 use Rattle.geometry.specs.declared.aabb.AABB.{AABB}
 use Rattle.geometry.specs.Triangles.{flat}
-use Rattle.geometry.specs.Meshes.{Mesh, meshOf, pointsOf, coordinates, meshLengths}
+use Rattle.geometry.specs.Meshes.{Mesh, meshOf, pointsOf, coordinates}
 use Rattle.geometry.proofs.Threes.{length-threes}
 use Rattle.geometry.proofs.Meshes.{length-coordinates}
 use Rattle.refusals.specs.declared.refusal.Refusal.{Refusal}
 use Rattle.refusals.specs.declared.refusal.Refusal.the-variants.{BadNumber, BadBox, NoWorkRoom, NoRoom}
 use Rattle.refusals.specs.declared.refusal.Checked.{Checked}
 use Rattle.refusals.specs.declared.refusal.Checked.the-variants.{Passed, Refused}
-use Rattle.refusals.specs.declared.reply.MeshReply.{MeshReply}
-use Rattle.refusals.specs.declared.reply.MeshReply.the-variants.{Done}
-use Rattle.refusals.specs.declared.reply.MeshReply.the-variants as mesh
-use Rattle.refusals.specs.Refusals.{documented, documentedMesh, Test, firstRefusal, settle, Settled}
-use Rattle.refusals.specs.Front.{ceiling, listTests, badIndex, inRange, epsInRange, boxInRange, badBox, workNeed, roomTests}
-use Rattle.refusals.proofs.Refusals.{holds, passes, none-left, row-passed, row-refused, untouched}
-use Rattle.refusals.proofs.Replies.{reply-refused, reply-passed, short-first, short-second, roomy, head-passed, tail-passed, row-front, row-rest, listed}
+use Rattle.refusals.specs.declared.reply.Reply.the-variants.{DoneTwo}
+use Rattle.refusals.specs.declared.reply.Reply.the-variants as reply
+use Rattle.refusals.specs.Refusals.{documentedReply, Test, firstRefusal}
+use Rattle.refusals.specs.Answers.{Output, output, meshOutputs, Answer}
+use Rattle.refusals.specs.Front.{ceiling, listTests, badIndex, inRange, epsInRange, boxInRange, badBox, workNeed}
+use Rattle.refusals.proofs.Refusals.{holds, passes, none-left, row-passed, row-refused}
+use Rattle.refusals.proofs.Replies.{head-passed, tail-passed, row-front, row-rest, listed}
+use Rattle.refusals.proofs.Answers.{short, done-two}
 use Rattle.aabb_facets.specs.Clipped.{insideBox}
 use Rattle.aabb_facets.proofs.Bounds.{most, inside-most}
-use Rattle.aabb_clipping.specs.Clip.{clipTests, clipResult, clipReply, ClipAnswered}
-use Rattle.aabb_clipping.specs.Steps.{Fits, Written, Replied}
+use Rattle.aabb_clipping.specs.Clip.{clipTests, clipResult}
+use Rattle.aabb_clipping.specs.Steps.{Fits}
 
 pub none-front : {A : Type 0} (e old : List A) → length e ≡ 0 → e ++ old ≡ old
 none-front [] old h = refl
@@ -67,80 +66,25 @@ module _ (m : Mesh) (v v' : List Float) (f f' : List ℕ) (k j : ℕ) (ek : k �
   length-is : 3 * k ≡ nv
   length-is = omega (arith, length-coordinates (m .points))
 
-  same : {A : Type 0} (x : Refusal) (new old now : List A) → now ≡ old → Settled (documentedMesh (mesh.Refused x)) new old now
-  unfolding documentedMesh
-  same x new old now e = record { ends = e ∙ sym (untouched x new old) }
+  abbrev out-v : Output
+  out-v = output (coordinates (m .points)) v v'
 
-  pub short-vertices : length v < 3 * k → v' ≡ v → f' ≡ f → Written m (mesh.Refused (NoRoom (3 * k))) v v' f f'
-  unfolding documentedMesh
-  short-vertices h a b =
-      record {
-        replied = ap (λ (x : ℕ). documented (NoRoom x)) length-is ∙ sym (short-first nv nf (length v) (length f) (meshLengths m) (omega (arith, length-is)));
-        vertices = same (NoRoom (3 * k)) (coordinates (m .points)) v v' a;
-        facets = same (NoRoom (3 * k)) (flat (m .facets)) f f' b;
-      }
+  abbrev out-f : Output
+  out-f = output (flat (m .facets)) f f'
 
-  pub short-facets : 3 * k ≤ length v → length f < j → v' ≡ v → f' ≡ f → Written m (mesh.Refused (NoRoom j)) v v' f f'
-  unfolding documentedMesh
-  short-facets h g a b =
-      record {
-        replied = ap (λ (x : ℕ). documented (NoRoom x)) ej
-            ∙ sym (short-second nv nf (length v) (length f) (meshLengths m) (omega (arith, length-is)) (omega (arith, ej)));
-        vertices = same (NoRoom j) (coordinates (m .points)) v v' a;
-        facets = same (NoRoom j) (flat (m .facets)) f f' b;
-      }
+  pub short-vertices : length v < 3 * k → v' ≡ v → f' ≡ f → Answer [] (meshOutputs m v v' f f') (documentedReply (reply.Refused (NoRoom (3 * k))))
+  short-vertices h a b = short [] out-v (out-f ∷ []) (3 * k) length-is tt h (a, (b, tt))
+
+  pub short-facets : 3 * k ≤ length v → length f < j → v' ≡ v → f' ≡ f → Answer [] (meshOutputs m v v' f f') (documentedReply (reply.Refused (NoRoom j)))
+  short-facets h g a b = short (out-v ∷ []) out-f [] j ej (omega (arith, length-is, h), tt) g (a, (b, tt))
 
   pub done : 3 * k ≤ length v → j ≤ length f → v' ≡ sets v 0 (coordinates (m .points)) → f' ≡ sets f 0 (flat (m .facets))
-      → Written m (Done (3 * k) j) v v' f f'
-  unfolding documentedMesh settle
+      → Answer [] (meshOutputs m v v' f f') (documentedReply (DoneTwo (3 * k) j))
   done h g a b =
-      record {
-        replied = (λ t. 0 ∷ length-is t ∷ ej t ∷ [])
-            ∙ sym (roomy nv nf (length v) (length f) (meshLengths m) (omega (arith, length-is)) (omega (arith, ej)));
-        vertices = record { ends = a ∙ sets-overlay (coordinates (m .points)) v (omega (arith, length-is)) };
-        facets = record { ends = b ∙ sets-overlay (flat (m .facets)) f (omega (arith, ej)) };
-      }
-
--- ---- the tests in front
-module _ (vs : List Float) (fs : List ℕ) (box : AABB) (eps : Float) (lent : ℕ) (x : Checked) (found : x ≡ firstRefusal (clipTests vs fs box eps lent))
-    (v : List Float) (f : List ℕ) where
-  abbrev m : Mesh
-  m = clipResult vs fs box eps
-
-  abbrev rooms : List Test
-  rooms = roomTests (meshLengths m) (length v ∷ length f ∷ [])
-
-  untouched-by : {A : Type 0} (r : Refusal) (new old : List A) → Settled (documentedMesh (mesh.Refused r)) new old old
-  unfolding documentedMesh
-  untouched-by r new old = record { ends = sym (untouched r new old) }
-
-  pub refused : (r : Refusal) → x ≡ Refused r → Replied vs fs box eps lent (mesh.Refused r) v v f f
-  unfolding clipReply documentedMesh
-  refused r e =
-      record {
-        replied = sym (reply-refused (clipTests vs fs box eps lent) rooms (meshLengths m) r (sym found ∙ e));
-        vertices = untouched-by r (coordinates (m .points)) v;
-        facets = untouched-by r (flat (m .facets)) f;
-      }
-
-  pub accepted : x ≡ Passed → (r : MeshReply) (v' : List Float) (f' : List ℕ) → Written m r v v' f f' → Replied vs fs box eps lent r v v' f f'
-  unfolding clipReply
-  accepted e r v' f' d =
-      record {
-        replied = d .replied ∙ sym (reply-passed (clipTests vs fs box eps lent) rooms (meshLengths m) (sym found ∙ e));
-        vertices = d .vertices;
-        facets = d .facets;
-      }
-
-pub answered : (vs : List Float) (fs : List ℕ) (box : AABB) (eps : Float) (r : MeshReply) (w w' z : List ℕ) (v v' : List Float) (f f' : List ℕ)
-    → Replied vs fs box eps (length w) r v v' f f' → length w' ≡ length w → z ≡ overlay (replicate (length w) 0) w' → ClipAnswered vs fs box eps r w z v v' f f'
-answered vs fs box eps r w w' z v v' f f' d l e =
-    record {
-      replied = d .replied;
-      vertices = d .vertices;
-      facets = d .facets;
-      work = record { ends = e ∙ overlay-whole (replicate (length w) 0) w' (omega (arith, l, length-replicate {A = ℕ} (length w) 0)) };
-    }
+      let fit-v : nv ≤ length v = omega (arith, length-is, h) in
+      let fit-f : nf ≤ length f = omega (arith, ej, g) in
+      done-two out-v out-f (3 * k) j length-is ej (fit-v, (fit-f, tt))
+      (a ∙ sets-overlay (coordinates (m .points)) v fit-v, (b ∙ sets-overlay (flat (m .facets)) f fit-f, tt))
 
 pub record Ready (vs : List Float) (fs : List ℕ) (lent : ℕ) : Type 0 where
   pub few : (length vs / 3 ≤ 65536) × (length fs / 3 ≤ 65536)

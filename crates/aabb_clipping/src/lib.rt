@@ -2,12 +2,14 @@
 // `facet_fully_inside_aabb` is left out, since no operation uses it.
 ghost use mathlib.Core.Path.{_≡_};
 ghost use mathlib.Core.Bool.{true, false};
+ghost use mathlib.Core.List.{[]};
 ghost use Prim.Native.Nat.{_/_, _≤_};
 ghost use lib.ListN.{length};
 ghost use Rattle.refusals.specs.Front.{badIndex};
-ghost use Rattle.refusals.specs.Refusals.{firstRefusal};
-ghost use Rattle.aabb_clipping.specs.Clip.{clipTests, clipResult, ClipAnswered};
-ghost use Rattle.aabb_clipping.specs.Steps.{Fits, Written, Replied};
+ghost use Rattle.refusals.specs.Refusals.{documentedReply, firstRefusal};
+ghost use Rattle.refusals.specs.Answers.{meshOutputs, Answer, Answered};
+ghost use Rattle.aabb_clipping.specs.Clip.{clipTests, clipResult};
+ghost use Rattle.aabb_clipping.specs.Steps.{Fits};
 use aabb_facets::marks::wholly_inside;
 use aabb_facets::passes::run_pass;
 use geometry::aabb::AABB;
@@ -19,7 +21,7 @@ use refusals::front::eps_in_range;
 use refusals::front::work_need;
 use refusals::refusal::Checked;
 use refusals::refusal::Refusal;
-use refusals::reply::MeshReply;
+use refusals::reply::Reply;
 use words::zero_front;
 
 // Tests 1, 2, 3, 4, 5 and 7, in that order.
@@ -87,11 +89,11 @@ fn clip_counted(
     ids: &mut [u64],
     out_vertices: &mut [f64],
     out_facets: &mut [u32],
-) -> MeshReply
+) -> Reply
     requires { ⌜ (length (now vertices) / 3 ≤ 65536) × (length (now facets) / 3 ≤ 65536) ⌝ }
     requires { ⌜ badIndex (length (now vertices) / 3) (now facets) ≡ false ⌝ }
     requires { ⌜ length (now ids) ≡ length (now vertices) / 3 ⌝ }
-    ensures { λ r. ⌜ Written (clipResult (now (vertices .entry)) (now (facets .entry)) extents eps) r (now («out_vertices» .entry)) (now («out_vertices» .exit)) (now («out_facets» .entry)) (now («out_facets» .exit)) ⌝ }
+    ensures { λ r. ⌜ Answer [] (meshOutputs (clipResult (now (vertices .entry)) (now (facets .entry)) extents eps) (now («out_vertices» .entry)) (now («out_vertices» .exit)) (now («out_facets» .entry)) (now («out_facets» .exit))) (documentedReply r) ⌝ }
 {
     let need = run_pass(
         vertices,
@@ -105,10 +107,10 @@ fn clip_counted(
     let need_vertices = 3 * need.vertices;
     let need_facets = need.numbers;
     if out_vertices.len() < need_vertices {
-        return MeshReply::Refused(Refusal::NoRoom(need_vertices));
+        return Reply::Refused(Refusal::NoRoom(need_vertices));
     }
     if out_facets.len() < need_facets {
-        return MeshReply::Refused(Refusal::NoRoom(need_facets));
+        return Reply::Refused(Refusal::NoRoom(need_facets));
     }
     run_pass(
         vertices,
@@ -119,7 +121,7 @@ fn clip_counted(
         out_vertices,
         out_facets,
     );
-    MeshReply::Done(need_vertices, need_facets)
+    Reply::DoneTwo(need_vertices, need_facets)
 }
 
 // One pass where the outputs are ample.
@@ -131,11 +133,11 @@ fn clip_checked(
     ids: &mut [u64],
     out_vertices: &mut [f64],
     out_facets: &mut [u32],
-) -> MeshReply
+) -> Reply
     requires { ⌜ (length (now vertices) / 3 ≤ 65536) × (length (now facets) / 3 ≤ 65536) ⌝ }
     requires { ⌜ badIndex (length (now vertices) / 3) (now facets) ≡ false ⌝ }
     requires { ⌜ length (now ids) ≡ length (now vertices) / 3 ⌝ }
-    ensures { λ r. ⌜ Written (clipResult (now (vertices .entry)) (now (facets .entry)) extents eps) r (now («out_vertices» .entry)) (now («out_vertices» .exit)) (now («out_facets» .entry)) (now («out_facets» .exit)) ⌝ }
+    ensures { λ r. ⌜ Answer [] (meshOutputs (clipResult (now (vertices .entry)) (now (facets .entry)) extents eps) (now («out_vertices» .entry)) (now («out_vertices» .exit)) (now («out_facets» .entry)) (now («out_facets» .exit))) (documentedReply r) ⌝ }
 {
     if !is_ample(
         vertices,
@@ -164,7 +166,7 @@ fn clip_checked(
         out_vertices,
         out_facets,
     );
-    MeshReply::Done(3 * made.vertices, made.numbers)
+    Reply::DoneTwo(3 * made.vertices, made.numbers)
 }
 
 // The refusal found, or the mesh clipped.
@@ -177,9 +179,9 @@ fn clip_or_refuse(
     work: &mut [u64],
     out_vertices: &mut [f64],
     out_facets: &mut [u32],
-) -> MeshReply
+) -> Reply
     requires { ⌜ found ≡ firstRefusal (clipTests (now vertices) (now facets) extents eps (length (now work))) ⌝ }
-    ensures { λ r. ⌜ Replied (now (vertices .entry)) (now (facets .entry)) extents eps (length (now (work .entry))) r (now («out_vertices» .entry)) (now («out_vertices» .exit)) (now («out_facets» .entry)) (now («out_facets» .exit)) ⌝ }
+    ensures { λ r. ⌜ Answer (clipTests (now (vertices .entry)) (now (facets .entry)) extents eps (length (now (work .entry)))) (meshOutputs (clipResult (now (vertices .entry)) (now (facets .entry)) extents eps) (now («out_vertices» .entry)) (now («out_vertices» .exit)) (now («out_facets» .entry)) (now («out_facets» .exit))) (documentedReply r) ⌝ }
 {
     match found {
         Checked::Passed => {
@@ -194,7 +196,7 @@ fn clip_or_refuse(
                 out_facets,
             )
         }
-        Checked::Refused(r) => MeshReply::Refused(r),
+        Checked::Refused(r) => Reply::Refused(r),
     }
 }
 
@@ -206,8 +208,8 @@ pub fn clip_mesh_to_aabb(
     work: &mut [u64],
     out_vertices: &mut [f64],
     out_facets: &mut [u32],
-) -> MeshReply
-    ensures { λ r. ⌜ ClipAnswered (now (vertices .entry)) (now (facets .entry)) extents eps r (now (work .entry)) (now (work .exit)) (now («out_vertices» .entry)) (now («out_vertices» .exit)) (now («out_facets» .entry)) (now («out_facets» .exit)) ⌝ }
+) -> Reply
+    ensures { λ r. ⌜ Answered (clipTests (now (vertices .entry)) (now (facets .entry)) extents eps (length (now (work .entry)))) (meshOutputs (clipResult (now (vertices .entry)) (now (facets .entry)) extents eps) (now («out_vertices» .entry)) (now («out_vertices» .exit)) (now («out_facets» .entry)) (now («out_facets» .exit))) (now (work .entry)) (now (work .exit)) (documentedReply r) ⌝ }
 {
     let lent = work.len();
     let found = check(vertices, facets, extents, eps, lent);

@@ -1,6 +1,5 @@
 -- Laws of an operation's whole reply: the row of tests in front, test 12 behind it, and what was done. Assumes nothing.
 --   reply-refused, reply-passed    a row of tests in front, that refused or passed
---   short-first, short-second, roomy   test 12 of an operation with two outputs
 --   not-done, reply-done           a reply whose number is 0 is no refusal
 --   head-passed, tail-passed, row-front, row-rest   what is known once a row of tests has passed
 --   listed, cap-listed             the same of tests 1, 2 and 3
@@ -41,24 +40,6 @@ module _ (ts us : List Test) (done : List ℕ) where
 
   pub reply-passed : firstRefusal ts ≡ Passed → replyTo (ts ++ us) done ≡ replyTo us done
   reply-passed e = ap (λ (c : Checked). numbered c done) (row-passed ts us e)
-
--- results of the lengths n and m, outputs of the lengths a and b
-module _ (n m a b : ℕ) (done : List ℕ) where
-  pub short-first : a < n → replyTo (roomTests (n ∷ m ∷ []) (a ∷ b ∷ [])) done ≡ documented (NoRoom n)
-  unfolding roomTests
-  short-first h = ap (λ (c : Checked). numbered c done) (holds (ltb a n) (NoRoom n) ((ltb b m, NoRoom m) ∷ []) (lt-ltb a n h))
-
-  pub short-second : n ≤ a → b < m → replyTo (roomTests (n ∷ m ∷ []) (a ∷ b ∷ [])) done ≡ documented (NoRoom m)
-  unfolding roomTests
-  short-second h k =
-      ap (λ (c : Checked). numbered c done)
-      (passes (ltb a n) (NoRoom n) ((ltb b m, NoRoom m) ∷ []) (le-ltb a n h) ∙ holds (ltb b m) (NoRoom m) [] (lt-ltb b m k))
-
-  pub roomy : n ≤ a → m ≤ b → replyTo (roomTests (n ∷ m ∷ []) (a ∷ b ∷ [])) done ≡ 0 ∷ done
-  unfolding roomTests
-  roomy h k =
-      ap (λ (c : Checked). numbered c done)
-      (passes (ltb a n) (NoRoom n) ((ltb b m, NoRoom m) ∷ []) (le-ltb a n h) ∙ passes (ltb b m) (NoRoom m) [] (le-ltb b m k) ∙ none-left)
 
 -- ---- a reply whose number is 0
 

@@ -6,12 +6,10 @@ use lib.ListN.{getD}
 use mathlib.Core.List.{List, [], _∷_}
 use Prim.Native.Nat.{ℕ}
 use Rattle.refusals.specs.declared.refusal.Refusal.{Refusal}
-use Rattle.refusals.specs.declared.reply.MeshReply.{MeshReply}
-use Rattle.refusals.specs.declared.reply.MeshReply.the-variants.{Done, Refused}
 use Rattle.refusals.specs.declared.reply.Reply.{Reply}
 use Rattle.refusals.specs.declared.reply.Reply.the-variants.{DoneTwo, DoneFour}
 use Rattle.refusals.specs.declared.reply.Reply.the-variants as reply
-use Rattle.refusals.specs.Refusals.{documented, documentedMesh, documentedReply, turnedDown}
+use Rattle.refusals.specs.Refusals.{documented, documentedReply, turnedDown}
 use Rattle.refusals.specs.Reports.{Reported}
 
 pub same-reply : (reply reply′ : List ℕ) (r : ℕ) (ws : List ℕ) → reply ≡ reply′ → Reported reply r ws → Reported reply′ r ws
@@ -19,14 +17,6 @@ same-reply reply reply′ r ws e h = subst (λ (l : List ℕ). Reported l r ws) 
 
 pub in-case : (refusal case : Refusal) (r : ℕ) (ws : List ℕ) → refusal ≡ case → Reported (documented case) r ws → Reported (documented refusal) r ws
 in-case refusal case r ws e h = same-reply (documented case) (documented refusal) r ws (ap documented (sym e)) h
-
-pub mesh-done : (reply : MeshReply) (v f r : ℕ) (ws : List ℕ) → reply ≡ Done v f → (r ≡ 0) × (ws ≡ v ∷ f ∷ 0 ∷ 0 ∷ []) → Reported (documentedMesh reply) r ws
-unfolding documentedMesh
-mesh-done reply v f r ws e h = same-reply (0 ∷ v ∷ f ∷ []) (documentedMesh reply) r ws (ap documentedMesh (sym e)) (record { number = h .0; words = h .1 })
-
-pub mesh-refused : (reply : MeshReply) (refusal : Refusal) (r : ℕ) (ws : List ℕ) → reply ≡ Refused refusal → Reported (documented refusal) r ws → Reported (documentedMesh reply) r ws
-unfolding documentedMesh
-mesh-refused reply refusal r ws e h = same-reply (documented refusal) (documentedMesh reply) r ws (ap documentedMesh (sym e)) h
 
 pub reply-two : (x : Reply) (a b r : ℕ) (ws : List ℕ) → x ≡ DoneTwo a b → (r ≡ 0) × (ws ≡ a ∷ b ∷ 0 ∷ 0 ∷ []) → Reported (documentedReply x) r ws
 unfolding documentedReply

@@ -1,13 +1,12 @@
 -- Refusals, replies and outputs (document 01, "Refusals, in the order tested"). Assumes nothing.
 --   documented        "this paper's number and values for each of its cases"
---   documentedMesh    the same of a reply that writes a mesh: 0 and the two lengths, or the refusal's
 --   documentedReply   the same of an operation's reply: 0 and the lengths written, or the refusal's
 --   turnedDown        the reply is a refusal
 --   Test              a row of the table: when it refuses, and as what
 --   firstRefusal      the first test that holds        unless    tests that are passed over
 --   Passes            no test of a row holds
 --   replyTo           the reply as numbers: the first refusal's, else 0 and the values of what was done
---   settle            what an output ends as           Settled, Zeroed   the same as records, for contracts
+--   settle            what an output ends as           Zeroed    what the work room does
 use Prim.Native.Nat.{ℕ, zero, suc}
 use mathlib.Core.Path.{_≡_}
 use mathlib.Core.Bool.{Bool, true, false, cond}
@@ -17,9 +16,6 @@ use Rattle.words.specs.Overlay.{overlay}
 use Rattle.refusals.specs.declared.refusal.Refusal.{Refusal}
 use Rattle.refusals.specs.declared.refusal.Checked.{Checked}
 use Rattle.refusals.specs.declared.refusal.Checked.the-variants.{Passed, Refused}
-use Rattle.refusals.specs.declared.reply.MeshReply.{MeshReply}
-use Rattle.refusals.specs.declared.reply.MeshReply.the-variants.{Done}
-use Rattle.refusals.specs.declared.reply.MeshReply.the-variants as mesh
 use Rattle.refusals.specs.declared.reply.Reply.{Reply}
 use Rattle.refusals.specs.declared.reply.Reply.the-variants.{DoneTwo, DoneFour}
 use Rattle.refusals.specs.declared.reply.Reply.the-variants as reply
@@ -38,10 +34,6 @@ documented (OpenEdge a b) = 9 ∷ a ∷ b ∷ []
 documented (BadCap place) = 10 ∷ place ∷ []
 documented (MissingEdge place) = 11 ∷ place ∷ []
 documented (NoRoom need) = 12 ∷ need ∷ []
-
-unfoldable pub documentedMesh : MeshReply → List ℕ
-documentedMesh (Done vertices facets) = 0 ∷ vertices ∷ facets ∷ []
-documentedMesh (mesh.Refused r) = documented r
 
 -- "counts returned are the lengths written"
 unfoldable pub documentedReply : Reply → List ℕ
@@ -82,9 +74,6 @@ unfoldable pub settle : {A : Type 0} → List ℕ → List A → List A → List
 settle [] result old = old
 settle (zero ∷ done) result old = overlay result old
 settle (suc n ∷ values) result old = old
-
-pub record Settled {A : Type 0} (reply : List ℕ) (result old new : List A) : Type 0 where
-  pub ends : new ≡ settle reply result old
 
 -- "Work room ends zero, refused or done"
 pub record Zeroed (old new : List ℕ) : Type 0 where

@@ -1,12 +1,6 @@
 // What an operation answers. specs/Refusals.antt gives each case its documented number and values.
 use crate::refusal::Refusal;
 
-pub enum MeshReply {
-    // the lengths written: coordinates and facet numbers
-    Done(usize, usize),
-    Refused(Refusal),
-}
-
 // Done: the lengths written, in the order of the outputs, of an operation with so many of them.
 pub enum Reply {
     DoneTwo(usize, usize),

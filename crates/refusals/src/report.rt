@@ -1,10 +1,9 @@
 // A reply as plain numbers, for callers in C and for stored answers: document 01's number, and its values in four words.
 ghost use mathlib.Core.Path.{_≡_};
 ghost use mathlib.Core.List.{[], _∷_};
-ghost use Rattle.refusals.specs.Refusals.{documented, documentedMesh, documentedReply};
+ghost use Rattle.refusals.specs.Refusals.{documented, documentedReply};
 ghost use Rattle.refusals.specs.Reports.{Reported};
 use crate::refusal::Refusal;
-use crate::reply::MeshReply;
 use crate::reply::Reply;
 
 // The number 0, for done.
@@ -38,17 +37,6 @@ pub fn report_refusal(values: &mut [u64; 4], refusal: Refusal) -> u32
         Refusal::BadCap(place) => report_values(values, 10, place as u64, 0),
         Refusal::MissingEdge(place) => report_values(values, 11, place as u64, 0),
         Refusal::NoRoom(need) => report_values(values, 12, need as u64, 0),
-    }
-}
-
-pub fn report_mesh(values: &mut [u64; 4], reply: MeshReply) -> u32
-    ensures { λ r. ⌜ Reported (documentedMesh reply) r (now (values .exit)) ⌝ }
-{
-    match reply {
-        MeshReply::Done(vertices, facets) => {
-            report_done(values, vertices as u64, facets as u64, 0, 0)
-        }
-        MeshReply::Refused(refusal) => report_refusal(values, refusal),
     }
 }
 

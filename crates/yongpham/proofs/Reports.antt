@@ -1,6 +1,5 @@
 -- What the functions for C report, from what the operations promise. Assumes nothing.
 --   tolerance-done, tolerance-refused          the tolerance
---   mesh-reported                              an operation that writes a mesh
 --   mode-none, mode-positive, mode-negative    a mode from its number
 --   no-mode-passed, no-mode-refused, no-mode-is   a number that is no mode, after tests 1, 2 and 3
 --   caps-none, caps-reported                   caps, of a number that is no mode and of one that is
@@ -14,15 +13,12 @@ use lib.ListN.{length, getD, replicate, take, drop}
 use lib.Ieee.{Float, binary64, toBits}
 use Rattle.lists.proofs.Bools.{cond-true, cond-false}
 use Rattle.geometry.specs.declared.aabb.AABB.{AABB}
-use Rattle.geometry.specs.Triangles.{flat}
-use Rattle.geometry.specs.Meshes.{Mesh, coordinates}
 use Rattle.refusals.specs.declared.refusal.Refusal.{Refusal}
 use Rattle.refusals.specs.declared.refusal.Refusal.the-variants.{BadNumber}
 use Rattle.refusals.specs.declared.refusal.Checked.{Checked}
 use Rattle.refusals.specs.declared.refusal.Checked.the-variants as checked
 use Rattle.refusals.specs.declared.reply.Reply.{Reply}
-use Rattle.refusals.specs.declared.reply.MeshReply.{MeshReply}
-use Rattle.refusals.specs.Refusals.{documented, documentedMesh, documentedReply, Test, firstRefusal, Passes, numbered, replyTo, Settled, Zeroed}
+use Rattle.refusals.specs.Refusals.{documented, documentedReply, Test, firstRefusal, Passes, numbered, replyTo}
 use Rattle.refusals.specs.Answers.{Output, meshOutputs, Answer, Answered}
 use Rattle.refusals.specs.Front.{ceiling, listTests}
 use Rattle.refusals.specs.Reports.{Reported}
@@ -37,7 +33,7 @@ use Rattle.caps.specs.declared.mode.BoundaryClosure.{BoundaryClosure}
 use Rattle.caps.specs.declared.mode.BoundaryClosure.the-variants.{None, ClosePositive, CloseNegative}
 use Rattle.caps.specs.Operation.{capsTests, capsResult, unchanged, Closes, Capped}
 use Rattle.caps.proofs.Demands.{closes}
-use Rattle.yongpham.specs.Calls.{MeshReported, modeOf, noModeTests, capsCallTests, CapsCalled}
+use Rattle.yongpham.specs.Calls.{modeOf, noModeTests, capsCallTests, CapsCalled}
 
 pub tolerance-done : (b : AABB) (t : Tolerance) (eps : Float) (r : ℕ) (ws : List ℕ) → Tolerated b t → t ≡ Of eps → (r ≡ 0) × (ws ≡ toBits binary64 eps ∷ 0 ∷ 0 ∷ 0 ∷ []) → Reported (toleranceReply b) r ws
 tolerance-done b t eps r ws h e k =
@@ -45,17 +41,6 @@ tolerance-done b t eps r ws h e k =
 
 pub tolerance-refused : (b : AABB) (t : Tolerance) (q : Refusal) (r : ℕ) (ws : List ℕ) → Tolerated b t → t ≡ Refused q → Reported (documented q) r ws → Reported (toleranceReply b) r ws
 tolerance-refused b t q r ws h e k = same-reply (documented q) (toleranceReply b) r ws (sym (ap documentedTolerance e) ∙ h .replied) k
-
--- ---- operations that write a mesh
-
-pub mesh-reported : (reply : List ℕ) (result : Mesh) (m : MeshReply) (r : ℕ) (ws w w' : List ℕ) (v v' : List Float) (f f' : List ℕ) → documentedMesh m ≡ reply → Settled (documentedMesh m) (coordinates (result .points)) v v' → Settled (documentedMesh m) (flat (result .facets)) f f' → Zeroed w w' → Reported (documentedMesh m) r ws → MeshReported reply result r ws w w' v v' f f'
-mesh-reported reply result m r ws w w' v v' f f' e h k z g =
-    record {
-      reported = same-reply (documentedMesh m) reply r ws e g;
-      vertices = subst (λ (l : List ℕ). Settled l (coordinates (result .points)) v v') e h;
-      facets = subst (λ (l : List ℕ). Settled l (flat (result .facets)) f f') e k;
-      work = z;
-    }
 
 -- ---- caps
 

@@ -1,6 +1,5 @@
--- Calls from C (include/yongpham.h): a box is six doubles, and a reply is reported as a number and four words. Assumes nothing.
+-- Calls from C (include/yongpham.h): a box is six doubles, a mode is a number. What a call promises is `Called` of crate refusals. Assumes nothing.
 --   boxOf           the box from its corners
---   MeshReported    what a function that writes a mesh promises: the operation's reply, reported; its result in the outputs; the work room zero
 --   modeOf          a mode from its number
 --   noModeTests     the tests of a number that is no mode: "part of 4, in its place"        capsCallTests   those of any number
 --   CapsCalled      what the function of caps promises: the answer; and of a call that is done, on a mesh that has an open edge with two ends, demand 3
@@ -12,13 +11,10 @@ use lib.Dec.{eqb, ltb}
 use lib.ListN.{length, getD}
 use lib.Ieee.{Float}
 use Rattle.geometry.specs.declared.aabb.AABB.{AABB}
-use Rattle.geometry.specs.Triangles.{flat}
-use Rattle.geometry.specs.Meshes.{Mesh, coordinates}
 use Rattle.refusals.specs.declared.refusal.Refusal.the-variants.{BadNumber}
-use Rattle.refusals.specs.Refusals.{Test, Settled, Zeroed}
+use Rattle.refusals.specs.Refusals.{Test}
 use Rattle.refusals.specs.Answers.{meshOutputs, Called}
 use Rattle.refusals.specs.Front.{ceiling, listTests}
-use Rattle.refusals.specs.Reports.{Reported}
 use Rattle.boundary_closure.specs.Asked.{Asked}
 use Rattle.caps.specs.declared.mode.BoundaryClosure.{BoundaryClosure}
 use Rattle.caps.specs.declared.mode.BoundaryClosure.the-variants.{None, ClosePositive, CloseNegative}
@@ -27,12 +23,6 @@ use Rattle.caps.specs.Operation.{capsTests, capsResult, unchanged, Closes}
 abbrev pub boxOf : Float → Float → Float → Float → Float → Float → AABB
 boxOf min-x min-y min-z max-x max-y max-z =
     record { «min_corner» = min-x ∷ min-y ∷ min-z ∷ []; «max_corner» = max-x ∷ max-y ∷ max-z ∷ [] }
-
-pub record MeshReported (reply : List ℕ) (result : Mesh) (r : ℕ) (values w w' : List ℕ) (v v' : List Float) (f f' : List ℕ) : Type 0 where
-  pub reported : Reported reply r values
-  pub vertices : Settled reply (coordinates (result .points)) v v'
-  pub facets : Settled reply (flat (result .facets)) f f'
-  pub work : Zeroed w w'
 
 -- 0, 1 and 2; any other number is no mode, and is turned down
 abbrev pub modeOf : ℕ → BoundaryClosure

@@ -1,10 +1,10 @@
-ghost use mathlib.Core.List.{[], _∷_};
 ghost use lib.ListN.{length};
-ghost use Rattle.aabb_clipping.specs.Clip.{clipReply, clipResult};
-ghost use Rattle.yongpham.specs.Calls.{MeshReported, boxOf};
+ghost use Rattle.refusals.specs.Answers.{meshOutputs, Called};
+ghost use Rattle.aabb_clipping.specs.Clip.{clipTests, clipResult};
+ghost use Rattle.yongpham.specs.Calls.{boxOf};
 use aabb_clipping::clip_mesh_to_aabb;
 use geometry::aabb::AABB;
-use refusals::report::report_mesh;
+use refusals::report::report_reply;
 
 // `clip_mesh_to_aabb`: values[0] and values[1] get the lengths written.
 #[no_mangle]
@@ -23,7 +23,7 @@ pub extern "C" fn yongpham_clip(
     out_facets: &mut [u32],
     values: &mut [u64; 4],
 ) -> u32
-    ensures { λ r. ⌜ MeshReported (clipReply (now (vertices .entry)) (now (facets .entry)) (boxOf «min_x» «min_y» «min_z» «max_x» «max_y» «max_z») eps (length (now (work .entry))) (length (now («out_vertices» .entry)) ∷ length (now («out_facets» .entry)) ∷ [])) (clipResult (now (vertices .entry)) (now (facets .entry)) (boxOf «min_x» «min_y» «min_z» «max_x» «max_y» «max_z») eps) r (now (values .exit)) (now (work .entry)) (now (work .exit)) (now («out_vertices» .entry)) (now («out_vertices» .exit)) (now («out_facets» .entry)) (now («out_facets» .exit)) ⌝ }
+    ensures { λ r. ⌜ Called (clipTests (now (vertices .entry)) (now (facets .entry)) (boxOf «min_x» «min_y» «min_z» «max_x» «max_y» «max_z») eps (length (now (work .entry)))) (meshOutputs (clipResult (now (vertices .entry)) (now (facets .entry)) (boxOf «min_x» «min_y» «min_z» «max_x» «max_y» «max_z») eps) (now («out_vertices» .entry)) (now («out_vertices» .exit)) (now («out_facets» .entry)) (now («out_facets» .exit))) (now (work .entry)) (now (work .exit)) r (now (values .exit)) ⌝ }
 {
     let extents = AABB {
         min_corner: [min_x, min_y, min_z],
@@ -38,5 +38,5 @@ pub extern "C" fn yongpham_clip(
         out_vertices,
         out_facets,
     );
-    report_mesh(values, reply)
+    report_reply(values, reply)
 }

@@ -1,4 +1,9 @@
-use Rattle.aabb_clipping.proofs.Delivery.{answered}
+use Rattle.words.proofs.Overlay.{overlay-whole}
+use Rattle.refusals.proofs.Answers.{answered}
+use native.Mathlib.Omega.{arith}
+use lib.ListN.{length, replicate, length-replicate}
+use Prim.Native.Nat.{ℕ}
+use mathlib.Core.Path.{sym, ap, _∙_}
 use borrow.Author.Needs.{needs}
 use Rattle.aabb_clipping.proofs.clip_mesh_to_aabb.Statement.{statement}
 use Rattle.aabb_clipping.proofs.clip_mesh_to_aabb.Tie as tie
@@ -22,15 +27,7 @@ same-length-3 : tie.Need-same-length-3
 same-length-3 c = search needs
 
 returns : tie.Need-returns
-returns c =
-    let clip-or-refuse = c .before .before .before .before .before .before .before .before .before .before .clip-or-refuse in
-    let zero-front = c .before .before .zero-front in
-    let s = c .before .before .before .before .before .before .before .before .before .before .before .before .before .before .before
-    .before .before .before .before .before in
-    let a = s .args in
-    let replied = clip-or-refuse in
-    answered (a .vertices .now) (a .facets .now) (a .extents) (a .eps) _ (a .work .now) _ _ _ _ _ _ (replied .ensures) (replied .kept .1 .1 .1 .1 .1 .0)
-    (zero-front .ensures)
+returns c = let p = c .before .before .before .before .before .before .before .before .before .before .clip-or-refuse in let z = c .before .before .zero-front in let a = c .before .before .before .before .before .before .before .before .before .before .before .before .before .before .before .before .before .before .before .before .args in let w = a .work .now in let u = p .last .1 .1 .1 .1 .1 .0 in let l = p .kept .1 .1 .1 .1 .1 .0 in answered _ _ w u _ _ (p .ensures) l (z .ensures ∙ overlay-whole (replicate (length w) 0) u (omega (arith, l, length-replicate {A = ℕ} (length w) 0)) ∙ ap (λ (n : ℕ). replicate n 0) (sym l))
 
 pub clip-mesh-to-aabb-spec : {M : Type 1} → statement M
 clip-mesh-to-aabb-spec =

@@ -1,7 +1,10 @@
-use Rattle.aabb_clipping.proofs.Delivery.{refused, accepted, ready}
+use Rattle.aabb_clipping.proofs.Delivery.{ready}
+use Rattle.refusals.proofs.Answers.{refused, behind}
+use Rattle.refusals.specs.Answers.{meshOutputs}
+use Rattle.aabb_clipping.specs.Clip.{clipTests, clipResult}
 use lib.Seq.{length-take-le}
 use lib.ListN.{length}
-use mathlib.Core.Path.{sym, _∙_}
+use mathlib.Core.Path.{refl, sym, _∙_}
 use native.Mathlib.Omega.{arith}
 use Prim.Native.Nat.{_/_}
 use borrow.Author.Needs.{needs}
@@ -45,19 +48,10 @@ same-length-3 : tie.Need-same-length-3
 same-length-3 c = search needs
 
 returns : tie.Need-returns
-returns c =
-    let enum-told = c .before .before .before .before .before .before .before .before .before .before .enum-told in
-    let clip-checked = c .before .before .before .before .before .before .clip-checked in
-    let s = c .before .before .before .before .before .before .before .before .before .before .before .before .before .before .before .before .before in
-    let a = s .args in
-    accepted (a .vertices .now) (a .facets .now) (a .extents) (a .eps) (length (a .work .now)) (a .found) (s .pre) (a .out-vertices .now) (a .out-facets .now)
-    (enum-told .given .1) _ _ _ (clip-checked .ensures)
+returns c = let s = c .before .before .before .before .before .before .before .before .before .before .before .before .before .before .before .before .before in let a = s .args in behind (clipTests (a .vertices .now) (a .facets .now) (a .extents) (a .eps) (length (a .work .now))) _ _ (sym (s .pre) ∙ c .before .before .before .before .before .before .before .before .before .before .enum-told .given .1) (c .before .before .before .before .before .before .clip-checked .ensures)
 
 returns-2 : tie.Need-returns-2
-returns-2 c =
-    let s = c .before .before .before .before .before .before .before .before in
-    let a = s .args in
-    refused (a .vertices .now) (a .facets .now) (a .extents) (a .eps) (length (a .work .now)) (a .found) (s .pre) (a .out-vertices .now) (a .out-facets .now) _ (c .before .found .given .1)
+returns-2 c = let s = c .before .before .before .before .before .before .before .before in let a = s .args in refused (clipTests (a .vertices .now) (a .facets .now) (a .extents) (a .eps) (length (a .work .now))) (meshOutputs (clipResult (a .vertices .now) (a .facets .now) (a .extents) (a .eps)) (a .out-vertices .now) (a .out-vertices .now) (a .out-facets .now) (a .out-facets .now)) _ (sym (s .pre) ∙ c .before .found .given .1) (refl, (refl, tt))
 
 pub clip-or-refuse-spec : {M : Type 1} → statement M
 clip-or-refuse-spec =
