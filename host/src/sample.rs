@@ -4,7 +4,8 @@
 //! alike, so that its bits, and with them the numbers of the stored triangles, are the
 //! same everywhere. How the list was made stands in host/README.md.
 
-use crate::library::Extents;
+use crate::meshes::Surface;
+use yongpham_library::Extents;
 use crate::mesh::Mesh;
 
 pub const EXTENTS: Extents = [100.0, 200.0, 0.0, 500.0, 500.0, 80.0];
@@ -56,4 +57,15 @@ pub fn mesh() -> Mesh {
         }
     }
     mesh
+}
+
+/// The terrain as if it had been read.
+pub fn surface() -> Surface {
+    let mesh = mesh();
+    Surface {
+        vertices: mesh.vertex_count() as u64,
+        facets: mesh.facet_count() as u64,
+        mesh,
+        ..Surface::default()
+    }
 }
