@@ -63,7 +63,7 @@ mod tests {
                 let known = known.contains(&option) || option == "help";
                 assert!(known, "{name}: --{option} is told");
             }
-            assert!(include_str!("../help/yongpham.txt").contains(&format!("  {name}")));
+            assert!(include_str!("../help/yongpham.txt").contains(&format!("yongpham {name}")));
         }
     }
 }

@@ -50,12 +50,8 @@ impl Call<'_> {
         };
         let found = found.unwrap_or_default();
         let more = if found.explanation.is_empty() { String::new() } else { format!("; {}", found.explanation) };
-        let trouble = Trouble {
-            step: self.step,
-            number: Some(number),
-            explanation: format!("{}{more}", refusals::meaning(number, values)),
-            ..found
-        };
+        let trouble =
+            Trouble { step: self.step, number: Some(number), explanation: format!("{}{more}", refusals::meaning(number, values)), ..found };
         Outcome::Not(State::Refused, trouble)
     }
 
@@ -112,7 +108,10 @@ impl Call<'_> {
             });
         }
         let Setting { extents, eps, resolution } = self.setting;
-        let named = [("eps", *eps, !(0.0..=1.0).contains(eps), "from 0 to 1"), ("the resolution", *resolution, !(*resolution > 0.0 && *resolution <= LARGEST), "above 0 and at most 2^30")];
+        let named = [
+            ("eps", *eps, !(0.0..=1.0).contains(eps), "from 0 to 1"),
+            ("the resolution", *resolution, !(*resolution > 0.0 && *resolution <= LARGEST), "above 0 and at most 2^30"),
+        ];
         let corner = extents.iter().copied().find(outside).map(|x| ("a box corner", x, true, "finite and at most 2^30"));
         let (name, value, _, range) = corner.into_iter().chain(named).find(|(_, _, bad, _)| *bad)?;
         Some(Trouble {

@@ -59,10 +59,7 @@ impl Lists {
             let (a, b) = (self.point(edge[1])?, self.point(edge[2])?);
             let side = self.of_face(edge[0]).iter().copied();
             let inside = |&id: &u64| faces(id).is_some_and(|f| f & common == common);
-            side.filter(inside)
-                .filter_map(|id| self.point(id))
-                .find(|p| *p != a && *p != b && between(*p, a, b))
-                .map(|p| [a, b, p])
+            side.filter(inside).filter_map(|id| self.point(id)).find(|p| *p != a && *p != b && between(*p, a, b)).map(|p| [a, b, p])
         })
     }
 }
@@ -124,11 +121,8 @@ pub fn answer(bytes: &[u8], lists: &Lists) -> Result<Answer, NoAnswer> {
     let numbers: Vec<&[u64]> = (0..6).map(|face| lists.of_face(face)).collect();
     let mut answer = Answer::default();
     for (line, words) in (1..).zip(bytes.split(|byte| *byte == b'\n')) {
-        let fault = |why| NoAnswer {
-            line: u64::from(line),
-            value: quoted(&String::from_utf8_lossy(&words[..words.len().min(limits::LINE)])),
-            why,
-        };
+        let fault =
+            |why| NoAnswer { line: u64::from(line), value: quoted(&String::from_utf8_lossy(&words[..words.len().min(limits::LINE)])), why };
         if words.len() > limits::LINE {
             return Err(fault("is too long a line"));
         }
@@ -165,10 +159,7 @@ mod tests {
         let point = |x: f64, y: f64, z: f64| [x.to_bits(), y.to_bits(), z.to_bits(), 0, 1];
         let points = [(0., 1., 2.), (0., 3., 4.), (5., 6., 7.), (0., 0.1, -0.0)];
         Lists {
-            candidates: points
-                .iter()
-                .flat_map(|&(x, y, z)| point(x, y, z))
-                .collect(),
+            candidates: points.iter().flat_map(|&(x, y, z)| point(x, y, z)).collect(),
             face_lists: vec![3, 0, 0, 0, 0, 1, 3, 1, 0, 2],
             constraints: vec![0, 0, 1, 0, 1, 2],
             open_edges: vec![0, 3, 1],
@@ -177,7 +168,8 @@ mod tests {
 
     #[test]
     fn faces_are_told_by_points_and_places() {
-        let expected = "face 0 3 2\n0.1 -0.0\n3.0 4.0\n1.0 2.0\n0 1\n1 2\nface 1 0 0\nface 2 0 0\nface 3 0 0\nface 4 0 0\nface 5 1 0\n5.0 6.0\n";
+        let expected =
+            "face 0 3 2\n0.1 -0.0\n3.0 4.0\n1.0 2.0\n0 1\n1 2\nface 1 0 0\nface 2 0 0\nface 3 0 0\nface 4 0 0\nface 5 1 0\n5.0 6.0\n";
         assert_eq!(text(&lists()), expected);
         assert!(text(&Lists::default()).ends_with("face 5 0 0\n"));
     }
@@ -203,13 +195,7 @@ mod tests {
 
     #[test]
     fn what_is_no_triangle_is_told_with_its_line() {
-        for wrong in [
-            "0 1 2",
-            "0 1 2 3 4",
-            "0 1 2 -3",
-            "0 1 2 x",
-            "0 1 2 18446744073709551616",
-        ] {
+        for wrong in ["0 1 2", "0 1 2 3 4", "0 1 2 -3", "0 1 2 x", "0 1 2 18446744073709551616"] {
             let told = answer(format!("0 0 1 2\n{wrong}\n").as_bytes(), &lists());
             assert!(told.is_err_and(|fault| fault.line == 2 && fault.value.contains(wrong)));
         }

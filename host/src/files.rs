@@ -17,10 +17,7 @@ pub fn open(path: &Path) -> Result<File, String> {
 #[cfg(unix)]
 fn open_without_waiting(path: &Path) -> io::Result<File> {
     use std::os::unix::fs::OpenOptionsExt;
-    File::options()
-        .read(true)
-        .custom_flags(libc::O_NONBLOCK)
-        .open(path)
+    File::options().read(true).custom_flags(libc::O_NONBLOCK).open(path)
 }
 
 #[cfg(not(unix))]
@@ -41,10 +38,7 @@ fn plain(found: &fs::Metadata) -> Result<(), String> {
 /// A whole file of at most so many bytes.
 pub fn read(path: &Path, most: u64) -> Result<Vec<u8>, String> {
     let mut bytes = Vec::new();
-    open(path)?
-        .take(most.saturating_add(1))
-        .read_to_end(&mut bytes)
-        .map_err(|why| format!("cannot be read: {why}"))?;
+    open(path)?.take(most.saturating_add(1)).read_to_end(&mut bytes).map_err(|why| format!("cannot be read: {why}"))?;
     if bytes.len() as u64 > most {
         return Err(format!("is not read: it is larger than {most} bytes"));
     }

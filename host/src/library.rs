@@ -37,7 +37,11 @@ impl Setting {
         let segments = |axis: usize| {
             let length = self.extents[axis + 3] - self.extents[axis];
             let segments = (length / self.resolution.max(self.eps)).ceil();
-            if segments.is_finite() { segments.clamp(1.0, 256.0) as usize } else { 1 }
+            if segments.is_finite() {
+                segments.clamp(1.0, 256.0) as usize
+            } else {
+                1
+            }
         };
         let [a, b, c] = [segments(0) + 1, segments(1) + 1, segments(2) + 1];
         2 * (a * b + a * c + b * c)
@@ -109,8 +113,7 @@ impl Outputs for Lists {
 fn resize<T: Clone + Default>(list: &mut Vec<T>, length: usize) -> Result<(), Stop> {
     let more = length.saturating_sub(list.len());
     let bytes = (length as u64).saturating_mul(size_of::<T>() as u64);
-    list.try_reserve_exact(more)
-        .map_err(|_| Stop::NoMemory(bytes))?;
+    list.try_reserve_exact(more).map_err(|_| Stop::NoMemory(bytes))?;
     list.resize(length, T::default());
     Ok(())
 }
@@ -125,12 +128,7 @@ impl Library {
     /// Calls until the work room and the outputs suffice: first with the room expected.
     ///
     /// Refusal 12 names no output, but only one that is shorter than the need can be meant; such outputs get that length in turn.
-    fn settle<O: Outputs>(
-        &mut self,
-        expected_work: usize,
-        mut outputs: O,
-        call: impl Fn(&mut [u64], &mut O) -> Reply,
-    ) -> Result<O, Stop> {
+    fn settle<O: Outputs>(&mut self, expected_work: usize, mut outputs: O, call: impl Fn(&mut [u64], &mut O) -> Reply) -> Result<O, Stop> {
         let (mut room, mut tries) = (expected_work, 0);
         loop {
             if self.work.len() < room {
@@ -192,8 +190,16 @@ impl Library {
         self.settle(ITEM * (vertices + facets + grid) + BESIDE, out, |work, out: &mut Lists| {
             let [candidates, face_lists, constraints, open_edges] = out.each_mut();
             library::candidates(
-                &mesh.vertices, &mesh.facets, extents, *eps, *resolution,
-                work, candidates, face_lists, constraints, open_edges,
+                &mesh.vertices,
+                &mesh.facets,
+                extents,
+                *eps,
+                *resolution,
+                work,
+                candidates,
+                face_lists,
+                constraints,
+                open_edges,
             )
         })
     }
@@ -207,8 +213,16 @@ impl Library {
         let Setting { extents, eps, resolution } = setting;
         self.settle(ITEM * items + BESIDE, out, |work, out: &mut Mesh| {
             library::caps(
-                &mesh.vertices, &mesh.facets, cap_list, extents, *eps, *resolution, mode,
-                work, &mut out.vertices, &mut out.facets,
+                &mesh.vertices,
+                &mesh.facets,
+                cap_list,
+                extents,
+                *eps,
+                *resolution,
+                mode,
+                work,
+                &mut out.vertices,
+                &mut out.facets,
             )
         })
     }

@@ -29,11 +29,7 @@ pub fn read(path: &Path, defaults: &Defaults) -> Result<Vec<Task>, String> {
     let bytes = bytes.strip_prefix(b"\xef\xbb\xbf").unwrap_or(&bytes);
     let first = bytes.split(|byte| *byte == b'\n').next().unwrap_or(&[]);
     let separator = if first.contains(&b';') && !first.contains(&b',') { b';' } else { b',' };
-    let mut reader = csv::ReaderBuilder::new()
-        .delimiter(separator)
-        .flexible(true)
-        .trim(csv::Trim::All)
-        .from_reader(bytes);
+    let mut reader = csv::ReaderBuilder::new().delimiter(separator).flexible(true).trim(csv::Trim::All).from_reader(bytes);
     let columns = reader.headers().map_err(|why| told(format!("is no table: {why}")))?.clone();
     let columns = Columns::new(&columns, defaults).map_err(told)?;
     let folder = path.parent().unwrap_or(Path::new(""));
@@ -193,7 +189,8 @@ mod tests {
     fn a_faulty_row_does_not_take_the_others_with_it() {
         let text = format!("{HEAD}a.obj,0,0,0,1,x,3,,,\nb.obj,0,0,0\n,0,0,0,1,1,1,,,\nc.obj,0,0,0,1,1,1,,1;5,\nd.obj,0,0,0,1,1,1,,,\n");
         let list = parsed(&text, &Defaults::default()).expect("a list");
-        let faults: Vec<(Option<u64>, String)> = list.iter().map(|task| task.fault.as_ref().map_or((None, String::new()), |f| (f.line, f.explanation.clone()))).collect();
+        let faults: Vec<(Option<u64>, String)> =
+            list.iter().map(|task| task.fault.as_ref().map_or((None, String::new()), |f| (f.line, f.explanation.clone()))).collect();
         assert_eq!(faults[0], (Some(2), "y1: \"x\" is not a number".into()));
         assert!(faults[1].1.contains("4 cells"));
         assert!(faults[2].1.contains("no file"));

@@ -92,11 +92,7 @@ impl Volumes {
 
 impl Trouble {
     pub fn at(step: &'static str, explanation: impl Into<String>) -> Self {
-        Trouble {
-            step,
-            explanation: explanation.into(),
-            ..Trouble::default()
-        }
+        Trouble { step, explanation: explanation.into(), ..Trouble::default() }
     }
 
     fn in_words(&self) -> String {

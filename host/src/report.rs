@@ -5,8 +5,22 @@ use std::io::{self, Write};
 
 /// What the summary tells, in this order.
 pub const COLUMNS: [&str; 16] = [
-    "row", "name", "file", "state", "positive_volume", "negative_volume", "density", "positive_tonnes", "negative_tonnes",
-    "step", "number", "line", "value", "where", "explanation", "moved_aside",
+    "row",
+    "name",
+    "file",
+    "state",
+    "positive_volume",
+    "negative_volume",
+    "density",
+    "positive_tonnes",
+    "negative_tonnes",
+    "step",
+    "number",
+    "line",
+    "value",
+    "where",
+    "explanation",
+    "moved_aside",
 ];
 
 /// A mesh, what became of it, and what it did to the folder.
@@ -75,12 +89,7 @@ pub struct Report<W: Write> {
 
 impl<W: Write> Report<W> {
     pub fn new(summary: W) -> Self {
-        let mut report = Report {
-            summary: csv::Writer::from_writer(summary),
-            lost: None,
-            closed: 0,
-            rows: 0,
-        };
+        let mut report = Report { summary: csv::Writer::from_writer(summary), lost: None, closed: 0, rows: 0 };
         report.write(&COLUMNS);
         report
     }
@@ -127,15 +136,7 @@ mod tests {
     use crate::outcome::{State, Trouble, Volumes};
 
     fn row(outcome: Outcome) -> Row {
-        Row {
-            number: 3,
-            name: "pit".into(),
-            file: "in/pit.obj".into(),
-            density: Some(2.5),
-            outcome,
-            moved_aside: vec![],
-            steps: vec![],
-        }
+        Row { number: 3, name: "pit".into(), file: "in/pit.obj".into(), density: Some(2.5), outcome, moved_aside: vec![], steps: vec![] }
     }
 
     #[test]

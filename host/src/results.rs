@@ -7,15 +7,8 @@ use std::path::{Path, PathBuf};
 use tempfile::NamedTempFile;
 
 /// What the results of a mesh may end with.
-pub const ENDINGS: [&str; 7] = [
-    "positive.obj",
-    "negative.obj",
-    "positive.not-closed.obj",
-    "negative.not-closed.obj",
-    "cleaned.obj",
-    "faces",
-    "caps",
-];
+pub const ENDINGS: [&str; 7] =
+    ["positive.obj", "negative.obj", "positive.not-closed.obj", "negative.not-closed.obj", "cleaned.obj", "faces", "caps"];
 
 /// Where files of an earlier run are moved, within the folder.
 pub const EARLIER: &str = "earlier";
@@ -41,10 +34,7 @@ impl Results {
             libc::umask(mask);
             mask
         };
-        let results = Results {
-            folder: folder.into(),
-            mode: 0o666 & !mask,
-        };
+        let results = Results { folder: folder.into(), mode: 0o666 & !mask };
         results.aside("trial", |_| Ok(())).map_err(|why| unwritable(folder, &why))?;
         Ok(results)
     }
@@ -60,10 +50,7 @@ impl Results {
 
     /// Writes a file under a name of no meaning, that nobody else has.
     pub fn aside(&self, purpose: &str, fill: impl FnOnce(&mut dyn Write) -> io::Result<()>) -> io::Result<NamedTempFile> {
-        let file = tempfile::Builder::new()
-            .prefix(&format!(".{purpose}."))
-            .suffix(".unfinished")
-            .tempfile_in(&self.folder)?;
+        let file = tempfile::Builder::new().prefix(&format!(".{purpose}.")).suffix(".unfinished").tempfile_in(&self.folder)?;
         let mut buffered = BufWriter::new(file.as_file());
         fill(&mut buffered)?;
         buffered.flush()?;

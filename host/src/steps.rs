@@ -105,11 +105,7 @@ struct Work<'a> {
 
 impl<'a> Work<'a> {
     fn new(request: &'a Request) -> Self {
-        Work {
-            library: Library::default(),
-            request,
-            made: Made::default(),
-        }
+        Work { library: Library::default(), request, made: Made::default() }
     }
 
     fn all(&mut self, surface: &Surface) -> Result<Volumes, Outcome> {
@@ -168,7 +164,14 @@ impl<'a> Work<'a> {
     }
 
     /// A step that makes a mesh.
-    fn mesh(&mut self, step: &'static str, made: Result<Mesh, Stop>, from: &Mesh, surface: Option<&Surface>, setting: &Setting) -> Result<Mesh, Outcome> {
+    fn mesh(
+        &mut self,
+        step: &'static str,
+        made: Result<Mesh, Stop>,
+        from: &Mesh,
+        surface: Option<&Surface>,
+        setting: &Setting,
+    ) -> Result<Mesh, Outcome> {
         let call = Call { step, surface, mesh: from, setting, lists: None, answer: None };
         let mesh = made.map_err(|stop| call.outcome(stop))?;
         let open = verdict::open_edge_count(&mesh.facets);

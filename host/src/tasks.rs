@@ -72,15 +72,7 @@ mod tests {
     use super::*;
 
     fn task(number: usize, file: &Path) -> Task {
-        Task {
-            number,
-            name: default_name(file),
-            file: Some(file.into()),
-            extents: [0.0; 6],
-            resolution: None,
-            density: None,
-            fault: None,
-        }
+        Task { number, name: default_name(file), file: Some(file.into()), extents: [0.0; 6], resolution: None, density: None, fault: None }
     }
 
     #[test]

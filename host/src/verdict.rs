@@ -86,32 +86,16 @@ fn edges(facets: &[u32]) -> Vec<Edge> {
     let same = |a: &(u32, u32, bool), b: &(u32, u32, bool)| (a.0, a.1) == (b.0, b.1);
     let edge = |bearers: &[(u32, u32, bool)]| {
         let up = bearers.iter().filter(|side| side.2).count();
-        Edge {
-            ends: [bearers[0].0, bearers[0].1],
-            up,
-            down: bearers.len() - up,
-        }
+        Edge { ends: [bearers[0].0, bearers[0].1], up, down: bearers.len() - up }
     };
     sides.chunk_by(same).map(edge).collect()
 }
 
-fn found(
-    faulty: &[Edge],
-    vertices: &[f64],
-    wanted: &dyn Fn(&Edge) -> bool,
-    what: &str,
-) -> Option<Fault> {
+fn found(faulty: &[Edge], vertices: &[f64], wanted: &dyn Fn(&Edge) -> bool, what: &str) -> Option<Fault> {
     let point = |id: u32| [0, 1, 2].map(|axis| vertices[3 * id as usize + axis]);
-    let edges: Vec<[[f64; 3]; 2]> = faulty
-        .iter()
-        .filter(|edge| wanted(edge))
-        .map(|edge| edge.ends.map(point))
-        .collect();
+    let edges: Vec<[[f64; 3]; 2]> = faulty.iter().filter(|edge| wanted(edge)).map(|edge| edge.ends.map(point)).collect();
     let are = if edges.len() == 1 { "edge is" } else { "edges are" };
-    (!edges.is_empty()).then(|| Fault {
-        what: format!("{} {are} {what}", edges.len()),
-        edges,
-    })
+    (!edges.is_empty()).then(|| Fault { what: format!("{} {are} {what}", edges.len()), edges })
 }
 
 /// Every edge is sound; the volume decides.

@@ -17,10 +17,7 @@ impl Pair {
     fn sum(a: f64, b: f64) -> Pair {
         let high = a + b;
         let part = high - a;
-        Pair {
-            high,
-            low: (a - (high - part)) + (b - part),
-        }
+        Pair { high, low: (a - (high - part)) + (b - part) }
     }
 
     fn plus(self, other: Pair) -> Pair {
@@ -31,19 +28,20 @@ impl Pair {
     }
 
     fn minus(self, other: Pair) -> Pair {
-        self.plus(Pair {
-            high: -other.high,
-            low: -other.low,
-        })
+        self.plus(Pair { high: -other.high, low: -other.low })
     }
 
     fn times(self, other: Pair) -> Pair {
         let high = self.high * other.high;
         let rest = self.high.mul_add(other.high, -high);
-        Pair::sum(
-            high,
-            rest + (self.high * other.low + self.low * other.high),
-        )
+        Pair::sum(high, rest + (self.high * other.low + self.low * other.high))
+    }
+
+    /// A sixth, rounded once but for the rarest of ties.
+    fn sixth(self) -> f64 {
+        let quotient = self.high / 6.0;
+        let rest = quotient.mul_add(-6.0, self.high) + self.low;
+        quotient + rest / 6.0
     }
 }
 
@@ -61,9 +59,7 @@ const STEPS: f64 = 8.0;
 
 /// The signed volume: the sum of a · (b × c) over the facets a, b, c, divided by 6.
 pub fn enclosed(vertices: &[f64], facets: &[u32], extents: &Extents) -> Volume {
-    let corner = |id: u32| {
-        [0, 1, 2].map(|axis| Pair::sum(vertices[3 * id as usize + axis], -extents[axis]))
-    };
+    let corner = |id: u32| [0, 1, 2].map(|axis| Pair::sum(vertices[3 * id as usize + axis], -extents[axis]));
     let (mut sum, mut size) = (Pair::default(), 0.0);
     for facet in facets.chunks_exact(3) {
         let [a, b, c] = [corner(facet[0]), corner(facet[1]), corner(facet[2])];
@@ -73,9 +69,9 @@ pub fn enclosed(vertices: &[f64], facets: &[u32], extents: &Extents) -> Volume {
             size += a[x].high.abs() * (one.high.abs() + other.high.abs());
         }
     }
-    let value = (sum.high + sum.low) / 6.0;
+    let value = sum.sixth();
     let steps = STEPS + facets.len() as f64;
-    // The value itself is rounded twice; size is a sum of rounded terms, which the factor 2 covers.
+    // The value itself is rounded once; size is a sum of rounded terms, which the factor 2 covers.
     let bound = 2.0 * steps * STEP * size + f64::EPSILON * value.abs();
     Volume { value, bound }
 }
@@ -116,9 +112,7 @@ mod tests {
     #[test]
     fn six_digits_in_front_take_nothing_away() {
         let (x, y, z) = (412_345.0, 5_612_345.0, 312.0);
-        let vertices = [
-            x, y, z, x + 0.5, y, z, x, y + 0.25, z, x, y, z + 0.125,
-        ];
+        let vertices = [x, y, z, x + 0.5, y, z, x, y + 0.25, z, x, y, z + 0.125];
         let volume = enclosed(&vertices, &FACETS, &[x, y, z, x + 1.0, y + 1.0, z + 1.0]);
         assert_eq!(volume.value, 0.5 * 0.25 * 0.125 / 6.0);
         assert!(volume.bound < 1e-17);

@@ -22,7 +22,7 @@ pub struct Arguments {
     density: Option<f64>,
     #[arg(long, value_name = "FILE", conflicts_with = "meshes")]
     list: Option<PathBuf>,
-    #[arg(long, value_name = "A-B", requires = "list")]
+    #[arg(long, value_name = "A-B")]
     rows: Option<Rows>,
     #[arg(long, value_name = "N", default_value_t = 1)]
     jobs: usize,
@@ -87,11 +87,7 @@ pub fn run(arguments: &Arguments) -> Answer {
 impl Arguments {
     /// The meshes, and the files that must not be lost beside them.
     fn tasks(&self) -> Result<(Vec<Task>, Vec<&Path>), String> {
-        let defaults = Defaults {
-            extents: self.shape.extents(),
-            resolution: self.shape.resolution,
-            density: self.density,
-        };
+        let defaults = Defaults { extents: self.shape.extents(), resolution: self.shape.resolution, density: self.density };
         let caps = self.triangulating.caps.as_deref();
         let tasks = match &self.list {
             Some(list) => list::read(list, &defaults)?,
@@ -103,6 +99,9 @@ impl Arguments {
     fn named(&self, defaults: &Defaults) -> Result<Vec<Task>, String> {
         if self.meshes.is_empty() {
             return Err("no mesh is named, and no --list".into());
+        }
+        if self.rows.is_some() {
+            return Err("--rows is for a --list".into());
         }
         let extents = defaults.extents.ok_or("--box is needed")?;
         let task = |(number, file): (usize, &PathBuf)| Task {

@@ -29,12 +29,7 @@ pub struct Arguments {
 
 pub fn run(arguments: &Arguments) -> Answer {
     let extents = arguments.shape.extents().ok_or("--box is needed")?;
-    let common = Common {
-        eps: arguments.shape.eps,
-        closings: vec![],
-        triangulator: Triangulator::Stored(""),
-        time: Duration::ZERO,
-    };
+    let common = Common { eps: arguments.shape.eps, closings: vec![], triangulator: Triangulator::Stored(""), time: Duration::ZERO };
     let request = common.request(extents, arguments.shape.resolution);
     if let Err(Outcome::Not(_, trouble)) = steps::check(&request) {
         return Err(trouble.explanation);

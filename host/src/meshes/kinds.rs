@@ -60,9 +60,7 @@ fn binary_stl(start: &[u8], length: u64) -> Option<u32> {
 
 /// Control characters that no text has.
 fn noise(start: &[u8]) -> bool {
-    start
-        .iter()
-        .any(|byte| *byte < 9 || (14..32).contains(byte) && *byte != 27)
+    start.iter().any(|byte| *byte < 9 || (14..32).contains(byte) && *byte != 27)
 }
 
 #[cfg(test)]

@@ -34,11 +34,7 @@ pub struct Unread {
 
 impl Unread {
     pub fn whole(why: impl Into<String>) -> Self {
-        Unread {
-            line: None,
-            value: String::new(),
-            why: why.into(),
-        }
+        Unread { line: None, value: String::new(), why: why.into() }
     }
 }
 

@@ -17,9 +17,52 @@ const NO_VERTEX: u32 = u32::MAX;
 
 /// First words of lines that carry no vertex and no facet.
 const PASSED_OVER: [&str; 46] = [
-    "vt", "vn", "vp", "o", "g", "s", "mg", "l", "p", "usemtl", "mtllib", "usemap", "maplib", "cstype", "deg", "bmat", "step", "curv",
-    "curv2", "surf", "parm", "trim", "hole", "scrv", "sp", "end", "con", "bevel", "c_interp", "d_interp", "lod", "shadow_obj",
-    "trace_obj", "ctech", "stech", "bsp", "bzp", "cdc", "cdp", "res", "call", "csh", "vi", "tg", "vs", "param",
+    "vt",
+    "vn",
+    "vp",
+    "o",
+    "g",
+    "s",
+    "mg",
+    "l",
+    "p",
+    "usemtl",
+    "mtllib",
+    "usemap",
+    "maplib",
+    "cstype",
+    "deg",
+    "bmat",
+    "step",
+    "curv",
+    "curv2",
+    "surf",
+    "parm",
+    "trim",
+    "hole",
+    "scrv",
+    "sp",
+    "end",
+    "con",
+    "bevel",
+    "c_interp",
+    "d_interp",
+    "lod",
+    "shadow_obj",
+    "trace_obj",
+    "ctech",
+    "stech",
+    "bsp",
+    "bzp",
+    "cdc",
+    "cdp",
+    "res",
+    "call",
+    "csh",
+    "vi",
+    "tg",
+    "vs",
+    "param",
 ];
 
 /// Numbers that a vertex may have: a place, and a weight or a colour.
@@ -38,11 +81,7 @@ pub fn read(mut file: impl BufRead) -> Result<Surface, Unread> {
         if taken == 0 {
             break;
         }
-        read_line(&bytes, number, &mut surface).map_err(|(value, why)| Unread {
-            line: Some(number),
-            value,
-            why,
-        })?;
+        read_line(&bytes, number, &mut surface).map_err(|(value, why)| Unread { line: Some(number), value, why })?;
     }
     Ok(surface)
 }
@@ -141,11 +180,7 @@ fn corner(word: &str, vertices: u64) -> Result<u32, Fault> {
     let Ok(number) = digits.parse::<i128>() else {
         return fault(word, "is not a vertex number");
     };
-    let place = if number < 0 {
-        i128::from(vertices) + number
-    } else {
-        number - 1
-    };
+    let place = if number < 0 { i128::from(vertices) + number } else { number - 1 };
     Ok(u32::try_from(place).unwrap_or(NO_VERTEX))
 }
 
@@ -208,7 +243,9 @@ mod tests {
     #[test]
     fn a_vertex_spelt_otherwise_is_not_passed_over() {
         assert_eq!(parsed(&format!("\u{feff}{CORNERS}")).vertex_count(), 3);
-        for (line, value) in [("V 0 0 0", "\"V\""), ("v\u{a0}0 0 0", "\"v\\u{a0}0\""), ("\u{feff}v 0 0 0", "\"\\u{feff}v\""), ("v,0,0,0", "\"v,0,0,0\"")] {
+        for (line, value) in
+            [("V 0 0 0", "\"V\""), ("v\u{a0}0 0 0", "\"v\\u{a0}0\""), ("\u{feff}v 0 0 0", "\"\\u{feff}v\""), ("v,0,0,0", "\"v,0,0,0\"")]
+        {
             let (number, told, _) = refused(&format!("{CORNERS}{line}\n"));
             assert_eq!((number, told.as_str()), (4, value), "{line}");
         }
@@ -257,10 +294,8 @@ mod tests {
 
     #[test]
     fn what_is_written_reads_back_bit_for_bit() {
-        let mesh = Mesh {
-            vertices: vec![0.1, -0.0, 5e-324, 1e30, 1.0 / 3.0, -123456.789, 0.0, 2.5e-11, 3e7],
-            facets: vec![0, 1, 2, 2, 1, 0],
-        };
+        let mesh =
+            Mesh { vertices: vec![0.1, -0.0, 5e-324, 1e30, 1.0 / 3.0, -123456.789, 0.0, 2.5e-11, 3e7], facets: vec![0, 1, 2, 2, 1, 0] };
         let mut file = Vec::new();
         assert!(write(&mesh, &mut file).is_ok());
         let back = parsed(&String::from_utf8_lossy(&file));

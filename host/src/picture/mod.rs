@@ -48,12 +48,7 @@ pub fn save(path: &Path, made: &Made, extents: &Extents, time: Duration) -> Resu
             title: title(&format!("{} solid", solid.closing.name())),
             extents: *extents,
         },
-        (None, Some(mesh)) => Subject {
-            mesh,
-            surface_facets: mesh.facet_count(),
-            title: title("surface, not closed,"),
-            extents: *extents,
-        },
+        (None, Some(mesh)) => Subject { mesh, surface_facets: mesh.facet_count(), title: title("surface, not closed,"), extents: *extents },
         (None, None) => return Ok(()),
     };
     let drawn = svg::draw(&subject);

@@ -12,14 +12,8 @@ type Colour = [f64; 3];
 const GROUND: Colour = [126.0, 158.0, 92.0];
 const BACK: Colour = [150.0, 146.0, 140.0];
 /// A colour a face.
-const CAPS: [Colour; 6] = [
-    [176.0, 120.0, 70.0],
-    [198.0, 138.0, 82.0],
-    [150.0, 98.0, 62.0],
-    [170.0, 110.0, 66.0],
-    [110.0, 100.0, 110.0],
-    [92.0, 136.0, 176.0],
-];
+const CAPS: [Colour; 6] =
+    [[176.0, 120.0, 70.0], [198.0, 138.0, 82.0], [150.0, 98.0, 62.0], [170.0, 110.0, 66.0], [110.0, 100.0, 110.0], [92.0, 136.0, 176.0]];
 /// Faces that the eye looks at: XMax, YMin, ZMax.
 const NEAR: [usize; 3] = [1, 2, 5];
 const LIGHT: [f64; 3] = [0.25, -0.45, 0.86];
@@ -48,11 +42,12 @@ pub fn draw(subject: &Subject) -> String {
     );
     let _ = writeln!(svg, "<title>{}</title>\n<rect width=\"100%\" height=\"100%\" fill=\"#fff\"/>", subject.title);
     box_edges(&mut svg, &view, subject, true);
-    let (pieces, used) = pieces(subject, &view);
+    let open = verdict::open_edges(&subject.mesh.facets);
+    let (pieces, used) = pieces(subject, &view, open.is_empty());
     put_pieces(&mut svg, &pieces);
     box_edges(&mut svg, &view, subject, false);
-    let open = open_edges(&mut svg, subject, &view);
-    legend(&mut svg, &used, open, height);
+    put_open_edges(&mut svg, subject, &view, &open);
+    legend(&mut svg, &used, open.len(), height);
     svg.push_str("</svg>\n");
     svg
 }
@@ -71,14 +66,17 @@ fn face_of(subject: &Subject, corners: [[f64; 3]; 3]) -> usize {
     (0..6).min_by(|a, b| off(*a).total_cmp(&off(*b))).unwrap_or(0)
 }
 
-/// The facets in the order in which they are drawn, and which faces have a cap that is seen.
-fn pieces(subject: &Subject, view: &View) -> (Vec<Piece>, [bool; 6]) {
+/// The facets in the order in which they are drawn, and which faces have a cap that is seen. Of a closed solid no facet is seen from inside.
+fn pieces(subject: &Subject, view: &View, closed: bool) -> (Vec<Piece>, [bool; 6]) {
     let mut used = [false; 6];
     let mut pieces = Vec::new();
     for (place, facet) in subject.mesh.facets.chunks_exact(3).enumerate() {
         let space = [facet[0], facet[1], facet[2]].map(|id| point_of(subject, id));
         let points = space.map(|p| view.point(p));
         let front = is_front(&points);
+        if closed && !front {
+            continue;
+        }
         let (colour, layer) = if place < subject.surface_facets {
             (shaded(if front { GROUND } else { BACK }, space, front), 1)
         } else {
@@ -118,15 +116,17 @@ fn hex(colour: Colour) -> String {
     format!("#{r:02x}{g:02x}{b:02x}")
 }
 
-/// Neighbours in the order of drawing that have one colour are one path. The stroke covers the seams between facets.
+/// Neighbours in the order of drawing that have one colour are one path, in whole tenths and relative to the first corner, which
+/// makes the file a third as long. The stroke covers the seams between facets.
 fn put_pieces(svg: &mut String, pieces: &[Piece]) {
-    svg.push_str("<g stroke-width=\".6\" stroke-linejoin=\"round\">\n");
+    svg.push_str("<g stroke-width=\"6\" stroke-linejoin=\"round\" transform=\"scale(.1)\">\n");
     for run in pieces.chunk_by(|a, b| a.colour == b.colour) {
         let colour = hex(run[0].colour);
         let _ = write!(svg, "<path fill=\"{colour}\" stroke=\"{colour}\" d=\"");
         for piece in run {
-            let [a, b, c] = piece.points;
-            let _ = write!(svg, "M{:.1} {:.1}L{:.1} {:.1} {:.1} {:.1}Z", a[0], a[1], b[0], b[1], c[0], c[1]);
+            let [a, b, c] = piece.points.map(|p| [p[0], p[1]].map(|x| (10.0 * x).round()));
+            let [u, v] = [[b[0] - a[0], b[1] - a[1]], [c[0] - b[0], c[1] - b[1]]];
+            let _ = write!(svg, "M{} {}l{} {} {} {}z", a[0], a[1], u[0], u[1], v[0], v[1]);
         }
         svg.push_str("\"/>\n");
     }
@@ -151,8 +151,7 @@ fn box_edges(svg: &mut String, view: &View, subject: &Subject, far: bool) {
 }
 
 /// Edges that one facet bears, over everything else.
-fn open_edges(svg: &mut String, subject: &Subject, view: &View) -> usize {
-    let edges = verdict::open_edges(&subject.mesh.facets);
+fn put_open_edges(svg: &mut String, subject: &Subject, view: &View, edges: &[[u32; 2]]) {
     if !edges.is_empty() {
         svg.push_str("<path fill=\"none\" stroke=\"#e00000\" stroke-width=\"2.4\" stroke-linecap=\"round\" d=\"");
         for [a, b] in edges.iter().map(|ends| ends.map(|id| view.point(point_of(subject, id)))) {
@@ -160,7 +159,6 @@ fn open_edges(svg: &mut String, subject: &Subject, view: &View) -> usize {
         }
         svg.push_str("\"/>\n");
     }
-    edges.len()
 }
 
 fn legend(svg: &mut String, used: &[bool; 6], open: usize, top: f64) {

@@ -35,13 +35,7 @@ impl View {
         let (left, right) = (extreme(0, f64::min), extreme(0, f64::max));
         let (bottom, top) = (extreme(1, f64::min), extreme(1, f64::max));
         let scale = WIDTH / (right - left);
-        View {
-            middle,
-            scale,
-            left,
-            top,
-            size: [WIDTH + 2.0 * MARGIN, (top - bottom) * scale + 2.0 * MARGIN],
-        }
+        View { middle, scale, left, top, size: [WIDTH + 2.0 * MARGIN, (top - bottom) * scale + 2.0 * MARGIN] }
     }
 
     /// Where a point stands in the picture, and how near it is.

@@ -17,10 +17,5 @@ pub fn find() -> Option<PathBuf> {
     }
     let command = env::current_exe().ok()?;
     // Cargo runs tests from a folder below the one that the command stands in.
-    command
-        .ancestors()
-        .skip(1)
-        .take(2)
-        .map(|folder| folder.join(PROGRAM))
-        .find(|path| path.is_file())
+    command.ancestors().skip(1).take(2).map(|folder| folder.join(PROGRAM)).find(|path| path.is_file())
 }

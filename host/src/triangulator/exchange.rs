@@ -183,11 +183,7 @@ fn passing(why: &io::Error) -> bool {
 /// Waits until a pipe is ready, or the time is over.
 fn wait(pipes: [RawFd; 3], time: Duration) -> [bool; 3] {
     let events = [libc::POLLOUT, libc::POLLIN, libc::POLLIN];
-    let mut polled = [0, 1, 2].map(|place| libc::pollfd {
-        fd: pipes[place],
-        events: events[place],
-        revents: 0,
-    });
+    let mut polled = [0, 1, 2].map(|place| libc::pollfd { fd: pipes[place], events: events[place], revents: 0 });
     let milliseconds = time.as_millis().clamp(1, 60_000) as libc::c_int;
     // SAFETY: the pointer is to three records that live through the call; a descriptor of -1 is passed over.
     let count = unsafe { libc::poll(polled.as_mut_ptr(), 3, milliseconds) };
@@ -231,8 +227,7 @@ mod tests {
         let mut command = Command::new("sh");
         command.args(["-c", line]);
         let time = Duration::from_secs_f64(seconds);
-        ask(&mut command, input.as_bytes(), time, 10_000_000)
-            .map(|bytes| String::from_utf8_lossy(&bytes).into_owned())
+        ask(&mut command, input.as_bytes(), time, 10_000_000).map(|bytes| String::from_utf8_lossy(&bytes).into_owned())
     }
 
     #[track_caller]

@@ -27,13 +27,13 @@ impl Triangulator {
     /// The triangles of the faces told, as text; or a sentence that says why there are none.
     pub fn answer(&self, faces: &str, time: Duration) -> Result<Vec<u8>, String> {
         let run = |mut command: Command| {
-            ask(&mut command, faces.as_bytes(), time, limits::ANSWER)
-                .map_err(|why| format!("the triangulator {why}"))
+            ask(&mut command, faces.as_bytes(), time, limits::ANSWER).map_err(|why| format!("the triangulator {why}"))
         };
         match self {
             Triangulator::Stored(text) => Ok(text.as_bytes().to_vec()),
-            Triangulator::File(path) => files::read(path, limits::ANSWER as u64)
-                .map_err(|why| format!("{} {why}", crate::text::name(path))),
+            Triangulator::File(path) => {
+                files::read(path, limits::ANSWER as u64).map_err(|why| format!("{} {why}", crate::text::name(path)))
+            }
             Triangulator::BuiltIn(program) => run(Command::new(program)),
             Triangulator::Line(line) => {
                 let mut shell = Command::new("sh");

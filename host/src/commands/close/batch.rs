@@ -4,6 +4,7 @@ use super::one;
 use crate::commands::Answer;
 use crate::options::{Common, Writing};
 use crate::outcome::Outcome;
+use crate::picture;
 use crate::report::{Report, Row, COLUMNS};
 use crate::results::{unwritable, Results};
 use crate::steps;
@@ -34,6 +35,9 @@ pub struct Batch<'a> {
 const TOLD: usize = 20;
 
 pub fn work(batch: &Batch, mut tasks: Vec<Task>) -> Answer {
+    if let Some(picture) = &batch.writing.picture {
+        picture::check(picture)?;
+    }
     let results = Results::new(&batch.writing.out)?;
     tasks::mark_conflicts(&mut tasks, &batch.handed_in, &results);
     if let Some((first, last)) = batch.rows {
@@ -53,7 +57,11 @@ pub fn work(batch: &Batch, mut tasks: Vec<Task>) -> Answer {
     all(batch, &results, &tasks, &mut report);
     let named = results.name(vec![(growing, summary.clone())]);
     let (closed, rows) = report.counts();
-    report.say(&format!("{closed} of {rows} closed; solids and {} in {}", text::name(Path::new(summary.file_name().unwrap_or_default())), text::name(results.folder())));
+    report.say(&format!(
+        "{closed} of {rows} closed; solids and {} in {}",
+        text::name(Path::new(summary.file_name().unwrap_or_default())),
+        text::name(results.folder())
+    ));
     let lost = named.err().or(report.lost().map(String::from));
     if let Some(why) = &lost {
         complain(&format!("the report is lost: {why}"));

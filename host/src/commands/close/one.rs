@@ -20,15 +20,7 @@ pub fn row(batch: &Batch, results: &Results, task: &Task) -> Row {
         let fault = "a fault of this command; please report it with the mesh";
         (Outcome::failed("inside", fault), Vec::new(), Vec::new())
     });
-    Row {
-        number: task.number,
-        name: task.name.clone(),
-        file: task.told(),
-        density: task.density,
-        outcome,
-        moved_aside,
-        steps,
-    }
+    Row { number: task.number, name: task.name.clone(), file: task.told(), density: task.density, outcome, moved_aside, steps }
 }
 
 fn done(batch: &Batch, results: &Results, task: &Task) -> (Outcome, Vec<String>, Vec<String>) {
@@ -71,11 +63,7 @@ fn read(task: &Task) -> Result<Surface, Outcome> {
         return Ok(sample::surface());
     };
     meshes::read(file).map_err(|unread| {
-        let trouble = Trouble {
-            line: unread.line,
-            value: unread.value,
-            ..Trouble::at("read", unread.why)
-        };
+        let trouble = Trouble { line: unread.line, value: unread.value, ..Trouble::at("read", unread.why) };
         Outcome::Not(State::Failed, trouble)
     })
 }
