@@ -159,6 +159,16 @@ impl Library {
         }
     }
 
+    /// Whether box, eps and resolution pass the tests of every call. Without work room nothing further is tested or computed.
+    pub fn accepts(&self, setting: &Setting) -> Result<(), Stop> {
+        let Setting { extents, eps, resolution } = setting;
+        let reply = library::candidates(&[], &[], extents, *eps, *resolution, &mut [], &mut [], &mut [], &mut [], &mut []);
+        match reply.number {
+            0 | NO_WORK_ROOM => Ok(()),
+            number => Err(Stop::Refused(number, reply.values)),
+        }
+    }
+
     /// The mesh cut to the box.
     pub fn clip(&mut self, mesh: &Mesh, extents: &Extents, eps: f64) -> Result<Mesh, Stop> {
         let (vertices, facets) = (mesh.vertex_count(), mesh.facet_count());

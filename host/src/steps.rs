@@ -70,13 +70,13 @@ pub fn one_segment(extents: &Extents) -> f64 {
     longest.min((1u64 << 30) as f64)
 }
 
-/// Refusals that box, eps and resolution alone give rise to, found with a mesh of nothing.
+/// Refusals that box, eps and resolution alone give rise to.
 pub fn check(request: &Request) -> Result<(), Outcome> {
     let mut work = Work::new(request);
     let setting = work.setting()?;
     let nothing = Mesh::default();
     let call = Call { step: "box", surface: None, mesh: &nothing, setting: &setting, lists: None, answer: None };
-    work.library.candidates(&nothing, &setting).map(|_| ()).map_err(|stop| call.outcome(stop))
+    work.library.accepts(&setting).map_err(|stop| call.outcome(stop))
 }
 
 /// Cuts, cleans, asks for triangles, closes and judges.

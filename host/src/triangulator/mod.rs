@@ -34,7 +34,7 @@ impl Triangulator {
             Triangulator::File(path) => {
                 files::read(path, limits::ANSWER as u64).map_err(|why| format!("{} {why}", crate::text::name(path)))
             }
-            Triangulator::BuiltIn(program) => run(Command::new(program)),
+            Triangulator::BuiltIn(program) => run(Command::new(program)).map_err(with_meaning),
             Triangulator::Line(line) => {
                 let mut shell = Command::new("sh");
                 shell.args(["-c", line]);
@@ -42,4 +42,16 @@ impl Triangulator {
             }
         }
     }
+}
+
+/// What the built-in triangulator's two commonest complaints mean for the surface.
+fn with_meaning(why: String) -> String {
+    let meaning = if why.contains("crosses the constraint") {
+        "; the surface crosses itself where it meets that face"
+    } else if why.contains("runs through point") {
+        "; a vertex lies inside an edge of the surface's border on that face"
+    } else {
+        ""
+    };
+    format!("{why}{meaning}")
 }

@@ -41,10 +41,10 @@ pub fn work(batch: &Batch, mut tasks: Vec<Task>) -> Answer {
     let results = Results::new(&batch.writing.out)?;
     tasks::mark_conflicts(&mut tasks, &batch.handed_in, &results);
     if let Some((first, last)) = batch.rows {
-        if last > tasks.len() {
+        if first > tasks.len() {
             return Err(format!("--rows: the list has {} rows", tasks.len()));
         }
-        tasks = tasks.drain(first - 1..last).collect();
+        tasks = tasks.drain(first - 1..last.min(tasks.len())).collect();
     }
     check(batch, &mut tasks)?;
     let summary = summary_file(batch, &results);
