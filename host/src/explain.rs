@@ -161,7 +161,7 @@ impl Call<'_> {
         Some(Trouble {
             value: format!("{} {}", values[0], values[1]),
             place: format!("{} to {}", text::point(a), text::point(b)),
-            explanation: "the surface has a hole or an end there; its first such edge".into(),
+            explanation: "the surface has a hole or ends there; the first such edge".into(),
             ..Trouble::default()
         })
     }

@@ -10,7 +10,7 @@ const TABLE: [(u32, &str, &str); 12] = [
     (6, "GridTooFine", "the resolution is too fine: a side of the box would be cut into over 256 segments"),
     (7, "NoWorkRoom", "too little work room was lent"),
     (8, "KeyRange", "a coordinate is too large for so small an eps: its cell number is beyond 2^62"),
-    (9, "OpenEdge", "an open edge of the surface ends inside the box, on none of its faces, so no cap can close it"),
+    (9, "OpenEdge", "an open edge of the surface lies on no face of the box, so no cap can close it"),
     (10, "BadCap", "a supplied triangle is faulty: its face is above 5 or below the last one's, a corner repeats, or a corner is no point of that face"),
     (11, "MissingEdge", "an open edge is a side of no triangle supplied for its face"),
     (12, "NoRoom", "an output was too short"),

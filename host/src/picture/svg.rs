@@ -18,7 +18,7 @@ const CAPS: [Colour; 6] =
 const NEAR: [usize; 3] = [1, 2, 5];
 const LIGHT: [f64; 3] = [0.25, -0.45, 0.86];
 /// Steps of shading, so that neighbours of one shade are one path.
-const SHADES: f64 = 40.0;
+const SHADES: f64 = 28.0;
 const LEGEND: f64 = 46.0;
 
 /// A facet in the picture.
@@ -42,8 +42,12 @@ pub fn draw(subject: &Subject) -> String {
     );
     let _ = writeln!(svg, "<title>{}</title>\n<rect width=\"100%\" height=\"100%\" fill=\"#fff\"/>", subject.title);
     box_edges(&mut svg, &view, subject, true);
-    let open = verdict::open_edges(&subject.mesh.facets);
+    let mut open = verdict::open_edges(&subject.mesh.facets);
     let (pieces, used) = pieces(subject, &view, open.is_empty());
+    if subject.surface_facets == subject.mesh.facet_count() {
+        // No cap was added yet: edges on a face of the box are where caps would begin, and no fault.
+        open.retain(|ends| !on_a_face(subject, ends.map(|id| point_of(subject, id))));
+    }
     put_pieces(&mut svg, &pieces);
     box_edges(&mut svg, &view, subject, false);
     put_open_edges(&mut svg, subject, &view, &open);
@@ -54,6 +58,14 @@ pub fn draw(subject: &Subject) -> String {
 
 fn point_of(subject: &Subject, id: u32) -> [f64; 3] {
     subject.mesh.point(id.into()).unwrap_or([f64::NAN; 3])
+}
+
+/// Whether both ends lie on one face of the box, within its tolerance.
+fn on_a_face(subject: &Subject, ends: [[f64; 3]; 2]) -> bool {
+    let e = &subject.extents;
+    let diagonal = (0..3).map(|axis| (e[axis + 3] - e[axis]).powi(2)).sum::<f64>().sqrt();
+    let on = |p: &[f64; 3], axis: usize, plane: f64| (p[axis] - plane).abs() <= 1e-10 * diagonal.max(1.0);
+    (0..6).any(|face| ends.iter().all(|p| on(p, face % 3, e[face])))
 }
 
 /// The face that a cap lies on: the one that all three corners are nearest to.
@@ -116,13 +128,20 @@ fn hex(colour: Colour) -> String {
     format!("#{r:02x}{g:02x}{b:02x}")
 }
 
-/// Neighbours in the order of drawing that have one colour are one path, in whole tenths and relative to the first corner, which
-/// makes the file a third as long. The stroke covers the seams between facets.
+/// Neighbours in the order of drawing that have one colour are one path, in whole tenths and relative to the first corner; a colour is a
+/// class. That makes the file half as long. The stroke covers the seams between facets.
 fn put_pieces(svg: &mut String, pieces: &[Piece]) {
-    svg.push_str("<g stroke-width=\"6\" stroke-linejoin=\"round\" transform=\"scale(.1)\">\n");
+    let mut colours: Vec<String> = pieces.iter().map(|piece| hex(piece.colour)).collect();
+    colours.sort_unstable();
+    colours.dedup();
+    svg.push_str("<style>");
+    for (place, colour) in colours.iter().enumerate() {
+        let _ = write!(svg, ".c{place}{{fill:{colour};stroke:{colour}}}");
+    }
+    svg.push_str("</style>\n<g stroke-width=\"6\" stroke-linejoin=\"round\" transform=\"scale(.1)\">\n");
     for run in pieces.chunk_by(|a, b| a.colour == b.colour) {
-        let colour = hex(run[0].colour);
-        let _ = write!(svg, "<path fill=\"{colour}\" stroke=\"{colour}\" d=\"");
+        let class = colours.binary_search(&hex(run[0].colour)).unwrap_or(0);
+        let _ = write!(svg, "<path class=\"c{class}\" d=\"");
         for piece in run {
             let [a, b, c] = piece.points.map(|p| [p[0], p[1]].map(|x| (10.0 * x).round()));
             let [u, v] = [[b[0] - a[0], b[1] - a[1]], [c[0] - b[0], c[1] - b[1]]];
@@ -189,6 +208,15 @@ mod tests {
     fn picture(facets: Vec<u32>, surface_facets: usize) -> String {
         let mesh = Mesh { vertices: vec![0., 0., 0., 2., 0., 0., 0., 2., 0., 0., 0., 2.], facets };
         draw(&Subject { mesh: &mesh, surface_facets, title: "a".into(), extents: [0., 0., 0., 2., 2., 2.] })
+    }
+
+    #[test]
+    fn a_surface_without_caps_shows_only_the_edges_that_no_cap_can_close() {
+        // The side 1, 2 lies on ZMin, 2, 3 on XMin and 3, 1 on YMin; of 0, 1, 2 alone all lie on ZMin.
+        assert!(!picture(vec![1, 2, 3], 1).contains("open edges"));
+        let mesh = Mesh { vertices: vec![0., 0., 0., 2., 0., 0., 1., 1., 1.], facets: vec![0, 1, 2] };
+        let drawn = draw(&Subject { mesh: &mesh, surface_facets: 1, title: "a".into(), extents: [0., 0., 0., 2., 2., 2.] });
+        assert!(drawn.contains(">2 open edges<"));
     }
 
     #[test]
