@@ -217,6 +217,7 @@ def wrong_inputs():
     yield good.replace("face 0 3 1", "face 0 1000000 0"), 6, "no point"
     for word in ("nan", "inf", "1e999", "x", "", "1.0 0.0", "1,0"):
         yield good.replace("1.0 0.0", f"1.0 {word}", 1), 3, "more than" if word == "1.0 0.0" else "no point"
+    yield good.replace("\n0 1\n", "\n0 1\0\n", 1), 5, "a byte 0"
     yield good.replace("\n0 1\n", "\n0 3\n", 1), 5, "above 2"
     yield good.replace("\n0 1\n", "\n1 1\n", 1), 5, "to itself"
     yield good.replace("\n0 1\n", "\n0\n", 1), 5, "no whole number"

@@ -102,6 +102,7 @@ public:
     for (int c = std::getchar(); c != EOF; c = std::getchar()) {
       if (c == '\n') return true;
       if (line.size() == LONGEST_LINE) throw wrong("too long");
+      if (c == '\0') throw wrong("a byte 0");
       line.push_back(static_cast<char>(c));
     }
     if (std::ferror(stdin)) throw Stop{FAILED, "the faces cannot be read"};
