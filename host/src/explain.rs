@@ -97,7 +97,7 @@ impl Call<'_> {
     }
 
     fn bad_number(&self) -> Option<Trouble> {
-        let outside = |x: &f64| !(x.abs() <= LARGEST);
+        let outside = |x: &f64| x.is_nan() || x.abs() > LARGEST;
         if let Some(place) = self.mesh.vertices.iter().position(outside) {
             let (value, axis) = (format!("{:?}", self.mesh.vertices[place]), AXES[place % 3]);
             return Some(Trouble {
@@ -123,7 +123,7 @@ impl Call<'_> {
 
     fn bad_box(&self) -> Option<Trouble> {
         let e = &self.setting.extents;
-        let axis = (0..3).find(|&axis| !(e[axis] < e[axis + 3]))?;
+        let axis = (0..3).find(|&axis| e[axis].is_nan() || e[axis + 3].is_nan() || e[axis] >= e[axis + 3])?;
         let (low, high) = (e[axis], e[axis + 3]);
         Some(Trouble {
             value: format!("{low:?} {high:?}"),

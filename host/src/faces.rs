@@ -104,7 +104,7 @@ impl Answer {
         let faces = self.list.iter().step_by(4);
         let mut lines = faces.zip(&self.lines).filter(|(f, _)| **f == face).map(|(_, line)| *line);
         let first = lines.next()?;
-        Some((first, lines.last().unwrap_or(first)))
+        Some((first, lines.next_back().unwrap_or(first)))
     }
 }
 

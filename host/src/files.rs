@@ -45,6 +45,13 @@ pub fn read(path: &Path, most: u64) -> Result<Vec<u8>, String> {
     Ok(bytes)
 }
 
+/// The first bytes of an open file.
+pub fn start(file: File, most: usize) -> Result<Vec<u8>, String> {
+    let mut bytes = Vec::new();
+    let read = file.take(most as u64).read_to_end(&mut bytes);
+    read.map(|_| bytes).map_err(|why| format!("cannot be read: {why}"))
+}
+
 #[cfg(test)]
 mod tests {
     use super::*;

@@ -41,7 +41,8 @@ impl Pair {
     fn sixth(self) -> f64 {
         let quotient = self.high / 6.0;
         let rest = quotient.mul_add(-6.0, self.high) + self.low;
-        quotient + rest / 6.0
+        // A volume of nothing is 0, not -0.
+        quotient + rest / 6.0 + 0.0
     }
 }
 

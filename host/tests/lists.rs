@@ -37,7 +37,7 @@ fn every_row_says_exactly_one_thing() {
     assert_eq!(run.status, 1);
     let summary = folder.summary("solids/summary.csv");
     let states: Vec<&str> = summary.iter().map(|row| row["state"].as_str()).collect();
-    let closed = vec!["closed"; 7];
+    let closed = ["closed"; 7];
     let others = ["refused", "failed", "refused", "failed", "empty", "failed", "failed"];
     assert_eq!(states, [&closed[..], &others].concat());
     assert_eq!(run.out.lines().count(), rows + 1);

@@ -15,6 +15,8 @@ use yongpham_library::Extents;
 
 /// Bytes of a picture that is converted.
 const MOST: usize = 256 << 20;
+/// A picture of nothing, by which the tool is tried before any mesh is done.
+const TRIAL: &str = "<svg xmlns=\"http://www.w3.org/2000/svg\" viewBox=\"0 0 1 1\"/>";
 /// Pixels of its width.
 const PIXELS: &str = "1600";
 
@@ -29,7 +31,8 @@ pub struct Subject<'a> {
 /// Whether a picture can be written under the name.
 pub fn check(path: &Path) -> Result<(), String> {
     match ending(path).as_str() {
-        "svg" | "png" => Ok(()),
+        "svg" => Ok(()),
+        "png" => png(TRIAL, Duration::from_secs(20)).map(|_| ()),
         _ => Err(format!("--picture: {} ends neither in .svg nor in .png", text::name(path))),
     }
 }

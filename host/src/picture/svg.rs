@@ -22,7 +22,7 @@ const SHADES: f64 = 28.0;
 const LEGEND: f64 = 46.0;
 
 /// A facet in the picture.
-struct Piece {
+struct Patch {
     points: [[f64; 3]; 3],
     colour: Colour,
     /// 0 far caps, 1 surface, 2 near caps.
@@ -43,12 +43,12 @@ pub fn draw(subject: &Subject) -> String {
     let _ = writeln!(svg, "<title>{}</title>\n<rect width=\"100%\" height=\"100%\" fill=\"#fff\"/>", subject.title);
     box_edges(&mut svg, &view, subject, true);
     let mut open = verdict::open_edges(&subject.mesh.facets);
-    let (pieces, used) = pieces(subject, &view, open.is_empty());
+    let (patches, used) = patches(subject, &view, open.is_empty());
     if subject.surface_facets == subject.mesh.facet_count() {
         // No cap was added yet: edges on a face of the box are where caps would begin, and no fault.
         open.retain(|ends| !on_a_face(subject, ends.map(|id| point_of(subject, id))));
     }
-    put_pieces(&mut svg, &pieces);
+    put_patches(&mut svg, &patches);
     box_edges(&mut svg, &view, subject, false);
     put_open_edges(&mut svg, subject, &view, &open);
     legend(&mut svg, &used, open.len(), height);
@@ -72,16 +72,16 @@ fn on_a_face(subject: &Subject, ends: [[f64; 3]; 2]) -> bool {
 fn face_of(subject: &Subject, corners: [[f64; 3]; 3]) -> usize {
     let e = &subject.extents;
     let off = |face: usize| {
-        let (axis, plane) = (face / 2, if face % 2 == 0 { e[face / 2] } else { e[face / 2 + 3] });
+        let (axis, plane) = (face / 2, e[face / 2 + 3 * (face % 2)]);
         corners.iter().map(|p| (p[axis] - plane).abs()).fold(0.0, f64::max)
     };
     (0..6).min_by(|a, b| off(*a).total_cmp(&off(*b))).unwrap_or(0)
 }
 
 /// The facets in the order in which they are drawn, and which faces have a cap that is seen. Of a closed solid no facet is seen from inside.
-fn pieces(subject: &Subject, view: &View, closed: bool) -> (Vec<Piece>, [bool; 6]) {
+fn patches(subject: &Subject, view: &View, closed: bool) -> (Vec<Patch>, [bool; 6]) {
     let mut used = [false; 6];
-    let mut pieces = Vec::new();
+    let mut patches = Vec::new();
     for (place, facet) in subject.mesh.facets.chunks_exact(3).enumerate() {
         let space = [facet[0], facet[1], facet[2]].map(|id| point_of(subject, id));
         let points = space.map(|p| view.point(p));
@@ -98,11 +98,11 @@ fn pieces(subject: &Subject, view: &View, closed: bool) -> (Vec<Piece>, [bool; 6
         };
         let near = points.iter().map(|p| p[2]).sum();
         if points.iter().flatten().all(|x| x.is_finite()) {
-            pieces.push(Piece { points, colour, layer, near });
+            patches.push(Patch { points, colour, layer, near });
         }
     }
-    pieces.sort_by(|a, b| a.layer.cmp(&b.layer).then(a.near.total_cmp(&b.near)));
-    (pieces, used)
+    patches.sort_by(|a, b| a.layer.cmp(&b.layer).then(a.near.total_cmp(&b.near)));
+    (patches, used)
 }
 
 /// Whether a facet is seen from outside. Down is the picture's second axis, so its turn is the other one.
@@ -130,8 +130,8 @@ fn hex(colour: Colour) -> String {
 
 /// Neighbours in the order of drawing that have one colour are one path, in whole tenths and relative to the first corner; a colour is a
 /// class. That makes the file half as long. The stroke covers the seams between facets.
-fn put_pieces(svg: &mut String, pieces: &[Piece]) {
-    let mut colours: Vec<String> = pieces.iter().map(|piece| hex(piece.colour)).collect();
+fn put_patches(svg: &mut String, patches: &[Patch]) {
+    let mut colours: Vec<String> = patches.iter().map(|patch| hex(patch.colour)).collect();
     colours.sort_unstable();
     colours.dedup();
     svg.push_str("<style>");
@@ -139,11 +139,11 @@ fn put_pieces(svg: &mut String, pieces: &[Piece]) {
         let _ = write!(svg, ".c{place}{{fill:{colour};stroke:{colour}}}");
     }
     svg.push_str("</style>\n<g stroke-width=\"6\" stroke-linejoin=\"round\" transform=\"scale(.1)\">\n");
-    for run in pieces.chunk_by(|a, b| a.colour == b.colour) {
+    for run in patches.chunk_by(|a, b| a.colour == b.colour) {
         let class = colours.binary_search(&hex(run[0].colour)).unwrap_or(0);
         let _ = write!(svg, "<path class=\"c{class}\" d=\"");
-        for piece in run {
-            let [a, b, c] = piece.points.map(|p| [p[0], p[1]].map(|x| (10.0 * x).round()));
+        for patch in run {
+            let [a, b, c] = patch.points.map(|p| [p[0], p[1]].map(|x| (10.0 * x).round()));
             let [u, v] = [[b[0] - a[0], b[1] - a[1]], [c[0] - b[0], c[1] - b[1]]];
             let _ = write!(svg, "M{} {}l{} {} {} {}z", a[0], a[1], u[0], u[1], v[0], v[1]);
         }

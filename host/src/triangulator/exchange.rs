@@ -32,23 +32,23 @@ pub fn ask(command: &mut Command, input: &[u8], time: Duration, most: usize) -> 
     let mut talk = Talk::new(&mut child, input, most);
     let heard = talk.go_on(&child, end).and_then(|()| {
         let left = end.saturating_duration_since(Instant::now());
-        let status = child.wait_timeout(left).map_err(|why| format!("was lost: {why}"))?;
-        status.ok_or_else(late)
+        let status = child.wait_timeout(left).map_err(|why| End::Told(format!("was lost: {why}")))?;
+        status.ok_or(End::Late)
     });
-    let status = heard.map_err(|why| {
+    let status = heard.map_err(|end| {
         kill_group(&mut child);
-        match why.as_str() {
-            LATE => format!("took longer than {} seconds and was ended", time.as_secs_f64()),
-            _ => why,
+        match end {
+            End::Late => format!("took longer than {} seconds and was ended", time.as_secs_f64()),
+            End::Told(why) => why,
         }
     })?;
     talk.outcome(status)
 }
 
-const LATE: &str = "late";
-
-fn late() -> String {
-    LATE.into()
+/// Why the talk was ended from our side.
+enum End {
+    Late,
+    Told(String),
 }
 
 /// The three pipes of a running program and what went through them.
@@ -89,7 +89,7 @@ impl<'a> Talk<'a> {
     }
 
     /// Until the answer has ended.
-    fn go_on(&mut self, child: &Child, end: Instant) -> Result<(), String> {
+    fn go_on(&mut self, child: &Child, end: Instant) -> Result<(), End> {
         let mut ended: Option<Instant> = None;
         loop {
             let now = Instant::now();
@@ -100,14 +100,14 @@ impl<'a> Talk<'a> {
                 return Ok(());
             }
             if now >= end {
-                return Err(late());
+                return Err(End::Late);
             }
             if ended.is_some_and(|then| now > then + GRACE) {
-                return Err("ended, but something that it started keeps its output open".into());
+                return Err(End::Told("ended, but something that it started keeps its output open".into()));
             }
             let ready = wait(self.pipes(), LOOK.min(end - now));
             self.say(ready[0]);
-            self.listen(ready[1])?;
+            self.listen(ready[1]).map_err(End::Told)?;
             self.listen_aside(ready[2]);
         }
     }

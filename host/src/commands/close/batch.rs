@@ -2,6 +2,7 @@
 
 use super::one;
 use crate::commands::Answer;
+use crate::files;
 use crate::options::{Common, Writing};
 use crate::outcome::Outcome;
 use crate::picture;
@@ -14,7 +15,7 @@ use indicatif::{ProgressBar, ProgressStyle};
 use rayon::iter::{ParallelBridge, ParallelIterator};
 use std::collections::BTreeMap;
 use std::fs::File;
-use std::io::{stderr, Read, Write};
+use std::io::{stderr, Write};
 use std::path::{Path, PathBuf};
 use std::sync::mpsc;
 
@@ -121,10 +122,9 @@ fn guard(summary: &Path, batch: &Batch, tasks: &[Task]) -> Result<(), String> {
             return Err(format!("{} is handed in and would be overwritten", text::name(path)));
         }
     }
-    let mut start = String::new();
     let head = COLUMNS.join(",");
-    let opened = File::open(summary).map(|file| file.take(head.len() as u64).read_to_string(&mut start));
-    if opened.is_ok() && start != head {
+    let start = || files::open(summary).and_then(|file| files::start(file, head.len()));
+    if summary.symlink_metadata().is_ok() && start() != Ok(head.as_bytes().to_vec()) {
         return Err(format!("{} is no summary of ours and would be overwritten; give another --out", text::name(summary)));
     }
     Ok(())
