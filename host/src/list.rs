@@ -1,7 +1,7 @@
 //! A list of meshes: a table (CSV) with a row a mesh.
 //!
-//! The first line names the columns: file, x0, y0, z0, x1, y1, z1, and where wanted resolution, density and name. The separator is a comma or
-//! a semicolon, as the first line has it. A fault of the first line is wrong use; a fault of a row is that row's own, and the others are done.
+//! The first line names the columns: file, x0, y0, z0, x1, y1, z1, and where wanted resolution, density and name. In place of the six a column
+//! box may hold six numbers. The separator is a comma or a semicolon, as the first line has it. A fault of the first line is wrong use; a fault of a row is that row's own, and the others are done.
 
 use crate::files;
 use crate::limits;
@@ -12,7 +12,7 @@ use std::path::{Path, PathBuf};
 use yongpham_library::Extents;
 
 const BOX: [&str; 6] = ["x0", "y0", "z0", "x1", "y1", "z1"];
-const OTHERS: [&str; 4] = ["file", "resolution", "density", "name"];
+const OTHERS: [&str; 5] = ["file", "box", "resolution", "density", "name"];
 
 /// What rows that leave it out get from the command line.
 #[derive(Clone, Copy, Debug, Default)]
@@ -36,6 +36,10 @@ pub fn read(path: &Path, defaults: &Defaults) -> Result<Vec<Task>, String> {
     let mut list = Vec::new();
     for (number, record) in (1..).zip(reader.records()) {
         let record = record.map_err(|why| told(format!("is no table: row {number}: {}", text::sentence(&why.to_string()))))?;
+        // A quotation mark that is not closed takes all rows behind it into one cell, and they would be lost without a word.
+        if record.iter().any(|cell| cell.contains(['\n', '\r'])) {
+            return Err(told(format!("has a cell of several lines in row {number}: is a quotation mark not closed?")));
+        }
         list.push(columns.task(number, &record, folder, defaults));
     }
     if list.is_empty() {
@@ -44,11 +48,18 @@ pub fn read(path: &Path, defaults: &Defaults) -> Result<Vec<Task>, String> {
     Ok(list)
 }
 
+/// Where the box stands: in six columns, or in one.
+#[derive(Clone, Copy)]
+enum Corners {
+    Apart([usize; 6]),
+    Together(usize),
+}
+
 /// The place of each column.
 struct Columns {
     count: usize,
     file: usize,
-    corners: Option<[usize; 6]>,
+    corners: Option<Corners>,
     resolution: Option<usize>,
     density: Option<usize>,
     name: Option<usize>,
@@ -66,16 +77,11 @@ impl Columns {
         if let Some(at) = twice {
             return Err(format!("has the column {} twice", quoted(&head[at])));
         }
-        let corners = BOX.map(place);
-        let whole = corners.iter().all(Option::is_some);
-        if !whole && (defaults.extents.is_none() || corners.iter().any(Option::is_some)) {
-            let missing = BOX.iter().zip(corners).find(|(_, at)| at.is_none());
-            return Err(format!("has no column {}", missing.map_or("", |(name, _)| name)));
-        }
+        let corners = corners_in(place, defaults)?;
         Ok(Columns {
             count: head.len(),
             file: place("file").ok_or("has no column file")?,
-            corners: whole.then(|| corners.map(Option::unwrap_or_default)),
+            corners,
             resolution: place("resolution"),
             density: place("density"),
             name: place("name"),
@@ -114,12 +120,15 @@ impl Columns {
         if record[self.file].is_empty() {
             return Err((String::new(), "the row names no file".into()));
         }
-        if let Some(corners) = self.corners {
-            let given = corners.iter().any(|&at| !record[at].is_empty());
-            if given || defaults.extents.is_none() {
-                for (corner, (at, name)) in task.extents.iter_mut().zip(corners.into_iter().zip(BOX)) {
-                    *corner = number(&record[at], name)?;
-                }
+        let cells = self.corners.map(|corners| corners.cells(record)).unwrap_or_default();
+        let given = cells.iter().any(|cell| !cell.is_empty());
+        if given || defaults.extents.is_none() {
+            if cells.len() != 6 {
+                let why = format!("the box has {} numbers; it needs six", cells.len());
+                return Err((cells.len().to_string(), why));
+            }
+            for (corner, (cell, name)) in task.extents.iter_mut().zip(cells.into_iter().zip(BOX)) {
+                *corner = number(cell, name)?;
             }
         }
         for (at, name, into) in [(self.resolution, "resolution", &mut task.resolution), (self.density, "density", &mut task.density)] {
@@ -129,6 +138,28 @@ impl Columns {
             }
         }
         Ok(())
+    }
+}
+
+impl Corners {
+    fn cells<'a>(&self, record: &'a csv::StringRecord) -> Vec<&'a str> {
+        match self {
+            Corners::Apart(places) => places.iter().map(|&at| &record[at]).collect(),
+            Corners::Together(at) => record[*at].split([' ', ',', ';', '\t']).filter(|word| !word.is_empty()).collect(),
+        }
+    }
+}
+
+/// The columns of the box; they may be left out if the call has a box.
+fn corners_in(place: impl Fn(&str) -> Option<usize>, defaults: &Defaults) -> Result<Option<Corners>, String> {
+    let apart = BOX.map(&place);
+    let missing = BOX.iter().zip(apart).find(|(_, at)| at.is_none()).map(|(name, _)| name);
+    match (place("box"), missing) {
+        (Some(_), _) if apart.iter().any(Option::is_some) => Err("has a column box and others for the box's corners".into()),
+        (Some(at), _) => Ok(Some(Corners::Together(at))),
+        (None, None) => Ok(Some(Corners::Apart(apart.map(Option::unwrap_or_default)))),
+        (None, Some(_)) if defaults.extents.is_some() && apart.iter().all(Option::is_none) => Ok(None),
+        (None, Some(name)) => Err(format!("has no column {name}")),
     }
 }
 
@@ -171,6 +202,18 @@ mod tests {
     }
 
     #[test]
+    fn a_box_may_stand_in_one_column() {
+        let text = "file,box,resolution,density\na.obj,0 0 -1  1 2 3,,2.6\nb.obj,\"0, 0, 0, 1, 1, 1\",5,\nc.obj,0 0 0 1 1,,\nd.obj,,,\n";
+        let list = parsed(text, &Defaults::default()).expect("a list");
+        assert_eq!((list[0].extents, list[1].extents), ([0., 0., -1., 1., 2., 3.], [0., 0., 0., 1., 1., 1.]));
+        assert_eq!((list[0].density, list[1].resolution), (Some(2.6), Some(5.0)));
+        for task in &list[2..] {
+            assert!(task.fault.as_ref().is_some_and(|fault| fault.explanation.contains("it needs six")));
+        }
+        assert!(parsed("file,box,x0\n", &Defaults::default()).is_err_and(|why| why.contains("a column box and others")));
+    }
+
+    #[test]
     fn faults_of_the_list_are_told() {
         for (text, told) in [
             ("", "no column"),
@@ -178,10 +221,10 @@ mod tests {
             ("file,x0,y0,z0,x1,y1,z1,densty\n", "a column \"densty\""),
             ("file,file\n", "twice"),
             (HEAD, "has no row"),
-            ("file,x0,y0,z0,x1,y1,z1\n\"a\u{0}\n", ""),
+            ("file,box\na.obj,0 0 0 1 1 1\n\"b.obj,0 0 0 1 1 1\nc.obj,0 0 0 1 1 1\n", "row 2: is a quotation mark not closed?"),
         ] {
             let answer = parsed(text, &Defaults::default());
-            assert!(told.is_empty() || answer.as_ref().is_err_and(|why| why.contains(told)), "{text:?}: {answer:?}");
+            assert!(answer.as_ref().is_err_and(|why| why.contains(told)), "{text:?}: {answer:?}");
         }
     }
 
