@@ -43,6 +43,32 @@ fn a_triangulator_that_fails_or_answers_something_else_is_told_with_the_line() {
     triangulated(&folder, "./no-such-program", "the triangulator failed (exit status: 127)");
 }
 
+/// Ended from outside, the command takes its triangulator with it.
+#[cfg(target_os = "linux")]
+#[test]
+fn a_triangulator_does_not_outlive_the_command() {
+    let folder = Folder::new();
+    let line = "echo $$ >number && exec sleep 1000";
+    let words = [&["close"], &UNIT[..], &["--triangulate", line, "square.obj"]].concat();
+    let mut child = folder.command(&words).spawn().expect("the command starts");
+    let wait = |done: &dyn Fn() -> bool| {
+        (0..200).any(|_| {
+            done() || {
+                std::thread::sleep(Duration::from_millis(50));
+                false
+            }
+        })
+    };
+    assert!(wait(&|| std::fs::read_to_string(folder.path("number")).is_ok_and(|text| text.ends_with('\n'))));
+    let process = format!("/proc/{}/stat", folder.text("number").trim());
+    // One that nobody waited for yet stands there as Z.
+    let runs = || std::fs::read_to_string(&process).is_ok_and(|text| !text.contains(") Z "));
+    assert!(runs());
+    child.kill().expect("it is ended");
+    child.wait().expect("it has ended");
+    assert!(wait(&|| !runs()));
+}
+
 /// A pipe that nobody writes to, a device that never ends, a folder: told, not opened.
 #[test]
 fn only_plain_files_are_read() {

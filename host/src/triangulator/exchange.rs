@@ -22,6 +22,7 @@ const CHUNK: usize = 65_536;
 /// What the program answers on its standard output. The sentence on failure begins with a verb.
 pub fn ask(command: &mut Command, input: &[u8], time: Duration, most: usize) -> Result<Vec<u8>, String> {
     let end = Instant::now() + time;
+    end_with_us(command);
     let mut child = command
         .stdin(Stdio::piped())
         .stdout(Stdio::piped())
@@ -44,6 +45,21 @@ pub fn ask(command: &mut Command, input: &[u8], time: Duration, most: usize) -> 
     })?;
     talk.outcome(status)
 }
+
+/// In a group of its own a program no longer hears the Ctrl-C that ends us, so the system is asked to end it when we do.
+#[cfg(target_os = "linux")]
+fn end_with_us(command: &mut Command) {
+    // SAFETY: one system call between fork and exec, which sets a number of the new process.
+    unsafe {
+        command.pre_exec(|| {
+            libc::prctl(libc::PR_SET_PDEATHSIG, libc::SIGKILL);
+            Ok(())
+        });
+    }
+}
+
+#[cfg(not(target_os = "linux"))]
+fn end_with_us(_: &mut Command) {}
 
 /// Why the talk was ended from our side.
 enum End {
