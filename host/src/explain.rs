@@ -66,7 +66,7 @@ impl Call<'_> {
         let told = |count: u64, what: &str, lines: &[u64]| Trouble {
             line: lines.get(MESH).copied(),
             value: count.to_string(),
-            explanation: format!("there are {count} {what}"),
+            explanation: format!("there are {count} {what}{}", if self.surface.is_some() { "" } else { " once it is cut to the box" }),
             ..Trouble::default()
         };
         let lines = |pick: fn(&Surface) -> &Vec<u64>| self.surface.map_or(&[][..], |s| pick(s));

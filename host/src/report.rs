@@ -82,14 +82,16 @@ impl Row {
 /// Writes rows to the summary and to standard output. That one of them is lost is no reason to stop the work, but it is told.
 pub struct Report<W: Write> {
     summary: csv::Writer<W>,
-    lost: Option<String>,
+    /// Why the summary, or standard output, is not whole.
+    summary_lost: Option<String>,
+    output_lost: Option<String>,
     closed: usize,
     rows: usize,
 }
 
 impl<W: Write> Report<W> {
     pub fn new(summary: W) -> Self {
-        let mut report = Report { summary: csv::Writer::from_writer(summary), lost: None, closed: 0, rows: 0 };
+        let mut report = Report { summary: csv::Writer::from_writer(summary), summary_lost: None, output_lost: None, closed: 0, rows: 0 };
         report.write(&COLUMNS);
         report
     }
@@ -97,7 +99,7 @@ impl<W: Write> Report<W> {
     fn write<C: AsRef<[u8]>>(&mut self, cells: &[C]) {
         let written = self.summary.write_record(cells).map_err(io::Error::from);
         if let Err(why) = written.and_then(|()| self.summary.flush()) {
-            self.lost.get_or_insert(format!("the summary cannot be written: {why}"));
+            self.summary_lost.get_or_insert(format!("the summary cannot be written: {why}"));
         }
     }
 
@@ -112,7 +114,7 @@ impl<W: Write> Report<W> {
     pub fn say(&mut self, line: &str) {
         let mut out = io::stdout().lock();
         if let Err(why) = writeln!(out, "{line}").and_then(|()| out.flush()) {
-            self.lost.get_or_insert(format!("standard output cannot be written: {why}"));
+            self.output_lost.get_or_insert(format!("standard output cannot be written: {why}"));
         }
     }
 
@@ -125,8 +127,13 @@ impl<W: Write> Report<W> {
         self.closed == self.rows
     }
 
-    pub fn lost(&self) -> Option<&str> {
-        self.lost.as_deref()
+    /// A summary that is not whole would be believed.
+    pub fn summary_lost(&self) -> Option<&str> {
+        self.summary_lost.as_deref()
+    }
+
+    pub fn output_lost(&self) -> Option<&str> {
+        self.output_lost.as_deref()
     }
 }
 
@@ -165,6 +172,6 @@ mod tests {
     #[test]
     fn a_lost_summary_is_told() {
         let report = Report::new(Full);
-        assert!(report.lost().is_some_and(|why| why.contains("no room")));
+        assert!(report.summary_lost().is_some_and(|why| why.contains("no room")));
     }
 }

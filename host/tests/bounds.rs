@@ -6,10 +6,12 @@ use std::fs::File;
 use std::process::Command;
 use std::time::Duration;
 
-const LONG: Duration = Duration::from_secs(20);
+const LONG: Duration = Duration::from_secs(50);
 
 fn triangulated(folder: &Folder, line: &str, told: &str) {
-    let run = folder.unit(&["--timeout", "2", "--triangulate", line, "square.obj"]);
+    // Only those that are to run out of time get little of it, so that a busy machine changes no answer.
+    let time = if told.contains("longer") { "2" } else { "60" };
+    let run = folder.unit(&["--timeout", time, "--triangulate", line, "square.obj"]);
     folder.not_closed(&run, "failed", &["step triangles", told]);
     assert!(run.time < LONG, "{line}: {:?}", run.time);
 }
@@ -122,7 +124,7 @@ fn a_batch_goes_on_whatever_happens_to_one_mesh() {
     let line = "case $(head -c 12) in *'face 0 6 7'*) cat triangles;; *) sleep 1000;; esac";
     folder.put("waits.obj", SQUARE.replace("f 1 2 3\nf 1 3 4\n", "v 0 0.5 0.5\nf 1 2 5\nf 2 3 5\nf 5 3 4\n"));
     folder.put("other.obj", SQUARE);
-    let run = folder.unit(&["--timeout", "1", "--triangulate", line, "square.obj", "waits.obj", "other.obj"]);
+    let run = folder.unit(&["--timeout", "6", "--triangulate", line, "square.obj", "waits.obj", "other.obj"]);
     let states: Vec<String> = folder.summary("summary.csv").into_iter().map(|row| row["state"].clone()).collect();
     assert_eq!((run.status, states.join(" ")), (1, "closed failed closed".into()), "{}", run.out);
 }

@@ -18,6 +18,7 @@ use std::fs::File;
 use std::io::{stderr, Write};
 use std::path::{Path, PathBuf};
 use std::sync::mpsc;
+use tempfile::NamedTempFile;
 
 /// What is the same for all meshes of a call.
 pub struct Batch<'a> {
@@ -56,18 +57,24 @@ pub fn work(batch: &Batch, mut tasks: Vec<Task>) -> Answer {
     results.moved(&summary)?;
     let mut report = Report::new(file);
     all(batch, &results, &tasks, &mut report);
-    let named = results.name(vec![(growing, summary.clone())]);
+    Ok(end(&results, &summary, growing, &mut report))
+}
+
+/// Names the summary, says the counts, and answers whether all is closed and told.
+fn end(results: &Results, summary: &Path, growing: NamedTempFile, report: &mut Report<File>) -> bool {
+    let summary_lost = match report.summary_lost() {
+        Some(why) => Some(why.to_string()),
+        None => results.name(vec![(growing, summary.into())]).err(),
+    };
     let (closed, rows) = report.counts();
-    report.say(&format!(
-        "{closed} of {rows} closed; solids and {} in {}",
-        text::name(Path::new(summary.file_name().unwrap_or_default())),
-        text::name(results.folder())
-    ));
-    let lost = named.err().or(report.lost().map(String::from));
+    let name = text::name(Path::new(summary.file_name().unwrap_or_default()));
+    let and = if summary_lost.is_some() { "no summary" } else { &name };
+    report.say(&format!("{closed} of {rows} closed; solids and {and} in {}", text::name(results.folder())));
+    let lost = summary_lost.or(report.output_lost().map(String::from));
     if let Some(why) = &lost {
         complain(&format!("the report is lost: {why}"));
     }
-    Ok(report.all_closed() && lost.is_none())
+    report.all_closed() && lost.is_none()
 }
 
 fn complain(why: &str) {
