@@ -1,14 +1,16 @@
 /* Yongpham: a triangle surface cut to a box, cleaned and closed, with every function proved. Link libyongpham.a.
  *
  * A function answers document 01's number: 0 for done, else why it was turned down (the table in README.md). `values` must point to four
- * words; all four are written: the values that the reply carries, in front of zeros. A list is a pointer and the number of its elements;
- * pointers must be valid for what they point to, and no two of them may overlap. A list of length 0 may have any pointer that is not null.
+ * words; all four are written: the values that the reply carries, in front of zeros. A list is a pointer and its length, which counts elements
+ * (doubles, numbers or words): 100 vertices are a list of length 300. Pointers must be valid for what they point to, and no two of them may
+ * overlap. None may be null, not even with length 0, where any other pointer will do (the data() of an empty std::vector may be null).
  *
  * A mesh is two lists: coordinates, three doubles a vertex, and vertex numbers, three a facet, from 0. At most 65,536 vertices and as many
  * facets; coordinates finite and at most 2^30 in magnitude, also of vertices that no facet uses.
  *
  * Work room is 64-bit words that a call computes in. Its old contents do not matter; all of it is zero afterwards, also when the call is
- * turned down. To learn how much is needed, compute it by the formula given, or lend none and read the need of refusal 7.
+ * turned down. To learn how much is needed, compute it by the formula given, which counts items (vertices, facets, triangles, grid points) and
+ * not elements, or lend none, by length 0, and read the need of refusal 7.
  *
  * A call that is turned down leaves every output as it was. On success an output holds the result at its front and its old contents behind.
  */
@@ -22,7 +24,9 @@
 extern "C" {
 #endif
 
-/* The tolerance of a box: 1e-10 times the larger of 1 and the length of its diagonal. It is an eps that every other function accepts.
+/* The tolerance of a box: 1e-10 times the larger of 1 and the length of its diagonal. It is in the range of eps, so that no function answers 4
+ * to it. 8 may still follow where a small box lies far from the origin, since a coordinate divided by eps must not be beyond 2^62: so it is with
+ * the box from 2^30 - 1 to 2^30 on every axis, and with any box of a diagonal of at most 1 from 461,168,602 on.
  *
  *   min_x .. max_z   the two corners: finite, at most 2^30 in magnitude, min below max on every axis
  *   values           0: the bits of the tolerance, a double (memcpy them into one)
@@ -37,7 +41,7 @@ uint32_t yongpham_tolerance(double min_x, double min_y, double min_z, double max
  *   vertices, facets          the mesh, and the numbers of elements of its two lists
  *   min_x .. max_z            the box, as for yongpham_tolerance
  *   eps                       from 0 to 1; the tolerance of the box serves
- *   work                      at least 128 * (vertices + facets) + 1024 words, where vertices and facets are counted, not their numbers
+ *   work                      at least 128 * (vertices + facets) + 1024 words
  *   out_vertices, out_facets  the clipped mesh
  *   values                    done: the lengths written to out_vertices and out_facets, in elements; 7: the words of work room needed;
  *                             12: the elements needed by the first output that is too short, vertices before facets
@@ -112,9 +116,11 @@ uint32_t yongpham_candidates(const double *vertices, size_t vertices_length, con
  *                             2: negative, as if they were below it
  *   work                      at least 128 * (vertices + facets + cap triangles + G) + 1024 words, G as for yongpham_candidates
  *   out_vertices, out_facets  the closed mesh. Vertices: those given, none of them moved, and behind them each candidate that is none of them and
- *                             that a triangle to be added uses. Facets: those given, in negative mode with their last two corners exchanged, and
- *                             behind them the triangles added, in the order given, but for those of a double area of at most 1e-12 and, of
- *                             several with the same three corners, all but the first
+ *                             that a triangle to be added has as a corner, in the order in which these triangles first name it: triangle by
+ *                             triangle as given, corner by corner as turned. Triangles that are then dropped name theirs too, so that a new vertex
+ *                             may be used by no facet. Facets: those given, in negative mode with their last two corners exchanged, and behind them
+ *                             the triangles added, in the order given, less those dropped: those of a double area of at most 1e-12 and, of several
+ *                             others with the same three corners, all but the first
  *   values                    done: the lengths written to out_vertices and out_facets, in elements; 7: the words of work room needed;
  *                             9: the smallest pair of vertices of an open edge that lies on no face; 10: the place in the cap list, counted in
  *                             triangles from 0, of the first faulty one; 11: the place in open_edges, counted in edges from 0, of the first that

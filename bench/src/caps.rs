@@ -5,33 +5,6 @@ use crate::meshes::{surface, Mesh, SIZES, UNIT};
 use crate::timing::{interleaved, mesh_row, time};
 use crate::triangulation::sound_list;
 
-extern "C" {
-    fn yongpham_caps(
-        vertices: *const f64,
-        vertices_length: usize,
-        facets: *const u32,
-        facets_length: usize,
-        caps: *const u64,
-        caps_length: usize,
-        min_x: f64,
-        min_y: f64,
-        min_z: f64,
-        max_x: f64,
-        max_y: f64,
-        max_z: f64,
-        eps: f64,
-        resolution: f64,
-        mode: u32,
-        work: *mut u64,
-        work_length: usize,
-        out_vertices: *mut f64,
-        out_vertices_length: usize,
-        out_facets: *mut u32,
-        out_facets_length: usize,
-        values: *mut [u64; 4],
-    ) -> u32;
-}
-
 pub fn rows(rounds: usize, large: bool) {
     for facets in SIZES {
         for segments in [16, 64] {
@@ -98,34 +71,24 @@ fn row(rounds: usize, segments: usize, mesh: &Mesh, at_least: usize) {
     let work_of_ours = std::cell::RefCell::new(&mut work);
     let mut ours = || {
         let mut work = work_of_ours.borrow_mut();
-        let mut values = [0; 4];
-        let taken = time(|| unsafe {
-            yongpham_caps(
-                mesh.vertices.as_ptr(),
-                mesh.vertices.len(),
-                mesh.facets.as_ptr(),
-                mesh.facets.len(),
-                caps.as_ptr(),
-                caps.len(),
-                UNIT[0],
-                UNIT[1],
-                UNIT[2],
-                UNIT[3],
-                UNIT[4],
-                UNIT[5],
+        let mut reply = None;
+        let taken = time(|| {
+            reply = Some(yongpham_library::caps(
+                &mesh.vertices,
+                &mesh.facets,
+                &caps,
+                &UNIT,
                 eps,
                 resolution,
                 1,
-                work.as_mut_ptr(),
-                work.len(),
-                out_vertices.as_mut_ptr(),
-                out_vertices.len(),
-                out_facets.as_mut_ptr(),
-                out_facets.len(),
-                &mut values,
-            )
+                &mut work,
+                &mut out_vertices,
+                &mut out_facets,
+            ))
         });
-        assert!(values[1] as usize > mesh.facets.len(), "caps are written");
+        let facets =
+            reply.map(|reply| (reply.number, reply.values[1] as usize > mesh.facets.len()));
+        assert_eq!(facets, Some((0, true)), "caps are written");
         taken
     };
     let mut rust = || {

@@ -4,23 +4,6 @@
 use crate::meshes::{own_vertices, surface, Mesh, SIZES, UNIT};
 use crate::timing::{interleaved, mesh_row, time};
 
-extern "C" {
-    fn yongpham_clean(
-        vertices: *const f64,
-        vertices_length: usize,
-        facets: *const u32,
-        facets_length: usize,
-        eps: f64,
-        work: *mut u64,
-        work_length: usize,
-        out_vertices: *mut f64,
-        out_vertices_length: usize,
-        out_facets: *mut u32,
-        out_facets_length: usize,
-        values: *mut [u64; 4],
-    ) -> u32;
-}
-
 /// Three vertices a facet, 65,536 in all.
 const MOST_OWN: usize = 21_000;
 
@@ -44,24 +27,23 @@ fn row(rounds: usize, name: &str, mesh: &Mesh) {
     let mut out_vertices = vec![1.0f64; mesh.vertices.len()];
     let mut out_facets = vec![1u32; mesh.facets.len()];
     let mut ours = || {
-        let mut values = [0; 4];
-        let taken = time(|| unsafe {
-            yongpham_clean(
-                mesh.vertices.as_ptr(),
-                mesh.vertices.len(),
-                mesh.facets.as_ptr(),
-                mesh.facets.len(),
+        let mut reply = None;
+        let taken = time(|| {
+            reply = Some(yongpham_library::clean(
+                &mesh.vertices,
+                &mesh.facets,
                 eps,
-                work.as_mut_ptr(),
-                work.len(),
-                out_vertices.as_mut_ptr(),
-                out_vertices.len(),
-                out_facets.as_mut_ptr(),
-                out_facets.len(),
-                &mut values,
-            )
+                &mut work,
+                &mut out_vertices,
+                &mut out_facets,
+            ))
         });
-        assert_eq!(values[1], mesh.facets.len() as u64, "every facet stays");
+        let kept = reply.map(|reply| (reply.number, reply.values[1]));
+        assert_eq!(
+            kept,
+            Some((0, mesh.facets.len() as u64)),
+            "every facet stays"
+        );
         taken
     };
     let mut rust = || {

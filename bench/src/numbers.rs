@@ -2,26 +2,7 @@
 
 use crate::timing::{interleaved, time};
 use std::hint::black_box;
-
-#[cfg(feature = "numbers")]
-extern "C" {
-    fn export_sqrt(x: f64) -> f64;
-    fn export_round(x: f64) -> f64;
-    fn export_cell_key(x: f64, eps: f64) -> i64;
-}
-
-#[cfg(feature = "tolerance")]
-extern "C" {
-    fn yongpham_tolerance(
-        min_x: f64,
-        min_y: f64,
-        min_z: f64,
-        max_x: f64,
-        max_y: f64,
-        max_z: f64,
-        values: *mut [u64; 4],
-    ) -> u32;
-}
+use yongpham_library::leaves;
 
 /// Inputs of each run.
 const INPUTS: usize = 1 << 18;
@@ -75,32 +56,19 @@ pub fn rows(rounds: usize) {
         let [o, r] = medians.map(|time| time.as_secs_f64() * 1e9 / INPUTS as f64);
         println!("| {name} | {o:.1} | {r:.1} | {:.2} |", o / r);
     };
-    // The functions of the library take plain numbers; tolerance writes four words.
-    #[cfg(feature = "tolerance")]
     row(
         "tolerance",
         &|x| {
-            let mut values = [0; 4];
-            unsafe { yongpham_tolerance(0.0, 0.0, 0.0, x, x, 1.0, &mut values) };
-            f64::from_bits(values[0])
+            let reply = yongpham_library::tolerance(&[0.0, 0.0, 0.0, x, x, 1.0]);
+            f64::from_bits(reply.values[0])
         },
         &machine_tolerance,
     );
-    #[cfg(feature = "numbers")]
-    {
-        row("root", &|x| unsafe { export_sqrt(x) }, &machine_sqrt);
-        row("rounding", &|x| unsafe { export_round(x) }, &machine_round);
-        row(
-            "cell key",
-            &|x| unsafe { export_cell_key(x, EPS) as f64 },
-            &machine_cell_key,
-        );
-    }
-    let _ = (
-        &row,
-        machine_sqrt,
-        machine_round,
-        machine_cell_key,
-        machine_tolerance,
+    row("root", &leaves::sqrt, &machine_sqrt);
+    row("rounding", &leaves::round, &machine_round);
+    row(
+        "cell key",
+        &|x| leaves::cell_key(x, EPS) as f64,
+        &machine_cell_key,
     );
 }

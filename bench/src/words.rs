@@ -2,22 +2,7 @@
 
 use crate::timing::{interleaved, milliseconds, time};
 use std::collections::HashMap;
-
-extern "C" {
-    fn export_sort_records(words: *mut u64, length: usize);
-    fn table_components(words: *mut u64, length: usize, n: usize, k: usize, m: usize) -> bool;
-    fn table_words(
-        room: *mut u64,
-        room_length: usize,
-        buckets: usize,
-        keys: *const u64,
-        keys_length: usize,
-        asked: *const u64,
-        asked_length: usize,
-        found: *mut u64,
-        found_length: usize,
-    ) -> bool;
-}
+use yongpham_library::leaves;
 
 const SIZES: [usize; 3] = [1 << 14, 1 << 17, 1 << 20];
 
@@ -53,7 +38,7 @@ fn sort(rounds: usize, n: usize) {
                     place[0] = key;
                     place[1] = payload;
                 }
-                time(|| unsafe { export_sort_records(words.as_mut_ptr(), words.len()) })
+                time(|| leaves::sort_records(&mut words))
             },
             &mut || {
                 copy.copy_from_slice(&records);
@@ -79,19 +64,7 @@ fn chains(rounds: usize, n: usize) {
         rounds,
         [
             &mut || {
-                time(|| unsafe {
-                    assert!(table_words(
-                        room.as_mut_ptr(),
-                        room.len(),
-                        buckets,
-                        keys.as_ptr(),
-                        n,
-                        asked.as_ptr(),
-                        n,
-                        found.as_mut_ptr(),
-                        n
-                    ))
-                })
+                time(|| assert!(leaves::look_up(&mut room, buckets, &keys, &asked, &mut found)))
             },
             &mut || {
                 time(|| {
@@ -165,7 +138,7 @@ fn components(rounds: usize, n: usize) {
         [
             &mut || {
                 words[table..].copy_from_slice(&labels);
-                time(|| unsafe { assert!(table_components(words.as_mut_ptr(), words.len(), n, 3, m)) })
+                time(|| assert!(leaves::components(&mut words, n, 3, m)))
             },
             &mut || time(|| least = plain_components(&labels, n, m)),
         ],

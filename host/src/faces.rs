@@ -2,6 +2,8 @@
 //! back. The format stands in host/README.md.
 
 use crate::library::Lists;
+use crate::limits;
+use crate::text::quoted;
 use std::fmt::Write;
 
 pub const NAMES: [&str; 6] = ["XMin", "XMax", "YMin", "YMax", "ZMin", "ZMax"];
@@ -33,16 +35,38 @@ impl Lists {
     /// The place of a candidate; nothing if there is no such candidate.
     pub fn point(&self, candidate: u64) -> Option<[f64; 3]> {
         let start = usize::try_from(candidate).ok()?.checked_mul(5)?;
-        let words: [u64; 3] = self.candidates.get(start..start + 3)?.try_into().ok()?;
+        let end = start.checked_add(3)?;
+        let words: [u64; 3] = self.candidates.get(start..end)?.try_into().ok()?;
         Some(words.map(f64::from_bits))
     }
 
     /// The face of an open edge and its two ends; nothing if there is no such edge.
     pub fn open_edge(&self, place: u64) -> Option<(u64, [f64; 3], [f64; 3])> {
         let start = usize::try_from(place).ok()?.checked_mul(3)?;
-        let words = self.open_edges.get(start..start + 3)?;
+        let words = self.open_edges.get(start..start.checked_add(3)?)?;
         Some((words[0], self.point(words[1])?, self.point(words[2])?))
     }
+
+    /// An open edge along a side of the box that has a further candidate inside it: its ends and that point. The library wants the
+    /// edge whole, the face's grid has a point on it, and no triangulation can have both.
+    pub fn divided_edge(&self) -> Option<[[f64; 3]; 3]> {
+        let faces = |candidate: u64| self.candidates.get(candidate as usize * 5 + 4).copied();
+        self.open_edges.chunks_exact(3).find_map(|edge| {
+            let common = faces(edge[1])? & faces(edge[2])?;
+            if common.count_ones() < 2 {
+                return None;
+            }
+            let (a, b) = (self.point(edge[1])?, self.point(edge[2])?);
+            let side = self.of_face(edge[0]).iter().copied();
+            let inside = |&id: &u64| faces(id).is_some_and(|f| f & common == common);
+            side.filter(inside).filter_map(|id| self.point(id)).find(|p| *p != a && *p != b && between(*p, a, b)).map(|p| [a, b, p])
+        })
+    }
+}
+
+/// Whether a point of a side lies between two others of it.
+fn between(p: [f64; 3], a: [f64; 3], b: [f64; 3]) -> bool {
+    (0..3).all(|axis| a[axis].min(b[axis]) <= p[axis] && p[axis] <= a[axis].max(b[axis]))
 }
 
 /// The six faces as a triangulator reads them.
@@ -65,46 +89,65 @@ pub fn text(lists: &Lists) -> String {
     text
 }
 
-/// The library's cap list of triangles told by places: face and three candidates each.
-pub fn cap_list(text: &str, lists: &Lists) -> Result<Vec<u64>, String> {
+/// Triangles as a triangulator told them.
+#[derive(Clone, Debug, Default, PartialEq)]
+pub struct Answer {
+    /// The library's cap list: face and three candidates each.
+    pub list: Vec<u64>,
+    /// The line of each triangle, from 1.
+    pub lines: Vec<u32>,
+}
+
+impl Answer {
+    /// The first and the last line that hold triangles of a face.
+    pub fn lines_of(&self, face: u64) -> Option<(u32, u32)> {
+        let faces = self.list.iter().step_by(4);
+        let mut lines = faces.zip(&self.lines).filter(|(f, _)| **f == face).map(|(_, line)| *line);
+        let first = lines.next()?;
+        Some((first, lines.next_back().unwrap_or(first)))
+    }
+}
+
+/// Why an answer is none: the line, the words, what is wrong.
+#[derive(Clone, Debug, PartialEq)]
+pub struct NoAnswer {
+    pub line: u64,
+    pub value: String,
+    pub why: &'static str,
+}
+
+/// The triangles of an answer, as candidates.
+pub fn answer(bytes: &[u8], lists: &Lists) -> Result<Answer, NoAnswer> {
     let numbers: Vec<&[u64]> = (0..6).map(|face| lists.of_face(face)).collect();
-    let mut list = Vec::new();
-    for (line, words) in text.lines().enumerate() {
-        let words = words.split('#').next().unwrap_or("").trim();
-        if words.is_empty() {
+    let mut answer = Answer::default();
+    for (line, words) in (1..).zip(bytes.split(|byte| *byte == b'\n')) {
+        let fault =
+            |why| NoAnswer { line: u64::from(line), value: quoted(&String::from_utf8_lossy(&words[..words.len().min(limits::LINE)])), why };
+        if words.len() > limits::LINE {
+            return Err(fault("is too long a line"));
+        }
+        let told = words.split(|byte| *byte == b'#').next().unwrap_or(&[]).trim_ascii();
+        if told.is_empty() {
             continue;
         }
-        let [face, corners @ ..] = triangle(words).ok_or_else(|| {
-            format!(
-                "line {}: not four whole numbers: \"{}\"",
-                line + 1,
-                shortened(words)
-            )
-        })?;
-        let of_face = usize::try_from(face)
-            .ok()
-            .and_then(|face| numbers.get(face));
-        let candidate = |place: u64| {
-            let place = usize::try_from(place).ok()?;
-            of_face?.get(place).copied()
-        };
-        list.push(face);
-        list.extend(corners.map(|place| candidate(place).unwrap_or(NO_CANDIDATE)));
+        let triangle = std::str::from_utf8(told).ok().and_then(triangle);
+        let [face, corners @ ..] = triangle.ok_or_else(|| fault("is not four whole numbers"))?;
+        if answer.lines.len() < limits::TRIANGLES {
+            let of_face = usize::try_from(face).ok().and_then(|face| numbers.get(face));
+            let candidate = |place: u64| of_face?.get(usize::try_from(place).ok()?).copied();
+            answer.list.push(face);
+            answer.list.extend(corners.map(|place| candidate(place).unwrap_or(NO_CANDIDATE)));
+            answer.lines.push(line);
+        }
     }
-    Ok(list)
+    Ok(answer)
 }
 
 fn triangle(line: &str) -> Option<[u64; 4]> {
-    let words: Vec<u64> = line
-        .split_ascii_whitespace()
-        .map(|word| word.parse().ok())
-        .collect::<Option<_>>()?;
-    words.try_into().ok()
-}
-
-/// A triangulator may answer anything; a message quotes the start of it.
-fn shortened(words: &str) -> String {
-    words.chars().take(40).collect()
+    let mut words = line.split_ascii_whitespace().map(|word| word.parse().ok());
+    let mut next = || words.next().flatten();
+    let triangle = [next()?, next()?, next()?, next()?];
+    words.next().is_none().then_some(triangle)
 }
 
 #[cfg(test)]
@@ -116,10 +159,7 @@ mod tests {
         let point = |x: f64, y: f64, z: f64| [x.to_bits(), y.to_bits(), z.to_bits(), 0, 1];
         let points = [(0., 1., 2.), (0., 3., 4.), (5., 6., 7.), (0., 0.1, -0.0)];
         Lists {
-            candidates: points
-                .iter()
-                .flat_map(|&(x, y, z)| point(x, y, z))
-                .collect(),
+            candidates: points.iter().flat_map(|&(x, y, z)| point(x, y, z)).collect(),
             face_lists: vec![3, 0, 0, 0, 0, 1, 3, 1, 0, 2],
             constraints: vec![0, 0, 1, 0, 1, 2],
             open_edges: vec![0, 3, 1],
@@ -128,7 +168,8 @@ mod tests {
 
     #[test]
     fn faces_are_told_by_points_and_places() {
-        let expected = "face 0 3 2\n0.1 -0.0\n3.0 4.0\n1.0 2.0\n0 1\n1 2\nface 1 0 0\nface 2 0 0\nface 3 0 0\nface 4 0 0\nface 5 1 0\n5.0 6.0\n";
+        let expected =
+            "face 0 3 2\n0.1 -0.0\n3.0 4.0\n1.0 2.0\n0 1\n1 2\nface 1 0 0\nface 2 0 0\nface 3 0 0\nface 4 0 0\nface 5 1 0\n5.0 6.0\n";
         assert_eq!(text(&lists()), expected);
         assert!(text(&Lists::default()).ends_with("face 5 0 0\n"));
     }
@@ -136,40 +177,27 @@ mod tests {
     #[test]
     fn triangles_come_back_as_candidates() {
         let answer = "# made by hand\n0 0 1 2\n\n 0 2 1 0 # turned\n5 0 0 0\n";
-        let list = cap_list(answer, &lists());
-        assert_eq!(list, Ok(vec![0, 3, 1, 0, 0, 0, 1, 3, 5, 2, 2, 2]));
+        let told = self::answer(answer.as_bytes(), &lists()).unwrap_or_default();
+        assert_eq!(told.list, [0, 3, 1, 0, 0, 0, 1, 3, 5, 2, 2, 2]);
+        assert_eq!(told.lines, [2, 4, 5]);
+        assert_eq!((told.lines_of(0), told.lines_of(1)), (Some((2, 4)), None));
     }
 
     #[test]
     fn what_is_no_place_is_left_to_the_library() {
-        let list = cap_list("0 0 1 3\n6 0 1 2\n1 0 0 18446744073709551615\n", &lists());
+        let list = |text: &str, lists: &Lists| answer(text.as_bytes(), lists).map(|told| told.list);
+        let text = "0 0 1 3\n6 0 1 2\n1 0 0 18446744073709551615\n";
         let none = NO_CANDIDATE;
-        assert_eq!(
-            list,
-            Ok(vec![
-                0, 3, 1, none, 6, none, none, none, 1, none, none, none
-            ])
-        );
-        assert_eq!(
-            cap_list("0 1 2 3", &Lists::default()),
-            Ok(vec![0, none, none, none])
-        );
+        let expected = vec![0, 3, 1, none, 6, none, none, none, 1, none, none, none];
+        assert_eq!(list(text, &lists()), Ok(expected));
+        assert_eq!(list("0 1 2 3", &Lists::default()), Ok(vec![0, none, none, none]));
     }
 
     #[test]
     fn what_is_no_triangle_is_told_with_its_line() {
-        for wrong in [
-            "0 1 2",
-            "0 1 2 3 4",
-            "0 1 2 -3",
-            "0 1 2 x",
-            "0 1 2 18446744073709551616",
-        ] {
-            let answer = cap_list(&format!("0 0 1 2\n{wrong}\n"), &lists());
-            assert!(
-                answer.is_err_and(|why| why.starts_with("line 2: ")),
-                "{wrong}"
-            );
+        for wrong in ["0 1 2", "0 1 2 3 4", "0 1 2 -3", "0 1 2 x", "0 1 2 18446744073709551616"] {
+            let told = answer(format!("0 0 1 2\n{wrong}\n").as_bytes(), &lists());
+            assert!(told.is_err_and(|fault| fault.line == 2 && fault.value.contains(wrong)));
         }
     }
 

@@ -1,12 +1,11 @@
-//! The five functions of include/yongpham.h, and how they are lent room.
+//! The library's functions with room lent to them.
 //!
-//! Nothing here knows a formula: the work room is what refusal 7 asks for, and the
-//! outputs are what refusal 12 asks for.
+//! The work room is the header's formula, and outputs are lent as much as a surface usually needs, so that a result is computed once.
+//! Where that is too little, the reply says how much is needed, and the call is made again.
 
 use crate::mesh::Mesh;
-
-/// A box: min x, y, z, then max x, y, z.
-pub type Extents = [f64; 6];
+pub use yongpham_library::Extents;
+use yongpham_library::{self as library, Reply};
 
 /// Why a call gave no result.
 #[derive(Clone, Copy, Debug, PartialEq)]
@@ -20,104 +19,33 @@ pub enum Stop {
 const NO_WORK_ROOM: u32 = 7;
 const NO_ROOM: u32 = 12;
 
-#[allow(clippy::too_many_arguments)]
-extern "C" {
-    fn yongpham_tolerance(
-        min_x: f64,
-        min_y: f64,
-        min_z: f64,
-        max_x: f64,
-        max_y: f64,
-        max_z: f64,
-        values: *mut u64,
-    ) -> u32;
+/// Words of work room: so many an item, and so many beside.
+const ITEM: usize = 128;
+const BESIDE: usize = 1024;
 
-    fn yongpham_clip(
-        vertices: *const f64,
-        vertices_length: usize,
-        facets: *const u32,
-        facets_length: usize,
-        min_x: f64,
-        min_y: f64,
-        min_z: f64,
-        max_x: f64,
-        max_y: f64,
-        max_z: f64,
-        eps: f64,
-        work: *mut u64,
-        work_length: usize,
-        out_vertices: *mut f64,
-        out_vertices_length: usize,
-        out_facets: *mut u32,
-        out_facets_length: usize,
-        values: *mut u64,
-    ) -> u32;
+/// The box, the tolerance and the resolution of a call.
+#[derive(Clone, Copy, Debug, PartialEq)]
+pub struct Setting {
+    pub extents: Extents,
+    pub eps: f64,
+    pub resolution: f64,
+}
 
-    fn yongpham_clean(
-        vertices: *const f64,
-        vertices_length: usize,
-        facets: *const u32,
-        facets_length: usize,
-        eps: f64,
-        work: *mut u64,
-        work_length: usize,
-        out_vertices: *mut f64,
-        out_vertices_length: usize,
-        out_facets: *mut u32,
-        out_facets_length: usize,
-        values: *mut u64,
-    ) -> u32;
-
-    fn yongpham_candidates(
-        vertices: *const f64,
-        vertices_length: usize,
-        facets: *const u32,
-        facets_length: usize,
-        min_x: f64,
-        min_y: f64,
-        min_z: f64,
-        max_x: f64,
-        max_y: f64,
-        max_z: f64,
-        eps: f64,
-        resolution: f64,
-        work: *mut u64,
-        work_length: usize,
-        candidates: *mut u64,
-        candidates_length: usize,
-        face_lists: *mut u64,
-        face_lists_length: usize,
-        constraints: *mut u64,
-        constraints_length: usize,
-        open_edges: *mut u64,
-        open_edges_length: usize,
-        values: *mut u64,
-    ) -> u32;
-
-    fn yongpham_caps(
-        vertices: *const f64,
-        vertices_length: usize,
-        facets: *const u32,
-        facets_length: usize,
-        cap_list: *const u64,
-        cap_list_length: usize,
-        min_x: f64,
-        min_y: f64,
-        min_z: f64,
-        max_x: f64,
-        max_y: f64,
-        max_z: f64,
-        eps: f64,
-        resolution: f64,
-        mode: u32,
-        work: *mut u64,
-        work_length: usize,
-        out_vertices: *mut f64,
-        out_vertices_length: usize,
-        out_facets: *mut u32,
-        out_facets_length: usize,
-        values: *mut u64,
-    ) -> u32;
+impl Setting {
+    /// Points of the grids over the six faces, at most: an axis has one segment to 256.
+    fn grid_points(&self) -> usize {
+        let segments = |axis: usize| {
+            let length = self.extents[axis + 3] - self.extents[axis];
+            let segments = (length / self.resolution.max(self.eps)).ceil();
+            if segments.is_finite() {
+                segments.clamp(1.0, 256.0) as usize
+            } else {
+                1
+            }
+        };
+        let [a, b, c] = [segments(0) + 1, segments(1) + 1, segments(2) + 1];
+        2 * (a * b + a * c + b * c)
+    }
 }
 
 /// What the candidates are written as: points, lists of the faces, constraints, open edges.
@@ -130,12 +58,20 @@ pub struct Lists {
 }
 
 /// The outputs of an operation, in the order in which refusal 12 tests them.
-trait Outputs: Default {
+trait Outputs {
+    const COUNT: usize;
+    fn lengths(&self) -> [usize; 4];
     fn grow(&mut self, output: usize, length: usize) -> Result<(), Stop>;
     fn cut(&mut self, lengths: [usize; 4]);
 }
 
 impl Outputs for Mesh {
+    const COUNT: usize = 2;
+
+    fn lengths(&self) -> [usize; 4] {
+        [self.vertices.len(), self.facets.len(), 0, 0]
+    }
+
     fn grow(&mut self, output: usize, length: usize) -> Result<(), Stop> {
         match output {
             0 => resize(&mut self.vertices, length),
@@ -151,16 +87,17 @@ impl Outputs for Mesh {
 
 impl Lists {
     fn each_mut(&mut self) -> [&mut Vec<u64>; 4] {
-        [
-            &mut self.candidates,
-            &mut self.face_lists,
-            &mut self.constraints,
-            &mut self.open_edges,
-        ]
+        [&mut self.candidates, &mut self.face_lists, &mut self.constraints, &mut self.open_edges]
     }
 }
 
 impl Outputs for Lists {
+    const COUNT: usize = 4;
+
+    fn lengths(&self) -> [usize; 4] {
+        [&self.candidates, &self.face_lists, &self.constraints, &self.open_edges].map(Vec::len)
+    }
+
     fn grow(&mut self, output: usize, length: usize) -> Result<(), Stop> {
         resize(self.each_mut()[output], length)
     }
@@ -176,8 +113,7 @@ impl Outputs for Lists {
 fn resize<T: Clone + Default>(list: &mut Vec<T>, length: usize) -> Result<(), Stop> {
     let more = length.saturating_sub(list.len());
     let bytes = (length as u64).saturating_mul(size_of::<T>() as u64);
-    list.try_reserve_exact(more)
-        .map_err(|_| Stop::NoMemory(bytes))?;
+    list.try_reserve_exact(more).map_err(|_| Stop::NoMemory(bytes))?;
     list.resize(length, T::default());
     Ok(())
 }
@@ -189,214 +125,154 @@ pub struct Library {
 }
 
 impl Library {
-    /// Calls until the work room and the outputs suffice: first with none of either.
+    /// Calls until the work room and the outputs suffice: first with the room expected.
     ///
-    /// Refusal 12 names the first output that is too short, so every time it comes the
-    /// next output is given that length. An output whose result is empty is never short;
-    /// one that was so passed over only gets more than it needs.
-    fn settle<O: Outputs>(
-        &mut self,
-        call: impl Fn(&mut [u64], &mut O, *mut u64) -> u32,
-    ) -> Result<O, Stop> {
-        let mut outputs = O::default();
-        let (mut room, mut short) = (0, 0);
+    /// Refusal 12 names no output, but only one that is shorter than the need can be meant; such outputs get that length in turn.
+    fn settle<O: Outputs>(&mut self, expected_work: usize, mut outputs: O, call: impl Fn(&mut [u64], &mut O) -> Reply) -> Result<O, Stop> {
+        let (mut room, mut tries) = (expected_work, 0);
         loop {
             if self.work.len() < room {
                 resize(&mut self.work, room)?;
             }
-            let mut values = [0; 4];
-            let number = call(&mut self.work[..room], &mut outputs, values.as_mut_ptr());
-            let need = usize::try_from(values[0]).unwrap_or(usize::MAX);
-            match number {
-                0 => {
-                    outputs.cut(values.map(|length| length as usize));
+            let reply = call(&mut self.work[..room], &mut outputs);
+            let need = usize::try_from(reply.values[0]).unwrap_or(usize::MAX);
+            let shorter = (0..O::COUNT).find(|&output| outputs.lengths()[output] < need);
+            tries += 1;
+            match (reply.number, shorter) {
+                (0, _) => {
+                    outputs.cut(reply.values.map(|length| length as usize));
                     return Ok(outputs);
                 }
-                NO_WORK_ROOM if room < need => room = need,
-                NO_ROOM if short < 4 => {
-                    outputs.grow(short, need)?;
-                    short += 1;
-                }
-                _ => return Err(Stop::Refused(number, values)),
+                (NO_WORK_ROOM, _) if room < need => room = need,
+                (NO_ROOM, Some(output)) if tries <= 16 => outputs.grow(output, need)?,
+                _ => return Err(Stop::Refused(reply.number, reply.values)),
             }
         }
     }
 
     /// The tolerance of a box.
-    pub fn tolerance(&self, e: &Extents) -> Result<f64, Stop> {
-        let mut values = [0; 4];
-        // SAFETY: values has the four words that the header asks for.
-        let number =
-            unsafe { yongpham_tolerance(e[0], e[1], e[2], e[3], e[4], e[5], values.as_mut_ptr()) };
-        match number {
-            0 => Ok(f64::from_bits(values[0])),
-            _ => Err(Stop::Refused(number, values)),
+    pub fn tolerance(&self, extents: &Extents) -> Result<f64, Stop> {
+        let reply = library::tolerance(extents);
+        match reply.number {
+            0 => Ok(f64::from_bits(reply.values[0])),
+            number => Err(Stop::Refused(number, reply.values)),
+        }
+    }
+
+    /// Whether box, eps and resolution pass the tests of every call. Without work room nothing further is tested or computed.
+    pub fn accepts(&self, setting: &Setting) -> Result<(), Stop> {
+        let Setting { extents, eps, resolution } = setting;
+        let reply = library::candidates(&[], &[], extents, *eps, *resolution, &mut [], &mut [], &mut [], &mut [], &mut []);
+        match reply.number {
+            0 | NO_WORK_ROOM => Ok(()),
+            number => Err(Stop::Refused(number, reply.values)),
         }
     }
 
     /// The mesh cut to the box.
-    pub fn clip(&mut self, mesh: &Mesh, e: &Extents, eps: f64) -> Result<Mesh, Stop> {
-        // SAFETY: every pointer comes with the length of its own list; none overlap.
-        self.settle(|work, out: &mut Mesh, values| unsafe {
-            yongpham_clip(
-                mesh.vertices.as_ptr(),
-                mesh.vertices.len(),
-                mesh.facets.as_ptr(),
-                mesh.facets.len(),
-                e[0],
-                e[1],
-                e[2],
-                e[3],
-                e[4],
-                e[5],
-                eps,
-                work.as_mut_ptr(),
-                work.len(),
-                out.vertices.as_mut_ptr(),
-                out.vertices.len(),
-                out.facets.as_mut_ptr(),
-                out.facets.len(),
-                values,
-            )
+    pub fn clip(&mut self, mesh: &Mesh, extents: &Extents, eps: f64) -> Result<Mesh, Stop> {
+        let (vertices, facets) = (mesh.vertex_count(), mesh.facet_count());
+        // A cut facet has vertices of its own; few surfaces have more than half of their facets cut.
+        let out = lent(vertices + 2 * facets, 2 * facets)?;
+        self.settle(ITEM * (vertices + facets) + BESIDE, out, |work, out: &mut Mesh| {
+            library::clip(&mesh.vertices, &mesh.facets, extents, eps, work, &mut out.vertices, &mut out.facets)
         })
     }
 
-    /// The mesh cleaned.
+    /// The mesh cleaned: it grows in nothing.
     pub fn clean(&mut self, mesh: &Mesh, eps: f64) -> Result<Mesh, Stop> {
-        // SAFETY: as for clip.
-        self.settle(|work, out: &mut Mesh, values| unsafe {
-            yongpham_clean(
-                mesh.vertices.as_ptr(),
-                mesh.vertices.len(),
-                mesh.facets.as_ptr(),
-                mesh.facets.len(),
-                eps,
-                work.as_mut_ptr(),
-                work.len(),
-                out.vertices.as_mut_ptr(),
-                out.vertices.len(),
-                out.facets.as_mut_ptr(),
-                out.facets.len(),
-                values,
-            )
+        let (vertices, facets) = (mesh.vertex_count(), mesh.facet_count());
+        let out = lent(vertices, facets)?;
+        self.settle(ITEM * (vertices + facets) + BESIDE, out, |work, out: &mut Mesh| {
+            library::clean(&mesh.vertices, &mesh.facets, eps, work, &mut out.vertices, &mut out.facets)
         })
     }
 
     /// What a triangulator is given.
-    pub fn candidates(
-        &mut self,
-        mesh: &Mesh,
-        e: &Extents,
-        eps: f64,
-        resolution: f64,
-    ) -> Result<Lists, Stop> {
-        // SAFETY: as for clip.
-        self.settle(|work, out: &mut Lists, values| unsafe {
-            yongpham_candidates(
-                mesh.vertices.as_ptr(),
-                mesh.vertices.len(),
-                mesh.facets.as_ptr(),
-                mesh.facets.len(),
-                e[0],
-                e[1],
-                e[2],
-                e[3],
-                e[4],
-                e[5],
-                eps,
-                resolution,
-                work.as_mut_ptr(),
-                work.len(),
-                out.candidates.as_mut_ptr(),
-                out.candidates.len(),
-                out.face_lists.as_mut_ptr(),
-                out.face_lists.len(),
-                out.constraints.as_mut_ptr(),
-                out.constraints.len(),
-                out.open_edges.as_mut_ptr(),
-                out.open_edges.len(),
-                values,
+    pub fn candidates(&mut self, mesh: &Mesh, setting: &Setting) -> Result<Lists, Stop> {
+        let (vertices, facets, grid) = (mesh.vertex_count(), mesh.facet_count(), setting.grid_points());
+        let points = grid + vertices.min(facets);
+        let mut out = Lists::default();
+        for (output, length) in [5 * points, 6 + 3 * points, 9 * points, 3 * facets].into_iter().enumerate() {
+            out.grow(output, length)?;
+        }
+        let Setting { extents, eps, resolution } = setting;
+        self.settle(ITEM * (vertices + facets + grid) + BESIDE, out, |work, out: &mut Lists| {
+            let [candidates, face_lists, constraints, open_edges] = out.each_mut();
+            library::candidates(
+                &mesh.vertices,
+                &mesh.facets,
+                extents,
+                *eps,
+                *resolution,
+                work,
+                candidates,
+                face_lists,
+                constraints,
+                open_edges,
             )
         })
     }
 
     /// The mesh closed: mode 1 positive, 2 negative.
-    pub fn caps(
-        &mut self,
-        mesh: &Mesh,
-        cap_list: &[u64],
-        e: &Extents,
-        [eps, resolution]: [f64; 2],
-        mode: u32,
-    ) -> Result<Mesh, Stop> {
-        // SAFETY: as for clip.
-        self.settle(|work, out: &mut Mesh, values| unsafe {
-            yongpham_caps(
-                mesh.vertices.as_ptr(),
-                mesh.vertices.len(),
-                mesh.facets.as_ptr(),
-                mesh.facets.len(),
-                cap_list.as_ptr(),
-                cap_list.len(),
-                e[0],
-                e[1],
-                e[2],
-                e[3],
-                e[4],
-                e[5],
-                eps,
-                resolution,
+    pub fn caps(&mut self, mesh: &Mesh, cap_list: &[u64], setting: &Setting, mode: u32) -> Result<Mesh, Stop> {
+        let (vertices, facets, grid) = (mesh.vertex_count(), mesh.facet_count(), setting.grid_points());
+        let triangles = cap_list.len() / 4;
+        let items = vertices + facets + triangles + grid;
+        let out = lent(vertices + grid, facets + triangles)?;
+        let Setting { extents, eps, resolution } = setting;
+        self.settle(ITEM * items + BESIDE, out, |work, out: &mut Mesh| {
+            library::caps(
+                &mesh.vertices,
+                &mesh.facets,
+                cap_list,
+                extents,
+                *eps,
+                *resolution,
                 mode,
-                work.as_mut_ptr(),
-                work.len(),
-                out.vertices.as_mut_ptr(),
-                out.vertices.len(),
-                out.facets.as_mut_ptr(),
-                out.facets.len(),
-                values,
+                work,
+                &mut out.vertices,
+                &mut out.facets,
             )
         })
     }
 }
 
+/// Outputs for so many vertices and facets.
+fn lent(vertices: usize, facets: usize) -> Result<Mesh, Stop> {
+    let mut mesh = Mesh::default();
+    resize(&mut mesh.vertices, 3 * vertices)?;
+    resize(&mut mesh.facets, 3 * facets)?;
+    Ok(mesh)
+}
+
 #[cfg(test)]
 mod tests {
     use super::*;
+    use std::cell::Cell;
 
     const WORK: usize = 40;
 
     /// A library that needs `WORK` words and writes lists of these lengths.
-    fn answer(lengths: [usize; 4], work: &[u64], out: &mut Lists, values: *mut u64) -> u32 {
-        // SAFETY: settle lends four words.
-        let values = unsafe { std::slice::from_raw_parts_mut(values, 4) };
+    fn answer(lengths: [usize; 4], work: &[u64], out: &mut Lists) -> Reply {
+        let reply = |number, need: usize| Reply { number, values: [need as u64, 0, 0, 0] };
         if work.len() < WORK {
-            values[0] = WORK as u64;
-            return NO_WORK_ROOM;
+            return reply(NO_WORK_ROOM, WORK);
         }
-        for (list, length) in out.each_mut().into_iter().zip(lengths) {
-            if list.len() < length {
-                values[0] = length as u64;
-                return NO_ROOM;
-            }
+        let short = out.lengths().into_iter().zip(lengths).find(|(has, needs)| has < needs);
+        match short {
+            Some((_, needs)) => reply(NO_ROOM, needs),
+            None => Reply { number: 0, values: lengths.map(|length| length as u64) },
         }
-        values.copy_from_slice(&lengths.map(|length| length as u64));
-        0
     }
 
     /// Also where results are empty in between, of one length, or falling.
     #[test]
     fn outputs_get_what_they_need_and_keep_only_what_was_written() {
-        for lengths in [
-            [0; 4],
-            [10, 9, 0, 36],
-            [5, 5, 5, 5],
-            [0, 0, 0, 7],
-            [40, 3, 20, 1],
-        ] {
+        for lengths in [[0; 4], [10, 9, 0, 36], [5, 5, 5, 5], [0, 0, 0, 7], [40, 3, 20, 1]] {
             let mut library = Library::default();
-            let lists: Result<Lists, Stop> =
-                library.settle(|work, out, values| answer(lengths, work, out, values));
-            let got = lists.map(|mut lists| lists.each_mut().map(|list| list.len()));
+            let lists = library.settle(0, Lists::default(), |work, out| answer(lengths, work, out));
+            let got = lists.map(|lists| lists.lengths());
             assert_eq!(got, Ok(lengths));
             assert_eq!(library.work.len(), WORK);
         }
@@ -405,22 +281,33 @@ mod tests {
     #[test]
     fn refusals_are_passed_on_and_asking_ends() {
         for number in 1..=13 {
-            let calls = std::cell::Cell::new(0);
-            let got: Result<Mesh, Stop> = Library::default().settle(|_, _, _| {
+            let calls = Cell::new(0);
+            let got = Library::default().settle(0, Mesh::default(), |_, _| {
                 calls.set(calls.get() + 1);
-                number
+                Reply { number, values: [0; 4] }
             });
             assert_eq!(got, Err(Stop::Refused(number, [0; 4])));
-            assert!(calls.get() <= 5);
+            assert_eq!(calls.get(), 1);
         }
+    }
+
+    #[test]
+    fn room_that_suffices_is_computed_in_once() {
+        let calls = Cell::new(0);
+        let mut lists = Lists::default();
+        for output in 0..4 {
+            assert_eq!(lists.grow(output, 50), Ok(()));
+        }
+        let got = Library::default().settle(WORK, lists, |work, out| {
+            calls.set(calls.get() + 1);
+            answer([40, 3, 20, 1], work, out)
+        });
+        assert_eq!((got.map(|lists| lists.lengths()), calls.get()), (Ok([40, 3, 20, 1]), 1));
     }
 
     #[test]
     fn memory_that_is_not_there_is_an_answer() {
         let mut list: Vec<u64> = Vec::new();
-        assert!(matches!(
-            resize(&mut list, usize::MAX / 4),
-            Err(Stop::NoMemory(_))
-        ));
+        assert!(matches!(resize(&mut list, usize::MAX / 4), Err(Stop::NoMemory(_))));
     }
 }

@@ -1,38 +1,17 @@
-//! Cuts meshes to a box, cleans them and closes them, with libyongpham.a.
-//!
-//! This program reads, calls, counts and writes; what is right is the library's to say.
+//! Exit status 0: all are closed; 1: some are not; 2: wrong use.
 
-mod arguments;
-mod faces;
-mod failure;
-mod jobs;
-mod library;
-mod measures;
-mod mesh;
-mod obj;
-mod refusals;
-mod sample;
-mod screen;
-mod steps;
-mod triangulator;
-
-#[cfg(test)]
-mod sample_tests;
-
-use arguments::Wanted;
+use clap::Parser;
+use std::io::Write;
 use std::process::ExitCode;
+use yongpham_host::cli::Cli;
 
 fn main() -> ExitCode {
-    let mut screen = screen::Screen::new();
-    match arguments::parse(std::env::args_os().skip(1)) {
-        Ok(Wanted::Help) => {
-            screen.line(arguments::HELP.trim_end());
-            ExitCode::SUCCESS
-        }
-        Ok(Wanted::Work(job)) => ExitCode::from(jobs::run(&job, &mut screen)),
+    match Cli::parse().run() {
+        Ok(true) => ExitCode::SUCCESS,
+        Ok(false) => ExitCode::from(1),
         Err(why) => {
-            screen.complain(&format!("{why} (--help tells how it is called)"));
-            ExitCode::from(failure::USAGE)
+            let _ = writeln!(std::io::stderr(), "yongpham: {why} (--help tells how it is called)");
+            ExitCode::from(2)
         }
     }
 }

@@ -19,6 +19,7 @@ impl Mesh {
     /// The place of a vertex; nothing if there is no such vertex.
     pub fn point(&self, vertex: u64) -> Option<[f64; 3]> {
         let start = usize::try_from(vertex).ok()?.checked_mul(3)?;
-        self.vertices.get(start..start + 3)?.try_into().ok()
+        let end = start.checked_add(3)?;
+        self.vertices.get(start..end)?.try_into().ok()
     }
 }

@@ -4,8 +4,9 @@
 //! alike, so that its bits, and with them the numbers of the stored triangles, are the
 //! same everywhere. How the list was made stands in host/README.md.
 
-use crate::library::Extents;
 use crate::mesh::Mesh;
+use crate::meshes::Surface;
+use yongpham_library::Extents;
 
 pub const EXTENTS: Extents = [100.0, 200.0, 0.0, 500.0, 500.0, 80.0];
 pub const RESOLUTION: f64 = 20.0;
@@ -27,12 +28,10 @@ const HILLS: [[f64; 4]; 6] = [
 ];
 
 fn height(x: f64, y: f64) -> f64 {
-    HILLS
-        .iter()
-        .fold(GROUND, |height, [at_x, at_y, top, reach]| {
-            let (dx, dy) = (x - at_x, y - at_y);
-            height + top * reach / (reach + (dx * dx + dy * dy))
-        })
+    HILLS.iter().fold(GROUND, |height, [at_x, at_y, top, reach]| {
+        let (dx, dy) = (x - at_x, y - at_y);
+        height + top * reach / (reach + (dx * dx + dy * dy))
+    })
 }
 
 /// Facets face up, so that closing positive gives the ground below.
@@ -49,11 +48,15 @@ pub fn mesh() -> Mesh {
     for i in 0..columns {
         for j in 0..rows {
             let corner = |di, dj| ((i + di) * (rows + 1) + j + dj) as u32;
-            mesh.facets
-                .extend([corner(0, 0), corner(1, 0), corner(1, 1)]);
-            mesh.facets
-                .extend([corner(0, 0), corner(1, 1), corner(0, 1)]);
+            mesh.facets.extend([corner(0, 0), corner(1, 0), corner(1, 1)]);
+            mesh.facets.extend([corner(0, 0), corner(1, 1), corner(0, 1)]);
         }
     }
     mesh
+}
+
+/// The terrain as if it had been read.
+pub fn surface() -> Surface {
+    let mesh = mesh();
+    Surface { vertices: mesh.vertex_count() as u64, facets: mesh.facet_count() as u64, mesh, ..Surface::default() }
 }

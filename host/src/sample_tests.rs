@@ -1,47 +1,42 @@
 //! The sample through the library: both solids closed, the volumes together the box's.
 
 use crate::faces;
-use crate::library::{Library, Lists};
-use crate::measures;
+use crate::library::{Library, Lists, Setting, Stop};
 use crate::mesh::Mesh;
+use crate::outcome::Outcome;
 use crate::sample;
-use crate::steps::{close, Closing, Done, Request, Watch};
+use crate::steps::{close, Closing, Made, Request};
 use crate::triangulator::Triangulator;
+use crate::volume;
 use std::collections::HashSet;
+use std::time::Duration;
 
-/// How far the two volumes together may be from the box's: this part of it. They are
-/// sums of some 7,000 rounded products, none larger than six times the box's volume.
-const VOLUME_BOUND: f64 = 1e-10;
+/// How far the two volumes together may be from the box's: this part of it. Each is rounded once.
+const VOLUME_BOUND: f64 = 1e-15;
 
-struct Unwatched;
-
-impl Watch for Unwatched {
-    fn starts(&mut self, _: &str) {}
-    fn ends(&mut self, _: &str, _: &str) {}
-}
-
-fn closed(closings: Vec<Closing>) -> Done {
+fn closed(closings: Vec<Closing>) -> (Made, Outcome) {
     let request = Request {
         extents: sample::EXTENTS,
         eps: None,
         resolution: Some(sample::RESOLUTION),
         closings,
         triangulator: Triangulator::Stored(sample::TRIANGLES),
+        time: Duration::ZERO,
     };
-    let mut library = Library::default();
-    close(&mut library, &sample::mesh(), &request, &mut Unwatched)
-        .unwrap_or_else(|failure| panic!("{}", failure.in_words()))
+    close(&sample::surface(), &request)
 }
 
 /// The cleaned sample, its tolerance and its candidates.
 fn cleaned() -> (Mesh, f64, Lists) {
     let mut library = Library::default();
     let steps = |library: &mut Library| {
-        let eps = library.tolerance(&sample::EXTENTS)?;
-        let cut = library.clip(&sample::mesh(), &sample::EXTENTS, eps)?;
+        let extents = sample::EXTENTS;
+        let eps = library.tolerance(&extents)?;
+        let cut = library.clip(&sample::mesh(), &extents, eps)?;
         let mesh = library.clean(&cut, eps)?;
-        let lists = library.candidates(&mesh, &sample::EXTENTS, eps, sample::RESOLUTION)?;
-        Ok::<_, crate::library::Stop>((mesh, eps, lists))
+        let setting = Setting { extents, eps, resolution: sample::RESOLUTION };
+        let lists = library.candidates(&mesh, &setting)?;
+        Ok::<_, Stop>((mesh, eps, lists))
     };
     steps(&mut library).unwrap_or_else(|stop| panic!("{stop:?}"))
 }
@@ -53,9 +48,7 @@ fn the_terrain_has_the_bits_that_the_list_was_made_for() {
     let words = mesh.vertices.iter().map(|x| x.to_bits());
     let sum = words
         .chain(mesh.facets.iter().map(|&id| id.into()))
-        .fold(0xcbf2_9ce4_8422_2325u64, |sum, word| {
-            (sum ^ word).wrapping_mul(0x0100_0000_01b3)
-        });
+        .fold(0xcbf2_9ce4_8422_2325u64, |sum, word| (sum ^ word).wrapping_mul(0x0100_0000_01b3));
     assert_eq!((mesh.vertex_count(), mesh.facet_count()), (3185, 6144));
     assert_eq!(sum, TERRAIN_SUM, "{sum:#x}");
 }
@@ -74,21 +67,21 @@ fn the_terrain_sticks_out_of_every_face() {
 
 #[test]
 fn both_solids_are_closed_and_together_fill_the_box() {
-    let done = closed(vec![Closing::Positive, Closing::Negative]);
-    let [positive, negative] = done.solids.as_slice() else {
-        panic!("two solids were asked for");
+    let (_, outcome) = closed(vec![Closing::Positive, Closing::Negative]);
+    let Outcome::Closed(volumes) = outcome else {
+        panic!("{outcome:?}");
     };
-    assert_eq!((positive.open_edges, negative.open_edges), (0, 0));
-    assert!(positive.volume > 0.0 && negative.volume > 0.0);
-    let whole = measures::box_volume(&sample::EXTENTS);
-    let difference = positive.volume + negative.volume - whole;
+    let [positive, negative] = [volumes.positive, volumes.negative].map(Option::unwrap_or_default);
+    assert!(positive > 0.0 && negative > 0.0);
+    let whole = volume::of_box(&sample::EXTENTS);
+    let difference = positive + negative - whole;
     assert!(difference.abs() <= VOLUME_BOUND * whole, "{difference}");
 }
 
-/// Every edge of a closed solid is borne by two sides, one each way.
+/// Every edge of a closed solid is borne by two sides, one each way. Said here a second time, by another way of counting.
 #[test]
 fn the_solids_are_turned_the_same_way_everywhere() {
-    for solid in closed(vec![Closing::Positive, Closing::Negative]).solids {
+    for solid in closed(vec![Closing::Positive, Closing::Negative]).0.solids {
         let mut sides = HashSet::new();
         for f in solid.mesh.facets.chunks_exact(3) {
             for side in [(f[0], f[1]), (f[1], f[2]), (f[2], f[0])] {
@@ -102,7 +95,7 @@ fn the_solids_are_turned_the_same_way_everywhere() {
 #[test]
 fn two_runs_give_the_same_bits() {
     let bits = || {
-        let solids = closed(vec![Closing::Negative]).solids;
+        let solids = closed(vec![Closing::Negative]).0.solids;
         let mesh = &solids[0].mesh;
         let vertices: Vec<u64> = mesh.vertices.iter().map(|x| x.to_bits()).collect();
         (vertices, mesh.facets.clone())
@@ -126,19 +119,16 @@ fn no_two_vertices_share_a_cell_and_none_is_unused() {
 #[test]
 fn every_supplied_triangle_has_an_area_and_the_faces_are_full() {
     let (_, _, lists) = cleaned();
-    let list = faces::cap_list(sample::TRIANGLES, &lists).unwrap_or_else(|why| panic!("{why}"));
+    let answer = faces::answer(sample::TRIANGLES.as_bytes(), &lists).unwrap_or_else(|why| panic!("{why:?}"));
     let mut areas = [0.0; 6];
-    for cap in list.chunks_exact(4) {
+    for cap in answer.list.chunks_exact(4) {
         let double = double_area(cap, &lists);
         assert!(double > 1e-12, "{cap:?}: {double}");
         areas[cap[0] as usize] += double / 2.0;
     }
     let e = sample::EXTENTS;
     let [x, y, z] = [e[3] - e[0], e[4] - e[1], e[5] - e[2]];
-    for (area, whole) in areas
-        .into_iter()
-        .zip([y * z, y * z, x * z, x * z, x * y, x * y])
-    {
+    for (area, whole) in areas.into_iter().zip([y * z, y * z, x * z, x * z, x * y, x * y]) {
         assert!((area - whole).abs() <= 1e-10 * whole, "{area} of {whole}");
     }
 }
@@ -148,10 +138,6 @@ fn double_area(cap: &[u64], lists: &Lists) -> f64 {
     let [a, b, c] = [cap[1], cap[2], cap[3]].map(point);
     let side = |end: [f64; 3]| [0, 1, 2].map(|axis| end[axis] - a[axis]);
     let (u, v) = (side(b), side(c));
-    let cross = [
-        u[1] * v[2] - u[2] * v[1],
-        u[2] * v[0] - u[0] * v[2],
-        u[0] * v[1] - u[1] * v[0],
-    ];
+    let cross = [u[1] * v[2] - u[2] * v[1], u[2] * v[0] - u[0] * v[2], u[0] * v[1] - u[1] * v[0]];
     cross.iter().map(|x| x * x).sum::<f64>().sqrt()
 }

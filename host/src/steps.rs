@@ -1,11 +1,16 @@
-//! A mesh through the library, step by step.
+//! A mesh through the library, step by step, up to the verdict.
 
-use crate::faces;
-use crate::failure::Failure;
-use crate::library::{Extents, Library, Lists, Stop};
-use crate::measures;
+use crate::explain::Call;
+use crate::faces::{self, Answer};
+use crate::library::{Extents, Library, Lists, Setting, Stop};
 use crate::mesh::Mesh;
+use crate::meshes::Surface;
+use crate::outcome::{Outcome, State, Trouble, Volumes};
+use crate::text;
 use crate::triangulator::Triangulator;
+use crate::verdict::{self, Fault, Verdict};
+use crate::volume::{self, Volume};
+use std::time::Duration;
 
 /// The two ways to close; the discriminant is the library's mode.
 #[derive(Clone, Copy, Debug, PartialEq)]
@@ -23,235 +28,284 @@ impl Closing {
     }
 }
 
-/// What is asked for, the same for every mesh of a batch.
+/// What is asked for.
 #[derive(Clone, Debug, PartialEq)]
 pub struct Request {
     pub extents: Extents,
     /// Without one: the tolerance of the box.
     pub eps: Option<f64>,
-    /// Without one the mesh is only cut and cleaned.
+    /// Without one: a segment a side.
     pub resolution: Option<f64>,
-    /// None: the cleaned mesh is the result.
     pub closings: Vec<Closing>,
     pub triangulator: Triangulator,
+    pub time: Duration,
 }
 
-/// Is told how the work goes on.
-pub trait Watch {
-    fn starts(&mut self, step: &str);
-    fn ends(&mut self, step: &str, outcome: &str);
-}
-
-/// A mesh to be written, with what is displayed of it.
+/// A solid, with how it was judged.
+#[derive(Clone, Debug, PartialEq)]
 pub struct Solid {
-    pub name: &'static str,
+    pub closing: Closing,
     pub mesh: Mesh,
-    pub open_edges: usize,
-    pub volume: f64,
+    /// Facets of the surface; those behind them are caps.
+    pub surface_facets: usize,
+    pub verdict: Verdict,
 }
 
-impl Solid {
-    fn new(name: &'static str, mesh: Mesh, extents: &Extents) -> Self {
-        Solid {
-            name,
-            open_edges: measures::open_edges(&mesh.facets),
-            volume: measures::volume(&mesh, extents),
-            mesh,
-        }
-    }
-
-    /// A surface with open edges encloses nothing.
-    pub fn in_words(&self) -> String {
-        let volume = match (self.mesh.facet_count(), self.open_edges) {
-            (0, _) => "nothing is left of it in the box".into(),
-            (_, 0) => format!("volume {}", self.volume),
-            _ => "not closed, so no volume".into(),
-        };
-        format!("{}, {volume}", counts(&self.mesh, self.open_edges))
-    }
-}
-
-/// What came out.
-#[derive(Default)]
-pub struct Done {
+/// What was made on the way, as far as it came.
+#[derive(Debug, Default)]
+pub struct Made {
+    /// What each step gave, in words.
+    pub told: Vec<(&'static str, String)>,
+    pub cleaned: Option<Mesh>,
     pub solids: Vec<Solid>,
     /// What the triangulator was handed and what it answered.
     pub faces: String,
-    pub triangles: String,
+    pub triangles: Vec<u8>,
 }
 
-/// Cuts, cleans, asks for triangles and closes.
-pub fn close(
-    library: &mut Library,
-    mesh: &Mesh,
-    request: &Request,
-    watch: &mut dyn Watch,
-) -> Result<Done, Failure> {
-    let mut work = Work {
-        library,
-        request,
-        watch,
-    };
-    let eps = work.eps()?;
-    let cut = work.mesh("cut", |library, e| library.clip(mesh, e, eps))?;
-    let cleaned = work.mesh("cleaned", |library, _| library.clean(&cut, eps))?;
-    let Some(resolution) = request.resolution else {
-        return Ok(work.only(cleaned));
-    };
-    let lists = work.candidates(&cleaned, eps, resolution)?;
-    let faces = faces::text(&lists);
-    if request.closings.is_empty() {
-        let done = work.only(cleaned);
-        return Ok(Done { faces, ..done });
-    }
-    let (triangles, list) = work.triangles(&faces, &lists)?;
-    let mut solids = Vec::new();
-    for &closing in &request.closings {
-        solids.push(work.closed(&cleaned, &list, &lists, [eps, resolution], closing)?);
-    }
-    Ok(Done {
-        solids,
-        faces,
-        triangles,
-    })
+/// The resolution that puts one segment on each side of the box.
+pub fn one_segment(extents: &Extents) -> f64 {
+    let longest = (0..3).map(|axis| extents[axis + 3] - extents[axis]).fold(0.0, f64::max);
+    // The library admits no larger one.
+    longest.min((1u64 << 30) as f64)
+}
+
+/// Refusals that box, eps and resolution alone give rise to.
+pub fn check(request: &Request) -> Result<(), Outcome> {
+    let mut work = Work::new(request);
+    let setting = work.setting()?;
+    let nothing = Mesh::default();
+    let call = Call { step: "box", surface: None, mesh: &nothing, setting: &setting, lists: None, answer: None };
+    work.library.accepts(&setting).map_err(|stop| call.outcome(stop))
+}
+
+/// Cuts, cleans, asks for triangles, closes and judges.
+pub fn close(surface: &Surface, request: &Request) -> (Made, Outcome) {
+    let mut work = Work::new(request);
+    let outcome = work.all(surface).map_or_else(|outcome| outcome, Outcome::Closed);
+    (work.made, outcome)
+}
+
+/// Cuts and cleans, and makes what a triangulator would be handed.
+pub fn cut(surface: &Surface, request: &Request) -> (Made, Result<(), Outcome>) {
+    let mut work = Work::new(request);
+    let done = work.cleaned(surface).and_then(|(mesh, setting)| {
+        let lists = work.candidates(&mesh, &setting);
+        work.made.cleaned = Some(mesh);
+        lists.map(|_| ())
+    });
+    (work.made, done)
 }
 
 struct Work<'a> {
-    library: &'a mut Library,
+    library: Library,
     request: &'a Request,
-    watch: &'a mut dyn Watch,
+    made: Made,
 }
 
-impl Work<'_> {
-    fn eps(&mut self) -> Result<f64, Failure> {
-        if let Some(eps) = self.request.eps {
-            self.watch.ends("eps", &format!("{eps:?}, as given"));
-            return Ok(eps);
+impl<'a> Work<'a> {
+    fn new(request: &'a Request) -> Self {
+        Work { library: Library::default(), request, made: Made::default() }
+    }
+
+    fn all(&mut self, surface: &Surface) -> Result<Volumes, Outcome> {
+        let (mesh, setting) = self.cleaned(surface)?;
+        self.made.cleaned = Some(mesh.clone());
+        let lists = self.candidates(&mesh, &setting)?;
+        let answer = self.triangles(&lists)?;
+        for &closing in &self.request.closings {
+            if lists.is_empty() && closing == Closing::Negative {
+                self.already_closed()?;
+                continue;
+            }
+            let solid = self.closed(&mesh, &answer, &lists, &setting, closing)?;
+            self.made.solids.push(solid);
         }
-        let eps = self
-            .library
-            .tolerance(&self.request.extents)
-            .map_err(|stop| failure("eps", stop, |_| None))?;
-        self.watch
-            .ends("eps", &format!("{eps:?}, the tolerance of the box"));
-        Ok(eps)
+        self.judged(&lists)
+    }
+
+    fn tell(&mut self, step: &'static str, outcome: String) {
+        self.made.told.push((step, outcome));
+    }
+
+    fn setting(&mut self) -> Result<Setting, Outcome> {
+        let extents = self.request.extents;
+        let mut setting = Setting {
+            extents,
+            eps: self.request.eps.unwrap_or(0.0),
+            resolution: self.request.resolution.unwrap_or_else(|| one_segment(&extents)),
+        };
+        let nothing = Mesh::default();
+        let call = Call { step: "box", surface: None, mesh: &nothing, setting: &setting, lists: None, answer: None };
+        let tolerance = self.library.tolerance(&extents).map_err(|stop| call.outcome(stop))?;
+        setting.eps = self.request.eps.unwrap_or(tolerance);
+        let given = if self.request.eps.is_some() { "as given" } else { "the tolerance of the box" };
+        self.tell("eps", format!("{:?}, {given}", setting.eps));
+        Ok(setting)
+    }
+
+    fn cleaned(&mut self, surface: &Surface) -> Result<(Mesh, Setting), Outcome> {
+        self.tell("read", format!("{} vertices, {} facets", surface.vertices, surface.facets));
+        let setting = self.setting()?;
+        let Setting { extents, eps, .. } = setting;
+        let cut = self.library.clip(&surface.mesh, &extents, eps);
+        let cut = self.mesh("cut", cut, &surface.mesh, Some(surface), &setting)?;
+        if cut.facets.is_empty() {
+            let why = "no part of the surface lies in the box";
+            return Err(Outcome::Not(State::Empty, Trouble::at("cut", why)));
+        }
+        let cleaned = self.library.clean(&cut, eps);
+        let mesh = self.mesh("cleaned", cleaned, &cut, None, &setting)?;
+        if mesh.facets.is_empty() {
+            let why = "nothing is left in the box once flat, double and single facets are dropped";
+            return Err(Outcome::Not(State::Empty, Trouble::at("cleaned", why)));
+        }
+        Ok((mesh, setting))
     }
 
     /// A step that makes a mesh.
     fn mesh(
         &mut self,
         step: &'static str,
-        call: impl FnOnce(&mut Library, &Extents) -> Result<Mesh, Stop>,
-    ) -> Result<Mesh, Failure> {
-        self.watch.starts(step);
-        let mesh = call(self.library, &self.request.extents)
-            .map_err(|stop| failure(step, stop, |_| None))?;
-        let open = measures::open_edges(&mesh.facets);
-        self.watch.ends(step, &counts(&mesh, open));
+        made: Result<Mesh, Stop>,
+        from: &Mesh,
+        surface: Option<&Surface>,
+        setting: &Setting,
+    ) -> Result<Mesh, Outcome> {
+        let call = Call { step, surface, mesh: from, setting, lists: None, answer: None };
+        let mesh = made.map_err(|stop| call.outcome(stop))?;
+        let open = verdict::open_edge_count(&mesh.facets);
+        self.tell(step, counts(&mesh, open));
         Ok(mesh)
     }
 
-    fn candidates(&mut self, mesh: &Mesh, eps: f64, resolution: f64) -> Result<Lists, Failure> {
-        let step = "candidates";
-        self.watch.starts(step);
-        let lists = self
-            .library
-            .candidates(mesh, &self.request.extents, eps, resolution)
-            .map_err(|stop| failure(step, stop, |values| open_edge_of(mesh, values)))?;
+    fn candidates(&mut self, mesh: &Mesh, setting: &Setting) -> Result<Lists, Outcome> {
+        let call = Call { step: "candidates", surface: None, mesh, setting, lists: None, answer: None };
+        let lists = self.library.candidates(mesh, setting).map_err(|stop| call.outcome(stop))?;
+        self.made.faces = faces::text(&lists);
         let outcome = if lists.is_empty() {
             "none: there is no open edge to close".into()
         } else {
-            format!(
-                "{} points, {} constraints, {} open edges on faces",
-                lists.candidate_count(),
-                lists.constraints.len() / 3,
-                lists.open_edges.len() / 3
-            )
+            let (constraints, open) = (lists.constraints.len() / 3, lists.open_edges.len() / 3);
+            format!("{} points, {constraints} constraints, {open} open edges on faces", lists.candidate_count())
         };
-        self.watch.ends(step, &outcome);
+        self.tell("candidates", outcome);
         Ok(lists)
     }
 
-    /// The triangulator's answer and the library's cap list of it. Where there is
-    /// nothing to close nobody is asked.
-    fn triangles(&mut self, faces: &str, lists: &Lists) -> Result<(String, Vec<u64>), Failure> {
+    /// The triangulator's answer. Where there is nothing to close nobody is asked.
+    fn triangles(&mut self, lists: &Lists) -> Result<Answer, Outcome> {
         if lists.is_empty() {
-            return Ok((String::new(), Vec::new()));
+            return Ok(Answer::default());
         }
-        self.watch.starts("triangles");
-        let triangulator = &self.request.triangulator;
-        let text = triangulator.answer(faces)?;
-        let list = faces::cap_list(&text, lists).map_err(|why| triangulator.bad_answer(&why))?;
-        let outcome = format!("{} supplied", list.len() / 4);
-        self.watch.ends("triangles", &outcome);
-        Ok((text, list))
+        let failed = |trouble: Trouble| Outcome::Not(State::Failed, self.with_cause(trouble, lists));
+        let asked = self.request.triangulator.answer(&self.made.faces, self.request.time);
+        let bytes = asked.map_err(|why| failed(Trouble::at("triangles", why)))?;
+        let answer = faces::answer(&bytes, lists).map_err(|fault| {
+            failed(Trouble {
+                line: Some(fault.line),
+                explanation: format!("of the triangulator's answer: {} {}", fault.value, fault.why),
+                value: fault.value,
+                ..Trouble::at("triangles", "")
+            })
+        })?;
+        self.made.triangles = bytes;
+        self.tell("triangles", format!("{} supplied", answer.lines.len()));
+        Ok(answer)
     }
 
-    fn closed(
-        &mut self,
-        mesh: &Mesh,
-        list: &[u64],
-        lists: &Lists,
-        numbers: [f64; 2],
-        closing: Closing,
-    ) -> Result<Solid, Failure> {
-        let (step, extents) = (closing.name(), &self.request.extents);
-        self.watch.starts(step);
-        let closed = self
-            .library
-            .caps(mesh, list, extents, numbers, closing as u32)
-            .map_err(|stop| failure(step, stop, |values| missing_edge_of(lists, values)))?;
-        let solid = Solid::new(step, closed, extents);
-        self.watch.ends(step, &solid.in_words());
-        Ok(solid)
+    fn closed(&mut self, mesh: &Mesh, answer: &Answer, lists: &Lists, setting: &Setting, closing: Closing) -> Result<Solid, Outcome> {
+        let step = closing.name();
+        let call = Call { step, surface: None, mesh, setting, lists: Some(lists), answer: Some(answer) };
+        let closed = self.library.caps(mesh, &answer.list, setting, closing as u32);
+        let closed = closed.map_err(|stop| match call.outcome(stop) {
+            Outcome::Not(State::Refused, trouble) => Outcome::Not(State::Refused, self.with_cause(trouble, lists)),
+            other => other,
+        })?;
+        let verdict = verdict::verdict(&closed.vertices, &closed.facets, &setting.extents);
+        let told = match &verdict {
+            Verdict::Closed(volume) => format!("closed, volume {}", volume.value),
+            Verdict::Open(fault) => format!("open: {}", fault.what),
+            Verdict::TurnedWrong(fault) => format!("turned wrong: {}", fault.what),
+            Verdict::Empty => "empty".into(),
+        };
+        self.tell(step, format!("{} vertices, {} facets, {told}", closed.vertex_count(), closed.facet_count()));
+        Ok(Solid { closing, mesh: closed, surface_facets: mesh.facet_count(), verdict })
     }
 
-    /// The cleaned mesh alone.
-    fn only(&self, cleaned: Mesh) -> Done {
-        let solid = Solid::new("cleaned", cleaned, &self.request.extents);
-        Done {
-            solids: vec![solid],
-            ..Done::default()
+    /// A mesh without open edges is its own positive solid. The library gives it back as it is in either mode, which is no other solid.
+    fn already_closed(&mut self) -> Result<(), Outcome> {
+        let why = "the surface is closed already, so there is nothing to close it to the other way";
+        self.tell("negative", format!("not made: {why}"));
+        if self.request.closings == [Closing::Negative] {
+            return Err(Outcome::failed("negative", why));
         }
+        Ok(())
     }
-}
 
-fn counts(mesh: &Mesh, open_edges: usize) -> String {
-    let (vertices, facets) = (mesh.vertex_count(), mesh.facet_count());
-    format!("{vertices} vertices, {facets} facets, {open_edges} open edges")
-}
-
-/// A refusal with the place in space that its values name, where there is one.
-fn failure(
-    step: &'static str,
-    stop: Stop,
-    place: impl FnOnce([u64; 4]) -> Option<String>,
-) -> Failure {
-    match stop {
-        Stop::NoMemory(bytes) => Failure::NoMemory(bytes),
-        Stop::Refused(number, values) => {
-            // Only these two carry numbers of the mesh or of the open-edge list.
-            let named = matches!(number, 9 | 11);
-            let place = named.then(|| place(values)).flatten().unwrap_or_default();
-            Failure::Refused {
-                step,
-                number,
-                values,
-                place,
+    /// Every solid must be closed, and two of them must fill the box.
+    fn judged(&mut self, lists: &Lists) -> Result<Volumes, Outcome> {
+        let mut volumes = Volumes::default();
+        let mut sum = Volume { value: 0.0, bound: 0.0 };
+        for solid in &self.made.solids {
+            let volume = match &solid.verdict {
+                Verdict::Closed(volume) => volume,
+                Verdict::Open(fault) => return Err(self.not(State::Open, solid, fault, lists)),
+                Verdict::TurnedWrong(fault) => return Err(self.not(State::TurnedWrong, solid, fault, lists)),
+                Verdict::Empty => {
+                    let why = "the solid has no facet";
+                    return Err(Outcome::Not(State::Empty, Trouble::at(solid.closing.name(), why)));
+                }
+            };
+            sum = Volume { value: sum.value + volume.value, bound: sum.bound + volume.bound };
+            match solid.closing {
+                Closing::Positive => volumes.positive = Some(volume.value),
+                Closing::Negative => volumes.negative = Some(volume.value),
             }
         }
+        if self.made.solids.len() == 2 {
+            self.together(sum)?;
+        }
+        Ok(volumes)
+    }
+
+    fn not(&self, state: State, solid: &Solid, fault: &Fault, lists: &Lists) -> Outcome {
+        let trouble = Trouble {
+            value: fault.edges.len().to_string(),
+            place: fault.place(),
+            explanation: format!("of the {} solid {}", solid.closing.name(), fault.what),
+            ..Trouble::at(solid.closing.name(), "")
+        };
+        Outcome::Not(state, self.with_cause(trouble, lists))
+    }
+
+    /// Caps that fill the faces give two solids that fill the box.
+    fn together(&mut self, sum: Volume) -> Result<(), Outcome> {
+        let whole = volume::of_box(&self.request.extents);
+        let slack = sum.bound + volume::slack(&self.request.extents);
+        self.tell("together", format!("volume {}; the box's is {whole}", sum.value));
+        if (sum.value - whole).abs() <= slack {
+            return Ok(());
+        }
+        let why = format!("the two solids have volume {} together and the box has {whole}: the triangles do not fill its faces", sum.value);
+        Err(Outcome::failed("together", why))
+    }
+
+    /// The one cause that the resolution given has a part in.
+    fn with_cause(&self, trouble: Trouble, lists: &Lists) -> Trouble {
+        let divided = self.request.resolution.and_then(|_| lists.divided_edge());
+        let Some([a, b, p]) = divided.map(|points| points.map(text::point)) else {
+            return trouble;
+        };
+        let cause = format!(
+            "the cause is --resolution: the surface runs along a side of the box from {a} to {b}, and the grid has its point {p} \
+             inside that edge; without --resolution there is none"
+        );
+        Trouble { explanation: format!("{}; {cause}", trouble.explanation), ..trouble }
     }
 }
 
-/// Refusal 9's pair as two points.
-fn open_edge_of(mesh: &Mesh, values: [u64; 4]) -> Option<String> {
-    let (a, b) = (mesh.point(values[0])?, mesh.point(values[1])?);
-    Some(format!(" of the cleaned mesh, from {a:?} to {b:?}"))
-}
-
-/// Refusal 11's place as a face and two points.
-fn missing_edge_of(lists: &Lists, values: [u64; 4]) -> Option<String> {
-    let (face, a, b) = lists.open_edge(values[0])?;
-    let name = faces::NAMES.get(face as usize)?;
-    Some(format!(", on face {face} ({name}) from {a:?} to {b:?}"))
+pub fn counts(mesh: &Mesh, open_edges: usize) -> String {
+    let (vertices, facets) = (mesh.vertex_count(), mesh.facet_count());
+    format!("{vertices} vertices, {facets} facets, {open_edges} open edges")
 }

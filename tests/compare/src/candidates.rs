@@ -5,7 +5,7 @@ use crate::chosen;
 use crate::lent::Lent;
 use crate::meshes;
 use crate::numbers::near;
-use crate::operation::{lists_answer, Answer, Operation};
+use crate::operation::{library, lists_answer, Answer, Operation};
 use crate::random::Random;
 use crate::request::Request;
 use oracle::Extents;
@@ -42,76 +42,23 @@ pub const OPERATION: Operation = Operation {
             )
         })
     },
-    ours: OURS,
+    ours,
 };
 
-#[cfg(feature = "candidates")]
-const OURS: Option<fn(&Request, &mut Lent<u64>) -> Answer> = Some(ours);
-#[cfg(not(feature = "candidates"))]
-const OURS: Option<fn(&Request, &mut Lent<u64>) -> Answer> = None;
-
-#[cfg(feature = "candidates")]
-extern "C" {
-    fn yongpham_candidates(
-        vertices: *const f64,
-        vertices_length: usize,
-        facets: *const u32,
-        facets_length: usize,
-        min_x: f64,
-        min_y: f64,
-        min_z: f64,
-        max_x: f64,
-        max_y: f64,
-        max_z: f64,
-        eps: f64,
-        resolution: f64,
-        work: *mut u64,
-        work_length: usize,
-        out_candidates: *mut u64,
-        out_candidates_length: usize,
-        out_face_lists: *mut u64,
-        out_face_lists_length: usize,
-        out_constraints: *mut u64,
-        out_constraints_length: usize,
-        out_open_edges: *mut u64,
-        out_open_edges_length: usize,
-        values: *mut [u64; 4],
-    ) -> u32;
-}
-
-#[cfg(feature = "candidates")]
 fn ours(r: &Request, work: &mut Lent<u64>) -> Answer {
-    let b = r.extents;
     lists_answer(r, work, |work, [c, l, k, e]| {
-        let mut values = [0x5ca1_ab1e; 4];
-        let number = unsafe {
-            yongpham_candidates(
-                r.vertices.as_ptr(),
-                r.vertices.len(),
-                r.facets.as_ptr(),
-                r.facets.len(),
-                b[0],
-                b[1],
-                b[2],
-                b[3],
-                b[4],
-                b[5],
-                r.eps,
-                r.resolution,
-                work.as_mut_ptr(),
-                work.len(),
-                c.as_mut_ptr(),
-                c.len(),
-                l.as_mut_ptr(),
-                l.len(),
-                k.as_mut_ptr(),
-                k.len(),
-                e.as_mut_ptr(),
-                e.len(),
-                &mut values,
-            )
-        };
-        oracle::Reply { number, values }
+        library(yongpham_library::candidates(
+            &r.vertices,
+            &r.facets,
+            &r.extents,
+            r.eps,
+            r.resolution,
+            work,
+            c,
+            l,
+            k,
+            e,
+        ))
     })
 }
 

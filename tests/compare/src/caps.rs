@@ -5,7 +5,7 @@ use crate::chosen;
 use crate::lent::Lent;
 use crate::meshes;
 use crate::numbers::near;
-use crate::operation::{mesh_answer, Answer, Operation};
+use crate::operation::{library, mesh_answer, Answer, Operation};
 use crate::random::Random;
 use crate::request::Request;
 use crate::triangulation::{by_face, sound_list};
@@ -41,74 +41,23 @@ pub const OPERATION: Operation = Operation {
             )
         })
     },
-    ours: OURS,
+    ours,
 };
 
-#[cfg(feature = "caps")]
-const OURS: Option<fn(&Request, &mut Lent<u64>) -> Answer> = Some(ours);
-#[cfg(not(feature = "caps"))]
-const OURS: Option<fn(&Request, &mut Lent<u64>) -> Answer> = None;
-
-#[cfg(feature = "caps")]
-extern "C" {
-    fn yongpham_caps(
-        vertices: *const f64,
-        vertices_length: usize,
-        facets: *const u32,
-        facets_length: usize,
-        caps: *const u64,
-        caps_length: usize,
-        min_x: f64,
-        min_y: f64,
-        min_z: f64,
-        max_x: f64,
-        max_y: f64,
-        max_z: f64,
-        eps: f64,
-        resolution: f64,
-        mode: u32,
-        work: *mut u64,
-        work_length: usize,
-        out_vertices: *mut f64,
-        out_vertices_length: usize,
-        out_facets: *mut u32,
-        out_facets_length: usize,
-        values: *mut [u64; 4],
-    ) -> u32;
-}
-
-#[cfg(feature = "caps")]
 fn ours(r: &Request, work: &mut Lent<u64>) -> Answer {
-    let b = r.extents;
     mesh_answer(r, work, |work, v, f| {
-        let mut values = [0x5ca1_ab1e; 4];
-        let number = unsafe {
-            yongpham_caps(
-                r.vertices.as_ptr(),
-                r.vertices.len(),
-                r.facets.as_ptr(),
-                r.facets.len(),
-                r.caps.as_ptr(),
-                r.caps.len(),
-                b[0],
-                b[1],
-                b[2],
-                b[3],
-                b[4],
-                b[5],
-                r.eps,
-                r.resolution,
-                r.mode,
-                work.as_mut_ptr(),
-                work.len(),
-                v.as_mut_ptr(),
-                v.len(),
-                f.as_mut_ptr(),
-                f.len(),
-                &mut values,
-            )
-        };
-        oracle::Reply { number, values }
+        library(yongpham_library::caps(
+            &r.vertices,
+            &r.facets,
+            &r.caps,
+            &r.extents,
+            r.eps,
+            r.resolution,
+            r.mode,
+            work,
+            v,
+            f,
+        ))
     })
 }
 

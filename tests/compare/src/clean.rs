@@ -5,7 +5,7 @@ use crate::chosen;
 use crate::lent::Lent;
 use crate::meshes;
 use crate::numbers::near;
-use crate::operation::{mesh_answer, Answer, Operation};
+use crate::operation::{library, mesh_answer, Answer, Operation};
 use crate::random::Random;
 use crate::request::Request;
 
@@ -25,53 +25,19 @@ pub const OPERATION: Operation = Operation {
             oracle::clean(&r.vertices, &r.facets, r.eps, work, v, f)
         })
     },
-    ours: OURS,
+    ours,
 };
 
-#[cfg(feature = "clean")]
-const OURS: Option<fn(&Request, &mut Lent<u64>) -> Answer> = Some(ours);
-#[cfg(not(feature = "clean"))]
-const OURS: Option<fn(&Request, &mut Lent<u64>) -> Answer> = None;
-
-#[cfg(feature = "clean")]
-extern "C" {
-    fn yongpham_clean(
-        vertices: *const f64,
-        vertices_length: usize,
-        facets: *const u32,
-        facets_length: usize,
-        eps: f64,
-        work: *mut u64,
-        work_length: usize,
-        out_vertices: *mut f64,
-        out_vertices_length: usize,
-        out_facets: *mut u32,
-        out_facets_length: usize,
-        values: *mut [u64; 4],
-    ) -> u32;
-}
-
-#[cfg(feature = "clean")]
 fn ours(r: &Request, work: &mut Lent<u64>) -> Answer {
     mesh_answer(r, work, |work, v, f| {
-        let mut values = [0x5ca1_ab1e; 4];
-        let number = unsafe {
-            yongpham_clean(
-                r.vertices.as_ptr(),
-                r.vertices.len(),
-                r.facets.as_ptr(),
-                r.facets.len(),
-                r.eps,
-                work.as_mut_ptr(),
-                work.len(),
-                v.as_mut_ptr(),
-                v.len(),
-                f.as_mut_ptr(),
-                f.len(),
-                &mut values,
-            )
-        };
-        oracle::Reply { number, values }
+        library(yongpham_library::clean(
+            &r.vertices,
+            &r.facets,
+            r.eps,
+            work,
+            v,
+            f,
+        ))
     })
 }
 

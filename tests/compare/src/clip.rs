@@ -4,7 +4,7 @@ use crate::chosen;
 use crate::lent::Lent;
 use crate::meshes;
 use crate::numbers::near;
-use crate::operation::{mesh_answer, Answer, Operation};
+use crate::operation::{library, mesh_answer, Answer, Operation};
 use crate::random::Random;
 use crate::request::Request;
 
@@ -29,66 +29,20 @@ pub const OPERATION: Operation = Operation {
             oracle::clip(&r.vertices, &r.facets, &r.extents, r.eps, work, v, f)
         })
     },
-    ours: OURS,
+    ours,
 };
 
-#[cfg(feature = "clip")]
-const OURS: Option<fn(&Request, &mut Lent<u64>) -> Answer> = Some(ours);
-#[cfg(not(feature = "clip"))]
-const OURS: Option<fn(&Request, &mut Lent<u64>) -> Answer> = None;
-
-#[cfg(feature = "clip")]
-extern "C" {
-    fn yongpham_clip(
-        vertices: *const f64,
-        vertices_length: usize,
-        facets: *const u32,
-        facets_length: usize,
-        min_x: f64,
-        min_y: f64,
-        min_z: f64,
-        max_x: f64,
-        max_y: f64,
-        max_z: f64,
-        eps: f64,
-        work: *mut u64,
-        work_length: usize,
-        out_vertices: *mut f64,
-        out_vertices_length: usize,
-        out_facets: *mut u32,
-        out_facets_length: usize,
-        values: *mut [u64; 4],
-    ) -> u32;
-}
-
-#[cfg(feature = "clip")]
 fn ours(r: &Request, work: &mut Lent<u64>) -> Answer {
-    let b = r.extents;
     mesh_answer(r, work, |work, v, f| {
-        let mut values = [0x5ca1_ab1e; 4];
-        let number = unsafe {
-            yongpham_clip(
-                r.vertices.as_ptr(),
-                r.vertices.len(),
-                r.facets.as_ptr(),
-                r.facets.len(),
-                b[0],
-                b[1],
-                b[2],
-                b[3],
-                b[4],
-                b[5],
-                r.eps,
-                work.as_mut_ptr(),
-                work.len(),
-                v.as_mut_ptr(),
-                v.len(),
-                f.as_mut_ptr(),
-                f.len(),
-                &mut values,
-            )
-        };
-        oracle::Reply { number, values }
+        library(yongpham_library::clip(
+            &r.vertices,
+            &r.facets,
+            &r.extents,
+            r.eps,
+            work,
+            v,
+            f,
+        ))
     })
 }
 

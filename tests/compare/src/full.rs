@@ -157,10 +157,7 @@ fn closing(random: &mut Random) -> Vec<Request> {
 fn supplied(random: &mut Random, request: &Request, work: &mut Lent<u64>, wild: bool) -> Vec<u64> {
     let mut request = request.clone();
     request.work = (candidates::OPERATION.need)(&request) as usize;
-    let ask = candidates::OPERATION
-        .ours
-        .unwrap_or(candidates::OPERATION.oracle);
-    let answer = fitted(ask, &mut request, work);
+    let answer = fitted(candidates::OPERATION.ours, &mut request, work);
     let mut outputs = answer.outputs.into_iter().zip(answer.reply.values);
     let lists = [(); 4].map(|()| {
         let (mut output, length) = outputs.next().expect("four lists");

@@ -134,23 +134,16 @@ fn options() -> Result<Options, String> {
     Ok(options)
 }
 
-/// The rows of numbers and tolerance, and which of the two are not linked.
-fn leaves(options: &Options) -> (Vec<Row>, Vec<&'static str>) {
-    let (mut rows, mut unlinked) = (Vec::new(), Vec::new());
-    if options.meshes_alone {
-        return (rows, unlinked);
+/// The rows of numbers and tolerance; none in a self check, which is of the mesh operations.
+fn leaves(options: &Options) -> Vec<Row> {
+    if options.meshes_alone || options.self_check {
+        return Vec::new();
     }
-    if cfg!(feature = "numbers") && !options.self_check {
-        rows.extend(numbers::rows(options));
-    } else {
-        unlinked.push("numbers");
-    }
-    if !cfg!(feature = "tolerance") || options.self_check {
-        unlinked.push("tolerance");
-    } else if !options.leaves_out("tolerance") {
+    let mut rows = numbers::rows(options);
+    if !options.leaves_out("tolerance") {
         rows.push(tolerance::row(options));
     }
-    (rows, unlinked)
+    rows
 }
 
 fn main() -> ExitCode {
@@ -170,21 +163,13 @@ fn main() -> ExitCode {
     if options.property {
         return property::run(&options);
     }
-    let (mut rows, mut unlinked) = leaves(&options);
+    let mut rows = leaves(&options);
     // One work room for all requests: its pages are touched once.
     let mut work = Lent::new(0, Old::Junk);
     for operation in OPERATIONS {
-        if options.leaves_out(operation.name) {
-            continue;
-        }
-        if operation.ours.is_some() || options.self_check {
+        if !options.leaves_out(operation.name) {
             rows.push((options.requests_of)(operation, &options, &mut work));
-        } else {
-            unlinked.push(operation.name);
         }
-    }
-    if !unlinked.is_empty() {
-        println!("not linked, not compared: {}\n", unlinked.join(", "));
     }
     if report::print(&rows) {
         ExitCode::SUCCESS

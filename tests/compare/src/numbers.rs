@@ -3,30 +3,7 @@
 use crate::random::Random;
 use crate::report::Row;
 use crate::Options;
-
-#[cfg(feature = "numbers")]
-extern "C" {
-    fn export_sqrt(x: f64) -> f64;
-    fn export_round(x: f64) -> f64;
-    fn export_cell_key(x: f64, eps: f64) -> i64;
-}
-
-#[cfg(feature = "numbers")]
-mod ours {
-    // The functions take plain numbers and touch no memory of ours.
-    pub fn root(x: f64) -> f64 {
-        unsafe { super::export_sqrt(x) }
-    }
-    pub fn round(x: f64) -> f64 {
-        unsafe { super::export_round(x) }
-    }
-    pub fn cell_key(x: f64, eps: f64) -> i64 {
-        unsafe { super::export_cell_key(x, eps) }
-    }
-}
-
-#[cfg(not(feature = "numbers"))]
-use machine as ours;
+use yongpham_library::leaves;
 
 mod machine {
     /// The correctly rounded root; NaN, infinities and numbers below 0 come back.
@@ -130,7 +107,7 @@ pub fn rows(options: &Options) -> Vec<Row> {
     let probes: [(&'static str, Probe); 3] = [
         ("root", |random| {
             let x = double(random);
-            let (o, m) = (ours::root(x).to_bits(), machine::root(x).to_bits());
+            let (o, m) = (leaves::sqrt(x).to_bits(), machine::root(x).to_bits());
             (
                 o,
                 m,
@@ -143,7 +120,7 @@ pub fn rows(options: &Options) -> Vec<Row> {
         }),
         ("rounding", |random| {
             let x = double(random);
-            let (o, m) = (ours::round(x).to_bits(), machine::round(x).to_bits());
+            let (o, m) = (leaves::round(x).to_bits(), machine::round(x).to_bits());
             (
                 o,
                 m,
@@ -157,7 +134,7 @@ pub fn rows(options: &Options) -> Vec<Row> {
         ("cell key", |random| {
             let (x, eps) = coordinate_and_eps(random);
             let (o, m) = (
-                ours::cell_key(x, eps) as u64,
+                leaves::cell_key(x, eps) as u64,
                 machine::cell_key(x, eps) as u64,
             );
             let text = || format!("x {:016x} eps {:016x}", x.to_bits(), eps.to_bits());

@@ -24,9 +24,9 @@ pub struct Operation {
     pub need: fn(&Request) -> u64,
     /// Lengths of the result, for a request that fails at most by test 12.
     pub lengths: fn(&Request) -> [usize; 4],
-    pub oracle: fn(&Request, &mut Lent<u64>) -> Answer,
-    /// Our function; `None` where the feature is off.
-    pub ours: Option<fn(&Request, &mut Lent<u64>) -> Answer>,
+    pub oracle: Ask,
+    /// Our function.
+    pub ours: Ask,
 }
 
 pub type Ask = fn(&Request, &mut Lent<u64>) -> Answer;
@@ -34,10 +34,19 @@ pub type Ask = fn(&Request, &mut Lent<u64>) -> Answer;
 impl Operation {
     /// Our function, or the oracle in a self check.
     pub fn asked(&self, options: &Options) -> Ask {
-        match self.ours {
-            Some(ours) if !options.self_check => ours,
-            _ => self.oracle,
+        if options.self_check {
+            self.oracle
+        } else {
+            self.ours
         }
+    }
+}
+
+/// A reply of our library in the oracle's form.
+pub fn library(reply: yongpham_library::Reply) -> Reply {
+    Reply {
+        number: reply.number,
+        values: reply.values,
     }
 }
 

@@ -274,10 +274,6 @@ fn tried(library: &mut Library, mut request: Request) -> Result<f64, End> {
 
 /// Runs the kept requests and those of a seed; prints what was met.
 pub fn run(options: &Options) -> ExitCode {
-    if !options.self_check && OPERATIONS.iter().any(|o| o.ours.is_none()) {
-        eprintln!("compare: --property wants clip, clean, candidates and caps linked");
-        return ExitCode::from(2);
-    }
     let mut library = Library {
         options,
         work: Lent::new(0, Old::Junk),

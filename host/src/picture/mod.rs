@@ -1,0 +1,76 @@
+//! A picture of a solid in its box: the surface, the caps in a colour for each face, open edges in red.
+
+mod svg;
+mod view;
+
+use crate::mesh::Mesh;
+use crate::results::{unwritable, Results};
+use crate::steps::Made;
+use crate::text;
+use crate::triangulator::ask;
+use std::path::Path;
+use std::process::Command;
+use std::time::Duration;
+use yongpham_library::Extents;
+
+/// Bytes of a picture that is converted.
+const MOST: usize = 256 << 20;
+/// A picture of nothing, by which the tool is tried before any mesh is done.
+const TRIAL: &str = "<svg xmlns=\"http://www.w3.org/2000/svg\" viewBox=\"0 0 1 1\"/>";
+/// Pixels of its width.
+const PIXELS: &str = "1600";
+
+/// What is drawn: facets of the surface first, caps behind them.
+pub struct Subject<'a> {
+    pub mesh: &'a Mesh,
+    pub surface_facets: usize,
+    pub title: String,
+    pub extents: Extents,
+}
+
+/// Whether a picture can be written under the name.
+pub fn check(path: &Path) -> Result<(), String> {
+    match ending(path).as_str() {
+        "svg" => Ok(()),
+        "png" => png(TRIAL, Duration::from_secs(20)).map(|_| ()),
+        _ => Err(format!("--picture: {} ends neither in .svg nor in .png", text::name(path))),
+    }
+}
+
+fn ending(path: &Path) -> String {
+    path.extension().unwrap_or_default().to_string_lossy().to_ascii_lowercase()
+}
+
+/// Draws the first solid, or what was left of the surface where there is none.
+pub fn save(path: &Path, made: &Made, extents: &Extents, time: Duration) -> Result<(), String> {
+    let title = |name: &str| format!("{name} in the box {}", corners(extents));
+    let subject = match (made.solids.first(), &made.cleaned) {
+        (Some(solid), _) => Subject {
+            mesh: &solid.mesh,
+            surface_facets: solid.surface_facets,
+            title: title(&format!("{} solid", solid.closing.name())),
+            extents: *extents,
+        },
+        (None, Some(mesh)) => Subject { mesh, surface_facets: mesh.facet_count(), title: title("surface, not closed,"), extents: *extents },
+        (None, None) => return Ok(()),
+    };
+    let drawn = svg::draw(&subject);
+    let bytes = if ending(path) == "png" { png(&drawn, time)? } else { drawn.into_bytes() };
+    let folder = path.parent().filter(|folder| !folder.as_os_str().is_empty()).unwrap_or(Path::new("."));
+    let file = Results::new(folder)?.aside("picture", |file| file.write_all(&bytes));
+    let file = file.map_err(|why| unwritable(path, &why))?;
+    file.persist(path).map(|_| ()).map_err(|why| unwritable(path, &why.error))
+}
+
+fn corners(e: &Extents) -> String {
+    format!("({} {} {}) to ({} {} {})", e[0], e[1], e[2], e[3], e[4], e[5])
+}
+
+/// Made of the SVG by the usual tool.
+fn png(svg: &str, time: Duration) -> Result<Vec<u8>, String> {
+    let mut command = Command::new("rsvg-convert");
+    command.args(["--width", PIXELS, "--format", "png"]);
+    ask(&mut command, svg.as_bytes(), time, MOST).map_err(|why| {
+        format!("the picture was not made: rsvg-convert {why}; a .png needs that tool (on Debian: apt-get install librsvg2-bin), a .svg needs none")
+    })
+}
