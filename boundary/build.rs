@@ -1,10 +1,11 @@
 //! Links libyongpham.a, which `rt staticlib yongpham` writes to target/staticlib/ of the repository. YONGPHAM_LIB names another
-//! folder that holds it. With the feature `leaves` the libraries that exist for comparing and timing alone are linked too.
+//! folder that holds it. With the feature `leaves` the library that exists for comparing and timing alone is linked too.
 
 use std::env;
 use std::path::PathBuf;
 
-const LEAVES: [&str; 3] = ["number_exports", "word_exports", "table_exports"];
+/// Leaves of the library under C names of their own.
+const LEAVES: &str = "leaf_exports";
 
 fn main() {
     let beside = || {
@@ -16,7 +17,7 @@ fn main() {
     println!("cargo:rustc-link-search=native={}", folder.display());
     let mut names = vec!["yongpham"];
     if env::var_os("CARGO_FEATURE_LEAVES").is_some() {
-        names.extend(LEAVES);
+        names.push(LEAVES);
     }
     for name in names {
         let file = folder.join(format!("lib{name}.a"));

@@ -6,11 +6,11 @@ use lib.ListN.{getD, length, length-set}
 use native.Mathlib.Nat.{not-suc-le-zero}
 use mathlib.Core.Bool.{false≢true}
 use borrow.Author.Count.{below-more}
-use Rattle.table_exports.specs.Exports.{BelowUpTo}
-use Rattle.table_exports.proofs.all_below.Statement.{statement}
-use Rattle.table_exports.proofs.all_below.Tie as tie
-use Rattle.table_exports.proofs.all_below.Reads as reads
-use Rattle.table_exports.proofs.all_below.Lts as lts
+use Rattle.leaf_exports.specs.Exports.{BelowUpTo}
+use Rattle.leaf_exports.proofs.all_below.Statement.{statement}
+use Rattle.leaf_exports.proofs.all_below.Tie as tie
+use Rattle.leaf_exports.proofs.all_below.Reads as reads
+use Rattle.leaf_exports.proofs.all_below.Lts as lts
 
 abbrev Inv-loop : tie.InvT-loop
 Inv-loop w at e m t₀ t = (t ≤ e) × BelowUpTo w at t m

@@ -1,16 +1,64 @@
-// TEST ONLY: the finder of components and the chains as C functions, for a program outside to link, compare and time. Nothing of the product uses this crate.
-// They ask nothing of their caller: what the tables require is tested first.
+// For tests only, and no part of the product: leaves of the library under C names of their own, so that a program outside can compare and time them:
+// root, rounding and cell key on any bit pattern; clearing and sorting; components and chains. None has a `requires`: what a table asks is tested first.
+ghost use mathlib.Core.Bool.{false, true};
 ghost use mathlib.Core.Path.{_≡_};
-ghost use mathlib.Core.Bool.{true, false};
-ghost use Prim.Native.Nat.{ℕ, _+_, _*_, _≤_, _<_};
+ghost use Prim.Native.Nat.{ℕ, _*_, _+_, _/_, _<_, _≤_};
 ghost use lib.Dec.{eqb};
-ghost use lib.ListN.{length, getD};
-ghost use Rattle.lists.specs.Regions.{view};
-ghost use Rattle.components.specs.Table.{ComponentTable};
-ghost use Rattle.chains.specs.Links.{linkTo};
-ghost use Rattle.chains.specs.Chains.{Linked};
+ghost use lib.ListN.{getD, length, replicate};
 ghost use Rattle.chains.specs.ByWord.{wordBucket};
-ghost use Rattle.table_exports.specs.Exports.{BelowUpTo, Answers};
+ghost use Rattle.chains.specs.Chains.{Linked};
+ghost use Rattle.chains.specs.Links.{linkTo};
+ghost use Rattle.components.specs.Table.{ComponentTable};
+ghost use Rattle.leaf_exports.specs.Exports.{Answers, BelowUpTo, RootOr};
+ghost use Rattle.lists.specs.Regions.{view};
+ghost use Rattle.rounding.specs.Rounding.{halfAway, key};
+ghost use Rattle.sorting.specs.Sorting.{SortedRecords};
+
+// The square root of x; x itself where it is a NaN, infinite or below zero.
+#[no_mangle]
+pub extern "C" fn export_sqrt(x: f64) -> f64
+    ensures { λ r. ⌜ RootOr x r ⌝ }
+{
+    let infinity: f64 = 1.0 / 0.0;
+    if 0.0 <= x {
+        if x < infinity {
+            return root::sqrt(x);
+        }
+    }
+    x
+}
+
+// x to a whole number, a half going away from zero; x itself where it is not finite.
+#[no_mangle]
+pub extern "C" fn export_round(x: f64) -> f64
+    ensures { λ r. ⌜ r ≡ halfAway x ⌝ }
+{
+    rounding::round(x)
+}
+
+// The cell of the coordinate x.
+#[no_mangle]
+pub extern "C" fn export_cell_key(x: f64, eps: f64) -> i64
+    ensures { λ r. ⌜ r ≡ key eps x ⌝ }
+{
+    rounding::quantized_key(x, eps)
+}
+
+// Sorts as many records as the slice has room for: half of it is records, half scratch.
+#[no_mangle]
+pub extern "C" fn export_sort_records(m: &mut [u64])
+    ensures { λ _. ⌜ SortedRecords (now (m .entry)) (now (m .exit)) (length (now (m .entry)) / 4) ⌝ }
+{
+    let n = m.len() / 4;
+    sorting::sort_records(m, n);
+}
+
+#[no_mangle]
+pub extern "C" fn export_zero(w: &mut [u64])
+    ensures { λ _. ⌜ now (w .exit) ≡ replicate (length (now (w .entry))) 0 ⌝ }
+{
+    words::zero(w);
+}
 
 // Are the e words from `at` on below m?
 fn all_below(w: &[u64], at: usize, e: usize, m: usize) -> bool

@@ -1,9 +1,9 @@
 use mathlib.Core.Path.{refl}
 use lib.Dec.{T-not}
 use Rattle.root.specs.Root.{rootable}
-use Rattle.number_exports.proofs.Tests.{passes, first-fails, second-fails}
-use Rattle.number_exports.proofs.export_sqrt.Statement.{statement}
-use Rattle.number_exports.proofs.export_sqrt.Tie as tie
+use Rattle.leaf_exports.proofs.Tests.{passes, first-fails, second-fails}
+use Rattle.leaf_exports.proofs.export_sqrt.Statement.{statement}
+use Rattle.leaf_exports.proofs.export_sqrt.Tie as tie
 
 sqrt-requires : tie.Need-sqrt-requires
 sqrt-requires c κs = passes (c .before .before .args .x) (c .before .if1 .taken) (c .if2 .taken)

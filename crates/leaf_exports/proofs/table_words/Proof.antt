@@ -5,12 +5,12 @@ use native.Mathlib.Omega.{arith}
 use lib.ListN.{getD, length, length-set}
 use mathlib.Core.Bool.{true≢false, false≢true}
 use borrow.Author.Needs.{needs}
-use Rattle.table_exports.proofs.table_words.Statement.{statement}
-use Rattle.table_exports.proofs.table_words.Tie as tie
-use Rattle.table_exports.proofs.table_words.Reads as reads
-use Rattle.table_exports.proofs.table_words.Lts as lts
+use Rattle.leaf_exports.proofs.table_words.Statement.{statement}
+use Rattle.leaf_exports.proofs.table_words.Tie as tie
+use Rattle.leaf_exports.proofs.table_words.Reads as reads
+use Rattle.leaf_exports.proofs.table_words.Lts as lts
 use Rattle.chains.proofs.index_words.Reads as index-words-reads
-use Rattle.table_exports.proofs.answer.Reads as answer-reads
+use Rattle.leaf_exports.proofs.answer.Reads as answer-reads
 
 returns : tie.Need-returns
 returns c = (λ e. absurd (false≢true e), λ e. refl)

@@ -12,7 +12,7 @@ use Rattle.lists.specs.Regions.{view}
 use Rattle.lists.proofs.Regions.{view-length, view-at}
 use Rattle.components.specs.Table.{LabelsBelow}
 use Rattle.chains.specs.Links.{linkTo}
-use Rattle.table_exports.specs.Exports.{BelowUpTo, Answers}
+use Rattle.leaf_exports.specs.Exports.{BelowUpTo, Answers}
 
 pub answers-more : (keys asked found : List ℕ) (i v : ℕ) → i < length found → Answers keys asked found i → v ≡ linkTo (eqb (getD asked i 0)) keys
     → Answers keys asked (set found i v) (i + 1)

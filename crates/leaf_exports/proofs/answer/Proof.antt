@@ -4,12 +4,12 @@ use Prim.Native.Nat.{ℕ, _+_, _*_, _≤_, _<_, _-_, _/_}
 use native.Mathlib.Omega.{arith}
 use lib.ListN.{getD, length, length-set}
 use native.Mathlib.Nat.{not-suc-le-zero}
-use Rattle.table_exports.specs.Exports.{Answers}
-use Rattle.table_exports.proofs.Answering.{answers-more}
-use Rattle.table_exports.proofs.answer.Statement.{statement}
-use Rattle.table_exports.proofs.answer.Tie as tie
-use Rattle.table_exports.proofs.answer.Reads as reads
-use Rattle.table_exports.proofs.answer.Lts as lts
+use Rattle.leaf_exports.specs.Exports.{Answers}
+use Rattle.leaf_exports.proofs.Answering.{answers-more}
+use Rattle.leaf_exports.proofs.answer.Statement.{statement}
+use Rattle.leaf_exports.proofs.answer.Tie as tie
+use Rattle.leaf_exports.proofs.answer.Reads as reads
+use Rattle.leaf_exports.proofs.answer.Lts as lts
 use Rattle.chains.proofs.find_word.Reads as find-word-reads
 
 abbrev Inv-loop : tie.InvT-loop

@@ -4,14 +4,14 @@ use Prim.Native.Nat.{ℕ, _+_, _*_, _≤_, _<_, _-_, _/_}
 use native.Mathlib.Omega.{arith}
 use lib.ListN.{getD, length, length-set}
 use mathlib.Core.Bool.{true≢false, false≢true}
-use Rattle.table_exports.proofs.Answering.{labels-fit, labels-below}
+use Rattle.leaf_exports.proofs.Answering.{labels-fit, labels-below}
 use borrow.Author.Needs.{needs}
-use Rattle.table_exports.proofs.table_components.Statement.{statement}
-use Rattle.table_exports.proofs.table_components.Tie as tie
-use Rattle.table_exports.proofs.table_components.Reads as reads
-use Rattle.table_exports.proofs.table_components.Lts as lts
+use Rattle.leaf_exports.proofs.table_components.Statement.{statement}
+use Rattle.leaf_exports.proofs.table_components.Tie as tie
+use Rattle.leaf_exports.proofs.table_components.Reads as reads
+use Rattle.leaf_exports.proofs.table_components.Lts as lts
 use Rattle.components.proofs.components.Reads as components-reads
-use Rattle.table_exports.proofs.all_below.Reads as all-below-reads
+use Rattle.leaf_exports.proofs.all_below.Reads as all-below-reads
 
 returns : tie.Need-returns
 returns c = (λ e. absurd (false≢true e), λ e. refl)
