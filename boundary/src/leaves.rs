@@ -1,5 +1,4 @@
-//! Leaves of the library under C names of their own, for comparing and timing alone: the crates number_exports, word_exports
-//! and table_exports. No part of the product.
+//! Leaves of the library under C names of their own, for comparing and timing alone: the crate leaf_exports. No part of the product.
 
 extern "C" {
     fn export_sqrt(x: f64) -> f64;
