@@ -18,9 +18,7 @@ START, END = "<!-- definitions: written by docs/definitions.py -->", "<!-- end o
 
 LIST = [
     ("lists/Lists", "the few words about lists: every, some, keep, count, place, an insertion sort, the first of each kind"),
-    ("lists/Regions", "parts of a list by place and length"),
     ("words/Overlay", "an output after a result was written to its front"),
-    ("chains/Links", "the first item that passes, as a number: 0 for none, else 1 more than its place"),
     ("root/Doubles", "IEEE 754's operations under short names, constants, comparisons, a double as whole units"),
     ("root/Root", "the square root: nearer than every other double; and computed"),
     ("rounding/Rounding", "halves away from zero, the key of a coordinate, the segments of an axis"),
@@ -32,6 +30,7 @@ LIST = [
     ("refusals/Refusals", "the number and values of each refusal; the first test that holds; what outputs and work room end as"),
     ("refusals/Front", "tests 1 to 8 and 12, which operations share"),
     ("refusals/Reports", "a reply as a number and four words"),
+    ("refusals/Answers", "an operation's answer: its tests, its outputs, the work room; and the same for C"),
     ("tolerance/Tolerance", "the tolerance of a box, its tests and its reply"),
     ("aabb_polygons/Polygons", "one polygon cut by one plane, and by six: inside, crossing, snapping"),
     ("aabb_facets/Clipped", "a mesh cut facet by facet: shared vertices, fans"),
@@ -54,6 +53,7 @@ LIST = [
     ("candidate_edges/Surface", "open edges and vertices on two faces entered"),
     ("candidate_grids/Grid", "the grid points of each face, and those left out"),
     ("candidate_constraints/Constraints", "the edges that a triangulation of a face must have"),
+    ("boundary_closure/Asked", "what is asked beside the mesh"),
     ("boundary_closure/Candidates", "the four lists of candidates, and their words"),
     ("boundary_closure/Operation", "what candidates answers and leaves; tests 1 to 9"),
     ("cap_triangles/Selection", "triangles turned outward, seeds, shared edges; which are selected, computed and as a relation"),
