@@ -7,6 +7,12 @@ use crate::text;
 use crate::volume::{self, Volume};
 use yongpham_library::Extents;
 
+const OVERLAPS: &str =
+    "borne by more than two facets, not as many one way as the other: parts of the surface overlap or face the wrong way";
+const TOUCHES: &str =
+    "borne by two facets or more each way: the solid touches itself there, as it does where the surface touches a face of the \
+box without passing through it; a box whose face stands a little off does not";
+
 /// How many edges are told of those at fault.
 const TOLD: usize = 3;
 
@@ -69,7 +75,7 @@ pub fn verdict(vertices: &[f64], facets: &[u32], extents: &Extents) -> Verdict {
     if let Some(fault) = fault(&|e| e.sides() == 1, "borne by one facet only") {
         return Verdict::Open(fault);
     }
-    if let Some(fault) = fault(&|e| e.sides() > 2, "borne by more than two facets") {
+    if let Some(fault) = fault(&|e| e.up != e.down, OVERLAPS).or_else(|| fault(&|_| true, TOUCHES)) {
         return Verdict::TurnedWrong(fault);
     }
     sized(vertices, facets, extents)
@@ -181,8 +187,9 @@ mod tests {
         let with = |more: &[u32]| told(&[&FACETS[..], more].concat()).0;
         assert!(with(&[0, 0, 1]).starts_with("open: "));
         assert!(with(&[0, 0, 1, 0, 0, 1]).starts_with("turned: "));
-        assert!(with(&[0, 1, 2, 0, 2, 1]).starts_with("turned: 3 edges are borne by more than two"));
-        assert!(with(&FACETS).contains("more than two"));
+        assert!(with(&[0, 1, 2]).starts_with("turned: 3 edges are borne by more than two facets, not as many"));
+        assert!(with(&[0, 1, 2, 0, 2, 1]).starts_with("turned: 3 edges are borne by two facets or more each way"));
+        assert!(with(&FACETS).starts_with("turned: 6 edges are borne by two facets or more each way"));
     }
 
     #[test]

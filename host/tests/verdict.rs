@@ -133,6 +133,27 @@ fn an_empty_solid_is_no_success() {
     folder.not_closed(&folder.close(&["single.obj"]), "empty", &["step cleaned: nothing is left"]);
 }
 
+/// Two pits through the floor of the box, and between them a saddle that touches it along an edge: four facets meet there, two each way.
+#[test]
+fn a_solid_that_touches_itself_is_told_with_the_edge() {
+    if !built_in() {
+        return;
+    }
+    let folder = Folder::new();
+    let mut terrain = Terrain { vertices: vec![], facets: vec![] };
+    for (x, z) in [(0.0, 0.5), (0.2, -0.2), (0.4, 0.0), (0.6, 0.0), (0.8, -0.2), (1.0, 0.5)] {
+        terrain.vertices.extend([[x, 0.0, 0.5], [x, 0.5, z], [x, 1.0, 0.5]]);
+    }
+    for low in [0, 1, 3, 4, 6, 7, 9, 10, 12, 13] {
+        terrain.facets.extend([[low, low + 3, low + 4], [low, low + 4, low + 1]]);
+    }
+    folder.put("saddle.obj", terrain.obj());
+    let run = folder.unit(&["saddle.obj"]);
+    let edge = "1 edge is borne by two facets or more each way: the solid touches itself there";
+    folder.not_closed(&run, "turned wrong", &[edge, "(0.4 0.5 0.0) to (0.6 0.5 0.0)"]);
+    folder.run(&["close", "--box", "0", "0", "0.03125", "1", "1", "1", "saddle.obj"]).closed();
+}
+
 /// A sloping ground that meets the box's lower edge: with a fine grid a grid point lies inside an open edge along that side.
 #[test]
 fn ground_at_a_side_closes_without_a_resolution_and_names_the_cause_with_one() {
