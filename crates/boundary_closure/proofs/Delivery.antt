@@ -15,10 +15,11 @@ use lib.Dec.{ltb}
 use lib.ListN.{length, replicate}
 use lib.Seq.{sets}
 use lib.Ieee.{Float}
+use Rattle.candidate_pool.specs.OpenEdges.{openEdgeWords}
+use Rattle.candidate_constraints.specs.Constraints.{constraintWords}
 use Rattle.lists.proofs.Bools.{cond-true, cond-false, or-stop, or-next}
 use Rattle.words.proofs.Overlay.{sets-overlay}
 use Rattle.geometry.specs.declared.aabb.AABB.{AABB}
-use Rattle.geometry.specs.Triangles.{flat}
 use Rattle.geometry.specs.Meshes.{meshOf}
 use Rattle.refusals.specs.declared.refusal.Refusal.{Refusal}
 use Rattle.refusals.specs.declared.refusal.Refusal.the-variants.{NoRoom}
@@ -49,8 +50,8 @@ module _ (r : Candidates) (c l k e : List ℕ) where
         replied = h;
         candidates = same x (candidateWords (r .all)) c;
         face-lists = same x (listWords (r .lists)) l;
-        constraints = same x (flat (r .constraints)) k;
-        open-edges = same x (flat (r .edges)) e;
+        constraints = same x (constraintWords (r .constraints)) k;
+        open-edges = same x (openEdgeWords (r .edges)) e;
       }
 
   pub refused : (ts us : List Test) (x : Refusal) → firstRefusal ts ≡ checked.Refused x → Answered (ts ++ us) r (Refused x) c c l l k k e e
@@ -69,8 +70,8 @@ passed ts us r x c c' l l' k k' e e' h d =
 
 -- ---- test 12: results of the lengths x, y, z and u
 
-module _ (r : Candidates) (x y z u : ℕ) (ex : x ≡ length (candidateWords (r .all))) (ey : y ≡ length (listWords (r .lists))) (ez : z ≡ length (flat (r .constraints)))
-    (eu : u ≡ length (flat (r .edges))) (c l k e : List ℕ) where
+module _ (r : Candidates) (x y z u : ℕ) (ex : x ≡ length (candidateWords (r .all))) (ey : y ≡ length (listWords (r .lists))) (ez : z ≡ length (constraintWords (r .constraints)))
+    (eu : u ≡ length (openEdgeWords (r .edges))) (c l k e : List ℕ) where
   fourth : List Test
   fourth = (ltb (length e) u, NoRoom u) ∷ []
 
@@ -135,16 +136,16 @@ module _ (r : Candidates) (x y z u : ℕ) (ex : x ≡ length (candidateWords (r 
           unfolding documentedCandidates settle
           laid x y z u new old now h g = record { ends = h ∙ sets-overlay new old g }
 
-          pub done : (c' l' k' e' : List ℕ) → c' ≡ sets c 0 (candidateWords (r .all)) → l' ≡ sets l 0 (listWords (r .lists)) → k' ≡ sets k 0 (flat (r .constraints))
-              → e' ≡ sets e 0 (flat (r .edges)) → Answered (rooms r c l k e) r (Done x y z u) c c' l l' k k' e e'
+          pub done : (c' l' k' e' : List ℕ) → c' ≡ sets c 0 (candidateWords (r .all)) → l' ≡ sets l 0 (listWords (r .lists)) → k' ≡ sets k 0 (constraintWords (r .constraints))
+              → e' ≡ sets e 0 (openEdgeWords (r .edges)) → Answered (rooms r c l k e) r (Done x y z u) c c' l l' k k' e e'
           unfolding documentedCandidates
           done c' l' k' e' hc hl hk he =
               record {
                 replied = (λ t. 0 ∷ ex t ∷ ey t ∷ ez t ∷ eu t ∷ []) ∙ sym (by-first Passed all-room);
                 candidates = laid x y z u (candidateWords (r .all)) c c' hc (omega (arith, ex, hx));
                 face-lists = laid x y z u (listWords (r .lists)) l l' hl (omega (arith, ey, hy));
-                constraints = laid x y z u (flat (r .constraints)) k k' hk (omega (arith, ez, hz));
-                open-edges = laid x y z u (flat (r .edges)) e e' he (omega (arith, eu, hu));
+                constraints = laid x y z u (constraintWords (r .constraints)) k k' hk (omega (arith, ez, hz));
+                open-edges = laid x y z u (openEdgeWords (r .edges)) e e' he (omega (arith, eu, hu));
               }
 
 -- "with all four lengths 0"

@@ -17,7 +17,6 @@ use Rattle.lists.specs.Lists.{every, place}
 use Rattle.root.specs.Doubles.{_⊗_, 1e-9}
 use Rattle.geometry.specs.declared.aabb.AABB.{AABB}
 use Rattle.geometry.specs.Boxes.{axis}
-use Rattle.geometry.specs.Triangles.{flat}
 use Rattle.geometry.specs.Meshes.{Mesh, meshOf}
 use Rattle.geometry.specs.Axes.{gridSize}
 use Rattle.edges.specs.Edges.{sortedPair, openEdges}
@@ -26,6 +25,8 @@ use Rattle.refusals.specs.Refusals.{documented, Test, unless, replyTo, Settled,
 use Rattle.refusals.specs.Front.{ceiling, listTests, inRange, epsInRange, resolutionInRange, boxInRange, badBox, byAxis, gridTooFine, workNeed, workTest, farKeys, boxFarKeys, roomTests}
 use Rattle.boundary_closure.specs.declared.reply.CandidatesReply.{CandidatesReply}
 use Rattle.boundary_closure.specs.declared.reply.CandidatesReply.the-variants.{Done, Refused}
+use Rattle.candidate_pool.specs.OpenEdges.{openEdgeWords}
+use Rattle.candidate_constraints.specs.Constraints.{constraintWords}
 use Rattle.candidate_pool.specs.Pool.{byKey}
 use Rattle.candidate_pool.specs.Setting.{Setting}
 use Rattle.candidate_edges.specs.Surface.{edgeFaces, edgeSurface}
@@ -85,7 +86,7 @@ module _ (vs : List Float) (fs : List ℕ) (box : AABB) (eps resolution : Float)
   unfoldable pub outputs : List (List ℕ)
   outputs =
       let r = candidatesResult in
-      candidateWords (r .all) ∷ listWords (r .lists) ∷ flat (r .constraints) ∷ flat (r .edges) ∷ []
+      candidateWords (r .all) ∷ listWords (r .lists) ∷ constraintWords (r .constraints) ∷ openEdgeWords (r .edges) ∷ []
 
   -- for outputs of the lengths outs
   unfoldable pub candidatesReply : ℕ → List ℕ → List ℕ
@@ -98,6 +99,6 @@ pub record Delivered (vs : List Float) (fs : List ℕ) (box : AABB) (eps resolut
   pub replied : documentedCandidates r ≡ candidatesReply vs fs box eps resolution (length w) (length c ∷ length l ∷ length k ∷ length e ∷ [])
   pub candidates : Settled (documentedCandidates r) (candidateWords (candidatesResult vs fs box eps resolution .all)) c c'
   pub face-lists : Settled (documentedCandidates r) (listWords (candidatesResult vs fs box eps resolution .lists)) l l'
-  pub constraints : Settled (documentedCandidates r) (flat (candidatesResult vs fs box eps resolution .constraints)) k k'
-  pub open-edges : Settled (documentedCandidates r) (flat (candidatesResult vs fs box eps resolution .edges)) e e'
+  pub constraints : Settled (documentedCandidates r) (constraintWords (candidatesResult vs fs box eps resolution .constraints)) k k'
+  pub open-edges : Settled (documentedCandidates r) (openEdgeWords (candidatesResult vs fs box eps resolution .edges)) e e'
   pub work : Zeroed w w'

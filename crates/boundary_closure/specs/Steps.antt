@@ -20,7 +20,7 @@ use lib.Ieee.{Float}
 use Rattle.lists.specs.Lists.{every}
 use Rattle.lists.specs.Regions.{view}
 use Rattle.geometry.specs.declared.aabb.AABB.{AABB}
-use Rattle.geometry.specs.Triangles.{threes, flat}
+use Rattle.geometry.specs.Triangles.{threes}
 use Rattle.geometry.specs.Meshes.{Mesh, meshOf, pointsOf}
 use Rattle.geometry.specs.Axes.{gridSize}
 use Rattle.edges.specs.Edges.{openEdges}
@@ -28,6 +28,8 @@ use Rattle.edges.specs.Table.{keyOf}
 use Rattle.refusals.specs.Refusals.{Test, replyTo, Settled}
 use Rattle.refusals.specs.Front.{badIndex, inRange, epsInRange, resolutionInRange, boxInRange, badBox, gridTooFine, roomTests}
 use Rattle.box_faces.specs.Faces.{hasBit}
+use Rattle.candidate_pool.specs.OpenEdges.{openEdgeWords}
+use Rattle.candidate_constraints.specs.Constraints.{constraintWords}
 use Rattle.candidate_pool.specs.Offsets.{constraintsAt, openEdgesAt, edgeTableAt, roomEnd}
 use Rattle.candidate_pool.specs.Pool.{Pool, byKey, insert}
 use Rattle.candidate_pool.specs.Setting.{Setting}
@@ -103,7 +105,7 @@ pub record Readable (n nf k listed total : ℕ) (w : List ℕ) : Type 0 where
   pub faces-listed : listed ≡ length (edgesAt w (openEdgesAt n nf) k)
 
 abbrev pub lengths : Candidates → List ℕ
-lengths r = length (candidateWords (r .all)) ∷ length (listWords (r .lists)) ∷ length (flat (r .constraints)) ∷ length (flat (r .edges)) ∷ []
+lengths r = length (candidateWords (r .all)) ∷ length (listWords (r .lists)) ∷ length (constraintWords (r .constraints)) ∷ length (openEdgeWords (r .edges)) ∷ []
 
 abbrev pub rooms : Candidates → List ℕ → List ℕ → List ℕ → List ℕ → List Test
 rooms r c l k e = roomTests (lengths r) (length c ∷ length l ∷ length k ∷ length e ∷ [])
@@ -116,5 +118,5 @@ pub record Answered (ts : List Test) (r : Candidates) (x : CandidatesReply) (c c
   pub replied : documentedCandidates x ≡ replyTo ts (lengths r)
   pub candidates : Settled (documentedCandidates x) (candidateWords (r .all)) c c'
   pub face-lists : Settled (documentedCandidates x) (listWords (r .lists)) l l'
-  pub constraints : Settled (documentedCandidates x) (flat (r .constraints)) k k'
-  pub open-edges : Settled (documentedCandidates x) (flat (r .edges)) e e'
+  pub constraints : Settled (documentedCandidates x) (constraintWords (r .constraints)) k k'
+  pub open-edges : Settled (documentedCandidates x) (openEdgeWords (r .edges)) e e'

@@ -17,12 +17,13 @@ use Rattle.geometry.specs.Meshes.{Mesh, meshOf, coordinates, Named, enter}
 use Rattle.refusals.specs.declared.reply.MeshReply.{MeshReply}
 use Rattle.refusals.specs.declared.reply.MeshReply.the-variants.{Done, Refused}
 use Rattle.refusals.specs.Refusals.{documentedMesh, settle, Settled}
+use Rattle.candidate_pool.specs.OpenEdges.{OpenEdge}
 use Rattle.candidate_pool.specs.Pool.{Pool, pointOf}
-use Rattle.cap_triangles.specs.Selection.{Cap, outwardCaps, selected, Selects}
+use Rattle.cap_triangles.specs.Selection.{Cap, capsOf, outwardCaps, selected, Selects}
 use Rattle.cap_triangles.proofs.Selecting.{selected-selects, selects-unique}
 use Rattle.caps.specs.declared.mode.BoundaryClosure.{BoundaryClosure}
 use Rattle.cap_closing.specs.Closing.{taken, entered, capFacets, ownFacets, closed, DemandThree}
-use Rattle.caps.specs.Operation.{isPositive, unchanged, caps, surface, pool, capsResult, turnedDown, Closes}
+use Rattle.caps.specs.Operation.{isPositive, unchanged, surface, pool, capsResult, turnedDown, Closes}
 
 append-nil : {A : Type 0} (l : List A) → l ++ [] ≡ l
 append-nil [] = refl
@@ -52,7 +53,7 @@ pub entered-behind : (pool : Pool) (points : List Point) (ts : List (Triangle �
 unfolding entered
 entered-behind pool points ts = fold-behind (pointOf pool) (record { given = map (λ c. c .mesh) (pool .all); points = points }) (flat ts)
 
-module _ (pool : Pool) (boundary : List (Triangle ℕ)) (caps : List Cap) (positive : Bool) (mesh : Mesh) where
+module _ (pool : Pool) (boundary : List OpenEdge) (caps : List Cap) (positive : Bool) (mesh : Mesh) where
   pub closed-meets : (chosen : List Bool) → Selects boundary (outwardCaps pool caps) chosen → DemandThree pool boundary caps positive mesh (closed pool caps positive mesh chosen)
   unfolding closed
   closed-meets chosen s =
@@ -79,14 +80,14 @@ module _ (vs : List Float) (fs capList : List ℕ) (box : AABB) (eps resolution 
 
   abbrev Demand : Mesh → Type 0
   Demand out =
-      DemandThree (pool vs fs capList box eps resolution mode) (surface vs fs capList box eps resolution mode .edges) (caps vs fs capList box eps resolution mode) (isPositive mode) (meshOf vs fs) out
+      DemandThree (pool vs fs box eps resolution) (surface vs fs box eps resolution .edges) (capsOf capList) (isPositive mode) (meshOf vs fs) out
 
   pub result-meets : unchanged vs fs capList box eps resolution mode ≡ false → Demand result
   unfolding capsResult
   result-meets e =
-      let p = pool vs fs capList box eps resolution mode in
-      let s = surface vs fs capList box eps resolution mode .edges in
-      let c = caps vs fs capList box eps resolution mode in
+      let p = pool vs fs box eps resolution in
+      let s = surface vs fs box eps resolution .edges in
+      let c = capsOf capList in
       subst (λ (b : Bool). Demand (cond b (meshOf vs fs) (closed p c (isPositive mode) (meshOf vs fs) (selected s (outwardCaps p c))))) (sym e)
       (closed-meets p s c (isPositive mode) (meshOf vs fs) (selected s (outwardCaps p c)) (selected-selects s (outwardCaps p c)))
 

@@ -37,7 +37,7 @@ use Rattle.cap_triangles.proofs.Kept.{pool-kept, edges-kept}
 use Rattle.cap_outputs.specs.Written.{rooms, Answered}
 use Rattle.cap_outputs.proofs.Delivery.{refused, passed}
 use Rattle.caps.specs.declared.mode.BoundaryClosure.{BoundaryClosure}
-use Rattle.caps.specs.Operation.{leavesOpen, isPositive, passedOver, unchanged, caps, surface, pool, capTests, capsResult, capsReply, Capped}
+use Rattle.caps.specs.Operation.{leavesOpen, isPositive, passedOver, unchanged, surface, pool, capTests, capsResult, capsReply, Capped}
 use Rattle.caps.specs.Steps.{listTests, edgesIn, closedOf, closedMesh, surfaceMesh}
 use Rattle.caps.proofs.Demands.{closes}
 
@@ -53,7 +53,7 @@ module _ (vs : List Float) (fs capList : List ℕ) (box : AABB) (eps resolution 
 
   abbrev closing : Mesh
   closing =
-      closedOf (pool vs fs capList box eps resolution mode) (caps vs fs capList box eps resolution mode) (surface vs fs capList box eps resolution mode .edges) (isPositive mode) mesh
+      closedOf (pool vs fs box eps resolution) (capsOf capList) (surface vs fs box eps resolution .edges) (isPositive mode) mesh
 
   abbrev made : Mesh
   made = surfaceMesh vs fs capList box eps resolution mode

@@ -27,7 +27,7 @@ use Rattle.refusals.specs.Front.{roomTests}
 use Rattle.candidate_pool.specs.Pool.{Pool}
 use Rattle.boundary_closure.specs.Candidates.{Candidates, candidates}
 use Rattle.boundary_closure.specs.Operation.{setting, closureTests, edgeTests, noFacet, noTwoEnds}
-use Rattle.cap_triangles.specs.Selection.{Cap, capsOf, outwardCaps, selected}
+use Rattle.cap_triangles.specs.Selection.{capsOf, outwardCaps, selected}
 use Rattle.cap_triangles.specs.Listed.{badCapPlace, missingPlace}
 use Rattle.caps.specs.declared.mode.BoundaryClosure.{BoundaryClosure}
 use Rattle.caps.specs.declared.mode.BoundaryClosure.the-variants.{None, ClosePositive, CloseNegative}
@@ -43,6 +43,14 @@ isPositive None = false
 isPositive ClosePositive = true
 isPositive CloseNegative = false
 
+-- "Caps recomputes the candidates from the mesh"
+module _ (vs : List Float) (fs : List ℕ) (box : AABB) (eps resolution : Float) where
+  unfoldable pub surface : Candidates
+  surface = candidates (setting box eps resolution) (meshOf vs fs)
+
+  abbrev pub pool : Pool
+  pool = record { all = surface .all; lists = surface .lists }
+
 module _ (vs : List Float) (fs capList : List ℕ) (box : AABB) (eps resolution : Float) (mode : BoundaryClosure) where
   abbrev pub passedOver : Bool
   passedOver = leavesOpen mode || noFacet vs fs box eps resolution
@@ -51,26 +59,21 @@ module _ (vs : List Float) (fs capList : List ℕ) (box : AABB) (eps resolution 
   abbrev pub unchanged : Bool
   unchanged = passedOver || noTwoEnds vs fs box eps resolution
 
-  abbrev pub caps : List Cap
-  caps = capsOf capList
-
-  -- "Caps recomputes the candidates from the mesh"
-  unfoldable pub surface : Candidates
-  surface = candidates (setting box eps resolution) (meshOf vs fs)
-
-  abbrev pub pool : Pool
-  pool = record { all = surface .all; lists = surface .lists }
-
   unfoldable pub capTests : List Test
   capTests =
-      let b = badCapPlace pool caps in
-      let m = missingPlace pool caps (surface .edges) in
-      (ltb b (length caps), BadCap b) ∷ (ltb m (length (surface .edges)), MissingEdge m) ∷ []
+      let caps = capsOf capList in
+      let p = pool vs fs box eps resolution in
+      let edges = surface vs fs box eps resolution .edges in
+      let b = badCapPlace p caps in
+      let m = missingPlace p caps edges in
+      (ltb b (length caps), BadCap b) ∷ (ltb m (length edges), MissingEdge m) ∷ []
 
   unfoldable pub capsResult : Mesh
   capsResult =
       cond unchanged (meshOf vs fs)
-      (closed pool caps (isPositive mode) (meshOf vs fs) (selected (surface .edges) (outwardCaps pool caps)))
+      (let caps = capsOf capList in
+      let p = pool vs fs box eps resolution in
+      closed p caps (isPositive mode) (meshOf vs fs) (selected (surface vs fs box eps resolution .edges) (outwardCaps p caps)))
 
   -- for so many words of work room lent, and outputs of the lengths outs, vertices before facets
   unfoldable pub capsReply : ℕ → List ℕ → List ℕ
@@ -90,7 +93,7 @@ turnedDown (Refused r) = true
 pub record Closes (vs : List Float) (fs capList : List ℕ) (box : AABB) (eps resolution : Float) (mode : BoundaryClosure) (v v' : List Float) (f f' : List ℕ) : Type 0 where
   pub out : Mesh
   pub demand :
-      DemandThree (pool vs fs capList box eps resolution mode) (surface vs fs capList box eps resolution mode .edges) (caps vs fs capList box eps resolution mode) (isPositive mode) (meshOf vs fs) out
+      DemandThree (pool vs fs box eps resolution) (surface vs fs box eps resolution .edges) (capsOf capList) (isPositive mode) (meshOf vs fs) out
   pub vertices : v' ≡ overlay (coordinates (out .points)) v
   pub facets : f' ≡ overlay (flat (out .facets)) f
 

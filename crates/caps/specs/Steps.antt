@@ -14,12 +14,12 @@ use lib.Dec.{ltb}
 use lib.ListN.{length}
 use lib.Ieee.{Float}
 use Rattle.geometry.specs.declared.aabb.AABB.{AABB}
-use Rattle.geometry.specs.Triangles.{Triangle}
 use Rattle.geometry.specs.Meshes.{Mesh, meshOf}
 use Rattle.refusals.specs.declared.refusal.Refusal.the-variants.{BadCap, MissingEdge}
 use Rattle.refusals.specs.declared.refusal.Checked.{Checked}
 use Rattle.refusals.specs.declared.refusal.Checked.the-variants.{Passed}
 use Rattle.refusals.specs.Refusals.{Test, firstRefusal}
+use Rattle.candidate_pool.specs.OpenEdges.{OpenEdge}
 use Rattle.candidate_pool.specs.Offsets.{openEdgesAt}
 use Rattle.candidate_pool.specs.Pool.{Pool}
 use Rattle.candidate_pool.specs.Standing.{poolAt, edgesAt}
@@ -32,12 +32,12 @@ use Rattle.cap_pairs.specs.Pairs.{PairsKnown}
 use Rattle.cap_closing.specs.Closing.{closed}
 use Rattle.cap_closing.specs.Entering.{MeshWords}
 use Rattle.caps.specs.declared.mode.BoundaryClosure.{BoundaryClosure}
-use Rattle.caps.specs.Operation.{isPositive, caps, surface, pool}
+use Rattle.caps.specs.Operation.{isPositive, surface, pool}
 
-abbrev pub listTests : Pool → List Cap → List (Triangle ℕ) → List Test
+abbrev pub listTests : Pool → List Cap → List OpenEdge → List Test
 listTests p l es = (ltb (badCapPlace p l) (length l), BadCap (badCapPlace p l)) ∷ (ltb (missingPlace p l es) (length es), MissingEdge (missingPlace p l es)) ∷ []
 
-abbrev pub edgesIn : ℕ → ℕ → ℕ → List ℕ → List (Triangle ℕ)
+abbrev pub edgesIn : ℕ → ℕ → ℕ → List ℕ → List OpenEdge
 edgesIn n nf k w = edgesAt w (openEdgesAt n nf) k
 
 -- from work room w to w', with the answer r
@@ -47,7 +47,7 @@ pub record CapsChecked (n nf k : ℕ) (capList : List ℕ) (r : Checked) (w w' :
   pub ready : r ≡ Passed → CapReady n nf k capList w'
   pub known : r ≡ Passed → PairsKnown n nf k capList w'
 
-abbrev pub closedOf : Pool → List Cap → List (Triangle ℕ) → Bool → Mesh → Mesh
+abbrev pub closedOf : Pool → List Cap → List OpenEdge → Bool → Mesh → Mesh
 closedOf p l es positive mesh = closed p l positive mesh (selected es (outwardCaps p l))
 
 abbrev pub closedMesh : List Float → List ℕ → List ℕ → ℕ → ℕ → Bool → List ℕ → Mesh
@@ -72,4 +72,4 @@ pub record Listable (vs : List Float) (fs capList : List ℕ) (n : ℕ) (w : Lis
 abbrev pub surfaceMesh : List Float → List ℕ → List ℕ → AABB → Float → Float → BoundaryClosure → Mesh
 surfaceMesh vs fs capList box eps resolution mode =
     cond (noTwoEnds vs fs box eps resolution) (meshOf vs fs)
-    (closedOf (pool vs fs capList box eps resolution mode) (caps vs fs capList box eps resolution mode) (surface vs fs capList box eps resolution mode .edges) (isPositive mode) (meshOf vs fs))
+    (closedOf (pool vs fs box eps resolution) (capsOf capList) (surface vs fs box eps resolution .edges) (isPositive mode) (meshOf vs fs))

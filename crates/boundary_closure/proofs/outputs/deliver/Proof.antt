@@ -1,6 +1,7 @@
+use Rattle.candidate_pool.specs.OpenEdges.{openEdgeWords}
+use Rattle.candidate_constraints.specs.Constraints.{constraintWords}
 use Rattle.candidate_constraints.specs.Steps.{unpacked}
 use Rattle.candidate_pool.specs.Standing.{edgesAt}
-use Rattle.geometry.specs.Triangles.{flat}
 use Rattle.lists.specs.Regions.{view}
 use lib.Seq.{sets}
 use lib.ListN.{getD, length}
@@ -61,7 +62,7 @@ open-edges-at-requires : tie.Need-open-edges-at-requires
 open-edges-at-requires c κs = search needs
 
 write-edges-requires : tie.Need-write-edges-requires
-write-edges-requires c κs = let a = c .before .before .before .before .before .before .before .before .before .before .before .before .before .before .before .before .before .before .before .before .before .before .before .before .before .before .args in let w = a .w .now in (omega (arith, c .before .before .before .before .before .before .before .before .before .before .before .before .before .before .before .before .before .before .before .before .before .before .before .before .before .before .pre .size, c .before .before .before .before .before .before .before .before .before .before .before .before .before .before .before .before .before .before .before .before .before .before .before .before .before .before .pre .edges, c .before .open-edges-at .ensures), let e = ap (λ (x : ℕ). length (flat (edgesAt w x (a .k)))) (c .before .open-edges-at .ensures) in omega (arith, c .before .before .before .before .before .before .before .before .before .before .before .before .before .before .before .if4 .left, edges-long (a .n) (a .nf) (a .k) (a .listed) (a .total) w (c .before .before .before .before .before .before .before .before .before .before .before .before .before .before .before .before .before .before .before .before .before .before .before .before .before .before .pre), e))
+write-edges-requires c κs = let a = c .before .before .before .before .before .before .before .before .before .before .before .before .before .before .before .before .before .before .before .before .before .before .before .before .before .before .args in let w = a .w .now in (omega (arith, c .before .before .before .before .before .before .before .before .before .before .before .before .before .before .before .before .before .before .before .before .before .before .before .before .before .before .pre .size, c .before .before .before .before .before .before .before .before .before .before .before .before .before .before .before .before .before .before .before .before .before .before .before .before .before .before .pre .edges, c .before .open-edges-at .ensures), let e = ap (λ (x : ℕ). length (openEdgeWords (edgesAt w x (a .k)))) (c .before .open-edges-at .ensures) in omega (arith, c .before .before .before .before .before .before .before .before .before .before .before .before .before .before .before .if4 .left, edges-long (a .n) (a .nf) (a .k) (a .listed) (a .total) w (c .before .before .before .before .before .before .before .before .before .before .before .before .before .before .before .before .before .before .before .before .before .before .before .before .before .before .pre), e))
 
 same-length : tie.Need-same-length
 same-length c = search needs
@@ -76,7 +77,7 @@ same-length-4 : tie.Need-same-length-4
 same-length-4 c = search needs
 
 returns-5 : tie.Need-returns-5
-returns-5 c = let a = c .before .before .before .before .before .before .before .before .before .before .before .before .before .before .before .before .before .before .before .before .before .before .before .before .before .before .before .before .before .args in let w = a .w .now in done (standing (a .n) (a .nf) (a .k) (a .total) w) (5 * getD w 6 0) (6 + c .before .before .before .before .before .before .before .before .before .before .before .before .before .before .before .before .before .before .before .before .before .before .listed-numbers .result) (3 * a .total) (3 * a .listed) (candidates-long (a .n) (a .nf) (a .k) (a .listed) (a .total) w (c .before .before .before .before .before .before .before .before .before .before .before .before .before .before .before .before .before .before .before .before .before .before .before .before .before .before .before .before .before .pre)) (all-lists-long (a .n) (a .nf) (a .k) (a .listed) (a .total) w (c .before .before .before .before .before .before .before .before .before .before .before .before .before .before .before .before .before .before .before .before .before .before .before .before .before .before .before .before .before .pre) _ (c .before .before .before .before .before .before .before .before .before .before .before .before .before .before .before .before .before .before .before .before .before .before .listed-numbers .ensures .0)) (constraints-long (a .n) (a .nf) (a .k) (a .listed) (a .total) w (c .before .before .before .before .before .before .before .before .before .before .before .before .before .before .before .before .before .before .before .before .before .before .before .before .before .before .before .before .before .pre)) (edges-long (a .n) (a .nf) (a .k) (a .listed) (a .total) w (c .before .before .before .before .before .before .before .before .before .before .before .before .before .before .before .before .before .before .before .before .before .before .before .before .before .before .before .before .before .pre)) (a .candidates .now) (a .face-lists .now) (a .constraints .now) (a .open-edges .now) (c .before .before .before .before .before .before .before .before .before .before .before .before .before .before .before .before .before .before .before .before .before .if1 .left) (c .before .before .before .before .before .before .before .before .before .before .before .before .before .before .before .before .before .before .before .before .if2 .left) (c .before .before .before .before .before .before .before .before .before .before .before .before .before .before .before .before .before .before .before .if3 .left) (c .before .before .before .before .before .before .before .before .before .before .before .before .before .before .before .before .before .before .if4 .left) _ _ _ _ (c .before .before .before .before .before .before .before .before .before .before .before .before .before .before .before .before .write-words .ensures ∙ ap (sets (a .candidates .now) 0) (sym (c .before .before .before .before .before .before .before .before .before .before .before .before .before .before .before .before .before .before .before .before .before .before .before .before .before .before .before .before .before .pre .words))) (c .before .before .before .before .before .before .before .before .before .before .before .before .write-face-lists .ensures) (c .before .before .before .before .before .before .before .write-constraints .ensures ∙ ap (λ (x : ℕ). sets (a .constraints .now) 0 (flat (map unpacked (view w x (a .total))))) (c .before .before .before .before .before .before .before .before .before .constraints-at .ensures)) (c .before .before .write-edges .ensures ∙ ap (λ (x : ℕ). sets (a .open-edges .now) 0 (flat (edgesAt w x (a .k)))) (c .before .before .before .before .open-edges-at .ensures))
+returns-5 c = let a = c .before .before .before .before .before .before .before .before .before .before .before .before .before .before .before .before .before .before .before .before .before .before .before .before .before .before .before .before .before .args in let w = a .w .now in done (standing (a .n) (a .nf) (a .k) (a .total) w) (5 * getD w 6 0) (6 + c .before .before .before .before .before .before .before .before .before .before .before .before .before .before .before .before .before .before .before .before .before .before .listed-numbers .result) (3 * a .total) (3 * a .listed) (candidates-long (a .n) (a .nf) (a .k) (a .listed) (a .total) w (c .before .before .before .before .before .before .before .before .before .before .before .before .before .before .before .before .before .before .before .before .before .before .before .before .before .before .before .before .before .pre)) (all-lists-long (a .n) (a .nf) (a .k) (a .listed) (a .total) w (c .before .before .before .before .before .before .before .before .before .before .before .before .before .before .before .before .before .before .before .before .before .before .before .before .before .before .before .before .before .pre) _ (c .before .before .before .before .before .before .before .before .before .before .before .before .before .before .before .before .before .before .before .before .before .before .listed-numbers .ensures .0)) (constraints-long (a .n) (a .nf) (a .k) (a .listed) (a .total) w (c .before .before .before .before .before .before .before .before .before .before .before .before .before .before .before .before .before .before .before .before .before .before .before .before .before .before .before .before .before .pre)) (edges-long (a .n) (a .nf) (a .k) (a .listed) (a .total) w (c .before .before .before .before .before .before .before .before .before .before .before .before .before .before .before .before .before .before .before .before .before .before .before .before .before .before .before .before .before .pre)) (a .candidates .now) (a .face-lists .now) (a .constraints .now) (a .open-edges .now) (c .before .before .before .before .before .before .before .before .before .before .before .before .before .before .before .before .before .before .before .before .before .if1 .left) (c .before .before .before .before .before .before .before .before .before .before .before .before .before .before .before .before .before .before .before .before .if2 .left) (c .before .before .before .before .before .before .before .before .before .before .before .before .before .before .before .before .before .before .before .if3 .left) (c .before .before .before .before .before .before .before .before .before .before .before .before .before .before .before .before .before .before .if4 .left) _ _ _ _ (c .before .before .before .before .before .before .before .before .before .before .before .before .before .before .before .before .write-words .ensures ∙ ap (sets (a .candidates .now) 0) (sym (c .before .before .before .before .before .before .before .before .before .before .before .before .before .before .before .before .before .before .before .before .before .before .before .before .before .before .before .before .before .pre .words))) (c .before .before .before .before .before .before .before .before .before .before .before .before .write-face-lists .ensures) (c .before .before .before .before .before .before .before .write-constraints .ensures ∙ ap (λ (x : ℕ). sets (a .constraints .now) 0 (constraintWords (map unpacked (view w x (a .total))))) (c .before .before .before .before .before .before .before .before .before .constraints-at .ensures)) (c .before .before .write-edges .ensures ∙ ap (λ (x : ℕ). sets (a .open-edges .now) 0 (openEdgeWords (edgesAt w x (a .k)))) (c .before .before .before .before .open-edges-at .ensures))
 
 pub deliver-spec : {M : Type 1} → statement M
 deliver-spec =
