@@ -16,12 +16,12 @@ use Rattle.lists.specs.Lists.{keep, upFrom, upTo}
 use Rattle.lists.specs.Regions.{view}
 use Rattle.lists.proofs.Regions.{view-length, view-map}
 use Rattle.geometry.specs.Boxes.{faces}
-use Rattle.geometry.specs.Triangles.{tri, vertices, flat}
 use Rattle.lists.proofs.Bools.{cond-true, cond-false}
 use Rattle.lists.proofs.Stores.{sets-append}
 use Rattle.lists.proofs.Sequences.{flat-map, flat-flat, flat-up, flat-below}
-use Rattle.geometry.proofs.Threes.{length-flat}
 use Rattle.box_faces.specs.Faces.{faceBits, hasBit}
+use Rattle.candidate_pool.specs.OpenEdges.{openEdge, openEdgeWords}
+use Rattle.candidate_constraints.specs.Constraints.{Constraint, constraintWords}
 use Rattle.candidate_pool.specs.Offsets.{entryAt, listAt, poolEnd}
 use Rattle.candidate_pool.specs.Pool.{Candidate}
 use Rattle.candidate_pool.specs.Standing.{facesIn, countAt, candidateAt, poolAt, Stored, Holds, edgeAt, edgesAt}
@@ -93,40 +93,50 @@ module _ (n : ℕ) (w : List ℕ) (size : poolEnd n ≤ length w) (short : (f : 
         long 5 (omega arith) (omega arith),
       ))
 
+-- ---- three words each
+
+pub threes-long : {A : Type 0} (f : A → List ℕ) → ((x : A) → length (f x) ≡ 3) → (l : List A) → length (flatMap f l) ≡ 3 * length l
+unfolding flatMap
+threes-long f h [] = refl
+threes-long f h (x ∷ l) = let a = length-append (f x) (flatMap f l) in let b = h x in let c = threes-long f h l in omega arith
+
 -- ---- constraints
 
-abbrev pub keyBlock : List ℕ → ℕ → ℕ → List ℕ
-keyBlock w at i = vertices (unpacked (getD w (at + i) 0))
+abbrev constraintWord : Constraint → List ℕ
+constraintWord c = c .face ∷ c .smaller ∷ c .greater ∷ []
 
-pub keys-are : (w : List ℕ) (at total : ℕ) → at + total ≤ length w → flatMap (keyBlock w at) (upTo total) ≡ flat (map unpacked (view w at total))
+abbrev pub keyBlock : List ℕ → ℕ → ℕ → List ℕ
+keyBlock w at i = constraintWord (unpacked (getD w (at + i) 0))
+
+pub keys-are : (w : List ℕ) (at total : ℕ) → at + total ≤ length w → flatMap (keyBlock w at) (upTo total) ≡ constraintWords (map unpacked (view w at total))
 keys-are w at total h =
     sym
-    (flat-map vertices unpacked (view w at total) ∙ ap (flatMap (λ x. vertices (unpacked x))) (view-map w at total h)
-    ∙ flat-map (λ x. vertices (unpacked x)) (λ i. getD w (at + i) 0) (upTo total))
+    (flat-map constraintWord unpacked (view w at total) ∙ ap (flatMap (λ x. constraintWord (unpacked x))) (view-map w at total h)
+    ∙ flat-map (λ x. constraintWord (unpacked x)) (λ i. getD w (at + i) 0) (upTo total))
 
 pub keys-long : (w : List ℕ) (at total : ℕ) → at + total ≤ length w → length (flatMap (keyBlock w at) (upTo total)) ≡ 3 * total
 keys-long w at total h =
-    ap length (keys-are w at total h) ∙ length-flat (map unpacked (view w at total))
+    ap length (keys-are w at total h) ∙ threes-long constraintWord (λ c. refl) (map unpacked (view w at total))
     ∙ ap (λ (x : ℕ). 3 * x) (length-map (view w at total) unpacked ∙ view-length w at total h)
 
 -- ---- open edges
 
 module _ (mask a b : ℕ) where
-  flat-kept : (l : List ℕ) → flatMap (faceWords mask a b) l ≡ flat (map (λ f. tri f a b) (keep (hasBit mask) l))
+  flat-kept : (l : List ℕ) → flatMap (faceWords mask a b) l ≡ openEdgeWords (map (λ f. openEdge f a b) (keep (hasBit mask) l))
   unfolding flatMap keep
   flat-kept [] = refl
   flat-kept (f ∷ l) = go (hasBit mask f) (flat-kept l)
     where
-      go : (p : Bool) → flatMap (faceWords mask a b) l ≡ flat (map (λ f. tri f a b) (keep (hasBit mask) l))
-          → cond p (f ∷ a ∷ b ∷ []) [] ++ flatMap (faceWords mask a b) l ≡ flat (map (λ f. tri f a b) (cond p (f ∷ keep (hasBit mask) l) (keep (hasBit mask) l)))
+      go : (p : Bool) → flatMap (faceWords mask a b) l ≡ openEdgeWords (map (λ f. openEdge f a b) (keep (hasBit mask) l))
+          → cond p (f ∷ a ∷ b ∷ []) [] ++ flatMap (faceWords mask a b) l ≡ openEdgeWords (map (λ f. openEdge f a b) (cond p (f ∷ keep (hasBit mask) l) (keep (hasBit mask) l)))
       go true e = ap (λ (r : List ℕ). f ∷ a ∷ b ∷ r) e
       go false e = e
 
-  pub faces-are : flatMap (faceWords mask a b) (upTo 6) ≡ flat (map (λ f. tri f a b) (facesIn mask))
+  pub faces-are : flatMap (faceWords mask a b) (upTo 6) ≡ openEdgeWords (map (λ f. openEdge f a b) (facesIn mask))
   unfolding upFrom
   faces-are = flat-kept faces
 
-  pub faces-long : length (flatMap (faceWords mask a b) (upTo 6)) ≡ length (flat (map (λ f. tri f a b) (facesIn mask)))
+  pub faces-long : length (flatMap (faceWords mask a b) (upTo 6)) ≡ length (openEdgeWords (map (λ f. openEdge f a b) (facesIn mask)))
   faces-long = ap length faces-are
 
   pub face-taken : (f : ℕ) → hasBit mask f ≡ true → faceWords mask a b f ≡ f ∷ a ∷ b ∷ []
@@ -136,11 +146,11 @@ module _ (mask a b : ℕ) where
   face-left f e = cond-false (hasBit mask f) (f ∷ a ∷ b ∷ []) [] [] e refl
 
 abbrev pub edgeBlock : List ℕ → ℕ → ℕ → List ℕ
-edgeBlock w at i = flat (edgeAt w (at + 3 * i))
+edgeBlock w at i = openEdgeWords (edgeAt w (at + 3 * i))
 
-pub edges-are : (w : List ℕ) (at k : ℕ) → flatMap (edgeBlock w at) (upTo k) ≡ flat (edgesAt w at k)
+pub edges-are : (w : List ℕ) (at k : ℕ) → flatMap (edgeBlock w at) (upTo k) ≡ openEdgeWords (edgesAt w at k)
 unfolding edgesAt
-edges-are w at k = sym (flat-flat vertices (λ i. edgeAt w (at + 3 * i)) (upTo k))
+edges-are w at k = sym (flat-flat (λ e. e .face ∷ e .from ∷ e .to ∷ []) (λ i. edgeAt w (at + 3 * i)) (upTo k))
 
 -- ---- candidates
 

@@ -11,9 +11,10 @@ use mathlib.Core.Path.{_≡_, refl, sym, ap, subst, _∙_}
 use lib.ListN.{length}
 use lib.Seq.{sets}
 use lib.Ieee.{Float}
+use Rattle.candidate_pool.specs.OpenEdges.{openEdgeWords}
+use Rattle.candidate_constraints.specs.Constraints.{constraintWords}
 use Rattle.lists.proofs.Bools.{cond-true, cond-false, or-stop, or-next}
 use Rattle.words.proofs.Overlay.{sets-overlay}
-use Rattle.geometry.specs.Triangles.{flat}
 use Rattle.geometry.specs.Meshes.{meshOf}
 use Rattle.refusals.specs.declared.refusal.Refusal.{Refusal}
 use Rattle.refusals.specs.declared.refusal.Refusal.the-variants.{NoRoom}
@@ -31,8 +32,8 @@ use Rattle.boundary_closure.specs.Steps.{surfaceResult}
 
 -- ---- test 12: results of the lengths x, y, z and u
 
-module _ (r : Candidates) (x y z u : ℕ) (ex : x ≡ length (candidateWords (r .all))) (ey : y ≡ length (listWords (r .lists))) (ez : z ≡ length (flat (r .constraints)))
-    (eu : u ≡ length (flat (r .edges))) (c l k e : List ℕ) where
+module _ (r : Candidates) (x y z u : ℕ) (ex : x ≡ length (candidateWords (r .all))) (ey : y ≡ length (listWords (r .lists))) (ez : z ≡ length (constraintWords (r .constraints)))
+    (eu : u ≡ length (openEdgeWords (r .edges))) (c l k e : List ℕ) where
   abbrev first : List ℕ → Output
   first c' = output (candidateWords (r .all)) c c'
 
@@ -40,10 +41,10 @@ module _ (r : Candidates) (x y z u : ℕ) (ex : x ≡ length (candidateWords (r 
   second l' = output (listWords (r .lists)) l l'
 
   abbrev third : List ℕ → Output
-  third k' = output (flat (r .constraints)) k k'
+  third k' = output (constraintWords (r .constraints)) k k'
 
   abbrev fourth : List ℕ → Output
-  fourth e' = output (flat (r .edges)) e e'
+  fourth e' = output (openEdgeWords (r .edges)) e e'
 
   abbrev Short : ℕ → Type 0
   Short n = Answer [] (candidateOutputs r c c l l k k e e) (documentedReply (Refused (NoRoom n)))
@@ -66,21 +67,21 @@ module _ (r : Candidates) (x y z u : ℕ) (ex : x ≡ length (candidateWords (r 
       short-constraints h = short (first c ∷ second l ∷ []) (third k) (fourth e ∷ []) z ez (fit-one, (fit-two, tt)) h (refl, (refl, (refl, (refl, tt))))
 
       module _ (hz : z ≤ length k) where
-        fit-three : length (flat (r .constraints)) ≤ length k
+        fit-three : length (constraintWords (r .constraints)) ≤ length k
         fit-three = omega (arith, ez, hz)
 
         pub short-edges : length e < u → Short u
         short-edges h = short (first c ∷ second l ∷ third k ∷ []) (fourth e) [] u eu (fit-one, (fit-two, (fit-three, tt))) h (refl, (refl, (refl, (refl, tt))))
 
-        pub done : u ≤ length e → (c' l' k' e' : List ℕ) → c' ≡ sets c 0 (candidateWords (r .all)) → l' ≡ sets l 0 (listWords (r .lists)) → k' ≡ sets k 0 (flat (r .constraints))
-            → e' ≡ sets e 0 (flat (r .edges)) → Answer [] (candidateOutputs r c c' l l' k k' e e') (documentedReply (DoneFour x y z u))
+        pub done : u ≤ length e → (c' l' k' e' : List ℕ) → c' ≡ sets c 0 (candidateWords (r .all)) → l' ≡ sets l 0 (listWords (r .lists)) → k' ≡ sets k 0 (constraintWords (r .constraints))
+            → e' ≡ sets e 0 (openEdgeWords (r .edges)) → Answer [] (candidateOutputs r c c' l l' k k' e e') (documentedReply (DoneFour x y z u))
         done hu c' l' k' e' hc hl hk he =
-            let fit-four : length (flat (r .edges)) ≤ length e = omega (arith, eu, hu) in
+            let fit-four : length (openEdgeWords (r .edges)) ≤ length e = omega (arith, eu, hu) in
             done-four (first c') (second l') (third k') (fourth e') x y z u ex ey ez eu (fit-one, (fit-two, (fit-three, (fit-four, tt)))) (
               hc ∙ sets-overlay (candidateWords (r .all)) c fit-one,
               (
                 hl ∙ sets-overlay (listWords (r .lists)) l fit-two,
-                (hk ∙ sets-overlay (flat (r .constraints)) k fit-three, (he ∙ sets-overlay (flat (r .edges)) e fit-four, tt)),
+                (hk ∙ sets-overlay (constraintWords (r .constraints)) k fit-three, (he ∙ sets-overlay (openEdgeWords (r .edges)) e fit-four, tt)),
               ),
             )
 

@@ -12,15 +12,15 @@ use Rattle.lists.specs.Lists.{upFrom, upTo}
 use Rattle.lists.specs.Regions.{view}
 use Rattle.lists.proofs.Regions.{view-length}
 use Rattle.lists.proofs.Sequences.{flat-up}
-use Rattle.geometry.specs.Triangles.{flat}
-use Rattle.geometry.proofs.Threes.{length-flat}
 use Rattle.box_faces.specs.Faces.{hasBit}
+use Rattle.candidate_pool.specs.OpenEdges.{openEdgeWords}
+use Rattle.candidate_constraints.specs.Constraints.{constraintWords}
 use Rattle.candidate_pool.specs.Offsets.{poolEnd, constraintsAt, openEdgesAt}
 use Rattle.candidate_pool.specs.Standing.{countAt, poolAt, edgesAt}
 use Rattle.candidate_constraints.specs.Steps.{unpacked}
 use Rattle.boundary_closure.specs.Candidates.{candidateWords, listWords}
 use Rattle.boundary_closure.specs.Steps.{faceWords, Readable}
-use Rattle.boundary_closure.proofs.Blocks.{edgeBlock, faces-are, edges-are, lists-long, numbers-long}
+use Rattle.boundary_closure.proofs.Blocks.{threes-long, edgeBlock, faces-are, edges-are, lists-long, numbers-long}
 
 pub blocks-few : (block : ℕ → List ℕ) (m k : ℕ) → ((i : ℕ) → length (block i) ≤ m) → length (flatMap block (upTo k)) ≤ k * m
 unfolding upFrom flatMap
@@ -59,15 +59,15 @@ module _ (n nf k listed total : ℕ) (w : List ℕ) (R : Readable n nf k listed 
   pub all-lists-long : (s : ℕ) → s ≡ getD w 0 0 + (getD w 1 0 + (getD w 2 0 + (getD w 3 0 + (getD w 4 0 + getD w 5 0)))) → 6 + s ≡ length (listWords (poolAt n w .lists))
   all-lists-long s e = let a = lists-long n w size (R .short) in let b = numbers-long n w size (R .short) in omega (arith, a, b, e)
 
-  pub constraints-long : 3 * total ≡ length (flat (map unpacked (view w (constraintsAt n nf) total)))
+  pub constraints-long : 3 * total ≡ length (constraintWords (map unpacked (view w (constraintsAt n nf) total)))
   constraints-long =
       sym
-      (length-flat (map unpacked (view w (constraintsAt n nf) total))
+      (threes-long (λ c. c .face ∷ c .smaller ∷ c .greater ∷ []) (λ c. refl) (map unpacked (view w (constraintsAt n nf) total))
       ∙ ap (λ (x : ℕ). 3 * x)
       (length-map (view w (constraintsAt n nf) total) unpacked ∙ view-length w (constraintsAt n nf) total (let a = R .size in let b = R .constraints in omega arith)))
 
-  pub edges-long : 3 * listed ≡ length (flat (edgesAt w (openEdgesAt n nf) k))
-  edges-long = ap (λ (x : ℕ). 3 * x) (R .faces-listed) ∙ sym (length-flat (edgesAt w (openEdgesAt n nf) k))
+  pub edges-long : 3 * listed ≡ length (openEdgeWords (edgesAt w (openEdgesAt n nf) k))
+  edges-long = ap (λ (x : ℕ). 3 * x) (R .faces-listed) ∙ sym (threes-long (λ e. e .face ∷ e .from ∷ e .to ∷ []) (λ e. refl) (edgesAt w (openEdgesAt n nf) k))
 
   pub edges-few : 3 * listed ≤ 54 * nf
   edges-few =

@@ -5,21 +5,21 @@ use Prim.Native.Nat.{ℕ}
 use mathlib.Core.List.{List, [], _∷_, _++_, map, flatMap, foldl}
 use lib.ListN.{length}
 use lib.Ieee.{binary64, toBits}
-use Rattle.geometry.specs.Triangles.{Triangle}
 use Rattle.geometry.specs.Boxes.{faces}
 use Rattle.geometry.specs.Meshes.{Mesh}
 use Rattle.box_faces.specs.Faces.{faceBits}
+use Rattle.candidate_pool.specs.OpenEdges.{OpenEdge}
 use Rattle.candidate_pool.specs.Pool.{Candidate, insert}
 use Rattle.candidate_pool.specs.Setting.{Setting}
 use Rattle.candidate_edges.specs.Surface.{edgeSurface, meshPool}
 use Rattle.candidate_grids.specs.Grid.{grid}
-use Rattle.candidate_constraints.specs.Constraints.{faceConstraints}
+use Rattle.candidate_constraints.specs.Constraints.{Constraint, faceConstraints}
 
 pub record Candidates : Type 0 where
   pub all : List Candidate
   pub lists : List (List ℕ)
-  pub constraints : List (Triangle ℕ)
-  pub edges : List (Triangle ℕ)
+  pub constraints : List Constraint
+  pub edges : List OpenEdge
 
 abbrev pub noCandidates : Candidates
 noCandidates = record { all = []; lists = []; constraints = []; edges = [] }

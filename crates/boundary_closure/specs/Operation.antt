@@ -12,7 +12,6 @@ use lib.Dec.{eqb, ltb}
 use lib.ListN.{getD, length}
 use lib.Ieee.{Float}
 use Rattle.lists.specs.Lists.{every, place}
-use Rattle.geometry.specs.Triangles.{flat}
 use Rattle.geometry.specs.Meshes.{Mesh, meshOf}
 use Rattle.geometry.specs.Axes.{gridSize}
 use Rattle.edges.specs.Edges.{sortedPair, openEdges}
@@ -20,7 +19,9 @@ use Rattle.refusals.specs.declared.refusal.Refusal.the-variants.{BadNumber, Bad
 use Rattle.refusals.specs.Refusals.{Test, unless}
 use Rattle.refusals.specs.Answers.{Output, output}
 use Rattle.refusals.specs.Front.{ceiling, listTests, inRange, epsInRange, resolutionInRange, boxInRange, badBox, gridTooFine, workNeed, workTest, farKeys, boxFarKeys}
+use Rattle.candidate_pool.specs.OpenEdges.{openEdgeWords}
 use Rattle.candidate_pool.specs.Pool.{byKey}
+use Rattle.candidate_constraints.specs.Constraints.{constraintWords}
 use Rattle.candidate_edges.specs.Surface.{edgeFaces, edgeSurface}
 use Rattle.boundary_closure.specs.Asked.{Asked, oneResolution, setting}
 use Rattle.boundary_closure.specs.Candidates.{Candidates, noCandidates, candidates, candidateWords, listWords}
@@ -65,9 +66,9 @@ module _ (vs : List Float) (fs : List ℕ) (q : Asked) where
 
 -- the lengths of the four results
 abbrev pub candidateLengths : Candidates → List ℕ
-candidateLengths r = length (candidateWords (r .all)) ∷ length (listWords (r .lists)) ∷ length (flat (r .constraints)) ∷ length (flat (r .edges)) ∷ []
+candidateLengths r = length (candidateWords (r .all)) ∷ length (listWords (r .lists)) ∷ length (constraintWords (r .constraints)) ∷ length (openEdgeWords (r .edges)) ∷ []
 
 -- "candidates, face lists, constraints, open edges", from c, l, k and e to c', l', k' and e'
 abbrev pub candidateOutputs : Candidates → List ℕ → List ℕ → List ℕ → List ℕ → List ℕ → List ℕ → List ℕ → List ℕ → List Output
 candidateOutputs r c c' l l' k k' e e' =
-    output (candidateWords (r .all)) c c' ∷ output (listWords (r .lists)) l l' ∷ output (flat (r .constraints)) k k' ∷ output (flat (r .edges)) e e' ∷ []
+    output (candidateWords (r .all)) c c' ∷ output (listWords (r .lists)) l l' ∷ output (constraintWords (r .constraints)) k k' ∷ output (openEdgeWords (r .edges)) e e' ∷ []

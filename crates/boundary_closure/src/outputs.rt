@@ -6,7 +6,8 @@ ghost use lib.ListN.{length, getD};
 ghost use lib.Seq.{sets};
 ghost use Rattle.lists.specs.Regions.{view};
 ghost use Rattle.geometry.specs.Boxes.{faces};
-ghost use Rattle.geometry.specs.Triangles.{flat};
+ghost use Rattle.candidate_pool.specs.OpenEdges.{openEdgeWords};
+ghost use Rattle.candidate_constraints.specs.Constraints.{constraintWords};
 ghost use Rattle.candidate_pool.specs.Offsets.{poolEnd};
 ghost use Rattle.candidate_pool.specs.Standing.{edgeAt, edgesAt, poolAt};
 ghost use Rattle.candidate_constraints.specs.Steps.{unpacked};
@@ -73,7 +74,7 @@ fn write_face_lists(w: &[u64], n: usize, out: &mut [u64])
 // "face and two places"
 fn write_constraints(w: &[u64], at: usize, total: usize, out: &mut [u64])
     requires { ⌜ (at + total ≤ length (now w)) × (3 * total ≤ length (now out)) ⌝ }
-    ensures { λ _. ⌜ now (out .exit) ≡ sets (now (out .entry)) 0 (flat (map unpacked (view (now (w .entry)) at total))) ⌝ }
+    ensures { λ _. ⌜ now (out .exit) ≡ sets (now (out .entry)) 0 (constraintWords (map unpacked (view (now (w .entry)) at total))) ⌝ }
 {
     let mut o = 0;
     let mut i = 0;
@@ -106,8 +107,8 @@ fn write_face(out: &mut [u64], at: usize, mask: u64, face: usize, a: u64, b: u64
 // The same for each of the edge's faces.
 fn write_edge(w: &[u64], edge: usize, out: &mut [u64], at: usize) -> usize
     requires { ⌜ edge + 2 < length (now w) ⌝ }
-    requires { ⌜ at + length (flat (edgeAt (now w) edge)) ≤ length (now out) ⌝ }
-    ensures { λ r. ⌜ (r ≡ at + length (flat (edgeAt (now (w .entry)) edge))) × (now (out .exit) ≡ sets (now (out .entry)) at (flat (edgeAt (now (w .entry)) edge))) ⌝ }
+    requires { ⌜ at + length (openEdgeWords (edgeAt (now w) edge)) ≤ length (now out) ⌝ }
+    ensures { λ r. ⌜ (r ≡ at + length (openEdgeWords (edgeAt (now (w .entry)) edge))) × (now (out .exit) ≡ sets (now (out .entry)) at (openEdgeWords (edgeAt (now (w .entry)) edge))) ⌝ }
 {
     let mask = w[edge + 2];
     let mut o = at;
@@ -122,8 +123,8 @@ fn write_edge(w: &[u64], edge: usize, out: &mut [u64], at: usize) -> usize
 // The same for each of the k open edges.
 fn write_edges(w: &[u64], edges: usize, k: usize, out: &mut [u64])
     requires { ⌜ edges + 3 * k ≤ length (now w) ⌝ }
-    requires { ⌜ length (flat (edgesAt (now w) edges k)) ≤ length (now out) ⌝ }
-    ensures { λ _. ⌜ now (out .exit) ≡ sets (now (out .entry)) 0 (flat (edgesAt (now (w .entry)) edges k)) ⌝ }
+    requires { ⌜ length (openEdgeWords (edgesAt (now w) edges k)) ≤ length (now out) ⌝ }
+    ensures { λ _. ⌜ now (out .exit) ≡ sets (now (out .entry)) 0 (openEdgeWords (edgesAt (now (w .entry)) edges k)) ⌝ }
 {
     let mut o = 0;
     let mut i = 0;

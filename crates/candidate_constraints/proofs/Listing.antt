@@ -23,14 +23,14 @@ use Rattle.sorting.specs.Runs.{runs, firstKey}
 use Rattle.sorting.specs.Sorting.{sorted}
 use Rattle.sorting.proofs.Sorting.{SortedPart}
 use Rattle.geometry.specs.declared.aabb.AABB.{AABB}
-use Rattle.geometry.specs.Triangles.{Triangle, tri}
 use Rattle.box_faces.specs.Sides.{faceSides}
 use Rattle.edges.specs.Edges.{sortedPair, samePair, pairBefore}
+use Rattle.candidate_pool.specs.OpenEdges.{OpenEdge}
 use Rattle.candidate_pool.specs.Offsets.{poolEnd, placesAt, sideAt, pairsAt, constraintsAt, openEdgesAt, roomEnd}
 use Rattle.candidate_pool.specs.Pool.{Pool, faceList}
 use Rattle.candidate_pool.specs.Standing.{poolAt, edgesAt, EdgesHeld}
 use Rattle.candidate_pool.proofs.Reading.{list-length}
-use Rattle.candidate_constraints.specs.Constraints.{neighbours, sideOrder, edgePlaces, faceConstraints}
+use Rattle.candidate_constraints.specs.Constraints.{Constraint, constraint, neighbours, sideOrder, edgePlaces, faceConstraints}
 use Rattle.candidate_constraints.specs.Steps.{unpacked, Constrained, Kept, Shown, Roomy, Placed, sidePlaces, pairRecord, sidePairs, edgePairs, allPairs, Pushed, Distinct, FaceListed}
 use Rattle.candidate_constraints.proofs.Frames.{kept-same, kept-wider, kept-then, kept-sorted, view-above}
 use Rattle.candidate_constraints.proofs.Showing.{pool-same, shown-same, edges-after, held-after}
@@ -98,17 +98,17 @@ neighbours-low b h [] e = tt
 neighbours-low b h (x ∷ []) e = tt
 neighbours-low b h (x ∷ y ∷ l) e = ((omega (arith, e .0), omega (arith, e .1 .0)), neighbours-low b h (y ∷ l) (e .1))
 
-pub pairs-low : (box : AABB) (eps : Float) (p : Pool) (f : ℕ) (edges : List (Triangle ℕ)) → length (faceList p f) < 2097152 → Each Low (allPairs box eps p f edges)
+pub pairs-low : (box : AABB) (eps : Float) (p : Pool) (f : ℕ) (edges : List OpenEdge) → length (faceList p f) < 2097152 → Each Low (allPairs box eps p f edges)
 pairs-low box eps p f edges h =
     each-append Low (sidePairs box eps p f) (edgePairs p f edges)
     (each-flat Low (λ s. neighbours (sidePlaces eps p f s)) (faceSides box f) (λ s. neighbours-low (length (faceList p f)) (omega arith) (sidePlaces eps p f s) (places-low eps p f s)))
-    (each-mapped Low (λ e. (place (eqb (e .b)) (faceList p f), place (eqb (e .c)) (faceList p f))) (keep (λ e. eqb (e .a) f) edges)
-    (each-any (λ (e : Triangle ℕ). Low (place (eqb (e .b)) (faceList p f), place (eqb (e .c)) (faceList p f))) (keep (λ e. eqb (e .a) f) edges)
-    (λ e. (omega (arith, place-le (eqb (e .b)) (faceList p f)), omega (arith, place-le (eqb (e .c)) (faceList p f))))))
+    (each-mapped Low (λ e. (place (eqb (e .from)) (faceList p f), place (eqb (e .to)) (faceList p f))) (keep (λ e. eqb (e .face) f) edges)
+    (each-any (λ (e : OpenEdge). Low (place (eqb (e .from)) (faceList p f), place (eqb (e .to)) (faceList p f))) (keep (λ e. eqb (e .face) f) edges)
+    (λ e. (omega (arith, place-le (eqb (e .from)) (faceList p f)), omega (arith, place-le (eqb (e .to)) (faceList p f))))))
 
 -- ---- face_constraints
 module _ (box : AABB) (eps : Float) (n nf k f total : ℕ) (w : List ℕ) (o : Shown n w) (room : Roomy n nf w) (hf : f < 6) (ht : total + (4 * n + 3 * nf) ≤ 24 * n + 18 * nf) where
-  abbrev E : List (Triangle ℕ)
+  abbrev E : List OpenEdge
   E = edgesAt w (openEdgesAt n nf) k
 
   pub face-none : getD w f 0 < 3 → FaceListed box eps n nf k f total total w w
@@ -118,16 +118,16 @@ module _ (box : AABB) (eps : Float) (n nf k f total : ℕ) (w : List ℕ) (o : S
         few = omega arith;
         listed =
             sym (ap (λ (b : Bool). map unpacked (view w (constraintsAt n nf) total)
-            ++ cond b [] (map (λ q. tri f (sortedPair q .0) (sortedPair q .1)) (distinct samePair (sortBy pairBefore
+            ++ cond b [] (map (λ q. constraint f (sortedPair q .0) (sortedPair q .1)) (distinct samePair (sortBy pairBefore
             (flatMap (λ s. neighbours (sideOrder box eps E (poolAt n w) f s)) (faceSides box f) ++ edgePlaces box eps E (poolAt n w) f)))))
             (lt-ltb (length (faceList (poolAt n w) f)) 3 (omega (arith, list-length n w f (o .size) (o .lengths f hf) hf))) ∙ append-nil (map unpacked (view w (constraintsAt n nf) total)));
         kept = kept-same (placesAt n) (openEdgesAt n nf) w;
       }
 
-  as-defined : 3 ≤ getD w f 0 → map (λ q. tri f (sortedPair q .0) (sortedPair q .1)) (distinct samePair (sortBy pairBefore (allPairs box eps (poolAt n w) f E))) ≡ faceConstraints box eps E (poolAt n w) f
+  as-defined : 3 ≤ getD w f 0 → map (λ q. constraint f (sortedPair q .0) (sortedPair q .1)) (distinct samePair (sortBy pairBefore (allPairs box eps (poolAt n w) f E))) ≡ faceConstraints box eps E (poolAt n w) f
   unfolding faceConstraints sideOrder sidePlaces edgePlaces
   as-defined h =
-      ap (λ (b : Bool). cond b [] (map (λ q. tri f (sortedPair q .0) (sortedPair q .1)) (distinct samePair (sortBy pairBefore (allPairs box eps (poolAt n w) f E)))))
+      ap (λ (b : Bool). cond b [] (map (λ q. constraint f (sortedPair q .0) (sortedPair q .1)) (distinct samePair (sortBy pairBefore (allPairs box eps (poolAt n w) f E)))))
       (sym (le-ltb (length (faceList (poolAt n w) f)) 3 (omega (arith, list-length n w f (o .size) (o .lengths f hf) hf))))
 
   module _ (w1 w2 w3 : List ℕ) (c r at : ℕ) (p : Pushed n f (placesAt n) (4 * n + 3 * nf) (allPairs box eps (poolAt n w) f E) 0 c w w1) (ea : at ≡ pairsAt n) (s : SortedPart w1 w2 at c) where
@@ -152,7 +152,7 @@ module _ (box : AABB) (eps : Float) (n nf k f total : ℕ) (w : List ℕ) (o : S
           listed =
               ap (map unpacked) (d .listed ∙ (λ t. view-above (placesAt n) C C total w w2 kept1 (omega arith) (omega (arith, room .room)) t ++ map firstKey (runs (in-order t))))
               ∙ map-append unpacked (view w C total) (map firstKey (runs (sorted (map (pairRecord f) (allPairs box eps (poolAt n w) f E)))))
-              ∙ ap (λ (l : List (Triangle ℕ)). map unpacked (view w C total) ++ l)
+              ∙ ap (λ (l : List Constraint). map unpacked (view w C total) ++ l)
               (listed-once f (allPairs box eps (poolAt n w) f E) (pairs-low box eps (poolAt n w) f E (omega (arith, list-length n w f (o .size) (o .lengths f hf) hf, o .lengths f hf, room .small))) ∙ as-defined h);
           kept =
               kept-then (placesAt n) (openEdgesAt n nf) w w2 w3
@@ -162,7 +162,7 @@ module _ (box : AABB) (eps : Float) (n nf k f total : ℕ) (w : List ℕ) (o : S
 
 -- ---- all_constraints
 module _ (box : AABB) (eps : Float) (n nf k : ℕ) (w₀ : List ℕ) where
-  abbrev pub ofFace : ℕ → List (Triangle ℕ)
+  abbrev pub ofFace : ℕ → List Constraint
   ofFace f = faceConstraints box eps (edgesAt w₀ (openEdgesAt n nf) k) (poolAt n w₀) f
 
   pub record Faced (w : List ℕ) (total f : ℕ) : Type 0 where

@@ -32,6 +32,7 @@ use Rattle.edges.proofs.Keys.{both-ways}
 use Rattle.candidate_constraints.specs.Steps.{Kept, Roomy, unpacked, pairKey, pairRecord, Distinct}
 use Rattle.candidate_constraints.proofs.Frames.{kept-same, kept-set, kept-then}
 use Rattle.candidate_pool.specs.Offsets.{pairsAt, constraintsAt, openEdgesAt}
+use Rattle.candidate_constraints.specs.Constraints.{constraint}
 
 -- ---- keep_distinct
 module _ (n nf c total : ℕ) (w₀ : List ℕ) where
@@ -165,11 +166,11 @@ module _ (f : ℕ) where
         and-no true = refl
         and-no false = refl
 
-  key-unpacked : (q : ℕ × ℕ) → Low q → unpacked (pairKey f q) ≡ tri f (sortedPair q .0) (sortedPair q .1)
+  key-unpacked : (q : ℕ × ℕ) → Low q → unpacked (pairKey f q) ≡ constraint f (sortedPair q .0) (sortedPair q .1)
   key-unpacked q a =
       let h0 : sortedPair q .0 < 2097152 = omega (arith, a .0, a .1) in
       let h1 : sortedPair q .1 < 2097152 = omega (arith, a .0, a .1) in
-      λ t. tri (triple-first f (sortedPair q .0) (sortedPair q .1) h0 h1 t) (triple-second f (sortedPair q .0) (sortedPair q .1) h0 h1 t)
+      λ t. constraint (triple-first f (sortedPair q .0) (sortedPair q .1) h0 h1 t) (triple-second f (sortedPair q .0) (sortedPair q .1) h0 h1 t)
       (triple-third f (sortedPair q .0) (sortedPair q .1) h0 h1 t)
 
   agree-all : (l : List (ℕ × ℕ)) → Each Low l → Pairwise (Agree (pairRecord f) pairBefore recordBefore) l
@@ -219,12 +220,12 @@ module _ (f : ℕ) where
   map-key [] = refl
   map-key (x ∷ l) = ap (λ (m : List ℕ). pairKey f x ∷ m) (map-key l)
 
-  map-unpacked : (l : List (ℕ × ℕ)) → Each Low l → map unpacked (map (pairKey f) l) ≡ map (λ q. tri f (sortedPair q .0) (sortedPair q .1)) l
+  map-unpacked : (l : List (ℕ × ℕ)) → Each Low l → map unpacked (map (pairKey f) l) ≡ map (λ q. constraint f (sortedPair q .0) (sortedPair q .1)) l
   map-unpacked [] h = refl
   map-unpacked (x ∷ l) h = λ t. key-unpacked x (h .0) t ∷ map-unpacked l (h .1) t
 
   pub listed-once : (l : List (ℕ × ℕ)) → Each Low l
-      → map unpacked (map firstKey (runs (sorted (map (pairRecord f) l)))) ≡ map (λ q. tri f (sortedPair q .0) (sortedPair q .1)) (distinct samePair (sortBy pairBefore l))
+      → map unpacked (map firstKey (runs (sorted (map (pairRecord f) l)))) ≡ map (λ q. constraint f (sortedPair q .0) (sortedPair q .1)) (distinct samePair (sortBy pairBefore l))
   listed-once l h =
       let s = sortBy pairBefore l in
       let e : map (pairRecord f) s ≡ sorted (map (pairRecord f) l) = map-sortBy (pairRecord f) pairBefore recordBefore l (agree-all l h) in

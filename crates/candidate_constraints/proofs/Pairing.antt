@@ -17,8 +17,8 @@ use Rattle.lists.proofs.Sequences.{flat-up}
 use Rattle.sorting.specs.Buffer.{putRecord, recordsAt}
 use Rattle.sorting.proofs.Records.{length-records-at, records-at-get, put-same}
 use Rattle.geometry.specs.Boxes.{faces}
-use Rattle.geometry.specs.Triangles.{Triangle, tri}
 use Rattle.box_faces.specs.Faces.{hasBit}
+use Rattle.candidate_pool.specs.OpenEdges.{OpenEdge, openEdge}
 use Rattle.candidate_pool.specs.Offsets.{placesAt, sideAt, pairsAt, openEdgesAt}
 use Rattle.candidate_pool.specs.Pool.{Pool, faceList}
 use Rattle.candidate_pool.specs.Standing.{facesIn, poolAt, edgeAt, edgesAt, EdgesHeld}
@@ -196,19 +196,19 @@ face-only (suc (suc (suc (suc (suc (suc f)))))) mask h = absurd (omega arith)
 
 module _ (p : Pool) (f : ℕ) (hf : f < 6) (w : List ℕ) (at : ℕ) where
   edge-at : edgePairs p f (edgeAt w at)
-      ≡ map (λ (e : Triangle ℕ). (place (eqb (e .b)) (faceList p f), place (eqb (e .c)) (faceList p f)))
-      (map (λ g. tri g (getD w at 0) (getD w (at + 1) 0)) (cond (hasBit (getD w (at + 2) 0) f) (f ∷ []) []))
+      ≡ map (λ (e : OpenEdge). (place (eqb (e .from)) (faceList p f), place (eqb (e .to)) (faceList p f)))
+      (map (λ g. openEdge g (getD w at 0) (getD w (at + 1) 0)) (cond (hasBit (getD w (at + 2) 0) f) (f ∷ []) []))
   edge-at =
-      ap (map (λ (e : Triangle ℕ). (place (eqb (e .b)) (faceList p f), place (eqb (e .c)) (faceList p f))))
-      (keep-map (λ g. tri g (getD w at 0) (getD w (at + 1) 0)) (λ e. eqb (e .a) f) (hasBit (getD w (at + 2) 0)) faces
-      ∙ ap (map (λ g. tri g (getD w at 0) (getD w (at + 1) 0))) (face-only f (getD w (at + 2) 0) hf))
+      ap (map (λ (e : OpenEdge). (place (eqb (e .from)) (faceList p f), place (eqb (e .to)) (faceList p f))))
+      (keep-map (λ g. openEdge g (getD w at 0) (getD w (at + 1) 0)) (λ e. eqb (e .face) f) (hasBit (getD w (at + 2) 0)) faces
+      ∙ ap (map (λ g. openEdge g (getD w at 0) (getD w (at + 1) 0))) (face-only f (getD w (at + 2) 0) hf))
 
   edge-by : (b : Bool) → hasBit (getD w (at + 2) 0) f ≡ b → edgePairs p f (edgeAt w at)
-      ≡ map (λ (e : Triangle ℕ). (place (eqb (e .b)) (faceList p f), place (eqb (e .c)) (faceList p f)))
-      (map (λ g. tri g (getD w at 0) (getD w (at + 1) 0)) (cond b (f ∷ []) []))
+      ≡ map (λ (e : OpenEdge). (place (eqb (e .from)) (faceList p f), place (eqb (e .to)) (faceList p f)))
+      (map (λ g. openEdge g (getD w at 0) (getD w (at + 1) 0)) (cond b (f ∷ []) []))
   edge-by b e =
-      edge-at ∙ ap (λ (b : Bool). map (λ (e : Triangle ℕ). (place (eqb (e .b)) (faceList p f), place (eqb (e .c)) (faceList p f)))
-      (map (λ g. tri g (getD w at 0) (getD w (at + 1) 0)) (cond b (f ∷ []) []))) e
+      edge-at ∙ ap (λ (b : Bool). map (λ (e : OpenEdge). (place (eqb (e .from)) (faceList p f), place (eqb (e .to)) (faceList p f)))
+      (map (λ g. openEdge g (getD w at 0) (getD w (at + 1) 0)) (cond b (f ∷ []) []))) e
 
   pub edge-yes : hasBit (getD w (at + 2) 0) f ≡ true
       → edgePairs p f (edgeAt w at) ≡ (place (eqb (getD w at 0)) (faceList p f), place (eqb (getD w (at + 1) 0)) (faceList p f)) ∷ []
@@ -270,9 +270,9 @@ edge-skipped n nf i f c w hf edges ee bit =
 pub edges-more : (p : Pool) (f : ℕ) (w : List ℕ) (at i : ℕ) → edgePairs p f (edgesAt w at (i + 1)) ≡ edgePairs p f (edgesAt w at i) ++ edgePairs p f (edgeAt w (at + 3 * i))
 unfolding edgesAt
 edges-more p f w at i =
-    let g : Triangle ℕ → ℕ × ℕ = λ e. (place (eqb (e .b)) (faceList p f), place (eqb (e .c)) (faceList p f)) in
-    let k : Triangle ℕ → Bool = λ e. eqb (e .a) f in
-    ap (λ (l : List (Triangle ℕ)). map g (keep k l)) (flat-up (λ i. edgeAt w (at + 3 * i)) i)
+    let g : OpenEdge → ℕ × ℕ = λ e. (place (eqb (e .from)) (faceList p f), place (eqb (e .to)) (faceList p f)) in
+    let k : OpenEdge → Bool = λ e. eqb (e .face) f in
+    ap (λ (l : List OpenEdge). map g (keep k l)) (flat-up (λ i. edgeAt w (at + 3 * i)) i)
     ∙ ap (map g) (keep-append k (flatMap (λ i. edgeAt w (at + 3 * i)) (upTo i)) (edgeAt w (at + 3 * i)))
     ∙ map-append g (keep k (flatMap (λ i. edgeAt w (at + 3 * i)) (upTo i))) (keep k (edgeAt w (at + 3 * i)))
 
@@ -327,7 +327,7 @@ module _ (n f at count : ℕ) (w₀ : List ℕ) where
         let e0 = high (at + 3 * i) (omega arith) in
         let e1 = high (at + 3 * i + 1) (omega arith) in
         let e2 = high (at + 3 * i + 2) (omega arith) in
-        edging-turn k w w' c r i e h edging-same (λ t. map (λ g. tri g (e0 t) (e1 t)) (facesIn (e2 t))) p
+        edging-turn k w w' c r i e h edging-same (λ t. map (λ g. openEdge g (e0 t) (e1 t)) (facesIn (e2 t))) p
 
   pub edging-end : (k : ℕ) (w : List ℕ) (c i : ℕ) → Edging k w c i → k ≤ i → Pushed n f (pairsAt n + 2 * count) k (edgePairs (poolAt n w₀) f (edgesAt w₀ at k)) count c w₀ w
   edging-end k w c i o h =

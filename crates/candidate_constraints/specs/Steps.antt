@@ -31,18 +31,18 @@ use Rattle.geometry.specs.declared.aabb.AABB.{AABB}
 use Rattle.geometry.specs.declared.fraction.Fraction.{Fraction}
 use Rattle.geometry.specs.declared.fraction.Fraction.the-variants.{At}
 use Rattle.geometry.specs.Boxes.{faces}
-use Rattle.geometry.specs.Triangles.{Triangle, tri}
 use Rattle.box_faces.specs.declared.uv.Side.{Side}
 use Rattle.box_faces.specs.Faces.{project}
 use Rattle.box_faces.specs.Sides.{faceSides, onSide}
 use Rattle.edges.specs.Edges.{sortedPair}
+use Rattle.candidate_pool.specs.OpenEdges.{OpenEdge}
 use Rattle.candidate_pool.specs.Offsets.{entryAt, poolEnd, placesAt, sideAt, pairsAt, constraintsAt, openEdgesAt, roomEnd}
 use Rattle.candidate_pool.specs.Pool.{Pool, pointOf, faceList}
 use Rattle.candidate_pool.specs.Standing.{countAt, poolAt, edgesAt, Stored, Tidy}
-use Rattle.candidate_constraints.specs.Constraints.{neighbours, standing, faceConstraints}
+use Rattle.candidate_constraints.specs.Constraints.{Constraint, constraint, neighbours, standing, faceConstraints}
 
-abbrev pub unpacked : ℕ → Triangle ℕ
-unpacked key = tri (tripleFirst key) (tripleSecond key) (tripleThird key)
+abbrev pub unpacked : ℕ → Constraint
+unpacked key = constraint (tripleFirst key) (tripleSecond key) (tripleThird key)
 
 pub record Constrained (box : AABB) (eps : Float) (n nf k r : ℕ) (w w' : List ℕ) : Type 0 where
   pub listed : map unpacked (view w' (constraintsAt n nf) r) ≡ flatMap (faceConstraints box eps (edgesAt w (openEdgesAt n nf) k) (poolAt n w)) faces
@@ -112,13 +112,13 @@ pairKey f q = triple f (sortedPair q .0) (sortedPair q .1)
 abbrev pub pairRecord : ℕ → ℕ × ℕ → ℕ × ℕ
 pairRecord f q = (pairKey f q, 0)
 
-abbrev pub edgePairs : Pool → ℕ → List (Triangle ℕ) → List (ℕ × ℕ)
-edgePairs p f edges = map (λ e. (place (eqb (e .b)) (faceList p f), place (eqb (e .c)) (faceList p f))) (keep (λ e. eqb (e .a) f) edges)
+abbrev pub edgePairs : Pool → ℕ → List OpenEdge → List (ℕ × ℕ)
+edgePairs p f edges = map (λ e. (place (eqb (e .from)) (faceList p f), place (eqb (e .to)) (faceList p f))) (keep (λ e. eqb (e .face) f) edges)
 
 abbrev pub sidePairs : AABB → Float → Pool → ℕ → List (ℕ × ℕ)
 sidePairs box eps p f = flatMap (λ s. neighbours (sidePlaces eps p f s)) (faceSides box f)
 
-abbrev pub allPairs : AABB → Float → Pool → ℕ → List (Triangle ℕ) → List (ℕ × ℕ)
+abbrev pub allPairs : AABB → Float → Pool → ℕ → List OpenEdge → List (ℕ × ℕ)
 allPairs box eps p f edges = sidePairs box eps p f ++ edgePairs p f edges
 
 -- l more pairs behind c; only words from lo on differ

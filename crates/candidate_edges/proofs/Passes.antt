@@ -17,11 +17,12 @@ use Rattle.lists.proofs.Counts.{keep-append}
 use Rattle.lists.proofs.Sequences.{fold-more, fold-all, up-snoc}
 use Rattle.geometry.specs.declared.point.Point.{Point}
 use Rattle.geometry.specs.declared.aabb.AABB.{AABB}
-use Rattle.geometry.specs.Triangles.{Triangle, threes}
+use Rattle.geometry.specs.Triangles.{threes}
 use Rattle.geometry.specs.Meshes.{vertex, pointsOf, meshOf}
 use Rattle.geometry.proofs.Meshes.{length-pointsOf}
 use Rattle.box_faces.specs.Faces.{faceBits, bitCount, facesOf}
 use Rattle.edges.specs.Edges.{openEdges}
+use Rattle.candidate_pool.specs.OpenEdges.{OpenEdge}
 use Rattle.candidate_pool.specs.Offsets.{poolEnd, openEdgesAt, edgeTableAt}
 use Rattle.candidate_pool.specs.Pool.{Candidate, Pool, noPool, byKey, insert}
 use Rattle.candidate_pool.specs.Standing.{facesIn, joinedIn, poolAt, Holds, edgesAt, EdgesHeld}
@@ -68,7 +69,7 @@ module _ (vs : List Float) (fs : List ℕ) (box : AABB) (eps : Float) (n : ℕ) 
       record {
         low = omega arith;
         surface = (let e = edges-none w at in λ t. record { pool = pool .1 t; edges = e t });
-        entries = sym (ap (length {A = Triangle ℕ}) (edges-none w at));
+        entries = sym (ap (length {A = OpenEdge}) (edges-none w at));
         few = omega arith;
         entering =
             record {

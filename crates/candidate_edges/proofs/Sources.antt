@@ -24,7 +24,7 @@ use Rattle.lists.proofs.Sequences.{at-map}
 use Rattle.geometry.specs.declared.point.Point.{Point}
 use Rattle.geometry.specs.Meshes.{vertex}
 use Rattle.geometry.specs.Points.{origin}
-use Rattle.chains.specs.Links.{linkOf, linkTo, Found, First}
+use Rattle.chains.specs.Links.{linkOf, linkTo, FirstFound, First}
 use Rattle.chains.proofs.Firsts.{linkTo-first, first-linkTo, first-new, places-link, link-some}
 use Rattle.mesh_weld.specs.Cells.{Key, keyOf, same, sameKey}
 use Rattle.candidate_pool.specs.Pool.{Candidate, Pool, noCandidate, noPool, pointOf, renewed, byKey, placeFor, numberFor, insert}
@@ -59,7 +59,7 @@ first-stays t d l l' long alike c e =
     (record {
       none = λ z. absurd (omega arith);
       some = λ k z.
-          subst (Found (λ i. T (t (getD l' i d))) 0 (length l')) (let q : c ≡ k = omega arith in q)
+          subst (FirstFound (λ i. T (t (getD l' i d))) 0 (length l')) (let q : c ≡ k = omega arith in q)
           (record {
             from = omega arith;
             within = omega arith;

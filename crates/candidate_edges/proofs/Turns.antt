@@ -13,10 +13,11 @@ use lib.Ieee.{Float}
 use Rattle.lists.specs.Lists.{has}
 use Rattle.lists.proofs.Orders.{never}
 use Rattle.geometry.specs.declared.aabb.AABB.{AABB}
-use Rattle.geometry.specs.Triangles.{Triangle, tri, threes}
+use Rattle.geometry.specs.Triangles.{threes}
 use Rattle.geometry.specs.Meshes.{vertex, pointsOf, meshOf}
 use Rattle.box_faces.specs.Faces.{faceBits, hasBit, bitCount}
 use Rattle.edges.specs.Edges.{sides, openEdges}
+use Rattle.candidate_pool.specs.OpenEdges.{OpenEdge, openEdge}
 use Rattle.candidate_pool.specs.Offsets.{joinedAt, poolEnd, openEdgesAt, edgeTableAt}
 use Rattle.candidate_pool.specs.Pool.{Pool, faceList, byKey, numberFor, insert}
 use Rattle.candidate_pool.specs.Standing.{facesIn, joinedIn, poolAt, edgeAt, edgesAt, EdgesHeld}
@@ -59,14 +60,14 @@ module _ (w : List ℕ) (at a b m : ℕ) (room : at + 2 < length w) where
 
 -- ---- an edge whose ends fell together has no face
 
-edge-is : (a b mask : ℕ) (t : Bool) → map (λ f. tri f a b) (facesIn (cond t 0 mask)) ≡ cond t [] (map (λ f. tri f a b) (facesIn mask))
-edge-is a b mask true = ap (map (λ f. tri f a b)) no-faces
+edge-is : (a b mask : ℕ) (t : Bool) → map (λ f. openEdge f a b) (facesIn (cond t 0 mask)) ≡ cond t [] (map (λ f. openEdge f a b) (facesIn mask))
+edge-is a b mask true = ap (map (λ f. openEdge f a b)) no-faces
 edge-is a b mask false = refl
 
-edge-long : (a b mask : ℕ) (t : Bool) → length (cond t [] (map (λ f. tri f a b) (facesIn mask))) ≡ cond t 0 (bitCount mask)
+edge-long : (a b mask : ℕ) (t : Bool) → length (cond t [] (map (λ f. openEdge f a b) (facesIn mask))) ≡ cond t 0 (bitCount mask)
 unfolding bitCount
 edge-long a b mask true = refl
-edge-long a b mask false = length-map (facesIn mask) (λ f. tri f a b)
+edge-long a b mask false = length-map (facesIn mask) (λ f. openEdge f a b)
 
 edge-few : (mask : ℕ) (t : Bool) → cond t 0 (bitCount mask) ≤ 6
 unfolding bitCount
@@ -166,23 +167,23 @@ module _ (vs : List Float) (fs : List ℕ) (box : AABB) (eps : Float) (n i mask 
 
   -- ---- the list of open edges
 
-  new-edge : edgeAt w3 (at + 3 * i) ≡ cond (eqb a b) [] (map (λ f. tri f a b) (facesIn mask))
-  new-edge = (λ t. map (λ f. tri f (from-word t) (to-word t)) (facesIn (face-word t))) ∙ edge-is a b mask (eqb a b)
+  new-edge : edgeAt w3 (at + 3 * i) ≡ cond (eqb a b) [] (map (λ f. openEdge f a b) (facesIn mask))
+  new-edge = (λ t. map (λ f. openEdge f (from-word t) (to-word t)) (facesIn (face-word t))) ∙ edge-is a b mask (eqb a b)
 
-  all-edges : edgesAt w3 at (i + 1) ≡ edgesAt w at i ++ cond (eqb a b) [] (map (λ f. tri f a b) (facesIn mask))
+  all-edges : edgesAt w3 at (i + 1) ≡ edgesAt w at i ++ cond (eqb a b) [] (map (λ f. openEdge f a b) (facesIn mask))
   all-edges = edges-more w3 at i ∙ (λ t. edges-same w w3 at i same-edges t ++ new-edge t)
 
   surface : surfaceAt n w3 at (i + 1) ≡ enterEdge box eps (byKey eps) (meshOf vs fs) (surfaceAt n w at i) side
   unfolding enterEdge
   surface =
       let p = pool-is in
-      let e = all-edges ∙ (λ t. edgesAt w at i ++ cond (eqb (from-is t) (to-is t)) [] (map (λ f. tri f (from-is t) (to-is t)) (on-is t))) in
+      let e = all-edges ∙ (λ t. edgesAt w at i ++ cond (eqb (from-is t) (to-is t)) [] (map (λ f. openEdge f (from-is t) (to-is t)) (on-is t))) in
       λ t. record { pool = p t; edges = e t }
 
   listed : length (edgesAt w3 at (i + 1)) ≡ length (edgesAt w at i) + r
   listed =
-      ap (length {A = Triangle ℕ}) all-edges
-      ∙ length-append (edgesAt w at i) (cond (eqb a b) [] (map (λ f. tri f a b) (facesIn mask)))
+      ap (length {A = OpenEdge}) all-edges
+      ∙ length-append (edgesAt w at i) (cond (eqb a b) [] (map (λ f. openEdge f a b) (facesIn mask)))
       ∙ ap (λ (k : ℕ). length (edgesAt w at i) + k) (edge-long a b mask (eqb a b) ∙ sym result)
 
   few : r ≤ 6

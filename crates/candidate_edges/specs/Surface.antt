@@ -14,16 +14,16 @@ use lib.Ieee.{Float}
 use Rattle.lists.specs.Lists.{keep, upTo}
 use Rattle.geometry.specs.declared.point.Point.{Point}
 use Rattle.geometry.specs.declared.aabb.AABB.{AABB}
-use Rattle.geometry.specs.Triangles.{Triangle, tri}
 use Rattle.geometry.specs.Meshes.{Mesh, vertex}
 use Rattle.mesh_weld.specs.Joining.{Joining}
 use Rattle.box_faces.specs.Faces.{facesOf}
 use Rattle.edges.specs.Edges.{openEdges}
+use Rattle.candidate_pool.specs.OpenEdges.{OpenEdge, openEdge}
 use Rattle.candidate_pool.specs.Pool.{Candidate, Pool, noPool, numberFor, insert}
 
 pub record Surface : Type 0 where
   pub pool : Pool
-  pub edges : List (Triangle ℕ)
+  pub edges : List OpenEdge
 
 abbrev pub meshCandidate : Mesh → ℕ → List ℕ → Candidate
 meshCandidate mesh v on = record { point = vertex (mesh .points) v; mesh = v + 1; on = on }
@@ -46,7 +46,7 @@ module _ (box : AABB) (eps : Float) (rule : Joining Point) (mesh : Mesh) where
       let b = numberFor rule p (meshCandidate mesh (e .1) on) in
       record {
         pool = insert rule p (meshCandidate mesh (e .1) on);
-        edges = t .edges ++ cond (eqb a b) [] (map (λ f. tri f a b) on);
+        edges = t .edges ++ cond (eqb a b) [] (map (λ f. openEdge f a b) on);
       }
 
   -- "Insert their ends", in the order of the open edges

@@ -18,10 +18,10 @@ use Rattle.lists.proofs.Sequences.{some-flat, some-below}
 use Rattle.root.specs.Bounds.{Within}
 use Rattle.geometry.specs.declared.point.Point.{Point}
 use Rattle.geometry.specs.Boxes.{faces}
-use Rattle.geometry.specs.Triangles.{Triangle, tri}
 use Rattle.box_faces.specs.declared.uv.Uv.{Uv}
 use Rattle.box_faces.specs.Faces.{project, hasBit}
 use Rattle.box_faces.specs.Segments.{onSegment}
+use Rattle.candidate_pool.specs.OpenEdges.{OpenEdge, openEdge}
 use Rattle.candidate_pool.specs.Offsets.{openEdgesAt, roomEnd}
 use Rattle.candidate_pool.specs.Pool.{Pool, pointOf, faceList}
 use Rattle.candidate_pool.specs.Setting.{Setting}
@@ -44,11 +44,11 @@ and-none true = refl
 and-none false = refl
 
 module _ (f x y : ℕ) (G : ℕ → ℕ → Bool) (h : ℕ → Bool) where
-  abbrev test : Triangle ℕ → Bool
-  test e = eqb (e .a) f && G (e .b) (e .c)
+  abbrev test : OpenEdge → Bool
+  test e = eqb (e .face) f && G (e .from) (e .to)
 
-  abbrev entries : List ℕ → List (Triangle ℕ)
-  entries l = map (λ k. tri k x y) l
+  abbrev entries : List ℕ → List OpenEdge
+  entries l = map (λ k. openEdge k x y) l
 
   step : (k : ℕ) (l : List ℕ) → some test (entries (keep h l)) ≡ (has l f && (h f && G x y)) → Dec (k ≡ f) → (b : Bool) → h k ≡ b
       → some test (entries (cond b (k ∷ keep h l) (keep h l))) ≡ ((eqb f k || has l f) && (h f && G x y))
@@ -72,13 +72,13 @@ module _ (f x y : ℕ) (G : ℕ → ℕ → Bool) (h : ℕ → Bool) where
   one-face (k ∷ l) = step k l (one-face l) (ℕ-discrete k f) (h k) refl
 
 pub edges-some : (pool : Pool) (w : List ℕ) (at k f : ℕ) (tolerance : Float) (p : Uv) → f < 6
-    → some (λ e. eqb (e .a) f && onSegment tolerance p (project f (pointOf pool (e .b))) (project f (pointOf pool (e .c)))) (edgesAt w at k) ≡ some (edgeHit pool w at f tolerance p) (upTo k)
+    → some (λ e. eqb (e .face) f && onSegment tolerance p (project f (pointOf pool (e .from))) (project f (pointOf pool (e .to)))) (edgesAt w at k) ≡ some (edgeHit pool w at f tolerance p) (upTo k)
 unfolding edgesAt edgeHit
 edges-some pool w at k f tolerance p h =
     some-flat t (λ i. edgeAt w (at + 3 * i)) (upTo k) ∙ some-below (λ i. some t (edgeAt w (at + 3 * i))) (edgeHit pool w at f tolerance p) k (λ i l. one i)
   where
-    t : Triangle ℕ → Bool
-    t e = eqb (e .a) f && onSegment tolerance p (project f (pointOf pool (e .b))) (project f (pointOf pool (e .c)))
+    t : OpenEdge → Bool
+    t e = eqb (e .face) f && onSegment tolerance p (project f (pointOf pool (e .from))) (project f (pointOf pool (e .to)))
 
     one : (i : ℕ) → some t (edgeAt w (at + 3 * i)) ≡ edgeHit pool w at f tolerance p i
     one i =
@@ -118,7 +118,7 @@ module _ (eps : Float) (n nf k f : ℕ) (w : List ℕ) (h : f < 6) (H : Holds ep
       → skipped s (edgesAt v E k) pool f p ≡ skipped s (edgesAt w E k) (poolAt n w) f p
   unfolding skipped edgeHit
   skipped-same s v pool e same p =
-      ap (λ (l : List (Triangle ℕ)). skipped s l pool f p) e
+      ap (λ (l : List OpenEdge). skipped s l pool f p) e
       ∙ edges-some pool w E k f (s .skip f) p h
       ∙ some-below (edgeHit pool w E f (s .skip f) p) (edgeHit (poolAt n w) w E f (s .skip f) p) k
       (λ i l. at i (hasBit (getD w (E + 3 * i + 2) 0) f) (λ b. held-low n w f (getD w (E + 3 * i) 0) h (H .tidy) (D .from i f l h b)) (λ b. held-low n w f (getD w (E + 3 * i + 1) 0) h (H .tidy) (D .to i f l h b)))

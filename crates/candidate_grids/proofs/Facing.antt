@@ -27,13 +27,13 @@ use Rattle.rounding.proofs.Segments.{segments-some}
 use Rattle.geometry.specs.declared.point.Point.{Point}
 use Rattle.geometry.specs.declared.aabb.AABB.{AABB}
 use Rattle.geometry.specs.Boxes.{low, high, axis, isMin}
-use Rattle.geometry.specs.Triangles.{Triangle}
 use Rattle.geometry.specs.Axes.{segments, gridLine}
 use Rattle.refusals.specs.Front.{boxInRange, byAxis, gridTooFine}
 use Rattle.refusals.proofs.Grids.{not-too-fine, cut-is}
 use Rattle.box_faces.specs.declared.uv.Uv.{Uv}
 use Rattle.box_faces.specs.Faces.{uAxis, vAxis, project}
 use Rattle.box_faces.specs.Lines.{lineAt, pointOnFace}
+use Rattle.candidate_pool.specs.OpenEdges.{OpenEdge}
 use Rattle.candidate_pool.specs.Offsets.{joinedAt, openEdgesAt, segmentsAt, roomEnd}
 use Rattle.candidate_pool.specs.Pool.{Pool, pointOf, faceList, byKey, insert}
 use Rattle.candidate_pool.specs.Standing.{candidate, countAt, poolAt, Holds, edgesAt}
@@ -115,7 +115,7 @@ module _ (box : AABB) (eps : Float) (resolution skip : List Float) where
   point-is (suc (suc (suc (suc (suc zero))))) i j h = refl
   point-is (suc (suc (suc (suc (suc (suc f)))))) i j h = absurd (omega arith)
 
-  module _ (edges : List (Triangle ℕ)) (pool : Pool) (f : ℕ) (f-in : f < 6) (skips : Uv → Bool) (same : (p : Uv) → skips p ≡ skipped (byAxes box eps resolution skip) edges pool f p) where
+  module _ (edges : List OpenEdge) (pool : Pool) (f : ℕ) (f-in : f < 6) (skips : Uv → Bool) (same : (p : Uv) → skips p ≡ skipped (byAxes box eps resolution skip) edges pool f p) where
     cell-is : (i j : ℕ) → rowCell skips box f (rowAt box f (faceLine box f (segs' (axis f))) (segs' (uAxis f)) i) (segs' (vAxis f)) j ≡ gridAt (byAxes box eps resolution skip) edges pool f i j
     unfolding rowCell gridCell gridAt
     cell-is i j =

@@ -14,11 +14,11 @@ use lib.Ieee.{Float}
 use Rattle.lists.specs.Lists.{upFrom, upTo}
 use Rattle.lists.proofs.Sequences.{flat-below, fold-flat}
 use Rattle.geometry.specs.declared.aabb.AABB.{AABB}
-use Rattle.geometry.specs.Triangles.{Triangle}
 use Rattle.geometry.specs.Axes.{segments, gridSize}
 use Rattle.refusals.specs.Front.{byAxis}
 use Rattle.box_faces.specs.declared.uv.Uv.{Uv}
 use Rattle.box_faces.specs.Faces.{uAxis, vAxis, project}
+use Rattle.candidate_pool.specs.OpenEdges.{OpenEdge}
 use Rattle.candidate_pool.specs.Offsets.{joinedAt, openEdgesAt, segmentsAt}
 use Rattle.candidate_pool.specs.Pool.{Pool, byKey, insert}
 use Rattle.candidate_pool.specs.Setting.{Setting}
@@ -54,7 +54,7 @@ module _ (box : AABB) (eps : Float) (resolution : List Float) where
   unfolding gridSize
   size-room f h = six-faces (faceSize box eps resolution) f h refl refl refl
 
-pub grid-same : (s : Setting) (l m : List (Triangle ℕ)) (p q : Pool) (f : ℕ) → ((z : Uv) → skipped s l p f z ≡ skipped s m q f z) → faceGrid s l p f ≡ faceGrid s m q f
+pub grid-same : (s : Setting) (l m : List OpenEdge) (p q : Pool) (f : ℕ) → ((z : Uv) → skipped s l p f z ≡ skipped s m q f z) → faceGrid s l p f ≡ faceGrid s m q f
 unfolding faceGrid gridAt
 grid-same s l m p q f same =
     flat-below (λ i. flatMap (λ j. gridAt s l p f i j) (upTo (segments (s .box) (s .eps) (s .resolution) (vAxis f) + 1)))

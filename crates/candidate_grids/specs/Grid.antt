@@ -10,13 +10,13 @@ use mathlib.Core.List.{List, [], _∷_, flatMap}
 use lib.Dec.{eqb}
 use Rattle.lists.specs.Lists.{some, upTo}
 use Rattle.geometry.specs.declared.point.Point.{Point}
-use Rattle.geometry.specs.Triangles.{Triangle}
 use Rattle.geometry.specs.Points.{onAxes}
 use Rattle.geometry.specs.Boxes.{faces, axis, isMin}
 use Rattle.geometry.specs.Axes.{segments, gridLine}
 use Rattle.box_faces.specs.declared.uv.Uv.{Uv}
 use Rattle.box_faces.specs.Faces.{uAxis, vAxis, project}
 use Rattle.box_faces.specs.Segments.{onSegment}
+use Rattle.candidate_pool.specs.OpenEdges.{OpenEdge}
 use Rattle.candidate_pool.specs.Pool.{Candidate, Pool, pointOf}
 use Rattle.candidate_pool.specs.Setting.{Setting}
 
@@ -37,19 +37,19 @@ module _ (s : Setting) where
   interior k i = not (eqb i 0) && not (eqb i (segmentsOf k))
 
   -- "lies on an open edge there": edges are face and two candidates, whose points are those of the pool
-  unfoldable pub skipped : List (Triangle ℕ) → Pool → ℕ → Uv → Bool
+  unfoldable pub skipped : List OpenEdge → Pool → ℕ → Uv → Bool
   skipped edges pool f p =
-      some (λ e. eqb (e .a) f && onSegment (skip f) p (project f (pointOf pool (e .b))) (project f (pointOf pool (e .c)))) edges
+      some (λ e. eqb (e .face) f && onSegment (skip f) p (project f (pointOf pool (e .from))) (project f (pointOf pool (e .to)))) edges
 
-  unfoldable pub gridAt : List (Triangle ℕ) → Pool → ℕ → ℕ → ℕ → List Candidate
+  unfoldable pub gridAt : List OpenEdge → Pool → ℕ → ℕ → ℕ → List Candidate
   gridAt edges pool f i j =
       let p = gridPoint f i j in
       cond (interior (uAxis f) i && (interior (vAxis f) j && skipped edges pool f (project f p))) []
       (record { point = p; mesh = 0; on = f ∷ [] } ∷ [])
 
-  unfoldable pub faceGrid : List (Triangle ℕ) → Pool → ℕ → List Candidate
+  unfoldable pub faceGrid : List OpenEdge → Pool → ℕ → List Candidate
   faceGrid edges pool f =
       flatMap (λ i. flatMap (λ j. gridAt edges pool f i j) (upTo (segmentsOf (vAxis f) + 1))) (upTo (segmentsOf (uAxis f) + 1))
 
-  unfoldable pub grid : List (Triangle ℕ) → Pool → List Candidate
+  unfoldable pub grid : List OpenEdge → Pool → List Candidate
   grid edges pool = flatMap (faceGrid edges pool) faces

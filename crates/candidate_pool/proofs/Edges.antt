@@ -13,8 +13,8 @@ use native.Mathlib.Decide.{ℕ-discrete}
 use lib.ListN.{getD}
 use Rattle.lists.specs.Lists.{has, upFrom}
 use Rattle.lists.proofs.Sequences.{flat-up, flat-below}
-use Rattle.geometry.specs.Triangles.{tri}
 use Rattle.box_faces.specs.Faces.{hasBit}
+use Rattle.candidate_pool.specs.OpenEdges.{openEdge}
 use Rattle.candidate_pool.specs.Pool.{Pool, faceList}
 use Rattle.candidate_pool.specs.Standing.{facesIn, edgeAt, edgesAt, EdgesHeld}
 
@@ -44,7 +44,7 @@ module _ (w w' : List ℕ) (at k : ℕ) (same : (x : ℕ) → at ≤ x → x < a
   unfolding edgesAt
   edges-same =
       flat-below (λ i. edgeAt w' (at + 3 * i)) (λ i. edgeAt w (at + 3 * i)) k
-      (λ i h t. map (λ f. tri f (from-same i h t) (to-same i h t)) (facesIn (mask-same i h t)))
+      (λ i h t. map (λ f. openEdge f (from-same i h t) (to-same i h t)) (facesIn (mask-same i h t)))
 
   pub held-kept : (p q : Pool) → ((f c : ℕ) → f < 6 → has (faceList p f) c ≡ true → has (faceList q f) c ≡ true) → EdgesHeld p w at k → EdgesHeld q w' at k
   held-kept p q grow held =

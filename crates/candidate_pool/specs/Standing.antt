@@ -28,9 +28,9 @@ use Rattle.root.specs.Bounds.{Within}
 use Rattle.geometry.specs.declared.point.Point.{Point}
 use Rattle.geometry.specs.Points.{pt, origin}
 use Rattle.geometry.specs.Boxes.{faces}
-use Rattle.geometry.specs.Triangles.{Triangle, tri}
 use Rattle.mesh_weld.specs.Cells.{keyOf}
 use Rattle.box_faces.specs.Faces.{hasBit}
+use Rattle.candidate_pool.specs.OpenEdges.{OpenEdge, openEdge}
 use Rattle.candidate_pool.specs.Offsets.{entryAt, keysAt, listAt, joinedAt, poolEnd}
 use Rattle.candidate_pool.specs.Pool.{Candidate, Pool, noCandidate, noPool, faceList, renewed, listed, byKey, placeFor, numberFor, insert}
 use Rattle.candidate_pool.specs.Room.{keyWords, keyAt, KeyTable}
@@ -119,10 +119,10 @@ pub record Cleared (eps : Float) (n : ℕ) (w w' : List ℕ) : Type 0 where
   pub joined : (v : ℕ) → v < n → joinedIn n w' v ≡ 0
   pub rest : (x : ℕ) → poolEnd n ≤ x → getD w' x 0 ≡ getD w x 0
 
-abbrev pub edgeAt : List ℕ → ℕ → List (Triangle ℕ)
-edgeAt w at = map (λ f. tri f (getD w at 0) (getD w (at + 1) 0)) (facesIn (getD w (at + 2) 0))
+abbrev pub edgeAt : List ℕ → ℕ → List OpenEdge
+edgeAt w at = map (λ f. openEdge f (getD w at 0) (getD w (at + 1) 0)) (facesIn (getD w (at + 2) 0))
 
-unfoldable pub edgesAt : List ℕ → ℕ → ℕ → List (Triangle ℕ)
+unfoldable pub edgesAt : List ℕ → ℕ → ℕ → List OpenEdge
 edgesAt w at k = flatMap (λ i. edgeAt w (at + 3 * i)) (upTo k)
 
 pub record EdgesHeld (p : Pool) (w : List ℕ) (at k : ℕ) : Type 0 where

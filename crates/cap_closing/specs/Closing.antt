@@ -19,6 +19,7 @@ use Rattle.geometry.specs.Points.{area2}
 use Rattle.geometry.specs.Triangles.{Triangle, mapped, reversed, flat}
 use Rattle.geometry.specs.Meshes.{Mesh, vertex, Named, newNumber, enter}
 use Rattle.mesh_filter.specs.Filters.{sameCorners}
+use Rattle.candidate_pool.specs.OpenEdges.{OpenEdge}
 use Rattle.candidate_pool.specs.Pool.{Pool, pointOf}
 use Rattle.cap_triangles.specs.Selection.{Cap, capAt, outwardCaps, Selects}
 
@@ -50,7 +51,7 @@ module _ (pool : Pool) (caps : List Cap) (positive : Bool) (mesh : Mesh) where
       record { points = n .points; facets = ownFacets positive (mesh .facets) ++ capFacets n ts }
 
 -- Of the whole supplied list, and of all vertices and facets of the mesh written, in order. No other list of Bools is a selection (selects-unique).
-pub record DemandThree (pool : Pool) (boundary : List (Triangle ℕ)) (caps : List Cap) (positive : Bool) (mesh out : Mesh) : Type 0 where
+pub record DemandThree (pool : Pool) (boundary : List OpenEdge) (caps : List Cap) (positive : Bool) (mesh out : Mesh) : Type 0 where
   pub chosen : List Bool
   pub selects : Selects boundary (outwardCaps pool caps) chosen
   pub entries : Named

@@ -27,6 +27,7 @@ use Rattle.edges.specs.Table.{nextSide}
 use Rattle.edges.proofs.Keys.{SameEnds, pair-same, both-ways}
 use Rattle.edges.proofs.Edges.{same-pair-sym, same-pair-as}
 use Rattle.edges.proofs.Sides.{next-wrap, next-on}
+use Rattle.candidate_pool.specs.OpenEdges.{openEdge}
 use Rattle.candidate_pool.specs.Offsets.{openEdgesAt}
 use Rattle.candidate_pool.specs.Pool.{Pool}
 use Rattle.candidate_pool.specs.Standing.{facesIn, poolAt, edgeAt, edgesAt}
@@ -194,12 +195,12 @@ module _ (n nf k : ℕ) (capList w : List ℕ) (ready : CapReady n nf k capList 
 
   pub edges-some : (W : ℕ → ℕ → Bool)
       → some (λ j. (W (from j) (to j) && eqb (num j) (num q)) && hasBit (mask j) f) (upTo k)
-      ≡ some (λ e. eqb (e .a) f && (samePair Q (e .b, e .c) && W (e .b) (e .c))) (edgesAt w (openEdgesAt n nf) k)
+      ≡ some (λ e. eqb (e .face) f && (samePair Q (e .from, e .to) && W (e .from) (e .to))) (edgesAt w (openEdgesAt n nf) k)
   unfolding edgesAt
   edges-some W =
-      sym (some-flat (λ e. eqb (e .a) f && (samePair Q (e .b, e .c) && W (e .b) (e .c))) (λ i. edgeAt w (row i)) (upTo k)
-      ∙ some-below (λ j. some (λ e. eqb (e .a) f && (samePair Q (e .b, e .c) && W (e .b) (e .c))) (edgeAt w (row j))) (λ j. (W (from j) (to j) && eqb (num j) (num q)) && hasBit (mask j) f) k (λ j h.
-      some-map (λ e. eqb (e .a) f && (samePair Q (e .b, e .c) && W (e .b) (e .c))) (λ g. tri g (from j) (to j)) (facesIn (mask j))
+      sym (some-flat (λ e. eqb (e .face) f && (samePair Q (e .from, e .to) && W (e .from) (e .to))) (λ i. edgeAt w (row i)) (upTo k)
+      ∙ some-below (λ j. some (λ e. eqb (e .face) f && (samePair Q (e .from, e .to) && W (e .from) (e .to))) (edgeAt w (row j))) (λ j. (W (from j) (to j) && eqb (num j) (num q)) && hasBit (mask j) f) k (λ j h.
+      some-map (λ e. eqb (e .face) f && (samePair Q (e .from, e .to) && W (e .from) (e .to))) (λ g. openEdge g (from j) (to j)) (facesIn (mask j))
       ∙ some-faces (mask j) f (samePair Q (from j, to j) && W (from j) (to j)) hf
       ∙ with-way (hasBit (mask j) f) (samePair Q (from j, to j)) (W (from j) (to j)) (eqb (num j) (num q)) (same-number j h)))
 
@@ -207,14 +208,14 @@ module _ (n nf k : ℕ) (capList w : List ℕ) (ready : CapReady n nf k capList 
   number-low j h = N .low j (omega arith)
 
   pub up-some : some (λ j. eqb (edgeTarget n nf nc w j) (upAt n nf nc + num q) && hasBit (edgeMask n nf nc w j) f) (upTo k)
-      ≡ some (λ e. eqb (e .a) f && (samePair Q (e .b, e .c) && ltb (e .b) (e .c))) (edgesAt w (openEdgesAt n nf) k)
+      ≡ some (λ e. eqb (e .face) f && (samePair Q (e .from, e .to) && ltb (e .from) (e .to))) (edgesAt w (openEdgesAt n nf) k)
   up-some =
       some-below (λ j. eqb (edgeTarget n nf nc w j) (upAt n nf nc + num q) && hasBit (edgeMask n nf nc w j) f) (λ j. (ltb (from j) (to j) && eqb (num j) (num q)) && hasBit (mask j) f) k
       (λ j h. way-up (from j) (to j) (mask j) (upAt n nf nc) (downAt n nf nc) (num j) (num q) f (no-bit f hf) (λ e. let a = N .low q hq in omega (arith, ready .edges)))
       ∙ edges-some ltb
 
   pub down-some : some (λ j. eqb (edgeTarget n nf nc w j) (downAt n nf nc + num q) && hasBit (edgeMask n nf nc w j) f) (upTo k)
-      ≡ some (λ e. eqb (e .a) f && (samePair Q (e .b, e .c) && ltb (e .c) (e .b))) (edgesAt w (openEdgesAt n nf) k)
+      ≡ some (λ e. eqb (e .face) f && (samePair Q (e .from, e .to) && ltb (e .to) (e .from))) (edgesAt w (openEdgesAt n nf) k)
   down-some =
       some-below (λ j. eqb (edgeTarget n nf nc w j) (downAt n nf nc + num q) && hasBit (edgeMask n nf nc w j) f) (λ j. (ltb (to j) (from j) && eqb (num j) (num q)) && hasBit (mask j) f) k
       (λ j h. way-down (from j) (to j) (mask j) (upAt n nf nc) (downAt n nf nc) (num j) (num q) f (no-bit f hf) (λ e. let a = number-low j h in omega (arith, ready .edges)))

@@ -17,9 +17,10 @@ use Rattle.lists.proofs.Stores.{upFrom-cons}
 use Rattle.lists.proofs.Sequences.{some-same}
 use Rattle.lists.proofs.Bools.{is-true}
 use Rattle.geometry.specs.Boxes.{faces}
-use Rattle.geometry.specs.Triangles.{Triangle, tri, edges}
+use Rattle.geometry.specs.Triangles.{edges}
 use Rattle.box_faces.specs.Faces.{hasBit, bitCount}
 use Rattle.edges.specs.Edges.{samePair}
+use Rattle.candidate_pool.specs.OpenEdges.{OpenEdge, openEdge}
 use Rattle.candidate_pool.specs.Offsets.{listsAt, listAt, poolEnd, openEdgesAt}
 use Rattle.candidate_pool.specs.Pool.{Pool, faceList}
 use Rattle.candidate_pool.specs.Standing.{facesIn, poolAt, edgeAt, edgesAt}
@@ -67,10 +68,10 @@ module _ (n nf k : ℕ) (capList w : List ℕ) (ready : CapReady n nf k capList 
   abbrev at : ℕ
   at = openEdgesAt n nf
 
-  abbrev Q : Triangle ℕ → Bool
+  abbrev Q : OpenEdge → Bool
   Q = missingEdge pool caps
 
-  abbrev part : ℕ → List (Triangle ℕ)
+  abbrev part : ℕ → List OpenEdge
   part i = edgeAt w (at + 3 * i)
 
   abbrev mask : ℕ → ℕ
@@ -95,7 +96,7 @@ module _ (n nf k : ℕ) (capList w : List ℕ) (ready : CapReady n nf k capList 
         (λ j. eqb (face-kept pool t j) f && some (samePair (listed n nf k capList w ready (K .numbers) i f (omega arith) l i h on j)) (edges (outward pool t .corners)))
         ∙ ap (λ (b : Bool). eqb (t .face) f && b) (turned-edges pool t (A, B))))
 
-    test-is : (f : ℕ) → f < 6 → hasBit (mask i) f ≡ true → Q (tri f A B) ≡ missingFace w (held i) f
+    test-is : (f : ℕ) → f < 6 → hasBit (mask i) f ≡ true → Q (openEdge f A B) ≡ missingFace w (held i) f
     unfolding missingEdge
     test-is f l on =
         let a = list-long n w (ready .ready .supplied .pooled) (omega (arith, ready .ready .supplied .size)) f l in
@@ -104,13 +105,13 @@ module _ (n nf k : ℕ) (capList w : List ℕ) (ready : CapReady n nf k capList 
 
     pub row-place : place Q (part i) ≡ place (missingFace w (held i)) (facesIn (mask i))
     row-place =
-        place-map Q (λ f. tri f A B) (facesIn (mask i))
-        ∙ place-same (λ f. Q (tri f A B)) (missingFace w (held i)) (facesIn (mask i)) (λ f m.
+        place-map Q (λ f. openEdge f A B) (facesIn (mask i))
+        ∙ place-same (λ f. Q (openEdge f A B)) (missingFace w (held i)) (facesIn (mask i)) (λ f m.
         let r = of-keep (hasBit (mask i)) faces m in
         test-is f (face-low (r .0)) (is-true (hasBit (mask i) f) (r .1)))
 
     row-long : length (part i) ≡ length (facesIn (mask i))
-    row-long = length-map (facesIn (mask i)) (λ f. tri f A B)
+    row-long = length-map (facesIn (mask i)) (λ f. openEdge f A B)
 
   -- ---- all rows
   pub held-in : (i helds numbers : ℕ) → i < k → helds ≡ heldAt n nf nc → numbers ≡ numbersAt n nf nc → helds + getD w (numbers + i) 0 < length w

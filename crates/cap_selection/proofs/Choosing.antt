@@ -14,12 +14,12 @@ use Rattle.lists.specs.Regions.{view, Zeroed}
 use Rattle.lists.proofs.Members.{some-of, of-some, and-parts, and-of}
 use Rattle.lists.proofs.Places.{of-up, up-of, length-up, at-up, at-map-up}
 use Rattle.lists.proofs.Regions.{view-at}
-use Rattle.geometry.specs.Triangles.{Triangle}
 use Rattle.components.specs.Joined.{Decides}
 use Rattle.components.specs.Components.{components, componentOf}
 use Rattle.components.specs.Table.{ComponentNumbers}
 use Rattle.components.proofs.Once.{once-up, decides-same, decides-eqb}
 use Rattle.components.proofs.Numbers.{number-in, numbers-some}
+use Rattle.candidate_pool.specs.OpenEdges.{OpenEdge}
 use Rattle.candidate_pool.specs.Offsets.{openEdgesAt}
 use Rattle.candidate_pool.specs.Standing.{poolAt, edgesAt}
 use Rattle.cap_triangles.specs.Selection.{Cap, capsOf, outwardCaps, isSeed, shareEdge, selected}
@@ -43,7 +43,7 @@ module _ (n nf k : ℕ) (capList w u v : List ℕ) (ready : CapReady n nf k capL
   abbrev nc : ℕ
   nc = length capList / 4
 
-  abbrev boundary : List (Triangle ℕ)
+  abbrev boundary : List OpenEdge
   boundary = edgesAt w (openEdgesAt n nf) k
 
   abbrev caps : List Cap

@@ -13,21 +13,22 @@ use Rattle.lists.specs.Lists.{some, upTo}
 use Rattle.lists.proofs.Bools.{cond-false, is-true}
 use Rattle.lists.proofs.Members.{some-of, of-some, and-parts, and-of, getD-mem, mem-getD}
 use Rattle.lists.proofs.Places.{length-up, at-up, at-map-up}
-use Rattle.geometry.specs.Triangles.{Triangle, edges}
+use Rattle.geometry.specs.Triangles.{edges}
 use Rattle.edges.specs.Edges.{samePair}
 use Rattle.components.specs.Joined.{one}
 use Rattle.components.proofs.Numbers.{LabelsLink}
 use Rattle.cap_triangles.specs.Selection.{Cap, capAt, isOpenPair, shareEdge}
 use Rattle.cap_selection.proofs.Ways.{test, sideOf, sides-at}
+use Rattle.candidate_pool.specs.OpenEdges.{OpenEdge}
 
-pub record Labelling (boundary : List (Triangle ℕ)) (caps : List Cap) (nc p : ℕ) (number label : ℕ → ℕ) (opens : ℕ → Bool) : Type 0 where
+pub record Labelling (boundary : List OpenEdge) (caps : List Cap) (nc p : ℕ) (number label : ℕ → ℕ) (opens : ℕ → Bool) : Type 0 where
   pub count : length caps ≡ nc
   pub low : (s : ℕ) → s < 3 * nc → number s < p
   pub same : (s t : ℕ) → s < 3 * nc → t < 3 * nc → eqb (number s) (number t) ≡ samePair (sideOf caps s) (sideOf caps t)
   pub on-open : (s : ℕ) → s < 3 * nc → opens (number s) ≡ isOpenPair boundary (sideOf caps s)
   pub put : (s : ℕ) → s < 3 * nc → label s ≡ cond (opens (number s)) (p + s) (number s)
 
-module _ (boundary : List (Triangle ℕ)) (caps : List Cap) (nc p : ℕ) (number label : ℕ → ℕ) (opens : ℕ → Bool) (f : Labelling boundary caps nc p number label opens) where
+module _ (boundary : List OpenEdge) (caps : List Cap) (nc p : ℕ) (number label : ℕ → ℕ) (opens : ℕ → Bool) (f : Labelling boundary caps nc p number label opens) where
   shared-pair : (x y : ℕ) → x < 3 * nc → y < 3 * nc → (x ≡ y → ⊥) → label x ≡ label y
       → (isOpenPair boundary (sideOf caps x) ≡ false) × (samePair (sideOf caps x) (sideOf caps y) ≡ true)
   shared-pair x y hx hy d e = go (opens (number x)) (opens (number y)) refl refl (sym (f .put x hx) ∙ e ∙ f .put y hy)

@@ -21,12 +21,13 @@ use Rattle.lists.proofs.Orders.{cases, never}
 use Rattle.lists.proofs.Regions.{view-length, view-at}
 use Rattle.lists.proofs.Sequences.{some-same}
 use Rattle.geometry.specs.Boxes.{faces}
-use Rattle.geometry.specs.Triangles.{Triangle, tri, edges}
+use Rattle.geometry.specs.Triangles.{Triangle, edges}
 use Rattle.box_faces.specs.Faces.{hasBit}
 use Rattle.edges.specs.Edges.{sides, samePair}
 use Rattle.edges.specs.Table.{nextSide}
 use Rattle.edges.proofs.Keys.{same-pair, both-ways}
 use Rattle.edges.proofs.Sides.{side-at, next-in}
+use Rattle.candidate_pool.specs.OpenEdges.{OpenEdge, openEdge}
 use Rattle.candidate_pool.specs.Offsets.{openEdgesAt}
 use Rattle.candidate_pool.specs.Standing.{countAt, poolAt, facesIn, edgeAt, edgesAt}
 use Rattle.candidate_pool.proofs.Masking.{no-bit, word-bit}
@@ -40,20 +41,20 @@ use Rattle.cap_selection.specs.Steps.{openIn, sideNumber, againstIn, see
 use Rattle.cap_selection.proofs.Ways.{test, down-against, up-against, sideOf, sides-at, against, seed-parts}
 
 -- the face of an open edge is one
-pub entry-face : (w : List ℕ) (at k : ℕ) {e : Triangle ℕ} → List·Memᴰ e (edgesAt w at k) → e .a < 6
+pub entry-face : (w : List ℕ) (at k : ℕ) {e : OpenEdge} → List·Memᴰ e (edgesAt w at k) → e .face < 6
 unfolding edgesAt
 entry-face w at k m =
     let r = of-flatMap (λ i. edgeAt w (at + 3 * i)) (upTo k) m in
-    let q = Memᴰ·of-map (λ f. tri f (getD w (at + 3 * r .0) 0) (getD w (at + 3 * r .0 + 1) 0)) (facesIn (getD w (at + 3 * r .0 + 2) 0)) (r .2) in
+    let q = Memᴰ·of-map (λ f. openEdge f (getD w (at + 3 * r .0) 0) (getD w (at + 3 * r .0 + 1) 0)) (facesIn (getD w (at + 3 * r .0 + 2) 0)) (r .2) in
     let l = face-low (of-keep (hasBit (getD w (at + 3 * r .0 + 2) 0)) faces (q .1) .0) in
-    let e = ap (λ (t : Triangle ℕ). t .a) (q .2) in
+    let e = ap (λ (t : OpenEdge). t .face) (q .2) in
     omega arith
 
 module _ (n nf k : ℕ) (capList w : List ℕ) (ready : CapReady n nf k capList w) (known : PairsKnown n nf k capList w) where
   abbrev nc : ℕ
   nc = length capList / 4
 
-  abbrev boundary : List (Triangle ℕ)
+  abbrev boundary : List OpenEdge
   boundary = edgesAt w (openEdgesAt n nf) k
 
   abbrev pub turnedCaps : List Cap
@@ -139,11 +140,11 @@ module _ (n nf k : ℕ) (capList w : List ℕ) (ready : CapReady n nf k capList 
 
   -- ---- what is known of a side's pair
 
-  abbrev runsUp : ℕ × ℕ → ℕ → Triangle ℕ → Bool
-  runsUp p f e = eqb (e .a) f && (samePair p (e .b, e .c) && ltb (e .b) (e .c))
+  abbrev runsUp : ℕ × ℕ → ℕ → OpenEdge → Bool
+  runsUp p f e = eqb (e .face) f && (samePair p (e .from, e .to) && ltb (e .from) (e .to))
 
-  abbrev runsDown : ℕ × ℕ → ℕ → Triangle ℕ → Bool
-  runsDown p f e = eqb (e .a) f && (samePair p (e .b, e .c) && ltb (e .c) (e .b))
+  abbrev runsDown : ℕ × ℕ → ℕ → OpenEdge → Bool
+  runsDown p f e = eqb (e .face) f && (samePair p (e .from, e .to) && ltb (e .to) (e .from))
 
   module _ (s : ℕ) (h : s < 3 * nc) where
     abbrev up : ℕ
@@ -179,19 +180,19 @@ module _ (n nf k : ℕ) (capList w : List ℕ) (ready : CapReady n nf k capList 
     down-small = let e = down-is in let l = known .down-small (k + s) (omega arith) in omega arith
 
     -- a face of either word is that of an open edge with the pair
-    of-entry : (f : ℕ) (way : Triangle ℕ → Bool) → some (λ e. eqb (e .a) f && (samePair (side s) (e .b, e .c) && way e)) boundary ≡ true → isOpenPair boundary (side s) ≡ true
+    of-entry : (f : ℕ) (way : OpenEdge → Bool) → some (λ e. eqb (e .face) f && (samePair (side s) (e .from, e .to) && way e)) boundary ≡ true → isOpenPair boundary (side s) ≡ true
     unfolding isOpenPair
     of-entry f way e =
-        let r = of-some (λ e. eqb (e .a) f && (samePair (side s) (e .b, e .c) && way e)) boundary (test e) in
-        let q = and-parts (eqb (r .0 .a) f) (samePair (side s) (r .0 .b, r .0 .c) && way (r .0)) (r .2) .1 in
-        is-true _ (some-of (λ e. samePair (side s) (e .b, e .c)) (r .1) (and-parts (samePair (side s) (r .0 .b, r .0 .c)) (way (r .0)) q .0))
+        let r = of-some (λ e. eqb (e .face) f && (samePair (side s) (e .from, e .to) && way e)) boundary (test e) in
+        let q = and-parts (eqb (r .0 .face) f) (samePair (side s) (r .0 .from, r .0 .to) && way (r .0)) (r .2) .1 in
+        is-true _ (some-of (λ e. samePair (side s) (e .from, e .to)) (r .1) (and-parts (samePair (side s) (r .0 .from, r .0 .to)) (way (r .0)) q .0))
 
     -- an open edge with the pair has its face in one of the words
-    to-entry : (e : Triangle ℕ) (way : Triangle ℕ → Bool) → List·Memᴰ e boundary → samePair (side s) (e .b, e .c) ≡ true → way e ≡ true
-        → some (λ d. eqb (d .a) (e .a) && (samePair (side s) (d .b, d .c) && way d)) boundary ≡ true
+    to-entry : (e : OpenEdge) (way : OpenEdge → Bool) → List·Memᴰ e boundary → samePair (side s) (e .from, e .to) ≡ true → way e ≡ true
+        → some (λ d. eqb (d .face) (e .face) && (samePair (side s) (d .from, d .to) && way d)) boundary ≡ true
     to-entry e way m p q =
-        is-true _ (some-of (λ d. eqb (d .a) (e .a) && (samePair (side s) (d .b, d .c) && way d)) m
-        (and-of (eqb (e .a) (e .a)) (samePair (side s) (e .b, e .c) && way e) (eqb-refl (e .a)) (and-of (samePair (side s) (e .b, e .c)) (way e) (test p) (test q))))
+        is-true _ (some-of (λ d. eqb (d .face) (e .face) && (samePair (side s) (d .from, d .to) && way d)) m
+        (and-of (eqb (e .face) (e .face)) (samePair (side s) (e .from, e .to) && way e) (eqb-refl (e .face)) (and-of (samePair (side s) (e .from, e .to)) (way e) (test p) (test q))))
 
     not-zero : (m f : ℕ) → f < 6 → hasBit m f ≡ true → m ≡ 0 → ⊥
     not-zero m f l b z = never (hasBit m f) b (ap (λ (x : ℕ). hasBit x f) z ∙ no-bit f l)
@@ -217,27 +218,27 @@ module _ (n nf k : ℕ) (capList w : List ℕ) (ready : CapReady n nf k capList 
         (λ (y : eqb down 0 ≡ true). absurd (never _ e (or-next (not (eqb up 0)) (not (eqb down 0)) false (ap not z) (ap not y))))
         (λ (y : eqb down 0 ≡ false).
         let b = word-bit down down-small (eqb-false down 0 y) in
-        of-entry (b .0) (λ e. ltb (e .c) (e .b)) (sym (down-known (b .0) (b .1)) ∙ b .2))
+        of-entry (b .0) (λ e. ltb (e .to) (e .from)) (sym (down-known (b .0) (b .1)) ∙ b .2))
         (cases (eqb down 0)))
         (λ (z : eqb up 0 ≡ false).
         let b = word-bit up up-small (eqb-false up 0 z) in
-        of-entry (b .0) (λ e. ltb (e .b) (e .c)) (sym (up-known (b .0) (b .1)) ∙ b .2))
+        of-entry (b .0) (λ e. ltb (e .from) (e .to)) (sym (up-known (b .0) (b .1)) ∙ b .2))
         (cases (eqb up 0))
 
     some-opens : isOpenPair boundary (side s) ≡ true → openIn n nf nc w (sideNumber n nf nc k w s) ≡ true
     unfolding isOpenPair
     some-opens o =
-        let r = of-some (λ e. samePair (side s) (e .b, e .c)) boundary (test o) in
+        let r = of-some (λ e. samePair (side s) (e .from, e .to)) boundary (test o) in
         let e = r .0 in
         let p = is-true _ (r .2) in
         let l = entry-face w (openEdgesAt n nf) k (r .1) in
         ⊎-elim
-        (λ (q : ltb (e .b) (e .c) ≡ true). up-opens (not-zero up (e .a) l (up-known (e .a) l ∙ to-entry e (λ e. ltb (e .b) (e .c)) (r .1) p q)))
-        (λ (q : ltb (e .b) (e .c) ≡ false).
+        (λ (q : ltb (e .from) (e .to) ≡ true). up-opens (not-zero up (e .face) l (up-known (e .face) l ∙ to-entry e (λ e. ltb (e .from) (e .to)) (r .1) p q)))
+        (λ (q : ltb (e .from) (e .to) ≡ false).
         let d = differs s h in
-        let c = apart (side s .0) (side s .1) (e .b) (e .c) d (ltb-false (e .b) (e .c) q) (same-pair (side s) (e .b, e .c) p) in
-        down-opens (not-zero down (e .a) l (down-known (e .a) l ∙ to-entry e (λ e. ltb (e .c) (e .b)) (r .1) p (lt-ltb (e .c) (e .b) c))))
-        (cases (ltb (e .b) (e .c)))
+        let c = apart (side s .0) (side s .1) (e .from) (e .to) d (ltb-false (e .from) (e .to) q) (same-pair (side s) (e .from, e .to) p) in
+        down-opens (not-zero down (e .face) l (down-known (e .face) l ∙ to-entry e (λ e. ltb (e .to) (e .from)) (r .1) p (lt-ltb (e .to) (e .from) c))))
+        (cases (ltb (e .from) (e .to)))
       where
         apart : (x y b c : ℕ) → (x ≡ y → ⊥) → c ≤ b → ((x ≡ b) × (y ≡ c)) ⊎ ((x ≡ c) × (y ≡ b)) → c < b
         apart x y b c d l (inl u) = let p = u .0 in let q = u .1 in omega arith
@@ -254,12 +255,12 @@ module _ (n nf k : ℕ) (capList w : List ℕ) (ready : CapReady n nf k capList 
         cond-true (ltb x y) (hasBit down f) (hasBit up f) (hasBit down f) q refl
         ∙ down-known f l
         ∙ some-same (runsDown (side s) f) (against f (side s)) boundary
-        (λ e m. ap (λ (b : Bool). eqb (e .a) f && b) (down-against (side s .0) (side s .1) (e .b) (e .c) (let u = first in let v = second in let t = ltb-true x y q in omega arith))))
+        (λ e m. ap (λ (b : Bool). eqb (e .face) f && b) (down-against (side s .0) (side s .1) (e .from) (e .to) (let u = first in let v = second in let t = ltb-true x y q in omega arith))))
         (λ (q : ltb x y ≡ false).
         cond-false (ltb x y) (hasBit down f) (hasBit up f) (hasBit up f) q refl
         ∙ up-known f l
         ∙ some-same (runsUp (side s) f) (against f (side s)) boundary
-        (λ e m. ap (λ (b : Bool). eqb (e .a) f && b) (up-against (side s .0) (side s .1) (e .b) (e .c) (let u = first in let v = second in let t = ltb-false x y q in let d = differs s h in omega arith))))
+        (λ e m. ap (λ (b : Bool). eqb (e .face) f && b) (up-against (side s .0) (side s .1) (e .from) (e .to) (let u = first in let v = second in let t = ltb-false x y q in let d = differs s h in omega arith))))
         (cases (ltb x y))
       where
         first : side s .0 ≡ x

@@ -20,6 +20,7 @@ use Rattle.geometry.specs.Triangles.{Triangle, edges, containsOrientedEdge}
 use Rattle.edges.specs.Edges.{sides, samePair}
 use Rattle.edges.proofs.Keys.{same-pair, pair-same, both-ways}
 use Rattle.cap_triangles.specs.Selection.{Cap, capAt}
+use Rattle.candidate_pool.specs.OpenEdges.{OpenEdge}
 
 -- ---- a fact as a test
 
@@ -96,16 +97,16 @@ sides-at (t ∷ caps) (suc i) a h g =
     ap (sideOf (t ∷ caps)) z ∙ sides-at caps i a (omega arith) g
 
 -- the open edge e of the face f runs against the side s
-abbrev pub against : ℕ → ℕ × ℕ → Triangle ℕ → Bool
-against f s e = eqb (e .a) f && (eqb (s .0) (e .c) && eqb (s .1) (e .b))
+abbrev pub against : ℕ → ℕ × ℕ → OpenEdge → Bool
+against f s e = eqb (e .face) f && (eqb (s .0) (e .to) && eqb (s .1) (e .from))
 
-pub seed-parts : (boundary : List (Triangle ℕ)) (f : ℕ) (t : Triangle ℕ)
-    → some (λ e. eqb (e .a) f && containsOrientedEdge t (e .c) (e .b)) boundary
+pub seed-parts : (boundary : List OpenEdge) (f : ℕ) (t : Triangle ℕ)
+    → some (λ e. eqb (e .face) f && containsOrientedEdge t (e .to) (e .from)) boundary
     ≡ (some (against f (t .a, t .b)) boundary || (some (against f (t .b, t .c)) boundary || some (against f (t .c, t .a)) boundary))
 unfolding containsOrientedEdge
 seed-parts boundary f t =
-    some-same (λ e. eqb (e .a) f && containsOrientedEdge t (e .c) (e .b)) (λ e. against f (t .a, t .b) e || (against f (t .b, t .c) e || against f (t .c, t .a) e)) boundary
-    (λ e m. spread (eqb (e .a) f) (eqb (t .a) (e .c) && eqb (t .b) (e .b)) (eqb (t .b) (e .c) && eqb (t .c) (e .b)) (eqb (t .c) (e .c) && eqb (t .a) (e .b)))
+    some-same (λ e. eqb (e .face) f && containsOrientedEdge t (e .to) (e .from)) (λ e. against f (t .a, t .b) e || (against f (t .b, t .c) e || against f (t .c, t .a) e)) boundary
+    (λ e m. spread (eqb (e .face) f) (eqb (t .a) (e .to) && eqb (t .b) (e .from)) (eqb (t .b) (e .to) && eqb (t .c) (e .from)) (eqb (t .c) (e .to) && eqb (t .a) (e .from)))
     ∙ some-or (against f (t .a, t .b)) (λ e. against f (t .b, t .c) e || against f (t .c, t .a) e) boundary
     ∙ ap (λ (b : Bool). some (against f (t .a, t .b)) boundary || b) (some-or (against f (t .b, t .c)) (against f (t .c, t .a)) boundary)
   where

@@ -14,7 +14,7 @@ use Rattle.lists.specs.Lists.{some, upTo}
 use Rattle.lists.proofs.Members.{some-of, of-some, and-parts, and-of}
 use Rattle.lists.proofs.Places.{of-up, up-of, length-up, at-map-up}
 use Rattle.lists.proofs.Bools.{is-true}
-use Rattle.geometry.specs.Triangles.{Triangle, edges}
+use Rattle.geometry.specs.Triangles.{edges}
 use Rattle.edges.specs.Edges.{samePair}
 use Rattle.edges.proofs.Edges.{same-pair-sym, same-pair-as}
 use Rattle.components.specs.Joined.{Decides}
@@ -22,14 +22,15 @@ use Rattle.components.specs.Components.{components, componentOf}
 use Rattle.components.proofs.Once.{once-up, decides-as, decides-same}
 use Rattle.components.proofs.Computed.{component-some}
 use Rattle.cap_triangles.specs.Selection.{Cap, capAt, isSeed, isOpenPair, shareEdge, places, selected, ToSeed, Selects}
+use Rattle.candidate_pool.specs.OpenEdges.{OpenEdge}
 
 -- a pair the other way round is the same open edge
-open-as : (boundary : List (Triangle ℕ)) (s u : ℕ × ℕ) → T (samePair s u) → isOpenPair boundary s ≡ isOpenPair boundary u
+open-as : (boundary : List OpenEdge) (s u : ℕ × ℕ) → T (samePair s u) → isOpenPair boundary s ≡ isOpenPair boundary u
 unfolding isOpenPair some
 open-as [] s u h = refl
-open-as (e ∷ l) s u h = ap₂ _||_ (same-pair-as s u (is-true (samePair s u) h) (e .b, e .c)) (open-as l s u h)
+open-as (e ∷ l) s u h = ap₂ _||_ (same-pair-as s u (is-true (samePair s u) h) (e .from, e .to)) (open-as l s u h)
 
-module _ (boundary : List (Triangle ℕ)) (caps : List Cap) where
+module _ (boundary : List OpenEdge) (caps : List Cap) where
   pub share-turn : (i j : ℕ) → T (shareEdge boundary caps i j) → T (shareEdge boundary caps j i)
   unfolding shareEdge
   share-turn i j t =

@@ -7,8 +7,9 @@ use mathlib.Core.List.{List}
 use lib.Dec.{eqb, leb, ltb}
 use lib.ListN.{length}
 use Rattle.lists.specs.Lists.{some, place, has, upTo}
-use Rattle.geometry.specs.Triangles.{Triangle, vertices, edges}
+use Rattle.geometry.specs.Triangles.{vertices, edges}
 use Rattle.edges.specs.Edges.{samePair}
+use Rattle.candidate_pool.specs.OpenEdges.{OpenEdge}
 use Rattle.candidate_pool.specs.Pool.{Pool, faceList}
 use Rattle.cap_triangles.specs.Selection.{Cap, capAt}
 
@@ -25,10 +26,10 @@ module _ (pool : Pool) (caps : List Cap) where
   badCapPlace = place badCap (upTo (length caps))
 
   -- "a face with three or more candidates has an oriented open edge that, either way round, is no edge of any triangle supplied for it"
-  unfoldable pub missingEdge : Triangle ℕ → Bool
+  unfoldable pub missingEdge : OpenEdge → Bool
   missingEdge e =
-      leb 3 (length (faceList pool (e .a)))
-      && not (some (λ t. eqb (t .face) (e .a) && some (samePair (e .b, e .c)) (edges (t .corners))) caps)
+      leb 3 (length (faceList pool (e .face)))
+      && not (some (λ t. eqb (t .face) (e .face) && some (samePair (e .from, e .to)) (edges (t .corners))) caps)
 
-  unfoldable pub missingPlace : List (Triangle ℕ) → ℕ
+  unfoldable pub missingPlace : List OpenEdge → ℕ
   missingPlace boundary = place missingEdge boundary

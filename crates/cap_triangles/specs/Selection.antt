@@ -22,6 +22,7 @@ use Rattle.box_faces.specs.Faces.{project, ccwIsOutward}
 use Rattle.edges.specs.Edges.{samePair}
 use Rattle.components.specs.Joined.{Joined, Among, Decides}
 use Rattle.components.specs.Components.{components, componentOf}
+use Rattle.candidate_pool.specs.OpenEdges.{OpenEdge}
 use Rattle.candidate_pool.specs.Pool.{Pool, pointOf}
 
 pub record Cap : Type 0 where
@@ -56,14 +57,14 @@ module _ (pool : Pool) where
   outwardCaps caps = map outward caps
 
 -- "Edges here and in the chain rule, open ones too, are pairs of candidates": an open edge is a face and two candidates, as it runs
-unfoldable pub isOpenPair : List (Triangle ℕ) → ℕ × ℕ → Bool
-isOpenPair boundary s = some (λ e. samePair s (e .b, e .c)) boundary
+unfoldable pub isOpenPair : List OpenEdge → ℕ × ℕ → Bool
+isOpenPair boundary s = some (λ e. samePair s (e .from, e .to)) boundary
 
 -- boundary: the open edges; caps: the supplied triangles, turned outward
-module _ (boundary : List (Triangle ℕ)) (caps : List Cap) where
+module _ (boundary : List OpenEdge) (caps : List Cap) where
   -- "A seed lies on an open edge's face and, so turned, holds that edge backwards"
   unfoldable pub isSeed : ℕ → Bool
-  isSeed i = some (λ e. eqb (e .a) (capAt caps i .face) && containsOrientedEdge (capAt caps i .corners) (e .c) (e .b)) boundary
+  isSeed i = some (λ e. eqb (e .face) (capAt caps i .face) && containsOrientedEdge (capAt caps i .corners) (e .to) (e .from)) boundary
 
   -- "on whatever faces, share one if both hold the pair, either way round"; "none an open mesh edge"
   unfoldable pub shareEdge : ℕ → ℕ → Bool

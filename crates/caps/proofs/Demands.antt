@@ -16,6 +16,7 @@ use Rattle.geometry.specs.Meshes.{Mesh, meshOf, Named, enter}
 use Rattle.refusals.specs.Refusals.{Test}
 use Rattle.refusals.specs.Answers.{meshOutputs, Answer}
 use Rattle.refusals.proofs.Answers.{answer-done}
+use Rattle.candidate_pool.specs.OpenEdges.{OpenEdge}
 use Rattle.candidate_pool.specs.Pool.{Pool, pointOf}
 use Rattle.boundary_closure.specs.Asked.{Asked}
 use Rattle.cap_triangles.specs.Selection.{Cap, capsOf, outwardCaps, selected, Selects}
@@ -52,7 +53,7 @@ pub entered-behind : (pool : Pool) (points : List Point) (ts : List (Triangle �
 unfolding entered
 entered-behind pool points ts = fold-behind (pointOf pool) (record { given = map (λ c. c .mesh) (pool .all); points = points }) (flat ts)
 
-module _ (pool : Pool) (boundary : List (Triangle ℕ)) (caps : List Cap) (positive : Bool) (mesh : Mesh) where
+module _ (pool : Pool) (boundary : List OpenEdge) (caps : List Cap) (positive : Bool) (mesh : Mesh) where
   pub closed-meets : (chosen : List Bool) → Selects boundary (outwardCaps pool caps) chosen → DemandThree pool boundary caps positive mesh (closed pool caps positive mesh chosen)
   unfolding closed
   closed-meets chosen s =

@@ -14,13 +14,13 @@ use lib.Ieee.{Float}
 use Rattle.lists.specs.Lists.{upTo}
 use Rattle.lists.proofs.Members.{place-le}
 use Rattle.lists.proofs.Places.{length-up}
-use Rattle.geometry.specs.Triangles.{Triangle}
 use Rattle.refusals.specs.declared.refusal.Refusal.{Refusal}
 use Rattle.refusals.specs.declared.refusal.Refusal.the-variants.{BadCap, MissingEdge}
 use Rattle.refusals.specs.declared.refusal.Checked.{Checked}
 use Rattle.refusals.specs.declared.refusal.Checked.the-variants.{Passed, Refused}
 use Rattle.refusals.specs.Refusals.{Test, firstRefusal}
 use Rattle.refusals.proofs.Refusals.{holds, passes, none-left}
+use Rattle.candidate_pool.specs.OpenEdges.{OpenEdge}
 use Rattle.candidate_pool.specs.Offsets.{openEdgesAt}
 use Rattle.candidate_pool.specs.Pool.{Pool}
 use Rattle.candidate_pool.specs.Standing.{poolAt, Holds, EdgesHeld}
@@ -64,7 +64,7 @@ module _ (n nf k : ℕ) (capList w : List ℕ) (S : Supplied n nf capList w) (H 
   abbrev l : List Cap
   l = capsOf capList
 
-  abbrev es : List (Triangle ℕ)
+  abbrev es : List OpenEdge
   es = edgesIn n nf k w
 
   abbrev second : List Test

@@ -17,12 +17,12 @@ use Rattle.lists.proofs.Places.{length-up, at-map-up}
 use Rattle.lists.proofs.Sequences.{each-flat}
 use Rattle.geometry.specs.declared.point.Point.{Point}
 use Rattle.geometry.specs.declared.aabb.AABB.{AABB}
-use Rattle.geometry.specs.Triangles.{Triangle}
 use Rattle.geometry.specs.Boxes.{faces}
 use Rattle.geometry.specs.Meshes.{Mesh, meshOf, pointsOf}
 use Rattle.geometry.proofs.Meshes.{length-pointsOf}
 use Rattle.mesh_weld.specs.Joining.{Joining}
 use Rattle.box_faces.specs.Faces.{uAxis, vAxis, project}
+use Rattle.candidate_pool.specs.OpenEdges.{OpenEdge}
 use Rattle.candidate_pool.specs.Offsets.{entryAt, poolEnd}
 use Rattle.candidate_pool.specs.Pool.{Candidate, Pool, noCandidate, byKey, renewed, enteredAs, placeFor, insert}
 use Rattle.candidate_pool.specs.Setting.{Setting}
@@ -98,7 +98,7 @@ corners-low box eps mesh =
     omega (arith, e, k)))
 
 -- a grid point names none
-grid-low : (s : Setting) (edges : List (Triangle ℕ)) (p : Pool) (m : ℕ) → Each (Names m) (grid s edges p)
+grid-low : (s : Setting) (edges : List OpenEdge) (p : Pool) (m : ℕ) → Each (Names m) (grid s edges p)
 unfolding grid faceGrid gridAt
 grid-low s edges p m =
     each-flat (Names m) (faceGrid s edges p) faces

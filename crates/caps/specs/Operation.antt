@@ -14,13 +14,14 @@ use mathlib.Core.List.{List, [], _∷_, _++_}
 use lib.Dec.{ltb}
 use lib.ListN.{length}
 use lib.Ieee.{Float}
-use Rattle.geometry.specs.Triangles.{Triangle, flat}
+use Rattle.geometry.specs.Triangles.{flat}
 use Rattle.geometry.specs.Meshes.{Mesh, meshOf, coordinates}
 use Rattle.words.specs.Overlay.{overlay}
 use Rattle.refusals.specs.declared.refusal.Refusal.the-variants.{BadCap, MissingEdge}
 use Rattle.refusals.specs.declared.reply.Reply.{Reply}
 use Rattle.refusals.specs.Refusals.{documentedReply, turnedDown, Test, unless}
 use Rattle.refusals.specs.Answers.{meshOutputs, Answered}
+use Rattle.candidate_pool.specs.OpenEdges.{OpenEdge}
 use Rattle.candidate_pool.specs.Pool.{Pool}
 use Rattle.boundary_closure.specs.Asked.{Asked, setting}
 use Rattle.boundary_closure.specs.Candidates.{Candidates, candidates}
@@ -42,7 +43,7 @@ isPositive ClosePositive = true
 isPositive CloseNegative = false
 
 -- of a list of triangles, for these candidates and open edges
-abbrev pub suppliedTests : Pool → List Cap → List (Triangle ℕ) → List Test
+abbrev pub suppliedTests : Pool → List Cap → List OpenEdge → List Test
 suppliedTests p caps edges =
     (ltb (badCapPlace p caps) (length caps), BadCap (badCapPlace p caps)) ∷ (ltb (missingPlace p caps edges) (length edges), MissingEdge (missingPlace p caps edges)) ∷ []
 

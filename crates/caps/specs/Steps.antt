@@ -11,13 +11,13 @@ use mathlib.Core.Bool.{Bool, cond}
 use mathlib.Core.List.{List}
 use lib.ListN.{length}
 use lib.Ieee.{Float}
-use Rattle.geometry.specs.Triangles.{Triangle}
 use Rattle.geometry.specs.Meshes.{Mesh, meshOf}
 use Rattle.refusals.specs.declared.refusal.Checked.{Checked}
 use Rattle.refusals.specs.declared.refusal.Checked.the-variants.{Passed}
 use Rattle.candidate_pool.specs.Offsets.{openEdgesAt}
 use Rattle.refusals.specs.Refusals.{firstRefusal}
 use Rattle.refusals.specs.Front.{ceiling, ListsPass, CapListPass}
+use Rattle.candidate_pool.specs.OpenEdges.{OpenEdge}
 use Rattle.candidate_pool.specs.Pool.{Pool}
 use Rattle.candidate_pool.specs.Standing.{poolAt, edgesAt}
 use Rattle.candidate_edges.specs.Steps.{VerticesIn}
@@ -31,7 +31,7 @@ use Rattle.cap_closing.specs.Entering.{MeshWords}
 use Rattle.caps.specs.declared.mode.BoundaryClosure.{BoundaryClosure}
 use Rattle.caps.specs.Operation.{isPositive, suppliedTests, surface, pool}
 
-abbrev pub edgesIn : ℕ → ℕ → ℕ → List ℕ → List (Triangle ℕ)
+abbrev pub edgesIn : ℕ → ℕ → ℕ → List ℕ → List OpenEdge
 edgesIn n nf k w = edgesAt w (openEdgesAt n nf) k
 
 -- from work room w to w', with the answer r
@@ -41,7 +41,7 @@ pub record CapsChecked (n nf k : ℕ) (capList : List ℕ) (r : Checked) (w w' :
   pub ready : r ≡ Passed → CapReady n nf k capList w'
   pub known : r ≡ Passed → PairsKnown n nf k capList w'
 
-abbrev pub closedOf : Pool → List Cap → List (Triangle ℕ) → Bool → Mesh → Mesh
+abbrev pub closedOf : Pool → List Cap → List OpenEdge → Bool → Mesh → Mesh
 closedOf p l es positive mesh = closed p l positive mesh (selected es (outwardCaps p l))
 
 abbrev pub closedMesh : List Float → List ℕ → List ℕ → ℕ → ℕ → Bool → List ℕ → Mesh

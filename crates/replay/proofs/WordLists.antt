@@ -10,11 +10,12 @@ use mathlib.Core.List.{List, [], _∷_}
 use lib.ListN.{length, getD}
 use lib.Ieee.{Float}
 use Rattle.geometry.specs.declared.aabb.AABB.{AABB}
-use Rattle.geometry.specs.Triangles.{flat}
 use Rattle.refusals.specs.Refusals.{Test, settle, Zeroed}
 use Rattle.refusals.specs.Answers.{replyIn, Called}
 use Rattle.refusals.specs.Reports.{Reported}
 use Rattle.boundary_closure.specs.Asked.{asked}
+use Rattle.candidate_pool.specs.OpenEdges.{openEdgeWords}
+use Rattle.candidate_constraints.specs.Constraints.{constraintWords}
 use Rattle.boundary_closure.specs.Candidates.{Candidates, candidateWords, listWords}
 use Rattle.boundary_closure.specs.Operation.{candidatesResult, candidateLengths, candidateOutputs}
 use Rattle.replay.specs.Words.{Decides}
@@ -71,8 +72,8 @@ pub record CandidatesReported (reply : List ℕ) (result : Candidates) (number :
   pub told : Reported reply number values
   pub candidates : c' ≡ settle reply (candidateWords (result .all)) c
   pub face-lists : l' ≡ settle reply (listWords (result .lists)) l
-  pub constraints : k' ≡ settle reply (flat (result .constraints)) k
-  pub open-edges : e' ≡ settle reply (flat (result .edges)) e
+  pub constraints : k' ≡ settle reply (constraintWords (result .constraints)) k
+  pub open-edges : e' ≡ settle reply (openEdgeWords (result .edges)) e
   pub work : Zeroed w w'
 
 pub candidates-called : (ts : List Test) (result : Candidates) (number : ℕ) (values w w' c c' l l' k k' e e' : List ℕ)
@@ -106,11 +107,11 @@ module _ (stored reply reply₀ : List ℕ) (result result₀ : Candidates) (num
     ends-l : l' ≡ settle reply (listWords (result .lists)) (oldWords (getD stored 16 0))
     ends-l = there .face-lists ∙ ap (settle reply (listWords (result .lists))) (fresh .face-lists)
 
-    ends-k : k' ≡ settle reply (flat (result .constraints)) (oldWords (getD stored 17 0))
-    ends-k = there .constraints ∙ ap (settle reply (flat (result .constraints))) (fresh .constraints)
+    ends-k : k' ≡ settle reply (constraintWords (result .constraints)) (oldWords (getD stored 17 0))
+    ends-k = there .constraints ∙ ap (settle reply (constraintWords (result .constraints))) (fresh .constraints)
 
-    ends-e : e' ≡ settle reply (flat (result .edges)) (oldWords (getD stored 18 0))
-    ends-e = there .open-edges ∙ ap (settle reply (flat (result .edges))) (fresh .open-edges)
+    ends-e : e' ≡ settle reply (openEdgeWords (result .edges)) (oldWords (getD stored 18 0))
+    ends-e = there .open-edges ∙ ap (settle reply (openEdgeWords (result .edges))) (fresh .open-edges)
 
     same-words : (from : ℕ) {x y : List ℕ} → x ≡ y → SameWords stored from x → SameWords stored from y
     same-words from p s = subst (λ (z : List ℕ). SameWords stored from z) p s

@@ -12,7 +12,7 @@ use Rattle.rounding.specs.Rounding as rounding
 use Rattle.rounding.specs.Rounding.{halfUp, rounded, key, beyond, farKey, ceil, wholeUp}
 use Rattle.geometry.specs.declared.aabb.AABB.{AABB}
 use Rattle.geometry.specs.Points.{along}
-use Rattle.geometry.specs.Triangles.{Triangle, tri, threes, flat}
+use Rattle.geometry.specs.Triangles.{Triangle, tri, threes}
 use Rattle.geometry.specs.Axes.{segments, gridLine, gridSize}
 use Rattle.mesh_weld.specs.Cells.{keyOf, sameKey}
 use Rattle.edges.specs.Edges.{samePair, pairBefore, openEdges}
@@ -21,9 +21,10 @@ use Rattle.refusals.specs.Answers.{replyWith}
 use Rattle.refusals.specs.Front.{ragged, tooMany, badIndex, inRange, epsInRange, resolutionInRange, boxInRange, badBox, gridTooFine, workNeed, farKeys, roomTests}
 use Rattle.box_faces.specs.Faces.{project, faceBits, onFace, facesOf}
 use Rattle.box_faces.specs.Sides.{faceSides, betweenEnds, alongSide, onSide}
+use Rattle.candidate_pool.specs.OpenEdges.{openEdgeWords}
 use Rattle.candidate_pool.specs.Pool.{byKey, renewed, listed, numberFor, insert}
 use Rattle.candidate_grids.specs.Grid.{gridPoint, skipped, gridAt, faceGrid, grid}
-use Rattle.candidate_constraints.specs.Constraints.{neighbours, sideOrder, edgePlaces, faceConstraints}
+use Rattle.candidate_constraints.specs.Constraints.{constraintWords, neighbours, sideOrder, edgePlaces, faceConstraints}
 use Rattle.candidate_edges.specs.Surface.{enterEdge, edgeSurface, cornerVertices, meshPool}
 use Rattle.boundary_closure.specs.Candidates.{candidates, candidateWords, listWords}
 use Rattle.boundary_closure.specs.Asked.{asked}
@@ -86,7 +87,7 @@ reply vs fs box eps resolution =
 abbrev outputs : List Float → List ℕ → AABB → Float → Float → List (List ℕ)
 outputs vs fs box eps resolution =
     let r = candidatesResult vs fs (asked box eps resolution) in
-    candidateWords (r .all) ∷ listWords (r .lists) ∷ flat (r .constraints) ∷ flat (r .edges) ∷ []
+    candidateWords (r .all) ∷ listWords (r .lists) ∷ constraintWords (r .constraints) ∷ openEdgeWords (r .edges) ∷ []
 
 -- the facet (0,0,z), (1,0,z), (0,1,z)
 abbrev points9 : Float → List Float

@@ -1,6 +1,7 @@
+use Rattle.candidate_pool.specs.OpenEdges.{openEdgeWords}
+use Rattle.candidate_constraints.specs.Constraints.{constraintWords}
 use Rattle.candidate_constraints.specs.Steps.{unpacked}
 use Rattle.candidate_pool.specs.Standing.{edgesAt}
-use Rattle.geometry.specs.Triangles.{flat}
 use Rattle.lists.specs.Regions.{view}
 use lib.Seq.{sets}
 use lib.ListN.{getD, length}
@@ -133,7 +134,7 @@ write-edges-requires c κs =
         c .before .open-edges-at .ensures,
       ),
       let e = ap
-          (λ (x : ℕ). length (flat (edgesAt w x (a .k)))) (c .before .open-edges-at .ensures) in omega (
+          (λ (x : ℕ). length (openEdgeWords (edgesAt w x (a .k)))) (c .before .open-edges-at .ensures) in omega (
             arith,
             c .before .before .before .before .before .before .before .before .before .before .before .before .before .before .before .if4 .left,
             edges-long (a .n) (a .nf) (a .k)
@@ -184,9 +185,9 @@ returns-5 c =
     .before .before .before .before .before .before .before .before .before .before .before .before .before .before .before .pre .words)))
     (c .before .before .before .before .before .before .before .before .before .before .before .before .write-face-lists .ensures)
     (c .before .before .before .before .before .before .before .write-constraints .ensures ∙ ap
-    (λ (x : ℕ). sets (a .constraints .now) 0 (flat (map unpacked (view w x (a .total)))))
+    (λ (x : ℕ). sets (a .constraints .now) 0 (constraintWords (map unpacked (view w x (a .total)))))
     (c .before .before .before .before .before .before .before .before .before .constraints-at .ensures))
-    (c .before .before .write-edges .ensures ∙ ap (λ (x : ℕ). sets (a .open-edges .now) 0 (flat (edgesAt w x (a .k)))) (c .before .before .before .before .open-edges-at .ensures))
+    (c .before .before .write-edges .ensures ∙ ap (λ (x : ℕ). sets (a .open-edges .now) 0 (openEdgeWords (edgesAt w x (a .k)))) (c .before .before .before .before .open-edges-at .ensures))
 
 pub deliver-spec : {M : Type 1} → statement M
 deliver-spec =
