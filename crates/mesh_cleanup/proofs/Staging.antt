@@ -160,7 +160,7 @@ module _ (vs : List Float) (fs : List ℕ) (eps : Float) (lent : ℕ) (R : Ready
           view-long : length (view m₁ (9 * nv) r) ≡ r
           view-long = view-length m₁ (9 * nv) r (let a = R .room in let b = W .few in omega arith)
 
-      -- the weldedMesh mesh in the room is the one defined
+      -- the welded mesh in the room is the one defined
       result-is : compacted eps 2 P F ≡ cleanResult vs fs eps
       unfolding cleanResult cleanedMesh weldedMesh
       result-is = λ i.

@@ -1,11 +1,11 @@
--- Cleaning (document 01, module 4, the table of refusals, and "Agreement"; `clean_mesh` of mesh_cleanup.rs): the cleanedMesh mesh, the tests in the table's order, the reply, and what
+-- Cleaning (document 01, module 4, the table of refusals, and "Agreement"; `clean_mesh` of mesh_cleanup.rs): the cleaned mesh, the tests in the table's order, the reply, and what
 -- the operation leaves in outputs and work room. Assumes nothing.
 --   weldedMesh, weldedPoints, weldedFacets   the mesh after welding by a joining rule
---   cleanedMesh              the cleanedMesh mesh, for a joining rule and the least number of facets of a component
---   minComponentFacets   "fewer than two facets" are dropped
---   cleanResult          document 01's: the rule by cells, and two facets
---   cleanTests           1, 2, 3, 4, 7, 8                cleanReply    the reply as numbers, with 12
---   Cleaned              what the operation promises: the result, and the rule for a kept facet without its computing
+--   cleanedMesh                              the cleaned mesh, for a joining rule and the least number of facets of a component
+--   minComponentFacets                       "fewer than two facets" are dropped
+--   cleanResult                              document 01's: the rule by cells, and two facets
+--   cleanTests                               1, 2, 3, 4, 7, 8                cleanReply    the reply as numbers, with 12
+--   Cleaned                                  what the operation promises: the result, and the rule for a kept facet without its computing
 use Prim.Native.Nat.{ℕ, _/_}
 use mathlib.Core.Path.{_≡_}
 use mathlib.Core.Bool.{not, _&&_}

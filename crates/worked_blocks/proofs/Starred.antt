@@ -99,7 +99,7 @@ abbrev pub row : {A : Type 0} → A → A → Row
 row g s = record { Result = _; given = g; stated = s }
 
 -- C1: "eps 1/1024, points (-1/2048,0,0), (1/2048,0,0), no facets: keys -1 and 1, two vertices, though the distance is eps". The keys, the distance test, the reply with just
--- enough room, and the cleanedMesh mesh
+-- enough room, and the cleaned mesh
 abbrev pub points1 : List Float
 points1 = -1/2048 ∷ +0 ∷ +0 ∷ +1/2048 ∷ +0 ∷ +0 ∷ []
 
@@ -142,7 +142,7 @@ c5 =
     (clipReply points5 (0 ∷ 1 ∷ 2 ∷ []) box5 2^-20 1536 (12 ∷ 6 ∷ []), clipResult points5 (0 ∷ 1 ∷ 2 ∷ []) box5 2^-20)
     (0 ∷ 12 ∷ 6 ∷ [], meshOf (+0 ∷ +0 ∷ +0 ∷ +2 ∷ +0 ∷ +0 ∷ +2 ∷ +2 ∷ +0 ∷ +0 ∷ +4 ∷ +0 ∷ []) (0 ∷ 1 ∷ 2 ∷ 0 ∷ 2 ∷ 3 ∷ []))
 
--- C6: "one sound facet cleanedMesh: no vertex, no facet". C7: "facet 0 1 2 and facet 2 1 0: the same". With no room in the outputs
+-- C6: "one sound facet cleaned: no vertex, no facet". C7: "facet 0 1 2 and facet 2 1 0: the same". With no room in the outputs
 abbrev pub points6 : List Float
 points6 = +0 ∷ +0 ∷ +0 ∷ +1 ∷ +0 ∷ +0 ∷ +0 ∷ +1 ∷ +0 ∷ []
 
