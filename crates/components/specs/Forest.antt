@@ -1,13 +1,13 @@
 -- Forest: the links of a union-find, which stand in a buffer from o on, one for each of n items; what its functions keep, and what they do. Assumes nothing.
---   Link, SameTree   an item's link goes to another; two items are in one tree
---   Forest         every link goes to an item that is not larger, so that a tree's root is its least item
---   TreesKept           the links changed, and neither the trees nor their roots did
---   RootFound          the root of an item's tree was found
---   RootOf         r is the root of i's tree
---   United         two trees were made one
---   Flattened           every link was made to go to the root
---   LabelEntered        a label of an item was entered: the item is the first seen with it, or was joined to the first
---   Swept          all labels before slot t were entered
+--   Link, SameTree        an item's link goes to another; two items are in one tree
+--   Forest                every link goes to an item that is not larger, so that a tree's root is its least item
+--   TreesKept             the links changed, and neither the trees nor their roots did
+--   RootFound             the root of an item's tree was found
+--   RootOf                r is the root of i's tree
+--   United                two trees were made one
+--   Flattened             every link was made to go to the root
+--   LabelEntered          a label of an item was entered: the item is the first seen with it, or was joined to the first
+--   Swept                 all labels before slot t were entered
 --   Owned, SizesTallied   what the steps before and after leave
 use Prim.Native.Nat.{ℕ, _+_, _*_, _/_, _≤_, _<_}
 use mathlib.Core.Path.{_≡_}

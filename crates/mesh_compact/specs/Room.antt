@@ -1,16 +1,16 @@
 -- What the functions of the last step ask and keep in the work room, of which the outer contract does not speak. Of k facets that passed the corners stand from `facets` on, the
 -- components' numbers from `parts` on and their sizes behind; renumbering among n welded vertices has, from `at` on, 1 more than the new number of each, or 0 while it has none; from
 -- at + n on the old numbers of those used, in order of first use; from at + n + 3 k on the new numbers of the kept facets' corners. Assumes nothing.
---   cornersAt, isLargeAt    facet i of the k, and whether its component has at least `least` facets
---   afterVertex, countAfter, afterCorner   the room after a vertex, and after a corner, was numbered
---   numbering             the numbers given to the corners cs in turn, as a table
---   Naming                the corners cs have been numbered, among the points
---   RenumberRoom                  where the tables stand, and what renumbering reads there
---   Cornered, Faceted     one corner more, one facet more
---   NumberedSoFar, FacetNumbered         the first i facets have been numbered or dropped; one more
---   StagedMesh             a mesh stands in the room, to be written
---   Source, Lent          what the last step is given, and asks
---   MeshCompacted             what it leaves
+--   cornersAt, isLargeAt           facet i of the k, and whether its component has at least `least` facets
+--   afterVertex, countAfter        the room, and how many have a number, after a vertex was numbered
+--   numbering                      the numbers given to the corners cs in turn, as a table
+--   Naming                         the corners cs have been numbered, among the points
+--   RenumberRoom                   where the tables stand, and what renumbering reads there
+--   Cornered, Faceted              one corner more, one facet more
+--   NumberedSoFar, FacetNumbered   the first i facets have been numbered or dropped; one more
+--   StagedMesh                     a mesh stands in the room, to be written
+--   Source, Lent                   what the last step is given, and asks
+--   MeshCompacted                  what it leaves
 use Prim.Native.Nat.{ℕ, _+_, _*_, _-_, _≤_, _<_}
 use mathlib.Core.Path.{_≡_}
 use mathlib.Core.Bool.{Bool, cond}

@@ -1,11 +1,11 @@
 -- What the functions of the filter ask and keep in the work room, of which the outer contract does not speak. For n facets, from `at` on: 4 n heads, 4 n tails and n nexts (crate
 -- chains); of those that passed the keys from 9 n on, the numbers from 10 n on, the corners from 11 n on, three words each. Assumes nothing.
---   keptInRoom, numbersInRoom       the kept vertices, and each old vertex's new number, as they stand in the room
---   pointsInRoom, facetsInRoom      the welded points, and the facets by welded vertices
---   inOrder, cornersKey   three numbers in order, and packed into one word
---   CornersNumbered                the numbers that a facet leads to are there
---   FilteredSoFar                   the first f facets have been through the filter
---   Filtered                what the filter leaves: the facets that passed, their corners, and all below its table as it was
+--   keptInRoom, numbersInRoom    the kept vertices, and each old vertex's new number, as they stand in the room
+--   pointsInRoom, facetsInRoom   the welded points, and the facets by welded vertices
+--   inOrder, cornersKey          three numbers in order, and packed into one word
+--   CornersNumbered              the numbers that a facet leads to are there
+--   FilteredSoFar                the first f facets have been through the filter
+--   Filtered                     what the filter leaves: the facets that passed, their corners, and all below its table as it was
 use Prim.Native.Nat.{ℕ, _+_, _*_, _/_, _≤_, _<_, min, max}
 use mathlib.Core.Path.{_≡_}
 use mathlib.Core.List.{List, map}

@@ -154,7 +154,7 @@ c5 =
     (clipReply points5 (0 ∷ 1 ∷ 2 ∷ []) box5 2^-20 1536 (12 ∷ 6 ∷ []), clipResult points5 (0 ∷ 1 ∷ 2 ∷ []) box5 2^-20)
     (0 ∷ 12 ∷ 6 ∷ [], meshOf (+0 ∷ +0 ∷ +0 ∷ +2 ∷ +0 ∷ +0 ∷ +2 ∷ +2 ∷ +0 ∷ +0 ∷ +4 ∷ +0 ∷ []) (0 ∷ 1 ∷ 2 ∷ 0 ∷ 2 ∷ 3 ∷ []))
 
--- C6: "one sound facet cleanedMesh: no vertex, no facet". C7: "facet 0 1 2 and facet 2 1 0: the same". With no room in the outputs
+-- C6: "one sound facet cleaned: no vertex, no facet". C7: "facet 0 1 2 and facet 2 1 0: the same". With no room in the outputs
 abbrev pub points6 : List Float
 points6 = +0 ∷ +0 ∷ +0 ∷ +1 ∷ +0 ∷ +0 ∷ +0 ∷ +1 ∷ +0 ∷ []
 
