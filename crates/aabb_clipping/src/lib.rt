@@ -93,7 +93,9 @@ fn clip_counted(
     requires { ⌜ (length (now vertices) / 3 ≤ 65536) × (length (now facets) / 3 ≤ 65536) ⌝ }
     requires { ⌜ badIndex (length (now vertices) / 3) (now facets) ≡ false ⌝ }
     requires { ⌜ length (now ids) ≡ length (now vertices) / 3 ⌝ }
-    ensures { λ r. ⌜ Answer [] (meshOutputs (clipResult (now (vertices .entry)) (now (facets .entry)) extents eps) (now («out_vertices» .entry)) (now («out_vertices» .exit)) (now («out_facets» .entry)) (now («out_facets» .exit))) (documentedReply r) ⌝ }
+    ensures { λ r. ⌜ Answer []
+        (meshOutputs (clipResult (now (vertices .entry)) (now (facets .entry)) extents eps) (now («out_vertices» .entry)) (now («out_vertices» .exit)) (now («out_facets» .entry))
+        (now («out_facets» .exit))) (documentedReply r) ⌝ }
 {
     let need = run_pass(
         vertices,
@@ -137,7 +139,9 @@ fn clip_checked(
     requires { ⌜ (length (now vertices) / 3 ≤ 65536) × (length (now facets) / 3 ≤ 65536) ⌝ }
     requires { ⌜ badIndex (length (now vertices) / 3) (now facets) ≡ false ⌝ }
     requires { ⌜ length (now ids) ≡ length (now vertices) / 3 ⌝ }
-    ensures { λ r. ⌜ Answer [] (meshOutputs (clipResult (now (vertices .entry)) (now (facets .entry)) extents eps) (now («out_vertices» .entry)) (now («out_vertices» .exit)) (now («out_facets» .entry)) (now («out_facets» .exit))) (documentedReply r) ⌝ }
+    ensures { λ r. ⌜ Answer []
+        (meshOutputs (clipResult (now (vertices .entry)) (now (facets .entry)) extents eps) (now («out_vertices» .entry)) (now («out_vertices» .exit)) (now («out_facets» .entry))
+        (now («out_facets» .exit))) (documentedReply r) ⌝ }
 {
     if !is_ample(
         vertices,
@@ -181,7 +185,9 @@ fn clip_or_refuse(
     out_facets: &mut [u32],
 ) -> Reply
     requires { ⌜ found ≡ firstRefusal (clipTests (now vertices) (now facets) extents eps (length (now work))) ⌝ }
-    ensures { λ r. ⌜ Answer (clipTests (now (vertices .entry)) (now (facets .entry)) extents eps (length (now (work .entry)))) (meshOutputs (clipResult (now (vertices .entry)) (now (facets .entry)) extents eps) (now («out_vertices» .entry)) (now («out_vertices» .exit)) (now («out_facets» .entry)) (now («out_facets» .exit))) (documentedReply r) ⌝ }
+    ensures { λ r. ⌜ Answer (clipTests (now (vertices .entry)) (now (facets .entry)) extents eps (length (now (work .entry))))
+        (meshOutputs (clipResult (now (vertices .entry)) (now (facets .entry)) extents eps) (now («out_vertices» .entry)) (now («out_vertices» .exit)) (now («out_facets» .entry))
+        (now («out_facets» .exit))) (documentedReply r) ⌝ }
 {
     match found {
         Checked::Passed => {
@@ -209,7 +215,9 @@ pub fn clip_mesh_to_aabb(
     out_vertices: &mut [f64],
     out_facets: &mut [u32],
 ) -> Reply
-    ensures { λ r. ⌜ Answered (clipTests (now (vertices .entry)) (now (facets .entry)) extents eps (length (now (work .entry)))) (meshOutputs (clipResult (now (vertices .entry)) (now (facets .entry)) extents eps) (now («out_vertices» .entry)) (now («out_vertices» .exit)) (now («out_facets» .entry)) (now («out_facets» .exit))) (now (work .entry)) (now (work .exit)) (documentedReply r) ⌝ }
+    ensures { λ r. ⌜ Answered (clipTests (now (vertices .entry)) (now (facets .entry)) extents eps (length (now (work .entry))))
+        (meshOutputs (clipResult (now (vertices .entry)) (now (facets .entry)) extents eps) (now («out_vertices» .entry)) (now («out_vertices» .exit)) (now («out_facets» .entry))
+        (now («out_facets» .exit))) (now (work .entry)) (now (work .exit)) (documentedReply r) ⌝ }
 {
     let lent = work.len();
     let found = check(vertices, facets, extents, eps, lent);

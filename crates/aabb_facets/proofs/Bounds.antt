@@ -160,7 +160,8 @@ module _ (box : AABB) (eps : Float) (vs : List Point) (whole : every (insideBox 
 
 below-all : (fs : List ℕ) (n : ℕ) → badIndex n fs ≡ false → Each (Below n) (threes fs)
 unfolding badIndex
-below-all fs n e = each-places (Below n) zeros (threes fs) (λ i h. subst (Below n) (sym (threes-at fs i zeros 0 (omega (arith, length-threes fs)))) (at i (omega (arith, length-threes fs))))
+below-all fs n e =
+    each-places (Below n) zeros (threes fs) (λ i h. subst (Below n) (sym (threes-at fs i zeros 0 (omega (arith, length-threes fs)))) (at i (omega (arith, length-threes fs))))
   where
     zeros : Triangle ℕ
     zeros = tri 0 0 0
@@ -181,5 +182,6 @@ inside-most box eps vs fs e whole =
     let o = own-all box eps (m .points) whole (threes fs) (below-all fs (length (m .points)) (ap (λ (x : ℕ). badIndex x fs) k ∙ e)) none 0
     (record { count = refl; once = tt; low = tt; facets = refl }) in
     let c = foldl (clipFacet box eps (m .points)) none (threes fs) in
-    let p = pigeonhole (length (m .points)) (olds c) (λ i j h g. pairwise-at Differ 0 (olds c) i j (o .once) h g) (λ i h. each-at (λ x. x < length (m .points)) 0 (olds c) i (o .low) h) in
+    let p = pigeonhole (length (m .points)) (olds c) (λ i j h g. pairwise-at Differ 0 (olds c) i j (o .once) h g)
+    (λ i h. each-at (λ x. x < length (m .points)) 0 (olds c) i (o .low) h) in
     (omega (arith, o .count, p, k, length-map (c .shared) (λ (s : ℕ × ℕ). s .0)), omega (arith, o .facets, length-threes fs, length-flat (c .facets)))

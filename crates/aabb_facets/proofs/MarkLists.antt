@@ -125,7 +125,8 @@ module _ (l : List ℕ) (a b c : ℕ) where
   mark-a h = sym (and-stop (marked l a) (marked l b && marked l c) (ap not (eq-eqb (getD l a 0) 0 h)))
 
   pub mark-b : (getD l a 0 ≡ 0 → ⊥) → getD l b 0 ≡ 0 → false ≡ three-marked
-  mark-b g h = sym (and-next (marked l a) (marked l b && marked l c) false (ap not (ne-eqb (getD l a 0) 0 g)) (and-stop (marked l b) (marked l c) (ap not (eq-eqb (getD l b 0) 0 h))))
+  mark-b g h =
+      sym (and-next (marked l a) (marked l b && marked l c) false (ap not (ne-eqb (getD l a 0) 0 g)) (and-stop (marked l b) (marked l c) (ap not (eq-eqb (getD l b 0) 0 h))))
 
   pub mark-c : (getD l a 0 ≡ 0 → ⊥) → (getD l b 0 ≡ 0 → ⊥) → marked l c ≡ three-marked
   mark-c g h =

@@ -115,7 +115,8 @@ module _ (vs : List Float) (fs : List ℕ) (box : AABB) (eps : Float) (n : ℕ) 
         ∙ append-assoc ks (sharedNumber (m1 .shared) a ∷ []) (sharedNumber (m2 .shared) b ∷ sharedNumber (m3 .shared) c ∷ [])
         ∙ (λ i. ks ++ (number-a i ∷ number-b i ∷ sharedNumber (m3 .shared) c ∷ []))
 
-  cond-shows : (b : Bool) (r s : Room) (m k : Clipping) → (b ≡ true → r ≡ shows vs box eps n m ov of) → s ≡ shows vs box eps n k ov of → cond b r s ≡ shows vs box eps n (cond b m k) ov of
+  cond-shows : (b : Bool) (r s : Room) (m k : Clipping) → (b ≡ true → r ≡ shows vs box eps n m ov of) → s ≡ shows vs box eps n k ov of → cond b r s ≡ shows vs box eps n
+      (cond b m k) ov of
   cond-shows true r s m k e f = e refl
   cond-shows false r s m k e f = f
 
@@ -130,7 +131,8 @@ module _ (vs : List Float) (fs : List ℕ) (box : AABB) (eps : Float) (n : ℕ) 
   -- ---- a facet
   module _ (m : Clipping) (i a b c : ℕ) (ea : getD fs (3 * i) 0 ≡ a) (eb : getD fs (3 * i + 1) 0 ≡ b) (ec : getD fs (3 * i + 2) 0 ≡ c)
       (ha : a < n) (hb : b < n) (hc : c < n) where
-    three-shown : In a ≡ true → In b ≡ true → In c ≡ true → shareTo vs fs box eps (shows vs box eps n m ov of) i 3 ≡ shows vs box eps n (sharing box eps (pointsOf vs) m (tri a b c)) ov of
+    three-shown : In a ≡ true → In b ≡ true → In c ≡ true → shareTo vs fs box eps (shows vs box eps n m ov of) i 3 ≡ shows vs box eps n
+        (sharing box eps (pointsOf vs) m (tri a b c)) ov of
     unfolding shareTo sharing flatMap
     three-shown ta tb tc =
         let ks = flat (m .facets) in
@@ -164,7 +166,8 @@ module _ (vs : List Float) (fs : List ℕ) (box : AABB) (eps : Float) (n : ℕ) 
         (shareTo vs fs box eps room i 3)
         (fanRoom room (clipPolygon box eps faces polygon)))
         ∙ cond-shows (In a && (In b && In c)) _ _ _ _
-        (λ h. three-shown (and-left (In a) (In b && In c) h) (and-left (In b) (In c) (and-right (In a) (In b && In c) h)) (and-right (In b) (In c) (and-right (In a) (In b && In c) h)))
+        (λ h. three-shown (and-left (In a) (In b && In c) h) (and-left (In b) (In c) (and-right (In a) (In b && In c) h))
+        (and-right (In b) (In c) (and-right (In a) (In b && In c) h)))
         (fan-shows m (clipPolygon box eps faces polygon))
         ∙ ap (λ (x : Bool). shows vs box eps n (cond x (sharing box eps (pointsOf vs) m (tri a b c)) (fanned m (clipPolygon box eps faces polygon))) ov of) inside-is
 
@@ -177,7 +180,8 @@ module _ (vs : List Float) (fs : List ℕ) (box : AABB) (eps : Float) where
   unfoldable pub madeTo : ℕ → Clipping
   madeTo i = foldl (clipFacet box eps (pointsOf vs)) none (take i (threes fs))
 
-  made-more : (i : ℕ) → 3 * i + 2 < length fs → madeTo (i + 1) ≡ clipFacet box eps (pointsOf vs) (madeTo i) (tri (getD fs (3 * i) 0) (getD fs (3 * i + 1) 0) (getD fs (3 * i + 2) 0))
+  made-more : (i : ℕ) → 3 * i + 2 < length fs → madeTo (i + 1) ≡ clipFacet box eps (pointsOf vs) (madeTo i)
+      (tri (getD fs (3 * i) 0) (getD fs (3 * i + 1) 0) (getD fs (3 * i + 2) 0))
   unfolding madeTo
   made-more i h =
       let zeros = tri {A = ℕ} 0 0 0 in

@@ -37,8 +37,11 @@ fn share_vertex(
     out_facets: &mut [u32],
     at: Counts,
 ) -> Counts
-    requires { ⌜ (v .0 < length (now ids)) × ((3 * v .0 + 2 < length (now vertices)) × ((getD (now ids) (v .0) 0 ≤ at .vertices + 1) × ((at .vertices < 4294967000) × (at .numbers < 4294967296)))) ⌝ }
-    ensures { λ r. ⌜ room r (now (ids .exit)) (now («out_vertices» .exit)) (now («out_facets» .exit)) ≡ shareRoom (room at (now (ids .entry)) (now («out_vertices» .entry)) (now («out_facets» .entry))) (v .0) (snapped extents eps (vertexOf (now (vertices .entry)) (v .0))) ⌝ }
+    requires { ⌜ (v .0 < length (now ids)) × ((3 * v .0 + 2 < length (now vertices)) ×
+        ((getD (now ids) (v .0) 0 ≤ at .vertices + 1) × ((at .vertices < 4294967000) × (at .numbers < 4294967296)))) ⌝ }
+    ensures { λ r. ⌜ room r (now (ids .exit)) (now («out_vertices» .exit)) (now («out_facets» .exit)) ≡ shareRoom
+        (room at (now (ids .entry)) (now («out_vertices» .entry)) (now («out_facets» .entry))) (v .0)
+        (snapped extents eps (vertexOf (now (vertices .entry)) (v .0))) ⌝ }
 {
     let nv = at.vertices;
     let nf = at.numbers;
@@ -80,7 +83,8 @@ fn share_facet(
     requires { ⌜ ((j : ℕ) → j < length (now facets) → (getD (now facets) j 0 < length (now ids)) × (3 * getD (now facets) j 0 + 2 < length (now vertices))) ⌝ }
     requires { ⌜ ((w : ℕ) → getD (now ids) w 0 ≤ at .vertices + 1) ⌝ }
     requires { ⌜ (at .vertices < 4200000000) × (at .numbers < 4200000000) ⌝ }
-    ensures { λ r. ⌜ room r (now (ids .exit)) (now («out_vertices» .exit)) (now («out_facets» .exit)) ≡ shareTo (now (vertices .entry)) (now (facets .entry)) extents eps (room at (now (ids .entry)) (now («out_vertices» .entry)) (now («out_facets» .entry))) i 3 ⌝ }
+    ensures { λ r. ⌜ room r (now (ids .exit)) (now («out_vertices» .exit)) (now («out_facets» .exit)) ≡ shareTo (now (vertices .entry)) (now (facets .entry))
+        extents eps (room at (now (ids .entry)) (now («out_vertices» .entry)) (now («out_facets» .entry))) i 3 ⌝ }
     ensures { λ r. ⌜ (r .vertices ≤ at .vertices + 3) × (r .numbers ≡ at .numbers + 3) ⌝ }
 {
     let mut to = at;
@@ -111,7 +115,9 @@ fn put_fanned(
 ) -> Counts
     requires { ⌜ 84 ≤ length (now polygon) ⌝ }
     requires { ⌜ (n ≤ 28) × ((at .vertices < 4294967000) × (at .numbers < 4294967296)) ⌝ }
-    ensures { λ r. ⌜ ((i : List ℕ) → room r i (now («out_vertices» .exit)) (now («out_facets» .exit)) ≡ fanRoom (room at i (now («out_vertices» .entry)) (now («out_facets» .entry))) (corners (now (polygon .entry)) n)) ⌝ }
+    ensures { λ r. ⌜
+        ((i : List ℕ) → room r i (now («out_vertices» .exit)) (now («out_facets» .exit)) ≡ fanRoom (room at i (now («out_vertices» .entry)) (now («out_facets» .entry)))
+        (corners (now (polygon .entry)) n)) ⌝ }
 {
     let nv = at.vertices;
     let nf = at.numbers;
@@ -143,7 +149,10 @@ fn cut_facet(
     requires { ⌜ (84 ≤ length (now polygon)) × (84 ≤ length (now spare)) ⌝ }
     requires { ⌜ (3 * a .0 + 2 < length (now vertices)) × ((3 * b .0 + 2 < length (now vertices)) × (3 * c .0 + 2 < length (now vertices))) ⌝ }
     requires { ⌜ (at .vertices < 4200000000) × (at .numbers < 4200000000) ⌝ }
-    ensures { λ r. ⌜ ((i : List ℕ) → room r i (now («out_vertices» .exit)) (now («out_facets» .exit)) ≡ fanRoom (room at i (now («out_vertices» .entry)) (now («out_facets» .entry))) (clipPolygon extents eps faces (vertexOf (now (vertices .entry)) (a .0) ∷ vertexOf (now (vertices .entry)) (b .0) ∷ vertexOf (now (vertices .entry)) (c .0) ∷ []))) ⌝ }
+    ensures { λ r. ⌜
+        ((i : List ℕ) → room r i (now («out_vertices» .exit)) (now («out_facets» .exit)) ≡ fanRoom (room at i (now («out_vertices» .entry)) (now («out_facets» .entry)))
+        (clipPolygon extents eps faces (vertexOf (now (vertices .entry)) (a .0) ∷ vertexOf (now (vertices .entry)) (b .0) ∷ vertexOf (now (vertices .entry)) (c .0) ∷ [])))
+        ⌝ }
     ensures { λ r. ⌜ (r .vertices ≤ at .vertices + 28) × (r .numbers ≤ at .numbers + 78) ⌝ }
 {
     let p = vertex_at(vertices, a);
@@ -172,7 +181,8 @@ pub fn clip_facet(
     requires { ⌜ ((j : ℕ) → j < length (now facets) → (getD (now facets) j 0 < length (now ids)) × (3 * getD (now facets) j 0 + 2 < length (now vertices))) ⌝ }
     requires { ⌜ ((w : ℕ) → getD (now ids) w 0 ≤ at .vertices + 1) ⌝ }
     requires { ⌜ (at .vertices < 4200000000) × (at .numbers < 4200000000) ⌝ }
-    ensures { λ r. ⌜ room r (now (ids .exit)) (now («out_vertices» .exit)) (now («out_facets» .exit)) ≡ facetRoom (now (vertices .entry)) (now (facets .entry)) extents eps (room at (now (ids .entry)) (now («out_vertices» .entry)) (now («out_facets» .entry))) i ⌝ }
+    ensures { λ r. ⌜ room r (now (ids .exit)) (now («out_vertices» .exit)) (now («out_facets» .exit)) ≡ facetRoom (now (vertices .entry)) (now (facets .entry))
+        extents eps (room at (now (ids .entry)) (now («out_vertices» .entry)) (now («out_facets» .entry))) i ⌝ }
     ensures { λ r. ⌜ (r .vertices ≤ at .vertices + 28) × (r .numbers ≤ at .numbers + 78) ⌝ }
 {
     let a = corner_at(facets, 3 * i);

@@ -25,7 +25,9 @@ fn clip_pass(
     requires { ⌜ (length (now vertices) / 3 ≤ 65536) × (length (now facets) / 3 ≤ 65536) ⌝ }
     requires { ⌜ badIndex (length (now vertices) / 3) (now facets) ≡ false ⌝ }
     requires { ⌜ now ids ≡ words (now vertices) extents eps (length (now vertices) / 3) [] ⌝ }
-    ensures { λ r. ⌜ room r (now (ids .exit)) (now («out_vertices» .exit)) (now («out_facets» .exit)) ≡ shows (now (vertices .entry)) extents eps (length (now (vertices .entry)) / 3) (clipFacets extents eps (meshOf (now (vertices .entry)) (now (facets .entry)))) (now («out_vertices» .entry)) (now («out_facets» .entry)) ⌝ }
+    ensures { λ r. ⌜ room r (now (ids .exit)) (now («out_vertices» .exit)) (now («out_facets» .exit)) ≡ shows (now (vertices .entry)) extents eps
+        (length (now (vertices .entry)) / 3) (clipFacets extents eps (meshOf (now (vertices .entry)) (now (facets .entry)))) (now («out_vertices» .entry))
+        (now («out_facets» .entry)) ⌝ }
     ensures { λ r. ⌜ (r .vertices ≤ 28 * (length (now (facets .entry)) / 3)) × (r .numbers ≤ 78 * (length (now (facets .entry)) / 3)) ⌝ }
 {
     let n = facets.len() / 3;
@@ -68,7 +70,8 @@ pub fn run_pass(
     requires { ⌜ (length (now vertices) / 3 ≤ 65536) × (length (now facets) / 3 ≤ 65536) ⌝ }
     requires { ⌜ badIndex (length (now vertices) / 3) (now facets) ≡ false ⌝ }
     requires { ⌜ length (now ids) ≡ length (now vertices) / 3 ⌝ }
-    ensures { λ r. ⌜ Ran (clipped extents eps (meshOf (now (vertices .entry)) (now (facets .entry)))) r (now («out_vertices» .entry)) (now («out_vertices» .exit)) (now («out_facets» .entry)) (now («out_facets» .exit)) ⌝ }
+    ensures { λ r. ⌜ Ran (clipped extents eps (meshOf (now (vertices .entry)) (now (facets .entry)))) r (now («out_vertices» .entry))
+        (now («out_vertices» .exit)) (now («out_facets» .entry)) (now («out_facets» .exit)) ⌝ }
     ensures { λ r. ⌜ (r .vertices ≤ 28 * (length (now (facets .entry)) / 3)) × (r .numbers ≤ 78 * (length (now (facets .entry)) / 3)) ⌝ }
 {
     mark_all(vertices, extents, eps, ids);

@@ -108,7 +108,8 @@ pub copy-more : (a b a' : List Float) (i : ℕ) (p : Point) → corners a i ≡ 
     → corners a' (i + 1) ≡ corners b (i + 1)
 copy-more a b a' i p e h g = g ∙ (λ t. e t ++ (h t ∷ [])) ∙ sym (one-more b i)
 
-pub snap-more : (box : AABB) (eps : Float) (a b a' : List Float) (i : ℕ) (p q : Point) → corners a i ≡ map (snapped box eps) (corners b i) → p ≡ vertexOf b i → q ≡ snapped box eps p
+pub snap-more : (box : AABB) (eps : Float) (a b a' : List Float) (i : ℕ) (p q : Point) → corners a i ≡ map (snapped box eps) (corners b i) → p ≡ vertexOf b i → q ≡ snapped box eps
+    p
     → corners a' (i + 1) ≡ corners a i ++ (q ∷ []) → corners a' (i + 1) ≡ map (snapped box eps) (corners b (i + 1))
 snap-more box eps a b a' i p q e h k g =
     g ∙ (λ t. e t ++ ((k ∙ ap (λ (x : Point). snapped box eps x) h) t ∷ [])) ∙ sym (snap-append box eps (corners b i) (vertexOf b i ∷ []))

@@ -168,7 +168,8 @@ module _ (box : AABB) (eps : Float) where
     pub whole-first : (l : List Point) → 0 < length l → every within l ≡ true → map (snapped box eps) l ≡ clipToPlane box eps l k
     unfolding clipUnsnapped
     whole-first l z g =
-        ap (λ (x : List Point). map (snapped box eps) x) (sym (walk-whole (getD l (length l - 1) origin) l (every-at within l (length l - 1) origin g (omega arith)) g)) ∙ unsnapped-snapped l
+        ap (λ (x : List Point). map (snapped box eps) x) (sym (walk-whole (getD l (length l - 1) origin) l (every-at within l (length l - 1) origin g (omega arith)) g)) ∙
+        unsnapped-snapped l
 
     abbrev without : Point → Bool
     without p = not (inside box eps k p)
@@ -193,4 +194,5 @@ module _ (box : AABB) (eps : Float) where
     -- a polygon that is wholly outside
     pub gone : (a : List Float) (l : List Point) → 0 < length l → every without l ≡ true → corners a 0 ≡ clipToPlane box eps l k
     unfolding clipToPlane points
-    gone a l z g = sym (walk-none (getD l (length l - 1) origin) l (not-true (inside box eps k (getD l (length l - 1) origin)) (every-at without l (length l - 1) origin g (omega arith))) g)
+    gone a l z g =
+        sym (walk-none (getD l (length l - 1) origin) l (not-true (inside box eps k (getD l (length l - 1) origin)) (every-at without l (length l - 1) origin g (omega arith))) g)

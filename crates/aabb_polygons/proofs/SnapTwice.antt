@@ -39,7 +39,8 @@ module _ (lo hi eps : Float) where
   axis-by : (v : Float) (b : Bool) → within eps (sub binary64 (snapTo eps lo v) hi) ≡ b
       → snapTo eps hi (snapTo eps lo (snapTo eps hi (snapTo eps lo v))) ≡ snapTo eps hi (snapTo eps lo v)
   axis-by v true h =
-      ap (λ (x : Float). snapTo eps hi (snapTo eps lo x)) (to-near (snapTo eps lo v) hi h) ∙ high-stays (within eps (sub binary64 hi lo)) refl ∙ sym (to-near (snapTo eps lo v) hi h)
+      ap (λ (x : Float). snapTo eps hi (snapTo eps lo x)) (to-near (snapTo eps lo v) hi h) ∙ high-stays (within eps (sub binary64 hi lo)) refl ∙ sym
+      (to-near (snapTo eps lo v) hi h)
   axis-by v false h =
       ap (λ (x : Float). snapTo eps hi (snapTo eps lo x)) (to-far (snapTo eps lo v) hi h)
       ∙ ap (λ (x : Float). snapTo eps hi x) (low-stays v (within eps (sub binary64 v lo)) refl)

@@ -113,20 +113,23 @@ module _ (a : List Float) (n : ℕ) (some : 0 < n) (few : n ≤ 19) (k : ℕ) (b
 pub grown : (a b : List Float) (n r : ℕ) (k : ℕ) (box : AABB) (eps : Float) → corners b r ≡ clipToPlane box eps (corners a n) k → 2 * r ≤ 3 * n
 grown a b n r k box eps h = omega (arith, clip-short box eps k (corners a n), counted b r (clipToPlane box eps (corners a n) k) h, points-length a 0 n)
 
-pub still-snapped : (a b : List Float) (n r : ℕ) (k : ℕ) (box : AABB) (eps : Float) → corners b r ≡ clipToPlane box eps (corners a n) k → map (snapped box eps) (corners b r) ≡ corners b r
+pub still-snapped : (a b : List Float) (n r : ℕ) (k : ℕ) (box : AABB) (eps : Float) → corners b r ≡ clipToPlane box eps (corners a n) k → map (snapped box eps) (corners b r) ≡
+    corners b r
 still-snapped a b n r k box eps h = ap (λ (l : List Point). map (snapped box eps) l) h ∙ clip-snapped box eps k (corners a n) ∙ sym h
 
 module _ (box : AABB) (eps : Float) (k : ℕ) (ks : List ℕ) (l : List Point) (a : List Float) (n : ℕ) (h : corners a n ≡ clipToPlane box eps l k) where
   pub all-stop : n < 3 → corners a n ≡ clipPolygon box eps (k ∷ ks) l
   unfolding clipPolygon
   all-stop s =
-      h ∙ sym (ap (λ (b : Bool). cond b (clipToPlane box eps l k) (clipPolygon box eps ks (clipToPlane box eps l k))) (ap (λ (m : ℕ). ltb m 3) (sym (counted a n _ h)) ∙ lt-ltb n 3 s))
+      h ∙ sym (ap (λ (b : Bool). cond b (clipToPlane box eps l k) (clipPolygon box eps ks (clipToPlane box eps l k)))
+      (ap (λ (m : ℕ). ltb m 3) (sym (counted a n _ h)) ∙ lt-ltb n 3 s))
 
   pub all-go : (c : List Point) → 3 ≤ n → c ≡ clipPolygon box eps ks (corners a n) → c ≡ clipPolygon box eps (k ∷ ks) l
   unfolding clipPolygon
   all-go c s g =
       g ∙ ap (λ (x : List Point). clipPolygon box eps ks x) h
-      ∙ sym (ap (λ (b : Bool). cond b (clipToPlane box eps l k) (clipPolygon box eps ks (clipToPlane box eps l k))) (ap (λ (m : ℕ). ltb m 3) (sym (counted a n _ h)) ∙ le-ltb n 3 s))
+      ∙ sym (ap (λ (b : Bool). cond b (clipToPlane box eps l k) (clipPolygon box eps ks (clipToPlane box eps l k)))
+      (ap (λ (m : ℕ). ltb m 3) (sym (counted a n _ h)) ∙ le-ltb n 3 s))
 
 same-both : (b : Bool) (x : List Point) → x ≡ cond b x x
 same-both true x = refl

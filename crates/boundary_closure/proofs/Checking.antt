@@ -57,7 +57,8 @@ grid-small box eps resolution e =
     twice a b c p q r = omega arith
 
 pub need-small : (vs : List Float) (fs : List ℕ) (q : Asked) (caps m : ℕ) → firstRefusal (listTests ceiling vs fs caps) ≡ Passed
-    → gridTooFine (q .box) (q .eps) (oneResolution (q .resolution)) ≡ false → m ≡ gridSize (q .box) (q .eps) (oneResolution (q .resolution)) → length vs / 3 + length fs / 3 + caps / 4 + m ≤ 4294967296
+    → gridTooFine (q .box) (q .eps) (oneResolution (q .resolution)) ≡ false → m ≡ gridSize (q .box) (q .eps) (oneResolution (q .resolution)) → length vs / 3 + length fs / 3 + caps
+    / 4 + m ≤ 4294967296
 need-small vs fs q caps m e f g =
     let l = listed ceiling vs fs caps e in
     omega (arith, l .few-vertices, l .few-facets, cap-listed ceiling vs fs caps e .few, grid-small (q .box) (q .eps) (oneResolution (q .resolution)) f, g)
@@ -118,7 +119,8 @@ module _ (vs : List Float) (fs : List ℕ) (q : Asked) (caps lent : ℕ) where
         pub grid-refused : fine ≡ true → Refused GridTooFine ≡ found
         grid-refused f = sym (after-box ∙ holds fine GridTooFine work f)
 
-        module _ (f : fine ≡ false) (m : ℕ) (em : m ≡ gridSize (q .box) (q .eps) (oneResolution (q .resolution))) (n : ℕ) (en : n ≡ workNeed (length vs / 3) (length fs / 3) (caps / 4) m) where
+        module _ (f : fine ≡ false) (m : ℕ) (em : m ≡ gridSize (q .box) (q .eps) (oneResolution (q .resolution))) (n : ℕ)
+            (en : n ≡ workNeed (length vs / 3) (length fs / 3) (caps / 4) m) where
           after-grid : found ≡ firstRefusal ((ltb lent n, NoWorkRoom n) ∷ [])
           after-grid =
               after-box ∙ passes fine GridTooFine work f

@@ -47,7 +47,8 @@ module _ (vs : List Float) (fs : List ℕ) (box : AABB) (eps : Float) (n k : ℕ
   pub surfaced : (r : ℕ) (w w' : List ℕ) → EdgesEntered vs fs box eps n k r w w' → Surfaced vs fs box eps n k w'
   surfaced r w w' E = record { pool = E .pool; edges = E .edges; holds = E .holds; held = E .held; sourced = E .sourced }
 
-  module _ (resolution : Float) (S : Sound vs fs (asked box eps resolution)) (w w' : List ℕ) (M : MeshFits vs fs n w) (en : n ≡ most vs (asked box eps resolution)) (few : k ≤ length fs)
+  module _ (resolution : Float) (S : Sound vs fs (asked box eps resolution)) (w w' : List ℕ) (M : MeshFits vs fs n w) (en : n ≡ most vs (asked box eps resolution))
+      (few : k ≤ length fs)
       (F : Surfaced vs fs box eps n k w) (long : length w' ≡ length w) (C : CornersEntered vs box eps n w w') where
     edges-here : k ≤ 3 * (length fs / 3)
     edges-here = let t = M .threes in omega arith

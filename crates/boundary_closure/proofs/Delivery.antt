@@ -73,7 +73,8 @@ module _ (r : Candidates) (x y z u : ℕ) (ex : x ≡ length (candidateWords (r 
         pub short-edges : length e < u → Short u
         short-edges h = short (first c ∷ second l ∷ third k ∷ []) (fourth e) [] u eu (fit-one, (fit-two, (fit-three, tt))) h (refl, (refl, (refl, (refl, tt))))
 
-        pub done : u ≤ length e → (c' l' k' e' : List ℕ) → c' ≡ sets c 0 (candidateWords (r .all)) → l' ≡ sets l 0 (listWords (r .lists)) → k' ≡ sets k 0 (constraintWords (r .constraints))
+        pub done : u ≤ length e → (c' l' k' e' : List ℕ) → c' ≡ sets c 0 (candidateWords (r .all)) → l' ≡ sets l 0 (listWords (r .lists)) → k' ≡ sets k 0
+            (constraintWords (r .constraints))
             → e' ≡ sets e 0 (openEdgeWords (r .edges)) → Answer [] (candidateOutputs r c c' l l' k k' e e') (documentedReply (DoneFour x y z u))
         done hu c' l' k' e' hc hl hk he =
             let fit-four : length (openEdgeWords (r .edges)) ≤ length e = omega (arith, eu, hu) in
@@ -90,7 +91,8 @@ pub nothing : (r : Candidates) (c l k e : List ℕ) → r ≡ noCandidates → A
 unfolding candidateWords listWords flatMap
 nothing r c l k e h =
     subst (λ (r : Candidates). Answer [] (candidateOutputs r c c l l k k e e) (documentedReply (DoneFour 0 0 0 0))) (sym h)
-    (done-four (output [] c c) (output [] l l) (output [] k k) (output [] e e) 0 0 0 0 refl refl refl refl (omega arith, (omega arith, (omega arith, (omega arith, tt)))) (refl, (refl, (refl, (refl, tt)))))
+    (done-four (output [] c c) (output [] l l) (output [] k k) (output [] e e) 0 0 0 0 refl refl refl refl (omega arith, (omega arith, (omega arith, (omega arith, tt))))
+    (refl, (refl, (refl, (refl, tt)))))
 
 module _ (vs : List Float) (fs : List ℕ) (q : Asked) (c c' l l' k k' e e' : List ℕ) where
   abbrev all : Candidates

@@ -41,7 +41,10 @@ fn list_candidates(
     requires { ⌜ Sound (now vertices) (now facets) (asked extents eps resolution) ⌝ }
     requires { ⌜ MeshFits (now vertices) (now facets) n (now w) × (n ≡ most (now vertices) (asked extents eps resolution)) ⌝ }
     requires { ⌜ Tabled (now facets) n k (now w) ⌝ }
-    ensures { λ r. ⌜ Answer [] (candidateOutputs (surfaceResult (now (vertices .entry)) (now (facets .entry)) (asked extents eps resolution)) (now (candidates .entry)) (now (candidates .exit)) (now («face_lists» .entry)) (now («face_lists» .exit)) (now (constraints .entry)) (now (constraints .exit)) (now («open_edges» .entry)) (now («open_edges» .exit))) (documentedReply r) ⌝ }
+    ensures { λ r. ⌜ Answer []
+        (candidateOutputs (surfaceResult (now (vertices .entry)) (now (facets .entry)) (asked extents eps resolution)) (now (candidates .entry)) (now (candidates .exit))
+        (now («face_lists» .entry)) (now («face_lists» .exit)) (now (constraints .entry)) (now (constraints .exit)) (now («open_edges» .entry)) (now («open_edges» .exit)))
+        (documentedReply r) ⌝ }
 {
     let listed = enter_surface(vertices, facets, extents, eps, w, n, k);
     if listed == 0 {
@@ -79,7 +82,10 @@ fn make_candidates(
 ) -> Reply
     requires { ⌜ Sound (now vertices) (now facets) (asked extents eps resolution) ⌝ }
     requires { ⌜ roomEnd (most (now vertices) (asked extents eps resolution)) (length (now facets) / 3) ≤ length (now w) ⌝ }
-    ensures { λ r. ⌜ Answer (edgeTests (now (vertices .entry)) (now (facets .entry)) (asked extents eps resolution)) (candidateOutputs (surfaceResult (now (vertices .entry)) (now (facets .entry)) (asked extents eps resolution)) (now (candidates .entry)) (now (candidates .exit)) (now («face_lists» .entry)) (now («face_lists» .exit)) (now (constraints .entry)) (now (constraints .exit)) (now («open_edges» .entry)) (now («open_edges» .exit))) (documentedReply r) ⌝ }
+    ensures { λ r. ⌜ Answer (edgeTests (now (vertices .entry)) (now (facets .entry)) (asked extents eps resolution))
+        (candidateOutputs (surfaceResult (now (vertices .entry)) (now (facets .entry)) (asked extents eps resolution)) (now (candidates .entry)) (now (candidates .exit))
+        (now («face_lists» .entry)) (now («face_lists» .exit)) (now (constraints .entry)) (now (constraints .exit)) (now («open_edges» .entry)) (now («open_edges» .exit)))
+        (documentedReply r) ⌝ }
 {
     let n = most_candidates(vertices, extents, eps, resolution);
     let k = table_edges(facets, w, n);
@@ -115,7 +121,10 @@ fn candidates_lent(
     constraints: &mut [u64],
     open_edges: &mut [u64],
 ) -> Reply
-    ensures { λ r. ⌜ Answer (candidatesTests (now (vertices .entry)) (now (facets .entry)) (asked extents eps resolution) (length (now (work .entry)))) (candidateOutputs (candidatesResult (now (vertices .entry)) (now (facets .entry)) (asked extents eps resolution)) (now (candidates .entry)) (now (candidates .exit)) (now («face_lists» .entry)) (now («face_lists» .exit)) (now (constraints .entry)) (now (constraints .exit)) (now («open_edges» .entry)) (now («open_edges» .exit))) (documentedReply r) ⌝ }
+    ensures { λ r. ⌜ Answer (candidatesTests (now (vertices .entry)) (now (facets .entry)) (asked extents eps resolution) (length (now (work .entry))))
+        (candidateOutputs (candidatesResult (now (vertices .entry)) (now (facets .entry)) (asked extents eps resolution)) (now (candidates .entry)) (now (candidates .exit))
+        (now («face_lists» .entry)) (now («face_lists» .exit)) (now (constraints .entry)) (now (constraints .exit)) (now («open_edges» .entry)) (now («open_edges» .exit)))
+        (documentedReply r) ⌝ }
 {
     match check_closure(vertices, facets, 0, extents, eps, resolution, work.len()) {
         Checked::Passed => {
@@ -152,7 +161,10 @@ pub fn cap_candidates(
     constraints: &mut [u64],
     open_edges: &mut [u64],
 ) -> Reply
-    ensures { λ r. ⌜ Answered (candidatesTests (now (vertices .entry)) (now (facets .entry)) (asked extents eps resolution) (length (now (work .entry)))) (candidateOutputs (candidatesResult (now (vertices .entry)) (now (facets .entry)) (asked extents eps resolution)) (now (candidates .entry)) (now (candidates .exit)) (now («face_lists» .entry)) (now («face_lists» .exit)) (now (constraints .entry)) (now (constraints .exit)) (now («open_edges» .entry)) (now («open_edges» .exit))) (now (work .entry)) (now (work .exit)) (documentedReply r) ⌝ }
+    ensures { λ r. ⌜ Answered (candidatesTests (now (vertices .entry)) (now (facets .entry)) (asked extents eps resolution) (length (now (work .entry))))
+        (candidateOutputs (candidatesResult (now (vertices .entry)) (now (facets .entry)) (asked extents eps resolution)) (now (candidates .entry)) (now (candidates .exit))
+        (now («face_lists» .entry)) (now («face_lists» .exit)) (now (constraints .entry)) (now (constraints .exit)) (now («open_edges» .entry)) (now («open_edges» .exit)))
+        (now (work .entry)) (now (work .exit)) (documentedReply r) ⌝ }
 {
     let reply = candidates_lent(
         vertices,

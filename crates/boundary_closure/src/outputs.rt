@@ -48,7 +48,9 @@ fn write_three(out: &mut [u64], at: usize, a: u64, b: u64, c: u64)
 fn listed_numbers(w: &[u64], n: usize) -> usize
     requires { ⌜ (6 ≤ length (now w)) × (n < 268435456) ⌝ }
     requires { ⌜ ((f : ℕ) → f < 6 → getD (now w) f 0 ≤ n) ⌝ }
-    ensures { λ r. ⌜ (r ≡ getD (now (w .entry)) 0 0 + (getD (now (w .entry)) 1 0 + (getD (now (w .entry)) 2 0 + (getD (now (w .entry)) 3 0 + (getD (now (w .entry)) 4 0 + getD (now (w .entry)) 5 0))))) × (r ≤ 6 * n) ⌝ }
+    ensures { λ r. ⌜
+        (r ≡ getD (now (w .entry)) 0 0 + (getD (now (w .entry)) 1 0 +
+        (getD (now (w .entry)) 2 0 + (getD (now (w .entry)) 3 0 + (getD (now (w .entry)) 4 0 + getD (now (w .entry)) 5 0))))) × (r ≤ 6 * n) ⌝ }
 {
     (w[0] + (w[1] + (w[2] + (w[3] + (w[4] + w[5]))))) as usize
 }
@@ -148,7 +150,9 @@ pub fn deliver(
     open_edges: &mut [u64],
 ) -> Reply
     requires { ⌜ Readable n nf k listed total (now w) ⌝ }
-    ensures { λ r. ⌜ Answer [] (candidateOutputs (standing n nf k total (now (w .entry))) (now (candidates .entry)) (now (candidates .exit)) (now («face_lists» .entry)) (now («face_lists» .exit)) (now (constraints .entry)) (now (constraints .exit)) (now («open_edges» .entry)) (now («open_edges» .exit))) (documentedReply r) ⌝ }
+    ensures { λ r. ⌜ Answer []
+        (candidateOutputs (standing n nf k total (now (w .entry))) (now (candidates .entry)) (now (candidates .exit)) (now («face_lists» .entry)) (now («face_lists» .exit))
+        (now (constraints .entry)) (now (constraints .exit)) (now («open_edges» .entry)) (now («open_edges» .exit))) (documentedReply r) ⌝ }
 {
     let count = w[6] as usize;
     let c = 5 * count;

@@ -52,7 +52,8 @@ pub fn enter_surface(
     requires { ⌜ MeshFits (now vertices) (now facets) n (now w) ⌝ }
     requires { ⌜ Tabled (now facets) n k (now w) ⌝ }
     requires { ⌜ VerticesIn (now vertices) ⌝ }
-    ensures { λ r. ⌜ Surfaced (now (vertices .entry)) (now (facets .entry)) extents eps n k (now (w .exit)) × (r ≡ length (edgeSurface extents eps (byKey eps) (meshOf (now (vertices .entry)) (now (facets .entry))) .edges)) ⌝ }
+    ensures { λ r. ⌜ Surfaced (now (vertices .entry)) (now (facets .entry)) extents eps n k (now (w .exit)) ×
+        (r ≡ length (edgeSurface extents eps (byKey eps) (meshOf (now (vertices .entry)) (now (facets .entry))) .edges)) ⌝ }
 {
     clear_pool(w, n, eps);
     enter_edges(w, vertices, facets, n, k, extents, eps)

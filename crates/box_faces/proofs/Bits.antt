@@ -77,7 +77,8 @@ module _ (p : ℕ → Bool) where
   unfolding bitCount
   bits-count =
       let m = faceBits (keep p faces) in
-      sym (count-of (hasBit m) (digit (p 0)) (digit (p 1)) (digit (p 2)) (digit (p 3)) (digit (p 4)) (digit (p 5)) (counts 0 (omega arith)) (counts 1 (omega arith)) (counts 2 (omega arith)) (counts 3 (omega arith)) (counts 4 (omega arith)) (counts 5 (omega arith)))
+      sym (count-of (hasBit m) (digit (p 0)) (digit (p 1)) (digit (p 2)) (digit (p 3)) (digit (p 4)) (digit (p 5)) (counts 0 (omega arith)) (counts 1 (omega arith))
+      (counts 2 (omega arith)) (counts 3 (omega arith)) (counts 4 (omega arith)) (counts 5 (omega arith)))
       ∙ count-of p (digit (p 0)) (digit (p 1)) (digit (p 2)) (digit (p 3)) (digit (p 4)) (digit (p 5)) refl refl refl refl refl refl
 
 -- q passes what p does, and f

@@ -44,7 +44,8 @@ le-same e f t = sym (λ i. le (e i) (f i)) ∙ t
 pub uv-is : {u v x y : Float} → u ≡ x → v ≡ y → _≡_ {A = Uv} (uv u v) (uv x y)
 uv-is e f = λ i. uv (e i) (f i)
 
-module _ (bound tolerance : Float) (p a b : Uv) {ab ap bp : Uv} {m : Float} (eab : ab ≡ minus b a) (eap : ap ≡ minus p a) (ebp : bp ≡ minus p b) (em : m ≡ magnitude (ab .u ⊗ ap .v ⊖ ab .v ⊗ ap .u)) where
+module _ (bound tolerance : Float) (p a b : Uv) {ab ap bp : Uv} {m : Float} (eab : ab ≡ minus b a) (eap : ap ≡ minus p a) (ebp : bp ≡ minus p b)
+    (em : m ≡ magnitude (ab .u ⊗ ap .v ⊖ ab .v ⊗ ap .u)) where
   off-is : m ≡ magnitude ((b .u ⊖ a .u) ⊗ (p .v ⊖ a .v) ⊖ (b .v ⊖ a .v) ⊗ (p .u ⊖ a .u))
   off-is = em ∙ (λ i. magnitude (eab i .u ⊗ eap i .v ⊖ eab i .v ⊗ eap i .u))
 

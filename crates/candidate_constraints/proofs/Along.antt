@@ -199,7 +199,8 @@ module _ (eps : Float) (n f : ℕ) (s : Side) (w₀ : List ℕ) where
     collecting-end h =
         record {
           few = omega (arith, c .few, c .within);
-          records = c .records ∙ ap (λ (k : ℕ). map keyed (flatMap (stands eps (poolAt n w₀) f s) (upTo k))) (last i (getD w₀ f 0) (c .within) h ∙ sym (list-length n w₀ f (o .size) (o .lengths f hf) hf));
+          records = c .records ∙ ap (λ (k : ℕ). map keyed (flatMap (stands eps (poolAt n w₀) f s) (upTo k)))
+              (last i (getD w₀ f 0) (c .within) h ∙ sym (list-length n w₀ f (o .size) (o .lengths f hf) hf));
           kept = c .kept;
         }
       where
@@ -234,7 +235,8 @@ module _ (eps : Float) (p : Pool) (f : ℕ) (s : Side) where
       lower [] h = tt
       lower (x ∷ l) h = (record { above = omega (arith, h .0 .above); number = h .0 .number }, lower l (h .1))
 
-      go : (t : Fraction) → there k ≡ t → Each (Entry k) (flatMap (stands eps p f s) (upFrom (suc k) n)) → Each (Entry k) (standing k t ++ flatMap (stands eps p f s) (upFrom (suc k) n))
+      go : (t : Fraction) → there k ≡ t → Each (Entry k) (flatMap (stands eps p f s) (upFrom (suc k) n)) → Each (Entry k)
+          (standing k t ++ flatMap (stands eps p f s) (upFrom (suc k) n))
       go (At x) e h = (record { above = omega arith; number = on-side-number eps s (project f (pointOf p (getD (faceList p f) k 0))) x e }, h)
       go Nothing e h = h
 

@@ -40,7 +40,8 @@ use Rattle.candidate_constraints.proofs.Siding.{places-low, sorted-reco
 use Rattle.candidate_constraints.proofs.Once.{Low, listed-once}
 
 -- ---- list_pairs
-module _ (box : AABB) (eps : Float) (n nf k f : ℕ) (w w1 : List ℕ) (o : Shown n w) (room : Roomy n nf w) (held : EdgesHeld (poolAt n w) w (openEdgesAt n nf) k) (hf : f < 6) (hk : k ≤ 3 * nf)
+module _ (box : AABB) (eps : Float) (n nf k f : ℕ) (w w1 : List ℕ) (o : Shown n w) (room : Roomy n nf w) (held : EdgesHeld (poolAt n w) w (openEdgesAt n nf) k) (hf : f < 6)
+    (hk : k ≤ 3 * nf)
     (k1 : Kept (placesAt n) (sideAt n) w w1) (noted : Placed n f w1) where
   same1 : poolAt n w1 ≡ poolAt n w
   same1 = pool-same n w w1 o (k1 .long) (k1 .low)
@@ -79,7 +80,8 @@ module _ (box : AABB) (eps : Float) (n nf k f : ℕ) (w w1 : List ℕ) (o : Show
     pairs-listed w3 r q =
         let E = openEdgesAt n nf in
         let l = sidePairs box eps (poolAt n w1) f ++ edgePairs (poolAt n w2) f (edgesAt w2 E k) in
-        let t = pushed-then n f (sideAt n) (pairsAt n + 2 * c) (4 * n) k (sidePairs box eps (poolAt n w1) f) (edgePairs (poolAt n w2) f (edgesAt w2 E k)) 0 c r w1 w2 w3 (omega arith) p q in
+        let t = pushed-then n f (sideAt n) (pairsAt n + 2 * c) (4 * n) k (sidePairs box eps (poolAt n w1) f) (edgePairs (poolAt n w2) f (edgesAt w2 E k)) 0 c r w1 w2 w3
+        (omega arith) p q in
         pushed-as n f (placesAt n) (4 * n + k) (4 * n + 3 * nf) l (allPairs box eps (poolAt n w) f (edgesAt w E k)) 0 r w w3 (omega arith)
         (λ i. sidePairs box eps (same1 i) f ++ edgePairs ((same2 ∙ same1) i) f (edges-after w w2 E k high2 i))
         (record {
@@ -101,7 +103,8 @@ neighbours-low b h (x ∷ y ∷ l) e = ((omega (arith, e .0), omega (arith, e .1
 pub pairs-low : (box : AABB) (eps : Float) (p : Pool) (f : ℕ) (edges : List OpenEdge) → length (faceList p f) < 2097152 → Each Low (allPairs box eps p f edges)
 pairs-low box eps p f edges h =
     each-append Low (sidePairs box eps p f) (edgePairs p f edges)
-    (each-flat Low (λ s. neighbours (sidePlaces eps p f s)) (faceSides box f) (λ s. neighbours-low (length (faceList p f)) (omega arith) (sidePlaces eps p f s) (places-low eps p f s)))
+    (each-flat Low (λ s. neighbours (sidePlaces eps p f s)) (faceSides box f)
+    (λ s. neighbours-low (length (faceList p f)) (omega arith) (sidePlaces eps p f s) (places-low eps p f s)))
     (each-mapped Low (λ e. (place (eqb (e .from)) (faceList p f), place (eqb (e .to)) (faceList p f))) (keep (λ e. eqb (e .face) f) edges)
     (each-any (λ (e : OpenEdge). Low (place (eqb (e .from)) (faceList p f), place (eqb (e .to)) (faceList p f))) (keep (λ e. eqb (e .face) f) edges)
     (λ e. (omega (arith, place-le (eqb (e .from)) (faceList p f)), omega (arith, place-le (eqb (e .to)) (faceList p f))))))
@@ -120,17 +123,20 @@ module _ (box : AABB) (eps : Float) (n nf k f total : ℕ) (w : List ℕ) (o : S
             sym (ap (λ (b : Bool). map unpacked (view w (constraintsAt n nf) total)
             ++ cond b [] (map (λ q. constraint f (sortedPair q .0) (sortedPair q .1)) (distinct samePair (sortBy pairBefore
             (flatMap (λ s. neighbours (sideOrder box eps E (poolAt n w) f s)) (faceSides box f) ++ edgePlaces box eps E (poolAt n w) f)))))
-            (lt-ltb (length (faceList (poolAt n w) f)) 3 (omega (arith, list-length n w f (o .size) (o .lengths f hf) hf))) ∙ append-nil (map unpacked (view w (constraintsAt n nf) total)));
+            (lt-ltb (length (faceList (poolAt n w) f)) 3 (omega (arith, list-length n w f (o .size) (o .lengths f hf) hf))) ∙ append-nil
+            (map unpacked (view w (constraintsAt n nf) total)));
         kept = kept-same (placesAt n) (openEdgesAt n nf) w;
       }
 
-  as-defined : 3 ≤ getD w f 0 → map (λ q. constraint f (sortedPair q .0) (sortedPair q .1)) (distinct samePair (sortBy pairBefore (allPairs box eps (poolAt n w) f E))) ≡ faceConstraints box eps E (poolAt n w) f
+  as-defined : 3 ≤ getD w f 0 → map (λ q. constraint f (sortedPair q .0) (sortedPair q .1)) (distinct samePair (sortBy pairBefore (allPairs box eps (poolAt n w) f E))) ≡
+      faceConstraints box eps E (poolAt n w) f
   unfolding faceConstraints sideOrder sidePlaces edgePlaces
   as-defined h =
       ap (λ (b : Bool). cond b [] (map (λ q. constraint f (sortedPair q .0) (sortedPair q .1)) (distinct samePair (sortBy pairBefore (allPairs box eps (poolAt n w) f E)))))
       (sym (le-ltb (length (faceList (poolAt n w) f)) 3 (omega (arith, list-length n w f (o .size) (o .lengths f hf) hf))))
 
-  module _ (w1 w2 w3 : List ℕ) (c r at : ℕ) (p : Pushed n f (placesAt n) (4 * n + 3 * nf) (allPairs box eps (poolAt n w) f E) 0 c w w1) (ea : at ≡ pairsAt n) (s : SortedPart w1 w2 at c) where
+  module _ (w1 w2 w3 : List ℕ) (c r at : ℕ) (p : Pushed n f (placesAt n) (4 * n + 3 * nf) (allPairs box eps (poolAt n w) f E) 0 c w w1) (ea : at ≡ pairsAt n)
+      (s : SortedPart w1 w2 at c) where
     pub sorted-roomy : Roomy n nf w2
     sorted-roomy = record { small = room .small; facets = room .facets; room = omega (arith, room .room, p .kept .long, s .same) }
 
@@ -153,7 +159,8 @@ module _ (box : AABB) (eps : Float) (n nf k f total : ℕ) (w : List ℕ) (o : S
               ap (map unpacked) (d .listed ∙ (λ t. view-above (placesAt n) C C total w w2 kept1 (omega arith) (omega (arith, room .room)) t ++ map firstKey (runs (in-order t))))
               ∙ map-append unpacked (view w C total) (map firstKey (runs (sorted (map (pairRecord f) (allPairs box eps (poolAt n w) f E)))))
               ∙ ap (λ (l : List Constraint). map unpacked (view w C total) ++ l)
-              (listed-once f (allPairs box eps (poolAt n w) f E) (pairs-low box eps (poolAt n w) f E (omega (arith, list-length n w f (o .size) (o .lengths f hf) hf, o .lengths f hf, room .small))) ∙ as-defined h);
+              (listed-once f (allPairs box eps (poolAt n w) f E) (pairs-low box eps (poolAt n w) f E
+              (omega (arith, list-length n w f (o .size) (o .lengths f hf) hf, o .lengths f hf, room .small))) ∙ as-defined h);
           kept =
               kept-then (placesAt n) (openEdgesAt n nf) w w2 w3
               (kept-wider (placesAt n) C (placesAt n) (openEdgesAt n nf) w w2 kept1 (omega arith) (omega arith))

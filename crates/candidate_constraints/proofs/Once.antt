@@ -101,7 +101,9 @@ module _ (n nf c total : ℕ) (w₀ : List ℕ) where
     keeping-end h =
         record {
           few = omega (arith, o .few, o .within);
-          listed = sym (ap (λ (l : List ℕ). view w listFrom t ++ l) (ap (map firstKey) (runs-nil w₀ (pairsFrom + 2 * i) (c - i) (omega arith))) ∙ append-nil (view w listFrom t)) ∙ o .listed;
+          listed =
+              sym (ap (λ (l : List ℕ). view w listFrom t ++ l) (ap (map firstKey) (runs-nil w₀ (pairsFrom + 2 * i) (c - i) (omega arith))) ∙ append-nil (view w listFrom t)) ∙ o
+              .listed;
           kept = o .kept;
         }
 
@@ -186,12 +188,14 @@ module _ (f : ℕ) where
   same-some x [] a h = refl
   same-some x (y ∷ l) a h = λ t. key-same x y a (h .0) t || same-some x l a (h .1) t
 
-  distinct-keys : (seen l : List (ℕ × ℕ)) → Each Low seen → Each Low l → map (pairKey f) (distinctFrom samePair seen l) ≡ distinctFrom eqb (map (pairKey f) seen) (map (pairKey f) l)
+  distinct-keys : (seen l : List (ℕ × ℕ)) → Each Low seen → Each Low l → map (pairKey f) (distinctFrom samePair seen l) ≡ distinctFrom eqb (map (pairKey f) seen)
+      (map (pairKey f) l)
   unfolding distinctFrom
   distinct-keys seen [] a h = refl
   distinct-keys seen (x ∷ l) a h = go (some (samePair x) seen) refl (distinct-keys (x ∷ seen) l (h .0, a) (h .1))
     where
-      go : (b : Bool) → some (samePair x) seen ≡ b → map (pairKey f) (distinctFrom samePair (x ∷ seen) l) ≡ distinctFrom eqb (pairKey f x ∷ map (pairKey f) seen) (map (pairKey f) l)
+      go : (b : Bool) → some (samePair x) seen ≡ b → map (pairKey f) (distinctFrom samePair (x ∷ seen) l) ≡ distinctFrom eqb (pairKey f x ∷ map (pairKey f) seen)
+          (map (pairKey f) l)
           → map (pairKey f) (cond b (distinctFrom samePair (x ∷ seen) l) (x ∷ distinctFrom samePair (x ∷ seen) l))
           ≡ cond (some (eqb (pairKey f x)) (map (pairKey f) seen)) (distinctFrom eqb (pairKey f x ∷ map (pairKey f) seen) (map (pairKey f) l))
           (pairKey f x ∷ distinctFrom eqb (pairKey f x ∷ map (pairKey f) seen) (map (pairKey f) l))

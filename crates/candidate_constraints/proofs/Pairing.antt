@@ -114,7 +114,9 @@ module _ (n f m count : ℕ) (w₀ : List ℕ) where
       record {
         sum = omega arith;
         within = omega arith;
-        pushed = pushed-as n f (pairsAt n + 2 * count) 0 0 [] (neighbours (take 1 line)) count count w₀ w₀ (omega arith) (sym (neighbours-first line)) (pushed-none n f (pairsAt n + 2 * count) count w₀);
+        pushed =
+            pushed-as n f (pairsAt n + 2 * count) 0 0 [] (neighbours (take 1 line)) count count w₀ w₀ (omega arith) (sym (neighbours-first line))
+            (pushed-none n f (pairsAt n + 2 * count) count w₀);
       }
 
   module _ (room : pairsAt n + 2 * (count + m) ≤ length w₀) (few : m ≤ n) (w : List ℕ) (c i : ℕ) (o : Nearing w c i) where
@@ -128,7 +130,8 @@ module _ (n f m count : ℕ) (w₀ : List ℕ) where
           sum = omega (arith, o .sum);
           within = omega arith;
           pushed =
-              subst (λ (k : ℕ). Pushed n f (pairsAt n + 2 * count) k (neighbours (take (suc k) line)) count (c + 1) w₀ (putRecord w (pairsAt n + 2 * c) (pairRecord f (a, b)))) (one i)
+              subst (λ (k : ℕ). Pushed n f (pairsAt n + 2 * count) k (neighbours (take (suc k) line)) count (c + 1) w₀ (putRecord w (pairsAt n + 2 * c) (pairRecord f (a, b))))
+              (one i)
               (pushed-as n f (pairsAt n + 2 * count) (i + 1) (suc i) (neighbours (take (suc i) line) ++ ((a, b) ∷ [])) (neighbours (take (suc (suc i)) line)) count (c + 1) w₀
               (putRecord w (pairsAt n + 2 * c) (pairRecord f (a, b))) (omega arith)
               ((λ t. neighbours (take (suc i) line) ++ ((first t, second t) ∷ [])) ∙ sym (neighbours-more line i (omega (arith, line-length))))
@@ -292,7 +295,8 @@ module _ (n f at count : ℕ) (w₀ : List ℕ) where
         within = omega arith;
         pushed =
             pushed-as n f (pairsAt n + 2 * count) (i + 1) (i + 1)
-            (edgePairs (poolAt n w₀) f (edgesAt w₀ at i) ++ edgePairs (poolAt n w) f (edgeAt w (at + 3 * i))) (edgePairs (poolAt n w₀) f (edgesAt w₀ at (i + 1))) count r w₀ w' (omega arith)
+            (edgePairs (poolAt n w₀) f (edgesAt w₀ at i) ++ edgePairs (poolAt n w) f (edgeAt w (at + 3 * i))) (edgePairs (poolAt n w₀) f (edgesAt w₀ at (i + 1))) count r w₀ w'
+            (omega arith)
             ((λ t. edgePairs (poolAt n w₀) f (edgesAt w₀ at i) ++ edgePairs (e t) f (g t)) ∙ sym (edges-more (poolAt n w₀) f w₀ at i))
             (pushed-then n f (pairsAt n + 2 * count) (pairsAt n + 2 * c) i 1 (edgePairs (poolAt n w₀) f (edgesAt w₀ at i)) (edgePairs (poolAt n w) f (edgeAt w (at + 3 * i)))
             count c r w₀ w w'

@@ -62,7 +62,8 @@ sorted-records w w' at a m e room p =
     let q : SortedPart w w' a m = subst (λ (k : ℕ). SortedPart w w' k m) e p in
     sym (records-at-take w' a m (omega (arith, q .same))) ∙ q .result ∙ ap sorted (records-at-take w a m (omega arith))
 
-module _ (eps : Float) (n f : ℕ) (s : Side) (count m : ℕ) (w w1 w2 : List ℕ) (o : Shown n w) (hf : f < 6) (hn : n < 2097152) (hc : count ≤ 3 * n) (room : pairsAt n + 16 * n ≤ length w)
+module _ (eps : Float) (n f : ℕ) (s : Side) (count m : ℕ) (w w1 w2 : List ℕ) (o : Shown n w) (hf : f < 6) (hn : n < 2097152) (hc : count ≤ 3 * n)
+    (room : pairsAt n + 16 * n ≤ length w)
     (g : Collected eps n f s m w w1) (at : ℕ) (ea : at ≡ sideAt n) (p : SortedPart w1 w2 at m) where
   pub side-few : m ≤ n
   side-few = omega (arith, g .few, o .lengths f hf)
@@ -144,7 +145,8 @@ module _ (box : AABB) (eps : Float) (n f : ℕ) (w₀ : List ℕ) where
               (omega arith)
               ((λ t. flatMap near (take k S) ++ neighbours (sidePlaces eps (same t) f (e t)))
               ∙ ap (λ (l : List (ℕ × ℕ)). flatMap near (take k S) ++ l) (sym (append-nil (near (getD S k d))))
-              ∙ sym (flatMap-append near (take k S) (getD S k d ∷ [])) ∙ ap (flatMap near) (sym (take-suc S k d (omega (arith, four box f)))) ∙ ap (λ (j : ℕ). flatMap near (take j S)) (one k))
+              ∙ sym (flatMap-append near (take k S) (getD S k d ∷ [])) ∙ ap (flatMap near) (sym (take-suc S k d (omega (arith, four box f)))) ∙ ap
+              (λ (j : ℕ). flatMap near (take j S)) (one k))
               (pushed-then n f (sideAt n) (sideAt n) (k * n) n (flatMap near (take k S)) (neighbours (sidePlaces eps (poolAt n w) f s)) 0 c r w₀ w w' (omega arith) (g .pushed) p);
         }
       where

@@ -26,7 +26,8 @@ fn list_pairs(
     requires { ⌜ Roomy n nf (now w) ⌝ }
     requires { ⌜ EdgesHeld (poolAt n (now w)) (now w) (openEdgesAt n nf) k ⌝ }
     requires { ⌜ (face < 6) × (k ≤ 3 * nf) ⌝ }
-    ensures { λ r. ⌜ Pushed n face (placesAt n) (4 * n + 3 * nf) (allPairs extents eps (poolAt n (now (w .entry))) face (edgesAt (now (w .entry)) (openEdgesAt n nf) k)) 0 r (now (w .entry)) (now (w .exit)) ⌝ }
+    ensures { λ r. ⌜ Pushed n face (placesAt n) (4 * n + 3 * nf)
+        (allPairs extents eps (poolAt n (now (w .entry))) face (edgesAt (now (w .entry)) (openEdgesAt n nf) k)) 0 r (now (w .entry)) (now (w .exit)) ⌝ }
 {
     note_places(w, n, face);
     let c = push_sides(w, n, face, extents, eps);

@@ -71,7 +71,9 @@ pub fn push_open_edges(
     requires { ⌜ Placed n face (now w) ⌝ }
     requires { ⌜ EdgesHeld (poolAt n (now w)) (now w) (openEdgesAt n nf) k ⌝ }
     requires { ⌜ (face < 6) × (k ≤ 3 * nf) × (count ≤ 4 * n) ⌝ }
-    ensures { λ r. ⌜ Pushed n face (pairsAt n + 2 * count) k (edgePairs (poolAt n (now (w .entry))) face (edgesAt (now (w .entry)) (openEdgesAt n nf) k)) count r (now (w .entry)) (now (w .exit)) ⌝ }
+    ensures { λ r. ⌜ Pushed n face (pairsAt n + 2 * count) k
+        (edgePairs (poolAt n (now (w .entry))) face (edgesAt (now (w .entry)) (openEdgesAt n nf) k)) count r (now (w .entry))
+        (now (w .exit)) ⌝ }
 {
     let mut c = count;
     let mut i = 0;

@@ -57,7 +57,8 @@ module _ (vs : List Float) (eps : Float) (n : ℕ) (w : List ℕ) (v : ℕ) (p :
   pub vertex-entered : (mask r : ℕ) (w' : List ℕ) → VertexInserted eps n v (candidate p (v + 1) (facesIn mask)) w w'
       → r ≡ numberFor (byKey eps) (poolAt n w) (candidate p (v + 1) (facesIn mask)) → VertexEntered vs eps n v mask r w w'
   vertex-entered mask r w' inserted number =
-      let done : VertexInserted eps n v (candidate (vertex (pointsOf vs) v) (v + 1) (facesIn mask)) w w' = subst (λ (q : Point). VertexInserted eps n v (candidate q (v + 1) (facesIn mask)) w w') is inserted in
+      let done : VertexInserted eps n v (candidate (vertex (pointsOf vs) v) (v + 1) (facesIn mask)) w w' = subst
+      (λ (q : Point). VertexInserted eps n v (candidate q (v + 1) (facesIn mask)) w w') is inserted in
       record {
         inserted = done;
         number = number ∙ ap (λ (q : Point). numberFor (byKey eps) (poolAt n w) (candidate q (v + 1) (facesIn mask))) is;

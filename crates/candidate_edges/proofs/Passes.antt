@@ -63,7 +63,8 @@ module _ (vs : List Float) (fs : List ℕ) (box : AABB) (eps : Float) (n : ℕ) 
   abbrev none : Surface
   none = record { pool = noPool; edges = [] }
 
-  pub edges-start : (k : ℕ) (w : List ℕ) → MeshFits vs fs n w → TableAt fs w (edgeTableAt n (length fs / 3)) k → VerticesIn vs → Holds eps n w × (poolAt n w ≡ noPool) × ((v : ℕ) → v < n → joinedIn n w v ≡ 0)
+  pub edges-start : (k : ℕ) (w : List ℕ) → MeshFits vs fs n w → TableAt fs w (edgeTableAt n (length fs / 3)) k → VerticesIn vs → Holds eps n w × (poolAt n w ≡ noPool) ×
+      ((v : ℕ) → v < n → joinedIn n w v ≡ 0)
       → EdgesGoing vs fs box eps n 0 0 w w
   edges-start k w fits table within pool =
       record {
@@ -75,7 +76,14 @@ module _ (vs : List Float) (fs : List ℕ) (box : AABB) (eps : Float) (n : ℕ) 
             record {
               fits = fits;
               table = subst (TableAt fs w (edgeTableAt n (length fs / 3))) (table .count) table;
-              ready = record { holds = pool .0; vertices = fits .vertices; within = within; sourced = subst (λ (p : Pool). Sourced (pointsOf vs) eps p (joinedIn n w)) (sym (pool .1)) (sourced-none (pointsOf vs) eps (joinedIn n w) (λ v l. pool .2 v (omega (arith, length-pointsOf vs, fits .vertices)))) };
+              ready =
+                  record {
+                    holds = pool .0;
+                    vertices = fits .vertices;
+                    within = within;
+                    sourced = subst (λ (p : Pool). Sourced (pointsOf vs) eps p (joinedIn n w)) (sym (pool .1))
+                        (sourced-none (pointsOf vs) eps (joinedIn n w) (λ v l. pool .2 v (omega (arith, length-pointsOf vs, fits .vertices))));
+                  };
               held = held-none (poolAt n w) w at;
             };
         long = refl;
@@ -101,7 +109,8 @@ module _ (vs : List Float) (fs : List ℕ) (box : AABB) (eps : Float) (n : ℕ) 
   unfolding edgeSurface
   edges-end i k listed w₀ w count h g =
       let same : i ≡ k = (let l = g .low in omega arith) in
-      let all : surfaceAt n w at i ≡ edgeSurface box eps (byKey eps) (meshOf vs fs) = g .surface ∙ fold-all (enterEdge box eps (byKey eps) (meshOf vs fs)) none (openEdges (threes fs)) i (omega arith) in
+      let all : surfaceAt n w at i ≡ edgeSurface box eps (byKey eps) (meshOf vs fs) = g .surface ∙ fold-all (enterEdge box eps (byKey eps) (meshOf vs fs)) none
+      (openEdges (threes fs)) i (omega arith) in
       record {
         pool = ap (λ (s : Surface). s .pool) all;
         edges = ap (edgesAt w at) (sym same) ∙ ap (λ (s : Surface). s .edges) all;
@@ -182,14 +191,16 @@ module _ (vs : List Float) (box : AABB) (eps : Float) (n : ℕ) where
         pool =
             e .pool
             ∙ ap (λ (p : Pool). foldl (insert (byKey eps)) p (keep (twice vs box eps) (corner vs box eps v ∷ []))) (g .pool)
-            ∙ sym (foldl-append (insert (byKey eps)) (poolAt n w₀) (keep (twice vs box eps) (map (corner vs box eps) (upTo v))) (keep (twice vs box eps) (corner vs box eps v ∷ [])))
+            ∙ sym (foldl-append (insert (byKey eps)) (poolAt n w₀) (keep (twice vs box eps) (map (corner vs box eps) (upTo v)))
+            (keep (twice vs box eps) (corner vs box eps v ∷ [])))
             ∙ ap (foldl (insert (byKey eps)) (poolAt n w₀)) (sym more);
         ready = e .ready;
         long = e .long ∙ g .long;
         rest = λ x l. e .rest x l ∙ g .rest x l;
       }
     where
-      more : keep (twice vs box eps) (map (corner vs box eps) (upTo (v + 1))) ≡ keep (twice vs box eps) (map (corner vs box eps) (upTo v)) ++ keep (twice vs box eps) (corner vs box eps v ∷ [])
+      more : keep (twice vs box eps) (map (corner vs box eps) (upTo (v + 1))) ≡ keep (twice vs box eps) (map (corner vs box eps) (upTo v)) ++ keep (twice vs box eps)
+          (corner vs box eps v ∷ [])
       more =
           ap (λ (l : List ℕ). keep (twice vs box eps) (map (corner vs box eps) l)) (up-snoc v)
           ∙ ap (keep (twice vs box eps)) (map-append (corner vs box eps) (upTo v) (v ∷ []))

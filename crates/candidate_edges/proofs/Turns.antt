@@ -90,7 +90,8 @@ module _ (vs : List Float) (fs : List ℕ) (box : AABB) (eps : Float) (n i mask 
     (is : mask ≡ faceBits (edgeFaces box eps (meshOf vs fs) (getD (openEdges (threes fs)) i (0, 0))))
     (first : VertexEntered vs eps n (getD (openEdges (threes fs)) i (0, 0) .0) mask a w w1)
     (second : VertexEntered vs eps n (getD (openEdges (threes fs)) i (0, 0) .1) mask b w1 w2)
-    (stored : w3 ≡ set (set (set w2 (openEdgesAt n (length fs / 3) + 3 * i) a) (openEdgesAt n (length fs / 3) + 3 * i + 1) b) (openEdgesAt n (length fs / 3) + 3 * i + 2) (cond (eqb a b) 0 mask))
+    (stored : w3 ≡ set (set (set w2 (openEdgesAt n (length fs / 3) + 3 * i) a) (openEdgesAt n (length fs / 3) + 3 * i + 1) b) (openEdgesAt n (length fs / 3) + 3 * i + 2)
+    (cond (eqb a b) 0 mask))
     (result : r ≡ cond (eqb a b) 0 (bitCount mask)) where
   abbrev side : ℕ × ℕ
   side = getD (openEdges (threes fs)) i (0, 0)

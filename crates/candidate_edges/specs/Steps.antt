@@ -75,7 +75,8 @@ pub record Entering (vs : List Float) (fs : List ℕ) (eps : Float) (n i : ℕ) 
   pub held : EdgesHeld (poolAt n w) w (openEdgesAt n (length fs / 3)) i
 
 pub record EdgeEntered (vs : List Float) (fs : List ℕ) (box : AABB) (eps : Float) (n i r : ℕ) (w w' : List ℕ) : Type 0 where
-  pub surface : surfaceAt n w' (openEdgesAt n (length fs / 3)) (i + 1) ≡ enterEdge box eps (byKey eps) (meshOf vs fs) (surfaceAt n w (openEdgesAt n (length fs / 3)) i) (getD (openEdges (threes fs)) i (0, 0))
+  pub surface : surfaceAt n w' (openEdgesAt n (length fs / 3)) (i + 1) ≡ enterEdge box eps (byKey eps) (meshOf vs fs) (surfaceAt n w (openEdgesAt n (length fs / 3)) i)
+      (getD (openEdges (threes fs)) i (0, 0))
   pub listed : length (edgesAt w' (openEdgesAt n (length fs / 3)) (i + 1)) ≡ length (edgesAt w (openEdgesAt n (length fs / 3)) i) + r
   pub few : r ≤ 6
   pub entering : Entering vs fs eps n (i + 1) w'
@@ -92,7 +93,8 @@ pub record EdgesEntered (vs : List Float) (fs : List ℕ) (box : AABB) (eps : Fl
 
 -- "every mesh vertex on two or more faces"
 pub record CornerEntered (vs : List Float) (box : AABB) (eps : Float) (n v : ℕ) (w w' : List ℕ) : Type 0 where
-  pub pool : poolAt n w' ≡ foldl (insert (byKey eps)) (poolAt n w) (keep (λ c. leb 2 (length (c .on))) (meshCandidate (meshOf vs []) v (edgeFaces box eps (meshOf vs []) (v, v)) ∷ []))
+  pub pool : poolAt n w' ≡ foldl (insert (byKey eps)) (poolAt n w)
+      (keep (λ c. leb 2 (length (c .on))) (meshCandidate (meshOf vs []) v (edgeFaces box eps (meshOf vs []) (v, v)) ∷ []))
   pub ready : Ready vs eps n w'
   pub long : length w' ≡ length w
   pub rest : (x : ℕ) → poolEnd n ≤ x → getD w' x 0 ≡ getD w x 0

@@ -99,7 +99,8 @@ fn put_edge(
     mask: u64,
 ) -> usize
     requires { ⌜ at + 2 < length (now w) ⌝ }
-    ensures { λ r. ⌜ (now (w .exit) ≡ set (set (set (now (w .entry)) at (a .0)) (at + 1) (b .0)) (at + 2) (cond (eqb (a .0) (b .0)) 0 mask)) × (r ≡ cond (eqb (a .0) (b .0)) 0 (bitCount mask)) ⌝ }
+    ensures { λ r. ⌜ (now (w .exit) ≡ set (set (set (now (w .entry)) at (a .0)) (at + 1) (b .0)) (at + 2) (cond (eqb (a .0) (b .0)) 0 mask))
+        × (r ≡ cond (eqb (a .0) (b .0)) 0 (bitCount mask)) ⌝ }
 {
     w[at] = a.0 as u64;
     w[at + 1] = b.0 as u64;

@@ -72,7 +72,8 @@ module _ (f x y : ℕ) (G : ℕ → ℕ → Bool) (h : ℕ → Bool) where
   one-face (k ∷ l) = step k l (one-face l) (ℕ-discrete k f) (h k) refl
 
 pub edges-some : (pool : Pool) (w : List ℕ) (at k f : ℕ) (tolerance : Float) (p : Uv) → f < 6
-    → some (λ e. eqb (e .face) f && onSegment tolerance p (project f (pointOf pool (e .from))) (project f (pointOf pool (e .to)))) (edgesAt w at k) ≡ some (edgeHit pool w at f tolerance p) (upTo k)
+    → some (λ e. eqb (e .face) f && onSegment tolerance p (project f (pointOf pool (e .from))) (project f (pointOf pool (e .to)))) (edgesAt w at k) ≡ some
+    (edgeHit pool w at f tolerance p) (upTo k)
 unfolding edgesAt edgeHit
 edges-some pool w at k f tolerance p h =
     some-flat t (λ i. edgeAt w (at + 3 * i)) (upTo k) ∙ some-below (λ i. some t (edgeAt w (at + 3 * i))) (edgeHit pool w at f tolerance p) k (λ i l. one i)
@@ -84,7 +85,8 @@ edges-some pool w at k f tolerance p h =
     one i =
         one-face f (getD w (at + 3 * i) 0) (getD w (at + 3 * i + 1) 0) (λ b c. onSegment tolerance p (project f (pointOf pool b)) (project f (pointOf pool c)))
         (hasBit (getD w (at + 3 * i + 2) 0)) faces
-        ∙ ap (λ (b : Bool). b && (hasBit (getD w (at + 3 * i + 2) 0) f && onSegment tolerance p (project f (pointOf pool (getD w (at + 3 * i) 0))) (project f (pointOf pool (getD w (at + 3 * i + 1) 0))))) (is-face f h)
+        ∙ ap (λ (b : Bool). b && (hasBit (getD w (at + 3 * i + 2) 0) f && onSegment tolerance p (project f (pointOf pool (getD w (at + 3 * i) 0)))
+        (project f (pointOf pool (getD w (at + 3 * i + 1) 0))))) (is-face f h)
 
 -- ---- the ends of edges are candidates
 
@@ -121,7 +123,8 @@ module _ (eps : Float) (n nf k f : ℕ) (w : List ℕ) (h : f < 6) (H : Holds ep
       ap (λ (l : List OpenEdge). skipped s l pool f p) e
       ∙ edges-some pool w E k f (s .skip f) p h
       ∙ some-below (edgeHit pool w E f (s .skip f) p) (edgeHit (poolAt n w) w E f (s .skip f) p) k
-      (λ i l. at i (hasBit (getD w (E + 3 * i + 2) 0) f) (λ b. held-low n w f (getD w (E + 3 * i) 0) h (H .tidy) (D .from i f l h b)) (λ b. held-low n w f (getD w (E + 3 * i + 1) 0) h (H .tidy) (D .to i f l h b)))
+      (λ i l. at i (hasBit (getD w (E + 3 * i + 2) 0) f) (λ b. held-low n w f (getD w (E + 3 * i) 0) h (H .tidy) (D .from i f l h b))
+      (λ b. held-low n w f (getD w (E + 3 * i + 1) 0) h (H .tidy) (D .to i f l h b)))
       ∙ sym (edges-some (poolAt n w) w E k f (s .skip f) p h)
     where
       at : (i : ℕ) (b : Bool) → (b ≡ true → getD w (E + 3 * i) 0 < countAt w) → (b ≡ true → getD w (E + 3 * i + 1) 0 < countAt w)

@@ -71,7 +71,9 @@ module _ (eps : Float) (n : ℕ) (skips : Uv → Bool) (inner : Bool) (f : ℕ) 
   unfolding gridCell
   cell-in e v I =
       record {
-        pool = I .pool ∙ sym (ap (foldl (insert (byKey eps)) (poolAt n w)) (cond-false (inner && skips (project f p)) [] (candidate p 0 (f ∷ []) ∷ []) (candidate p 0 (f ∷ []) ∷ []) e refl));
+        pool =
+            I .pool ∙ sym (ap (foldl (insert (byKey eps)) (poolAt n w))
+            (cond-false (inner && skips (project f p)) [] (candidate p 0 (f ∷ []) ∷ []) (candidate p 0 (f ∷ []) ∷ []) e refl));
         holds = I .holds;
         few =
             let a = count-most (byKey eps) (poolAt n w) (candidate p 0 (f ∷ [])) in
@@ -89,7 +91,8 @@ module _ (eps : Float) (n : ℕ) (g : ℕ → List Candidate) (w : List ℕ) whe
   entered-none most H = record { pool = refl; holds = H; few = omega arith; grown = grown-none n w; long = refl; rest = λ x h. refl }
 
   -- l is what the turn with i entered
-  pub entered-more : (v u : List ℕ) (l : List Candidate) (i most more total : ℕ) → Entered eps n (flatMap g (upTo i)) most w v → l ≡ g i → Entered eps n l more v u → most + more ≡ total
+  pub entered-more : (v u : List ℕ) (l : List Candidate) (i most more total : ℕ) → Entered eps n (flatMap g (upTo i)) most w v → l ≡ g i → Entered eps n l more v u → most + more ≡
+      total
       → Entered eps n (flatMap g (upTo (i + 1))) total w u
   entered-more v u l i most more total a e b q =
       record {
@@ -118,7 +121,8 @@ module _ (eps : Float) (n : ℕ) (near : Near) (f : ℕ) (row : Row) (box : AABB
         point-in = h;
       }
 
-  pub row-cell : (line : Float) (p : Point) (inner : Bool) → line ≡ lineAt (low box (vAxis f)) (high box (vAxis f)) last j → p ≡ pointOnFace f (row .at) (row .u) line → inner ≡ (row .inner && inside j last)
+  pub row-cell : (line : Float) (p : Point) (inner : Bool) → line ≡ lineAt (low box (vAxis f)) (high box (vAxis f)) last j → p ≡ pointOnFace f (row .at) (row .u) line → inner ≡
+      (row .inner && inside j last)
       → gridCell (skipsNear v near) inner f p ≡ rowCell (skipsNear w near) box f row last j
   unfolding gridCell rowCell
   row-cell line p inner el ep ei =

@@ -104,7 +104,8 @@ module _ (box : AABB) (eps : Float) (resolution skip : List Float) where
   segs' k = segments box eps (byAxis resolution) k
 
   pub point-is : (f i j : ℕ) → f < 6
-      → pointOnFace f (faceLine box f (segs' (axis f))) (lineAt (low box (uAxis f)) (high box (uAxis f)) (segs' (uAxis f)) i) (lineAt (low box (vAxis f)) (high box (vAxis f)) (segs' (vAxis f)) j)
+      → pointOnFace f (faceLine box f (segs' (axis f))) (lineAt (low box (uAxis f)) (high box (uAxis f)) (segs' (uAxis f)) i)
+      (lineAt (low box (vAxis f)) (high box (vAxis f)) (segs' (vAxis f)) j)
       ≡ gridPoint (byAxes box eps resolution skip) f i j
   unfolding gridPoint gridLine lineAt pointOnFace
   point-is zero i j h = refl
@@ -115,31 +116,36 @@ module _ (box : AABB) (eps : Float) (resolution skip : List Float) where
   point-is (suc (suc (suc (suc (suc zero))))) i j h = refl
   point-is (suc (suc (suc (suc (suc (suc f)))))) i j h = absurd (omega arith)
 
-  module _ (edges : List OpenEdge) (pool : Pool) (f : ℕ) (f-in : f < 6) (skips : Uv → Bool) (same : (p : Uv) → skips p ≡ skipped (byAxes box eps resolution skip) edges pool f p) where
-    cell-is : (i j : ℕ) → rowCell skips box f (rowAt box f (faceLine box f (segs' (axis f))) (segs' (uAxis f)) i) (segs' (vAxis f)) j ≡ gridAt (byAxes box eps resolution skip) edges pool f i j
-    unfolding rowCell gridCell gridAt
-    cell-is i j =
-        ap (λ (p : Point). cond ((inside i (segs' (uAxis f)) && inside j (segs' (vAxis f))) && skips (project f p)) [] (candidate p 0 (f ∷ []) ∷ [])) (point-is f i j f-in)
-        ∙ ap (λ (b : Bool). cond b [] (candidate (gridPoint (byAxes box eps resolution skip) f i j) 0 (f ∷ []) ∷ []))
-        (and-both (inside i (segs' (uAxis f))) (inside j (segs' (vAxis f))) (skips (project f (gridPoint (byAxes box eps resolution skip) f i j)))
-        ∙ ap (λ (b : Bool). inside i (segs' (uAxis f)) && (inside j (segs' (vAxis f)) && b)) (same (project f (gridPoint (byAxes box eps resolution skip) f i j))))
+  module _ (edges : List OpenEdge) (pool : Pool) (f : ℕ) (f-in : f < 6) (skips : Uv → Bool) (same : (p : Uv) → skips p ≡ skipped (byAxes box eps resolution skip) edges pool f p)
+    where
+      cell-is : (i j : ℕ) → rowCell skips box f (rowAt box f (faceLine box f (segs' (axis f))) (segs' (uAxis f)) i) (segs' (vAxis f)) j ≡ gridAt (byAxes box eps resolution skip)
+          edges pool f i j
+      unfolding rowCell gridCell gridAt
+      cell-is i j =
+          ap (λ (p : Point). cond ((inside i (segs' (uAxis f)) && inside j (segs' (vAxis f))) && skips (project f p)) [] (candidate p 0 (f ∷ []) ∷ [])) (point-is f i j f-in)
+          ∙ ap (λ (b : Bool). cond b [] (candidate (gridPoint (byAxes box eps resolution skip) f i j) 0 (f ∷ []) ∷ []))
+          (and-both (inside i (segs' (uAxis f))) (inside j (segs' (vAxis f))) (skips (project f (gridPoint (byAxes box eps resolution skip) f i j)))
+          ∙ ap (λ (b : Bool). inside i (segs' (uAxis f)) && (inside j (segs' (vAxis f)) && b)) (same (project f (gridPoint (byAxes box eps resolution skip) f i j))))
 
-    pub face-is : (at : Float) (last last-v parts : ℕ) → last ≡ segs' (uAxis f) → last-v ≡ segs' (vAxis f) → parts ≡ segs' (axis f) → at ≡ faceLine box f parts
-        → flatMap (λ i. flatMap (rowCell skips box f (rowAt box f at last i) last-v) (upTo (last-v + 1))) (upTo (last + 1)) ≡ faceGrid (byAxes box eps resolution skip) edges pool f
-    unfolding faceGrid
-    face-is at last last-v parts eu ev ep ea =
-        ap (λ (x : ℕ). flatMap (λ i. flatMap (rowCell skips box f (rowAt box f at x i) last-v) (upTo (last-v + 1))) (upTo (x + 1))) eu
-        ∙ ap (λ (x : ℕ). flatMap (λ i. flatMap (rowCell skips box f (rowAt box f at (segs' (uAxis f)) i) x) (upTo (x + 1))) (upTo (segs' (uAxis f) + 1))) ev
-        ∙ ap (λ (x : Float). flatMap (λ i. flatMap (rowCell skips box f (rowAt box f x (segs' (uAxis f)) i) (segs' (vAxis f))) (upTo (segs' (vAxis f) + 1))) (upTo (segs' (uAxis f) + 1)))
-        (ea ∙ ap (faceLine box f) ep)
-        ∙ flat-below (λ i. flatMap (rowCell skips box f (rowAt box f (faceLine box f (segs' (axis f))) (segs' (uAxis f)) i) (segs' (vAxis f))) (upTo (segs' (vAxis f) + 1)))
-        (λ i. flatMap (λ j. gridAt (byAxes box eps resolution skip) edges pool f i j) (upTo (segs' (vAxis f) + 1))) (segs' (uAxis f) + 1)
-        (λ i l. flat-below (rowCell skips box f (rowAt box f (faceLine box f (segs' (axis f))) (segs' (uAxis f)) i) (segs' (vAxis f))) (λ j. gridAt (byAxes box eps resolution skip) edges pool f i j)
-        (segs' (vAxis f) + 1) (λ j m. cell-is i j))
+      pub face-is : (at : Float) (last last-v parts : ℕ) → last ≡ segs' (uAxis f) → last-v ≡ segs' (vAxis f) → parts ≡ segs' (axis f) → at ≡ faceLine box f parts
+          → flatMap (λ i. flatMap (rowCell skips box f (rowAt box f at last i) last-v) (upTo (last-v + 1))) (upTo (last + 1)) ≡ faceGrid (byAxes box eps resolution skip) edges pool f
+      unfolding faceGrid
+      face-is at last last-v parts eu ev ep ea =
+          ap (λ (x : ℕ). flatMap (λ i. flatMap (rowCell skips box f (rowAt box f at x i) last-v) (upTo (last-v + 1))) (upTo (x + 1))) eu
+          ∙ ap (λ (x : ℕ). flatMap (λ i. flatMap (rowCell skips box f (rowAt box f at (segs' (uAxis f)) i) x) (upTo (x + 1))) (upTo (segs' (uAxis f) + 1))) ev
+          ∙ ap (λ (x : Float). flatMap (λ i. flatMap (rowCell skips box f (rowAt box f x (segs' (uAxis f)) i) (segs' (vAxis f))) (upTo (segs' (vAxis f) + 1)))
+          (upTo (segs' (uAxis f) + 1)))
+          (ea ∙ ap (faceLine box f) ep)
+          ∙ flat-below (λ i. flatMap (rowCell skips box f (rowAt box f (faceLine box f (segs' (axis f))) (segs' (uAxis f)) i) (segs' (vAxis f))) (upTo (segs' (vAxis f) + 1)))
+          (λ i. flatMap (λ j. gridAt (byAxes box eps resolution skip) edges pool f i j) (upTo (segs' (vAxis f) + 1))) (segs' (uAxis f) + 1)
+          (λ i l. flat-below (rowCell skips box f (rowAt box f (faceLine box f (segs' (axis f))) (segs' (uAxis f)) i) (segs' (vAxis f)))
+          (λ j. gridAt (byAxes box eps resolution skip) edges pool f i j)
+          (segs' (vAxis f) + 1) (λ j m. cell-is i j))
 
 -- ---- rows
 
-pub near-ready : (n nf k f : ℕ) (tolerance : Float) (w v : List ℕ) (count at : ℕ) (t : Float) → Gathered n nf k f tolerance w v count → at ≡ segmentsAt n nf → k ≤ 3 * nf → roomEnd n nf ≤ length w
+pub near-ready : (n nf k f : ℕ) (tolerance : Float) (w v : List ℕ) (count at : ℕ) (t : Float) → Gathered n nf k f tolerance w v count → at ≡ segmentsAt n nf → k ≤ 3 * nf → roomEnd
+    n nf ≤ length w
     → NearReady n (record { at = at; count = count; tolerance = t }) v
 near-ready n nf k f tolerance w v count at t G e edges size =
     record {
@@ -183,9 +189,11 @@ module _ (eps : Float) (n : ℕ) (near : Near) (f : ℕ) (box : AABB) (at : Floa
       → flatMap (rowCell (skipsNear v near) box f (record { at = at; u = u; inner = inner }) last-v) (upTo (last-v + 1))
       ≡ flatMap (rowCell (skipsNear w near) box f (rowAt box f at last i) last-v) (upTo (last-v + 1))
   row-is u inner eu ei =
-      rows-same (skipsNear v near) (skipsNear w near) (skips-same w v (near .at) (near .count) (λ x a b. E .rest x (let q = N .above in omega arith)) (near .tolerance)) box f (record { at = at; u = u; inner = inner }) last-v (last-v + 1)
+      rows-same (skipsNear v near) (skipsNear w near) (skips-same w v (near .at) (near .count) (λ x a b. E .rest x (let q = N .above in omega arith)) (near .tolerance)) box f
+      (record { at = at; u = u; inner = inner }) last-v (last-v + 1)
       ∙ ap (λ (x : Float). flatMap (rowCell (skipsNear w near) box f (record { at = at; u = x; inner = inner }) last-v) (upTo (last-v + 1))) eu
-      ∙ ap (λ (b : Bool). flatMap (rowCell (skipsNear w near) box f (record { at = at; u = lineAt (low box (uAxis f)) (high box (uAxis f)) last i; inner = b }) last-v) (upTo (last-v + 1))) ei
+      ∙ ap (λ (b : Bool). flatMap (rowCell (skipsNear w near) box f (record { at = at; u = lineAt (low box (uAxis f)) (high box (uAxis f)) last i; inner = b }) last-v)
+      (upTo (last-v + 1))) ei
 
 pub turn-size : (i m : ℕ) → i * m + m ≡ (i + 1) * m
 turn-size i m = sym (add-mul i 1 m ∙ ap (λ (x : ℕ). i * m + x) (one-mul m))
@@ -220,7 +228,8 @@ module _ (eps : Float) (n nf k f : ℕ) (tolerance : Float) (w v : List ℕ) (H 
         lists = λ g c h e. ap (λ (p : Pool). has (faceList p g) c) gathered-pool ∙ e;
       }
 
-module _ (box : AABB) (eps : Float) (resolution skip : List Float) (n nf k f : ℕ) (w v u : List ℕ) (R : FaceReady box eps resolution skip n nf k f w) (count : ℕ) (G : Gathered n nf k f (byAxis skip (axis f)) w v count) where
+module _ (box : AABB) (eps : Float) (resolution skip : List Float) (n nf k f : ℕ) (w v u : List ℕ) (R : FaceReady box eps resolution skip n nf k f w) (count : ℕ)
+    (G : Gathered n nf k f (byAxis skip (axis f)) w v count) where
   segments-say : (place : ℕ) → place ≡ segmentsAt n nf → (p : Uv)
       → skipsAt v place count (byAxis skip (axis f)) p ≡ skipped (byAxes box eps resolution skip) (edgesAt w (openEdgesAt n nf) k) (poolAt n w) f p
   unfolding skipped
@@ -228,22 +237,28 @@ module _ (box : AABB) (eps : Float) (resolution skip : List Float) (n nf k f : �
       ap (λ (x : ℕ). skipsAt v x count (byAxis skip (axis f)) p) es ∙ G .skips p
       ∙ sym (edges-some (poolAt n w) w (openEdgesAt n nf) k f (byAxis skip (axis f)) p (R .face-in))
 
-  pub face-end : (place : ℕ) (at : Float) (last last-v parts i : ℕ) → place ≡ segmentsAt n nf → last ≡ segments box eps (byAxis resolution) (uAxis f) → last-v ≡ segments box eps (byAxis resolution) (vAxis f)
+  pub face-end : (place : ℕ) (at : Float) (last last-v parts i : ℕ) → place ≡ segmentsAt n nf → last ≡ segments box eps (byAxis resolution) (uAxis f) → last-v ≡ segments box eps
+      (byAxis resolution) (vAxis f)
       → parts ≡ segments box eps (byAxis resolution) (axis f) → at ≡ faceLine box f parts → i ≡ last + 1
-      → Entered eps n (flatMap (λ x. flatMap (rowCell (skipsNear v (record { at = place; count = count; tolerance = byAxis skip (axis f) })) box f (rowAt box f at last x) last-v) (upTo (last-v + 1))) (upTo i)) (i * (last-v + 1)) v u
+      → Entered eps n (flatMap (λ x. flatMap (rowCell (skipsNear v (record { at = place; count = count; tolerance = byAxis skip (axis f) })) box f (rowAt box f at last x) last-v)
+      (upTo (last-v + 1))) (upTo i)) (i * (last-v + 1)) v u
       → FaceEntered box eps resolution skip n nf k f w u
   face-end place at last last-v parts i es eu ev ep ea ei E =
       record {
         pool =
             E .pool
-            ∙ ap (λ (x : ℕ). foldl (insert (byKey eps)) (poolAt n v) (flatMap (λ y. flatMap (rowCell (skipsAt v place count (byAxis skip (axis f))) box f (rowAt box f at last y) last-v) (upTo (last-v + 1))) (upTo x))) ei
-            ∙ ap (foldl (insert (byKey eps)) (poolAt n v)) (face-is box eps resolution skip (edgesAt w (openEdgesAt n nf) k) (poolAt n w) f (R .face-in) (skipsAt v place count (byAxis skip (axis f))) (segments-say place es) at last last-v parts eu ev ep ea)
-            ∙ ap (λ (p : Pool). foldl (insert (byKey eps)) p (faceGrid (byAxes box eps resolution skip) (edgesAt w (openEdgesAt n nf) k) (poolAt n w) f)) (gathered-pool eps n nf k f (byAxis skip (axis f)) w v (R .holds) count G);
+            ∙ ap (λ (x : ℕ). foldl (insert (byKey eps)) (poolAt n v) (flatMap
+            (λ y. flatMap (rowCell (skipsAt v place count (byAxis skip (axis f))) box f (rowAt box f at last y) last-v) (upTo (last-v + 1))) (upTo x))) ei
+            ∙ ap (foldl (insert (byKey eps)) (poolAt n v)) (face-is box eps resolution skip (edgesAt w (openEdgesAt n nf) k) (poolAt n w) f (R .face-in)
+            (skipsAt v place count (byAxis skip (axis f))) (segments-say place es) at last last-v parts eu ev ep ea)
+            ∙ ap (λ (p : Pool). foldl (insert (byKey eps)) p (faceGrid (byAxes box eps resolution skip) (edgesAt w (openEdgesAt n nf) k) (poolAt n w) f))
+            (gathered-pool eps n nf k f (byAxis skip (axis f)) w v (R .holds) count G);
         holds = E .holds;
         few =
             let a = E .few in
             let b = gathered-count eps n nf k f (byAxis skip (axis f)) w v (R .holds) count G in
-            let c : i * (last-v + 1) ≡ faceSize box eps resolution f = ap (λ (x : ℕ). x * (last-v + 1)) ei ∙ ap (λ (x : ℕ). (x + 1) * (last-v + 1)) eu ∙ ap (λ (x : ℕ). (segments box eps (byAxis resolution) (uAxis f) + 1) * (x + 1)) ev in
+            let c : i * (last-v + 1) ≡ faceSize box eps resolution f = ap (λ (x : ℕ). x * (last-v + 1)) ei ∙ ap (λ (x : ℕ). (x + 1) * (last-v + 1)) eu ∙ ap
+            (λ (x : ℕ). (segments box eps (byAxis resolution) (uAxis f) + 1) * (x + 1)) ev in
             omega arith;
         grown = grown-more n w v u (gathered-grown eps n nf k f (byAxis skip (axis f)) w v (R .holds) count G) (E .grown);
         long = E .long ∙ G .long;

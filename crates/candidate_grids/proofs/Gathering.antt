@@ -134,8 +134,10 @@ module _ (n nf k face : ℕ) (tolerance : Float) (w : List ℕ) where
           hit : (p : Uv) → hitAt u (S + 5 * count) tolerance p ≡ edgeHit (poolAt n w) w E face tolerance p i
           hit p =
               g .hits p
-              ∙ ap (λ (x : Uv). onSegment tolerance p x (project face (pointAt v (entryAt (getD v (E + 3 * i + 1) 0))))) (point (getD w (E + 3 * i) 0) (getD v (E + 3 * i) 0) first from-in)
-              ∙ ap (λ (x : Uv). onSegment tolerance p (project face (pointOf (poolAt n w) (getD w (E + 3 * i) 0))) x) (point (getD w (E + 3 * i + 1) 0) (getD v (E + 3 * i + 1) 0) (word 1 (omega arith)) to-in)
+              ∙ ap (λ (x : Uv). onSegment tolerance p x (project face (pointAt v (entryAt (getD v (E + 3 * i + 1) 0)))))
+              (point (getD w (E + 3 * i) 0) (getD v (E + 3 * i) 0) first from-in)
+              ∙ ap (λ (x : Uv). onSegment tolerance p (project face (pointOf (poolAt n w) (getD w (E + 3 * i) 0))) x)
+              (point (getD w (E + 3 * i + 1) 0) (getD v (E + 3 * i + 1) 0) (word 1 (omega arith)) to-in)
               ∙ sym (and-next (hasBit (getD w (E + 3 * i + 2) 0) face) _ _ (bit b e ∙ t) refl)
 
   pub gather-end : (v : List ℕ) (count i : ℕ) → Gathering n nf k face tolerance w v count i → k ≤ i → Gathered n nf k face tolerance w v count

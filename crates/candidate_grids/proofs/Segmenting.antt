@@ -86,7 +86,8 @@ module _ (w : List ℕ) (at : ℕ) (a b : Uv) (bound : Float) (size : at + 5 ≤
   back : {x : Float} {k : ℕ} → T (fits binary64 x) → k ≡ bits x → ofBits binary64 k ≡ x
   back {x} {k} f e = ap (ofBits binary64) e ∙ ofBits-toBits binary64 x f
 
-  pub segment-put : T (fits binary64 (a .u)) → T (fits binary64 (a .v)) → T (fits binary64 (b .u)) → T (fits binary64 (b .v)) → T (fits binary64 bound) → SegmentPut at a b bound w put
+  pub segment-put : T (fits binary64 (a .u)) → T (fits binary64 (a .v)) → T (fits binary64 (b .u)) → T (fits binary64 (b .v)) → T (fits binary64 bound) → SegmentPut at a b bound w
+      put
   segment-put fau fav fbu fbv fb =
       record {
         start = ap (λ (x : Float). uv x (double put (at + 1))) (back fau word0) ∙ ap (λ (y : Float). uv (a .u) y) (back fav word1);
@@ -128,7 +129,8 @@ module _ (a b : Uv) (ha : UvIn a) (hb : UvIn b) where
   length-in : Within (2 ^ 50) (segmentLength (minus b a))
   length-in =
       subst (λ (x : Float). Within (2 ^ 50) x) (sym (segmentLengthIs (minus b a)))
-      (root-pow ((b .u ⊖ a .u) ⊗ (b .u ⊖ a .u) ⊕ (b .v ⊖ a .v) ⊗ (b .v ⊖ a .v)) 50 (lit≤ tt) (add-fits binary64 ((b .u ⊖ a .u) ⊗ (b .u ⊖ a .u)) ((b .v ⊖ a .v) ⊗ (b .v ⊖ a .v)))
+      (root-pow ((b .u ⊖ a .u) ⊗ (b .u ⊖ a .u) ⊕ (b .v ⊖ a .v) ⊗ (b .v ⊖ a .v)) 50 (lit≤ tt)
+      (add-fits binary64 ((b .u ⊖ a .u) ⊗ (b .u ⊖ a .u)) ((b .v ⊖ a .v) ⊗ (b .v ⊖ a .v)))
       edge-rootable (within-pow 99 100 (lit≤ tt) (two-squares 49 (lit≤ tt) du dv)))
 
   one-in : Within (2 ^ 50) oneF
@@ -142,7 +144,8 @@ module _ (a b : Uv) (ha : UvIn a) (hb : UvIn b) where
 pub segment-in : (a b : Uv) (bound : Float) → UvIn a → UvIn b → T (finite bound) → SegmentIn a b bound
 segment-in a b bound ha hb h = record { au = ha .u .is-finite; av = ha .v .is-finite; bu = hb .u .is-finite; bv = hb .v .is-finite; bound-in = h }
 
-pub gathered : (at edge face : ℕ) (tolerance : Float) (w v : List ℕ) (p q : Point) (a b : Uv) (bound : Float) → p ≡ pointAt w (entryAt (getD w edge 0)) → q ≡ pointAt w (entryAt (getD w (edge + 1) 0))
+pub gathered : (at edge face : ℕ) (tolerance : Float) (w v : List ℕ) (p q : Point) (a b : Uv) (bound : Float) → p ≡ pointAt w (entryAt (getD w edge 0)) → q ≡ pointAt w
+    (entryAt (getD w (edge + 1) 0))
     → a ≡ project face p → b ≡ project face q → bound ≡ segmentBound tolerance a b → SegmentIn a b bound → SegmentPut at a b bound w v → SegmentGathered at edge face tolerance w v
 unfolding hitAt onSegment
 gathered at edge face tolerance w v p q a b bound ep eq ea eb e inn put =

@@ -114,7 +114,8 @@ pub record EdgeReady (at edge : ℕ) (tolerance : Float) (w : List ℕ) : Type 0
 
 pub record SegmentGathered (at edge face : ℕ) (tolerance : Float) (w w' : List ℕ) : Type 0 where
   pub segment : SegmentAt w' at
-  pub hits : (p : Uv) → hitAt w' at tolerance p ≡ onSegment tolerance p (project face (pointAt w (entryAt (getD w edge 0)))) (project face (pointAt w (entryAt (getD w (edge + 1) 0))))
+  pub hits : (p : Uv) → hitAt w' at tolerance p ≡ onSegment tolerance p (project face (pointAt w (entryAt (getD w edge 0))))
+      (project face (pointAt w (entryAt (getD w (edge + 1) 0))))
   pub long : length w' ≡ length w
   pub rest : (x : ℕ) → Outside x at 5 → getD w' x 0 ≡ getD w x 0
 

@@ -7,7 +7,29 @@ ghost use lib.ListN.{length};
 ghost use Rattle.lists.specs.Lists.{upTo};
 ghost use Rattle.geometry.specs.Boxes.{low, high};
 ghost use Rattle.box_faces.specs.Lines.{lineAt};
-ghost use Rattle.candidate_grids.specs.Steps.{GridReady, Gridded, SegmentIn, SegmentAt, hitAt, skipsNear, SegmentPut, EdgeReady, SegmentGathered, EdgesReady, Gathered, NearReady, inside, gridCell, rowCell, faceLine, PointReady, Entered, RowReady, FaceReady, FaceEntered};
+ghost use Rattle.candidate_grids.specs.Steps.{
+  GridReady,
+  Gridded,
+  SegmentIn,
+  SegmentAt,
+  hitAt,
+  skipsNear,
+  SegmentPut,
+  EdgeReady,
+  SegmentGathered,
+  EdgesReady,
+  Gathered,
+  NearReady,
+  inside,
+  gridCell,
+  rowCell,
+  faceLine,
+  PointReady,
+  Entered,
+  RowReady,
+  FaceReady,
+  FaceEntered,
+};
 use box_faces::faces::has_face;
 use box_faces::faces::project;
 use box_faces::faces::u_axis;

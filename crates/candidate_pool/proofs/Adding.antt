@@ -60,8 +60,14 @@ module _ (eps : Float) (n id mask : ℕ) (w : List ℕ) (low : id < countAt w) w
   module _ (k : ℕ) (v : List ℕ) (a : Adding eps n id mask k w v) where
     pub adding-low : id < countAt v
     adding-low =
-        omega
-        (arith, pool-count n v, ap (λ (p : Pool). length (p .all)) (a .pool), length-set (poolAt n w .all) id (renewed (getD (poolAt n w .all) id noCandidate) (candidate origin 0 (keep (hasBit mask) (upTo k)))), pool-count n w)
+        omega (
+          arith,
+          pool-count n v,
+          ap (λ (p : Pool). length (p .all)) (a .pool),
+          length-set (poolAt n w .all) id
+              (renewed (getD (poolAt n w .all) id noCandidate) (candidate origin 0 (keep (hasBit mask) (upTo k)))),
+          pool-count n w,
+        )
 
     pub adding-turn : (u : List ℕ) → hasBit mask k ≡ true → FaceAdded eps n id k v u → Adding eps n id mask (k + 1) w u
     adding-turn u t f =

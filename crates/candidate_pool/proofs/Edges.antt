@@ -93,5 +93,6 @@ module _ (p : Pool) (w : List ℕ) (at k : ℕ) (held : EdgesHeld p w at k) (sma
       record {
         masks = each (λ i. getD w (at + 3 * i + 2) 0 < 64) (held .masks) small;
         from = λ i f h. each (λ i. f < 6 → hasBit (getD w (at + 3 * i + 2) 0) f ≡ true → has (faceList p f) (getD w (at + 3 * i) 0) ≡ true) (λ i l. held .from i f l) (first f) i h;
-        to = λ i f h. each (λ i. f < 6 → hasBit (getD w (at + 3 * i + 2) 0) f ≡ true → has (faceList p f) (getD w (at + 3 * i + 1) 0) ≡ true) (λ i l. held .to i f l) (second f) i h;
+        to =
+            λ i f h. each (λ i. f < 6 → hasBit (getD w (at + 3 * i + 2) 0) f ≡ true → has (faceList p f) (getD w (at + 3 * i + 1) 0) ≡ true) (λ i l. held .to i f l) (second f) i h;
       }

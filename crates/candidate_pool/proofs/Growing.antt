@@ -83,7 +83,8 @@ module _ (J : Joining Point) (p : Pool) (e : Candidate) where
   pub number-listed : (f : ℕ) → f < 6 → has (e .on) f ≡ true → has (faceList (insert J p e) f) (numberFor J p e) ≡ true
   number-listed f h t =
       inserted-has f (numberFor J p e) h
-      ∙ ap (λ (b : Bool). has (faceList p f) (numberFor J p e) || b) (ap (λ (b : Bool). b && eqb (numberFor J p e) (numberFor J p e)) t ∙ eq-eqb (numberFor J p e) (numberFor J p e) refl)
+      ∙ ap (λ (b : Bool). has (faceList p f) (numberFor J p e) || b)
+      (ap (λ (b : Bool). b && eqb (numberFor J p e) (numberFor J p e)) t ∙ eq-eqb (numberFor J p e) (numberFor J p e) refl)
       ∙ or-true (has (faceList p f) (numberFor J p e))
 
   pub points-kept : e .mesh ≡ 0 → (c : ℕ) → c < length (p .all) → pointOf (insert J p e) c ≡ pointOf p c

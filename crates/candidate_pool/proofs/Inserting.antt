@@ -61,7 +61,8 @@ pool-is : {a b : List Candidate} {l r : List (List ℕ)} → a ≡ b → l ≡ r
 pool-is d e = λ i. record { all = d i; lists = e i }
 
 all-twice : (l : List Candidate) (i : ℕ) (q : Point) (m : ℕ) (a b : List ℕ) → i < length l
-    → set (set l i (renewed (getD l i noCandidate) (candidate q m a))) i (renewed (getD (set l i (renewed (getD l i noCandidate) (candidate q m a))) i noCandidate) (candidate origin 0 b))
+    → set (set l i (renewed (getD l i noCandidate) (candidate q m a))) i
+    (renewed (getD (set l i (renewed (getD l i noCandidate) (candidate q m a))) i noCandidate) (candidate origin 0 b))
     ≡ set l i (renewed (getD l i noCandidate) (candidate q m (a ++ b)))
 all-twice l i q m a b h =
     let x = renewed (getD l i noCandidate) (candidate q m a) in
@@ -80,7 +81,8 @@ unfolding insert numberFor renewed some
 insert-faces J p q m on canonical low = pool-is (go (placeFor J p (candidate q m [])) refl) (listed-twice (p .lists) [] on (numberFor J p (candidate q m [])))
   where
     go : (k : Option ℕ) → placeFor J p (candidate q m []) ≡ k
-        → set (enteredAs (p .all) (candidate q m []) k) (Option·getD k (length (p .all))) (renewed (getD (enteredAs (p .all) (candidate q m []) k) (Option·getD k (length (p .all))) noCandidate) (candidate origin 0 on))
+        → set (enteredAs (p .all) (candidate q m []) k) (Option·getD k (length (p .all)))
+        (renewed (getD (enteredAs (p .all) (candidate q m []) k) (Option·getD k (length (p .all))) noCandidate) (candidate origin 0 on))
         ≡ enteredAs (p .all) (candidate q m on) k
     go none e =
         set-append-seam (p .all) (candidate q m []) [] (renewed (getD (p .all ++ (candidate q m [] ∷ [])) (length (p .all)) noCandidate) (candidate origin 0 on))

@@ -82,7 +82,8 @@ words-keys eps p q =
 
 -- ---- the search
 
-pub found-is : (eps : Float) (p : Point) (l : List Point) (w : List ℕ) (n : ℕ) → ((i : ℕ) → i < length l → keyAt w (keysAt n + 3 * i) ≡ keyWords (keyOf eps (getD l i origin))) → linkTo (keyIs w n (keyWords (keyOf eps p))) (upTo (length l)) ≡ linkOf (byKey eps .find p l)
+pub found-is : (eps : Float) (p : Point) (l : List Point) (w : List ℕ) (n : ℕ) → ((i : ℕ) → i < length l → keyAt w (keysAt n + 3 * i) ≡ keyWords (keyOf eps (getD l i origin))) →
+    linkTo (keyIs w n (keyWords (keyOf eps p))) (upTo (length l)) ≡ linkOf (byKey eps .find p l)
 unfolding byKey
 found-is eps p l w n stands =
     linkTo-places (λ q. sameKey (keyOf eps q) (keyOf eps p)) origin l (keyIs w n (keyWords (keyOf eps p)))

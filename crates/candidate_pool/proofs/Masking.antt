@@ -123,7 +123,8 @@ Bit m = (f : ℕ) × (f < 6) × (hasBit m f ≡ true)
 even : (x : ℕ) → eqb (x % 2) 1 ≡ false → x % 2 ≡ 0
 even x e = let n = eqb-false (x % 2) 1 e in omega arith
 
-unset : (m : ℕ) → m < 64 → (m ≡ 0 → ⊥) → hasBit m 0 ≡ false → hasBit m 1 ≡ false → hasBit m 2 ≡ false → hasBit m 3 ≡ false → hasBit m 4 ≡ false → hasBit m 5 ≡ false → ⊥
+unset : (m : ℕ) → m < 64 → (m ≡ 0 → ⊥) → hasBit m 0 ≡ false → hasBit m 1 ≡ false → hasBit m 2 ≡ false → hasBit m 3 ≡ false → hasBit m 4 ≡
+    false → hasBit m 5 ≡ false → ⊥
 unfolding hasBit
 unset m h n a b c d e f =
     n (zero-word m h (even (m / 2 ^ 0) a) (even (m / 2 ^ 1) b) (even (m / 2 ^ 2) c) (even (m / 2 ^ 3) d) (even (m / 2 ^ 4) e) (even (m / 2 ^ 5) f))
@@ -157,7 +158,8 @@ unset m h n a b c d e f =
 
 pub word-bit : (m : ℕ) → m < 64 → (m ≡ 0 → ⊥) → Bit m
 word-bit m h n =
-    or 0 (omega arith) (λ a. or 1 (omega arith) (λ b. or 2 (omega arith) (λ c. or 3 (omega arith) (λ d. or 4 (omega arith) (λ e. or 5 (omega arith) (λ f. absurd (unset m h n a b c d e f)))))))
+    or 0 (omega arith) (λ a. or 1 (omega arith) (λ b. or 2 (omega arith)
+    (λ c. or 3 (omega arith) (λ d. or 4 (omega arith) (λ e. or 5 (omega arith) (λ f. absurd (unset m h n a b c d e f)))))))
   where
     or : (f : ℕ) → f < 6 → (hasBit m f ≡ false → Bit m) → Bit m
     or f l else = ⊎-elim (λ (e : hasBit m f ≡ true). (f, l, e)) else (cases (hasBit m f))

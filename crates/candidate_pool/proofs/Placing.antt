@@ -139,7 +139,8 @@ module _ (eps : Float) (n : ℕ) (w : List ℕ) (h : Holds eps n w) (p : Point) 
       at : (c : ℕ) → c < id + 1 → Dec (c ≡ id) → candidateAt new c ≡ getD (poolAt n w .all ++ (candidate p m [] ∷ [])) c noCandidate
       at c k (yes e) =
           ap (candidateAt new) e ∙ new-candidate
-          ∙ sym (ap (λ (x : ℕ). getD (poolAt n w .all ++ (candidate p m [] ∷ [])) x noCandidate) (e ∙ sym (pool-count n w)) ∙ getD-append-seam (poolAt n w .all) (candidate p m []) [] noCandidate)
+          ∙ sym (ap (λ (x : ℕ). getD (poolAt n w .all ++ (candidate p m [] ∷ [])) x noCandidate) (e ∙ sym (pool-count n w)) ∙ getD-append-seam (poolAt n w .all) (candidate p m [])
+          [] noCandidate)
       at c k (no d) =
           let r : c < id = omega arith in
           candidate-same w new c (λ i s. old-word c i r s)
@@ -159,9 +160,12 @@ module _ (eps : Float) (n : ℕ) (w : List ℕ) (h : Holds eps n w) (p : Point) 
           small = h .table .small;
           room = omega (arith, h .table .room, put .long);
           few = omega arith;
-          linked = pushed-linked w n id p m key (h .size) less b b-low (tail-room w n id p m key (h .size) less (λ i. keyBucket n (keyAt w (keysAt n + 3 * i))) b b-low (h .table .linked))
+          linked =
+              pushed-linked w n id p m key (h .size) less b b-low (tail-room w n id p m key (h .size) less (λ i. keyBucket n (keyAt w (keysAt n + 3 * i))) b b-low
+              (h .table .linked))
               (λ i. keyBucket n (keyAt new (keysAt n + 3 * i))) (b-is ∙ ap (keyBucket n) (sym (put .key)))
-              (linked-cong (λ i. keyBucket n (keyAt w (keysAt n + 3 * i))) (λ i. keyBucket n (keyAt new (keysAt n + 3 * i))) w (chainAt n) n id (λ i k. ap (keyBucket n) (sym (old-key i k))) (h .table .linked));
+              (linked-cong (λ i. keyBucket n (keyAt w (keysAt n + 3 * i))) (λ i. keyBucket n (keyAt new (keysAt n + 3 * i))) w (chainAt n) n id
+              (λ i k. ap (keyBucket n) (sym (old-key i k))) (h .table .linked));
         });
         keys = λ c k. keys c (omega (arith, put .count)) (ℕ-discrete c id);
         stored = λ c k. stored c (omega (arith, put .count)) (ℕ-discrete c id);
@@ -305,7 +309,8 @@ module _ (eps : Float) (n : ℕ) (w : List ℕ) (h : Holds eps n w) (p : Point) 
         (lists-same eps n w moved h moved-long front-same (λ x k r. back-same x (omega arith)))
         ∙ renewed-pool
       where
-        at : (c : ℕ) → c < countAt w → Dec (c ≡ id) → candidateAt moved c ≡ getD (set (poolAt n w .all) id (renewed (getD (poolAt n w .all) id noCandidate) (candidate p m []))) c noCandidate
+        at : (c : ℕ) → c < countAt w → Dec (c ≡ id) → candidateAt moved c ≡ getD (set (poolAt n w .all) id (renewed (getD (poolAt n w .all) id noCandidate) (candidate p m []))) c
+            noCandidate
         at c k (yes e) =
             ap (candidateAt moved) e ∙ candidate-is
             ∙ ap (λ (x : Candidate). renewed x (candidate p m [])) (sym (pool-at n w id id-low))

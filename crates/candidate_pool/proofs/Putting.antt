@@ -180,7 +180,9 @@ module _ (w : List ℕ) (n id : ℕ) (p : Point) (m : ℕ) (k : KeyWords) (size 
         record {
           long = entered-length w4 (chainAt n) n id b ∙ long4;
           count = front 6 (omega arith) ∙ rest4 6 (λ j r e. omega arith) ∙ rest3 6 (λ e. omega arith) ∙ rest2 6 (λ j r e. omega arith) ∙ getD-set-same w 6 (id + 1) 0 (omega arith);
-          x = ap (λ (x : ℕ). getD w5 x 0) (omega arith) ∙ point5 0 (omega arith) ∙ ap (λ (x : ℕ). getD w2 x 0) (omega arith) ∙ four-at0 w1 (entryAt id) (toBits binary64 (p .x)) (toBits binary64 (p .y)) (toBits binary64 (p .z)) m room1;
+          x =
+              ap (λ (x : ℕ). getD w5 x 0) (omega arith) ∙ point5 0 (omega arith) ∙ ap (λ (x : ℕ). getD w2 x 0) (omega arith) ∙ four-at0 w1 (entryAt id) (toBits binary64 (p .x))
+              (toBits binary64 (p .y)) (toBits binary64 (p .z)) m room1;
           y = point5 1 (omega arith) ∙ four-at1 w1 (entryAt id) (toBits binary64 (p .x)) (toBits binary64 (p .y)) (toBits binary64 (p .z)) m room1;
           z = point5 2 (omega arith) ∙ four-at2 w1 (entryAt id) (toBits binary64 (p .x)) (toBits binary64 (p .y)) (toBits binary64 (p .z)) m room1;
           mesh = point5 3 (omega arith) ∙ four-at3 w1 (entryAt id) (toBits binary64 (p .x)) (toBits binary64 (p .y)) (toBits binary64 (p .z)) m room1;

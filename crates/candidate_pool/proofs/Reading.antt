@@ -58,7 +58,8 @@ pub pool-list : (n : ℕ) (w : List ℕ) (f : ℕ) → f < 6 → faceList (poolA
 unfolding poolAt
 pool-list n w f h = at-faces (λ f. view w (listAt n f) (getD w f 0)) [] f h
 
-pub all-is : (w : List ℕ) (l : List Candidate) → length l ≡ countAt w → ((c : ℕ) → c < countAt w → candidateAt w c ≡ getD l c noCandidate) → map (candidateAt w) (upTo (countAt w)) ≡ l
+pub all-is : (w : List ℕ) (l : List Candidate) → length l ≡ countAt w → ((c : ℕ) → c < countAt w → candidateAt w c ≡ getD l c noCandidate) → map (candidateAt w) (upTo (countAt w))
+    ≡ l
 all-is w l long same =
     ext-getD noCandidate (map (candidateAt w) (upTo (countAt w))) l (count ∙ sym long)
     (λ c h. let k : c < countAt w = omega (arith, count) in at-map-up (candidateAt w) noCandidate 0 (countAt w) c k ∙ ap (candidateAt w) (omega arith) ∙ same c k)

@@ -126,7 +126,8 @@ pub fn insert_candidate(
     requires { ⌜ Holds eps n (now w) ⌝ }
     requires { ⌜ PointIn p × (mask < 64) × (v .0 < n) ⌝ }
     requires { ⌜ RoomFor eps n (now w) (candidate p (v .0 + 1) (facesIn mask)) ⌝ }
-    ensures { λ r. ⌜ VertexInserted eps n (v .0) (candidate p (v .0 + 1) (facesIn mask)) (now (w .entry)) (now (w .exit)) × (r .0 ≡ numberFor (byKey eps) (poolAt n (now (w .entry))) (candidate p (v .0 + 1) (facesIn mask))) ⌝ }
+    ensures { λ r. ⌜ VertexInserted eps n (v .0) (candidate p (v .0 + 1) (facesIn mask)) (now (w .entry)) (now (w .exit)) ×
+        (r .0 ≡ numberFor (byKey eps) (poolAt n (now (w .entry))) (candidate p (v .0 + 1) (facesIn mask))) ⌝ }
 {
     let id = place_candidate(w, n, p, v.0 as u64 + 1, eps);
     push_faces(w, n, id, mask, eps);

@@ -90,7 +90,11 @@ module _ (b n nc nv : ℕ) (w : List ℕ) (E : Entering b n nc nv w) (t r : Tria
       record { a = omega arith; b = omega arith; c = omega arith }
 
   pub numbers-are : (points : List Point) → length points ≡ nv → r ≡ mapped (newNumber (namedAt b n nc nv points w)) t
-  numbers-are points own = let x = one (t .a) (r .a) (low .a) (N .a) in let y = one (t .b) (r .b) (low .b) (N .b) in let z = one (t .c) (r .c) (low .c) (N .c) in λ i. tri (x i) (y i) (z i)
+  numbers-are points own =
+      let x = one (t .a) (r .a) (low .a) (N .a) in
+      let y = one (t .b) (r .b) (low .b) (N .b) in
+      let z = one (t .c) (r .c) (low .c) (N .c) in
+      λ i. tri (x i) (y i) (z i)
     where
       one : (c k : ℕ) → c < countAt w → k + 1 ≡ getD w (b + c) 0 → k ≡ newNumber (namedAt b n nc nv points w) c
       one c k h e = let q = number-at b n nc nv w E points own c h in omega arith

@@ -252,7 +252,8 @@ module _ (vs : List Float) (b n nc left : ℕ) (t r : Triangle ℕ) (w w₁ : Li
         more = λ list L.
             let q : left ≡ left + 0 = omega arith in
             let s : list ≡ list ++ keep (isLarge (after .points)) (mapped (newNumber after) t ∷ [])
-            = sym (ap (λ (l : List (Triangle ℕ)). list ++ l) (keep-no (isLarge (after .points)) (mapped (newNumber after) t) [] (ap (isLarge (after .points)) (sym is-it) ∙ small) ∙ keep-nil (isLarge (after .points))) ∙ append-nil list) in
+            = sym (ap (λ (l : List (Triangle ℕ)). list ++ l) (keep-no (isLarge (after .points)) (mapped (newNumber after) t) [] (ap (isLarge (after .points)) (sym is-it) ∙ small) ∙
+            keep-nil (isLarge (after .points))) ∙ append-nil list) in
             subst (λ (k : ℕ). LeftAre b n nc k w₁ (list ++ keep (isLarge (after .points)) (mapped (newNumber after) t ∷ []))) q
             (subst (LeftAre b n nc left w₁) s (still list L));
       }

@@ -91,7 +91,8 @@ module _ (n nf nc : ℕ) (positive : Bool) (w : List ℕ) where
   taken-more i h =
       ap (map (capAtRoom n nf nc w))
       (keep-more (isTaken n nf nc positive w) i
-      ∙ ap (λ (l : List ℕ). keep (isTaken n nf nc positive w) (upTo i) ++ l) (keep-yes (isTaken n nf nc positive w) i [] h ∙ ap (λ (l : List ℕ). i ∷ l) (keep-nil (isTaken n nf nc positive w))))
+      ∙ ap (λ (l : List ℕ). keep (isTaken n nf nc positive w) (upTo i) ++ l)
+      (keep-yes (isTaken n nf nc positive w) i [] h ∙ ap (λ (l : List ℕ). i ∷ l) (keep-nil (isTaken n nf nc positive w))))
       ∙ map-append (capAtRoom n nf nc w) (keep (isTaken n nf nc positive w) (upTo i)) (i ∷ [])
 
   pub taken-low : Taking n nf nc w → (i : ℕ) → i ≤ nc → Each (λ v. v < countAt w) (flat (takenAt n nf nc positive w i))

@@ -95,7 +95,8 @@ pub record Appended (vs : List Float) (b n nc : ℕ) (t : Triangle ℕ) (left r 
   pub named : namedAt b n nc (length vs / 3) (pointsOf vs) w' ≡ foldl (enter (pointIn w)) (namedAt b n nc (length vs / 3) (pointsOf vs) w) (vertices t)
   pub few : r ≤ 1
   pub more : (facets : List (Triangle ℕ)) → LeftAre b n nc left w facets
-      → LeftAre b n nc (left + r) w' (facets ++ keep (isLarge (namedAt b n nc (length vs / 3) (pointsOf vs) w' .points)) (mapped (newNumber (namedAt b n nc (length vs / 3) (pointsOf vs) w')) t ∷ []))
+      → LeftAre b n nc (left + r) w' (facets ++ keep (isLarge (namedAt b n nc (length vs / 3) (pointsOf vs) w' .points))
+      (mapped (newNumber (namedAt b n nc (length vs / 3) (pointsOf vs) w')) t ∷ []))
 
 module _ (n nf nc : ℕ) where
   abbrev pub capAtRoom : List ℕ → ℕ → Triangle ℕ
@@ -121,7 +122,8 @@ pub record Appending (vs : List Float) (b n nf nc : ℕ) (positive : Bool) (i le
   pub above : Above b w w'
   pub named : namedAt b n nc (length vs / 3) (pointsOf vs) w' ≡ foldl (enter (pointIn w)) (namedAt b n nc (length vs / 3) (pointsOf vs) w) (flat (takenAt n nf nc positive w i))
   pub few : left ≤ i
-  pub facets : LeftAre b n nc left w' (keep (isLarge (namedAt b n nc (length vs / 3) (pointsOf vs) w' .points)) (map (mapped (newNumber (namedAt b n nc (length vs / 3) (pointsOf vs) w'))) (takenAt n nf nc positive w i)))
+  pub facets : LeftAre b n nc left w' (keep (isLarge (namedAt b n nc (length vs / 3) (pointsOf vs) w' .points))
+      (map (mapped (newNumber (namedAt b n nc (length vs / 3) (pointsOf vs) w'))) (takenAt n nf nc positive w i)))
 
 abbrev pub keyIn : List ℕ → ℕ → ℕ → ℕ
 keyIn w records j = getD w (records + 2 * j) 0

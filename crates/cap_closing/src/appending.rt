@@ -32,7 +32,8 @@ fn materialize_triangle(
 ) -> MeshTriangle
     requires { ⌜ (nf < 268435456) × Below (countAt (now w)) (candidatesOf t) ⌝ }
     requires { ⌜ Entering (closingAt n nf nc) n nc nv (now w) ⌝ }
-    ensures { λ r. ⌜ Entered (closingAt n nf nc) n nc nv (vertices (candidatesOf t)) (now (w .entry)) (now (w .exit)) × Numbers (closingAt n nf nc) (now (w .exit)) (candidatesOf t) (meshVerticesOf r) ⌝ }
+    ensures { λ r. ⌜ Entered (closingAt n nf nc) n nc nv (vertices (candidatesOf t)) (now (w .entry)) (now (w .exit)) × Numbers (closingAt n nf nc)
+        (now (w .exit)) (candidatesOf t) (meshVerticesOf r) ⌝ }
 {
     let a = materialize_candidate(w, n, nf, nc, nv, t.a);
     let b = materialize_candidate(w, n, nf, nc, nv, t.b);

@@ -109,7 +109,8 @@ unfolding flatMap keep
 flat-keep p f [] = refl
 flat-keep {A} {B} p f (x ∷ l) = go (p x) (flat-keep p f l)
   where
-    go : (b : Bool) → flatMap (λ x. cond (p x) (f x) []) l ≡ flatMap f (keep p l) → cond b (f x) [] ++ flatMap (λ x. cond (p x) (f x) []) l ≡ flatMap f (cond b (x ∷ keep p l) (keep p l))
+    go : (b : Bool) → flatMap (λ x. cond (p x) (f x) []) l ≡ flatMap f (keep p l) → cond b (f x) [] ++ flatMap (λ x. cond (p x) (f x) []) l ≡ flatMap f
+        (cond b (x ∷ keep p l) (keep p l))
     go true e = ap (λ (r : List B). f x ++ r) e
     go false e = e
 
@@ -117,7 +118,8 @@ abbrev pub capBlock : List ℕ → ℕ → ℕ → ℕ → List ℕ
 capBlock w facets firsts i = capWords w (facets + 3 * i) (firsts + i)
 
 pub caps-are : (w : List ℕ) (facets firsts left : ℕ)
-    → allCapWords w facets firsts left ≡ flat (map (λ i. tri (getD w (facets + 3 * i) 0) (getD w (facets + 3 * i + 1) 0) (getD w (facets + 3 * i + 2) 0)) (keep (λ i. eqb (getD w (firsts + i) 0) 1) (upTo left)))
+    → allCapWords w facets firsts left ≡ flat (map (λ i. tri (getD w (facets + 3 * i) 0) (getD w (facets + 3 * i + 1) 0) (getD w (facets + 3 * i + 2) 0))
+    (keep (λ i. eqb (getD w (firsts + i) 0) 1) (upTo left)))
 caps-are w facets firsts left =
     flat-keep (λ i. eqb (getD w (firsts + i) 0) 1) (λ i. getD w (facets + 3 * i) 0 ∷ getD w (facets + 3 * i + 1) 0 ∷ getD w (facets + 3 * i + 2) 0 ∷ []) (upTo left)
     ∙ sym

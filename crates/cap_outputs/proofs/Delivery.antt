@@ -61,7 +61,8 @@ module _ (vs : List Float) (fs : List ℕ) (whole-vertices : length vs % 3 ≡ 0
 -- ---- the closed mesh, in two parts
 
 -- first `a` from 0 on, then `b` behind it
-two-parts : {A : Type 0} (old mid new a b : List A) (at : ℕ) → at ≡ length a → mid ≡ sets old 0 a → new ≡ sets mid at b → length (a ++ b) ≤ length old → new ≡ overlay (a ++ b) old
+two-parts : {A : Type 0} (old mid new a b : List A) (at : ℕ) → at ≡ length a → mid ≡ sets old 0 a → new ≡ sets mid at b → length (a ++ b) ≤
+    length old → new ≡ overlay (a ++ b) old
 two-parts old mid new a b at e h k room =
     let q : at ≡ 0 + length a = omega arith in
     k ∙ (λ t. sets (h t) (q t) b) ∙ sym (sets-append old 0 a b) ∙ sets-overlay (a ++ b) old room
@@ -160,7 +161,8 @@ module _ (vs : List Float) (fs : List ℕ) (n nc left caps : ℕ) (positive : Bo
       let c = firsts-long (leftAt n nf nc) (firstsAt n nf nc) refl refl in
       omega (arith, a, b, c)
 
-  pub facets-laid : (la ra : ℕ) → la ≡ leftAt n nf nc → ra ≡ firstsAt n nf nc → (f mid new : List ℕ) → length fs + 3 * caps ≤ length f → mid ≡ sets f 0 own → new ≡ sets mid (length fs) (firsts la ra)
+  pub facets-laid : (la ra : ℕ) → la ≡ leftAt n nf nc → ra ≡ firstsAt n nf nc → (f mid new : List ℕ) → length fs + 3 * caps ≤ length f → mid ≡ sets f 0 own → new ≡ sets mid
+      (length fs) (firsts la ra)
       → new ≡ overlay (flat (m .facets)) f
   facets-laid la ra el er f mid new h a b =
       let l = facets-long in

@@ -33,7 +33,9 @@ pub fn deliver_mesh(
     out_facets: &mut [u32],
 ) -> Reply
     requires { ⌜ (length (now vertices) % 3 ≡ 0) × (length (now facets) % 3 ≡ 0) ⌝ }
-    ensures { λ r. ⌜ Answer [] (meshOutputs (meshOf (now (vertices .entry)) (now (facets .entry))) (now («out_vertices» .entry)) (now («out_vertices» .exit)) (now («out_facets» .entry)) (now («out_facets» .exit))) (documentedReply r) ⌝ }
+    ensures { λ r. ⌜ Answer []
+        (meshOutputs (meshOf (now (vertices .entry)) (now (facets .entry))) (now («out_vertices» .entry)) (now («out_vertices» .exit)) (now («out_facets» .entry))
+        (now («out_facets» .exit))) (documentedReply r) ⌝ }
 {
     if out_vertices.len() < vertices.len() {
         return Reply::Refused(Refusal::NoRoom(vertices.len()));
@@ -156,7 +158,9 @@ pub fn deliver_closed(
     out_facets: &mut [u32],
 ) -> Reply
     requires { ⌜ Deliverable (now vertices) (now facets) n nc left caps (now w) ⌝ }
-    ensures { λ r. ⌜ Answer [] (meshOutputs (standing (now (vertices .entry)) (now (facets .entry)) n nc positive left (now (w .entry))) (now («out_vertices» .entry)) (now («out_vertices» .exit)) (now («out_facets» .entry)) (now («out_facets» .exit))) (documentedReply r) ⌝ }
+    ensures { λ r. ⌜ Answer []
+        (meshOutputs (standing (now (vertices .entry)) (now (facets .entry)) n nc positive left (now (w .entry))) (now («out_vertices» .entry)) (now («out_vertices» .exit))
+        (now («out_facets» .entry)) (now («out_facets» .exit))) (documentedReply r) ⌝ }
 {
     let nf = facets.len() / 3;
     let nv = vertices.len() / 3;

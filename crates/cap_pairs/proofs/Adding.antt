@@ -143,7 +143,8 @@ module _ (target : ℕ → ℕ) (bits : ℕ → ℕ → Bool) (w₀ : List ℕ) 
           rest = λ x h. s .rest x (λ q. h i (omega arith) (sym q)) ∙ a .rest x (λ j l. h j (omega arith));
         }
       where
-        each : (x f : ℕ) → f < 6 → getD w₀ x 0 ≡ 0 → Dec (x ≡ target i) → hasBit (getD v x 0) f ≡ (some (λ j. eqb (target j) x && bits j f) (upTo i) || (eqb (target i) x && bits i f))
+        each : (x f : ℕ) → f < 6 → getD w₀ x 0 ≡ 0 → Dec (x ≡ target i) → hasBit (getD v x 0) f ≡
+            (some (λ j. eqb (target j) x && bits j f) (upTo i) || (eqb (target i) x && bits i f))
         each x f h q (yes e) =
             ap (λ (y : ℕ). hasBit (getD v y 0) f) e ∙ s .bits f h
             ∙ ap (λ (b : Bool). b || bits i f) (ap (λ (y : ℕ). hasBit (getD w y 0) f) (sym e) ∙ a .at x f h q)

@@ -123,7 +123,8 @@ module _ (n nf k : ℕ) (capList w : List ℕ) (r : CapReady n nf k capList w) w
       moved a b e l = subst (λ (y : ℕ). getD w y 0 < countAt w) e l
 
       go : (m : ℕ) → x % 3 ≡ m
-          → (getD w (turnedAt n nf + 3 * (x / 3)) 0 < countAt w) × (getD w (turnedAt n nf + 3 * (x / 3) + 1) 0 < countAt w) × (getD w (turnedAt n nf + 3 * (x / 3) + 2) 0 < countAt w)
+          → (getD w (turnedAt n nf + 3 * (x / 3)) 0 < countAt w) × (getD w (turnedAt n nf + 3 * (x / 3) + 1) 0 < countAt w) ×
+          (getD w (turnedAt n nf + 3 * (x / 3) + 2) 0 < countAt w)
           → getD w (turnedAt n nf + x) 0 < countAt w
       go zero e l = moved (turnedAt n nf + 3 * (x / 3)) (turnedAt n nf + x) (omega arith) (l .0)
       go (suc zero) e l = moved (turnedAt n nf + 3 * (x / 3) + 1) (turnedAt n nf + x) (omega arith) (l .1)

@@ -43,7 +43,8 @@ use Rattle.cap_pairs.proofs.Sums.{eqb-sym, some-map, some-threes, some-
 use Rattle.cap_pairs.proofs.Ends.{pair-listed, pair-side, pair-kept}
 
 -- ---- the numbers
-pub numbers-kept : (n nf k : ℕ) (capList w w' : List ℕ) (b : ℕ) → Above b w w' → upAt n nf (length capList / 4) ≤ b → k ≤ 3 * nf → PairNumbers n nf k capList w → PairNumbers n nf k capList w'
+pub numbers-kept : (n nf k : ℕ) (capList w w' : List ℕ) (b : ℕ) → Above b w w' → upAt n nf (length capList / 4) ≤ b → k ≤ 3 * nf → PairNumbers n nf k capList w → PairNumbers n nf k
+    capList w'
 numbers-kept n nf k capList w w' b above end few N =
     record {
       low = λ q h. let e = number q h in let l = N .low q h in omega arith;
@@ -57,7 +58,9 @@ numbers-kept n nf k capList w w' b above end few N =
 
 -- ---- truth values
 eqb-shift : (u x y : ℕ) → eqb (u + x) (u + y) ≡ eqb x y
-eqb-shift u x y = both-ways (eqb (u + x) (u + y)) (eqb x y) (λ e. let q = eqb-true (u + x) (u + y) e in eq-eqb x y (omega arith)) (λ e. eq-eqb (u + x) (u + y) (ap (λ (z : ℕ). u + z) (eqb-true x y e)))
+eqb-shift u x y =
+    both-ways (eqb (u + x) (u + y)) (eqb x y) (λ e. let q = eqb-true (u + x) (u + y) e in eq-eqb x y (omega arith))
+    (λ e. eq-eqb (u + x) (u + y) (ap (λ (z : ℕ). u + z) (eqb-true x y e)))
 
 and-false : (b : Bool) → (b && false) ≡ false
 and-false true = refl
@@ -116,7 +119,9 @@ module _ (a b m u d x y f : ℕ) (none : hasBit 0 f ≡ false) where
   falling h z = let l = le-ltb a b (omega arith) in let e = ne-eqb a b (λ q. omega arith) in λ t. eqb (cond (l t) u d + x) z && hasBit (cond (e t) 0 m) f
 
   level : a ≡ b → (z : ℕ) → placed z ≡ false
-  level h z = let e = eq-eqb a b h in (λ t. eqb (cond (ltb a b) u d + x) z && hasBit (cond (e t) 0 m) f) ∙ ap (λ (c : Bool). eqb (cond (ltb a b) u d + x) z && c) none ∙ and-false (eqb (cond (ltb a b) u d + x) z)
+  level h z =
+      let e = eq-eqb a b h in
+      (λ t. eqb (cond (ltb a b) u d + x) z && hasBit (cond (e t) 0 m) f) ∙ ap (λ (c : Bool). eqb (cond (ltb a b) u d + x) z && c) none ∙ and-false (eqb (cond (ltb a b) u d + x) z)
 
   stays : (b : Bool) → b ≡ false → false ≡ ((b && eqb x y) && hasBit m f)
   stays b e = sym (ap (λ (c : Bool). (c && eqb x y) && hasBit m f) e)
@@ -199,7 +204,8 @@ module _ (n nf k : ℕ) (capList w : List ℕ) (ready : CapReady n nf k capList 
   unfolding edgesAt
   edges-some W =
       sym (some-flat (λ e. eqb (e .face) f && (samePair Q (e .from, e .to) && W (e .from) (e .to))) (λ i. edgeAt w (row i)) (upTo k)
-      ∙ some-below (λ j. some (λ e. eqb (e .face) f && (samePair Q (e .from, e .to) && W (e .from) (e .to))) (edgeAt w (row j))) (λ j. (W (from j) (to j) && eqb (num j) (num q)) && hasBit (mask j) f) k (λ j h.
+      ∙ some-below (λ j. some (λ e. eqb (e .face) f && (samePair Q (e .from, e .to) && W (e .from) (e .to))) (edgeAt w (row j)))
+      (λ j. (W (from j) (to j) && eqb (num j) (num q)) && hasBit (mask j) f) k (λ j h.
       some-map (λ e. eqb (e .face) f && (samePair Q (e .from, e .to) && W (e .from) (e .to))) (λ g. openEdge g (from j) (to j)) (facesIn (mask j))
       ∙ some-faces (mask j) f (samePair Q (from j, to j) && W (from j) (to j)) hf
       ∙ with-way (hasBit (mask j) f) (samePair Q (from j, to j)) (W (from j) (to j)) (eqb (num j) (num q)) (same-number j h)))
@@ -210,14 +216,16 @@ module _ (n nf k : ℕ) (capList w : List ℕ) (ready : CapReady n nf k capList 
   pub up-some : some (λ j. eqb (edgeTarget n nf nc w j) (upAt n nf nc + num q) && hasBit (edgeMask n nf nc w j) f) (upTo k)
       ≡ some (λ e. eqb (e .face) f && (samePair Q (e .from, e .to) && ltb (e .from) (e .to))) (edgesAt w (openEdgesAt n nf) k)
   up-some =
-      some-below (λ j. eqb (edgeTarget n nf nc w j) (upAt n nf nc + num q) && hasBit (edgeMask n nf nc w j) f) (λ j. (ltb (from j) (to j) && eqb (num j) (num q)) && hasBit (mask j) f) k
+      some-below (λ j. eqb (edgeTarget n nf nc w j) (upAt n nf nc + num q) && hasBit (edgeMask n nf nc w j) f)
+      (λ j. (ltb (from j) (to j) && eqb (num j) (num q)) && hasBit (mask j) f) k
       (λ j h. way-up (from j) (to j) (mask j) (upAt n nf nc) (downAt n nf nc) (num j) (num q) f (no-bit f hf) (λ e. let a = N .low q hq in omega (arith, ready .edges)))
       ∙ edges-some ltb
 
   pub down-some : some (λ j. eqb (edgeTarget n nf nc w j) (downAt n nf nc + num q) && hasBit (edgeMask n nf nc w j) f) (upTo k)
       ≡ some (λ e. eqb (e .face) f && (samePair Q (e .from, e .to) && ltb (e .to) (e .from))) (edgesAt w (openEdgesAt n nf) k)
   down-some =
-      some-below (λ j. eqb (edgeTarget n nf nc w j) (downAt n nf nc + num q) && hasBit (edgeMask n nf nc w j) f) (λ j. (ltb (to j) (from j) && eqb (num j) (num q)) && hasBit (mask j) f) k
+      some-below (λ j. eqb (edgeTarget n nf nc w j) (downAt n nf nc + num q) && hasBit (edgeMask n nf nc w j) f)
+      (λ j. (ltb (to j) (from j) && eqb (num j) (num q)) && hasBit (mask j) f) k
       (λ j h. way-down (from j) (to j) (mask j) (upAt n nf nc) (downAt n nf nc) (num j) (num q) f (no-bit f hf) (λ e. let a = number-low j h in omega (arith, ready .edges)))
       ∙ edges-some (λ a b. ltb b a)
 
@@ -298,7 +306,8 @@ module _ (n nf k : ℕ) (capList w : List ℕ) (ready : CapReady n nf k capList 
       some-threes held-test nc
       ∙ some-below (λ i. held-test (3 * i) || (held-test (3 * i + 1) || held-test (3 * i + 2))) (λ i. holds (capAt (outwardCaps (poolAt n w) (capsOf capList)) i)) nc (λ i h.
       triangle-test i h ∙ ap holds (sym (outward-at (poolAt n w) (capsOf capList) i (there i h))))
-      ∙ ap (λ (m : ℕ). some (λ i. holds (capAt (outwardCaps (poolAt n w) (capsOf capList)) i)) (upTo m)) (sym (length-map (capsOf capList) (outward (poolAt n w)) ∙ caps-length capList))
+      ∙ ap (λ (m : ℕ). some (λ i. holds (capAt (outwardCaps (poolAt n w) (capsOf capList)) i)) (upTo m))
+      (sym (length-map (capsOf capList) (outward (poolAt n w)) ∙ caps-length capList))
       ∙ sym (some-places holds (cap 0 (tri 0 0 0)) (outwardCaps (poolAt n w) (capsOf capList)))
     where
       holds : Cap → Bool

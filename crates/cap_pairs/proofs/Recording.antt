@@ -65,7 +65,9 @@ module _ (w₀ : List ℕ) (at numbers p : ℕ) (s : SortedPairs w₀ at p) (roo
       }
 
   -- the run of record i begins where that of the record before it does, or at i
-  begins : (i first : ℕ) → i < p → first ≤ i → ((j : ℕ) → suc j ≡ i → FirstOf w₀ at j first) → (b : Bool) → eqb (keyIn w₀ at i) (keyIn w₀ at first) ≡ b → FirstOf w₀ at i (cond b first i)
+  begins : (i first : ℕ) → i < p → first ≤ i → ((j : ℕ) → suc j ≡ i → FirstOf w₀ at j first) → (b : Bool) → eqb (keyIn w₀ at i)
+      (keyIn w₀ at first) ≡ b → FirstOf w₀ at i
+      (cond b first i)
   begins zero first h l run true e = record { low = l; same = sym (eqb-true (keyIn w₀ at 0) (keyIn w₀ at first) e); none = λ j m. absurd (omega arith) }
   begins zero first h l run false e = record { low = omega arith; same = refl; none = λ j m. absurd (omega arith) }
   begins (suc i) first h l run true e =
@@ -79,7 +81,8 @@ module _ (w₀ : List ℕ) (at numbers p : ℕ) (s : SortedPairs w₀ at p) (roo
         same = refl;
         none = λ j m o.
             eqb-false (keyIn w₀ at (suc i)) (keyIn w₀ at first) e
-            (between (keyIn w₀ at j) (keyIn w₀ at i) (keyIn w₀ at (suc i)) (keyIn w₀ at first) (s .ascend j i (omega arith) (omega arith)) (s .ascend i (suc i) (omega arith) h) o (f .same));
+            (between (keyIn w₀ at j) (keyIn w₀ at i) (keyIn w₀ at (suc i)) (keyIn w₀ at first) (s .ascend j i (omega arith) (omega arith)) (s .ascend i (suc i) (omega arith) h) o
+            (f .same));
       }
     where
       between : (x y z k : ℕ) → x ≤ y → y ≤ z → x ≡ z → k ≡ y → z ≡ k
@@ -123,7 +126,8 @@ module _ (w₀ : List ℕ) (at numbers p : ℕ) (s : SortedPairs w₀ at p) (roo
         each j l (yes q) =
             subst (λ (x : ℕ). FirstOf w₀ at x (getD (set w place r) (numbers + whichIn w₀ at x) 0)) (sym q)
             (subst (FirstOf w₀ at i)
-            (sym (ap (λ (x : ℕ). getD (set w place r) (numbers + x) 0) (sym which-now) ∙ getD-set-same w place r 0 (let a = which-low in let b = inv .above .long in omega arith))) here)
+            (sym (ap (λ (x : ℕ). getD (set w place r) (numbers + x) 0) (sym which-now) ∙ getD-set-same w place r 0 (let a = which-low in let b = inv .above .long in omega arith)))
+            here)
         each j l (no n) =
             let m : j < i = below j n l in
             subst (FirstOf w₀ at j)

@@ -92,7 +92,8 @@ module _ (n nf k : ℕ) (capList w : List ℕ) (ready : CapReady n nf k capList 
     held-is f l on =
         sym (K .held i f (omega arith) l
         ∙ some-map (λ t. eqb (t .face) f && some (samePair (pairAt n nf k capList w i)) (edges (t .corners))) (outward pool) caps
-        ∙ some-same (λ t. eqb (outward pool t .face) f && some (samePair (pairAt n nf k capList w i)) (edges (outward pool t .corners))) (λ t. eqb (t .face) f && some (samePair (A, B)) (edges (t .corners))) caps (λ t m.
+        ∙ some-same (λ t. eqb (outward pool t .face) f && some (samePair (pairAt n nf k capList w i)) (edges (outward pool t .corners)))
+        (λ t. eqb (t .face) f && some (samePair (A, B)) (edges (t .corners))) caps (λ t m.
         (λ j. eqb (face-kept pool t j) f && some (samePair (listed n nf k capList w ready (K .numbers) i f (omega arith) l i h on j)) (edges (outward pool t .corners)))
         ∙ ap (λ (b : Bool). eqb (t .face) f && b) (turned-edges pool t (A, B))))
 

@@ -43,7 +43,8 @@ pub some-threes : (p : ℕ → Bool) (m : ℕ) → some p (upTo (3 * m)) ≡ som
 some-threes p zero = some-none p ∙ sym (some-none (λ i. p (3 * i) || (p (3 * i + 1) || p (3 * i + 2))))
 some-threes p (suc m) =
     ap (λ (k : ℕ). some p (upTo k)) (three m)
-    ∙ some-up p (3 * m + 1 + 1) ∙ ap (λ (b : Bool). b || p (3 * m + 1 + 1)) (some-up p (3 * m + 1) ∙ ap (λ (b : Bool). b || p (3 * m + 1)) (some-up p (3 * m) ∙ ap (λ (b : Bool). b || p (3 * m)) (some-threes p m)))
+    ∙ some-up p (3 * m + 1 + 1) ∙ ap (λ (b : Bool). b || p (3 * m + 1 + 1))
+    (some-up p (3 * m + 1) ∙ ap (λ (b : Bool). b || p (3 * m + 1)) (some-up p (3 * m) ∙ ap (λ (b : Bool). b || p (3 * m)) (some-threes p m)))
     ∙ ap (λ (k : ℕ). ((some (anyOfThree p) (upTo m) || p (3 * m)) || p (3 * m + 1)) || p k) (two m)
     ∙ group (some (anyOfThree p) (upTo m)) (p (3 * m)) (p (3 * m + 1)) (p (3 * m + 2))
     ∙ sym (some-up (anyOfThree p) m) ∙ ap (λ (k : ℕ). some (anyOfThree p) (upTo k)) (add-one m)
@@ -60,7 +61,9 @@ some-threes p (suc m) =
     group false false c d = refl
 
 -- by their places
-some-from : {A : Type 0} (p : A → Bool) (d : A) (g : ℕ → A) (l : List A) (k : ℕ) → ((i : ℕ) → i < length l → g (k + i) ≡ getD l i d) → some (λ i. p (g i)) (upFrom k (length l)) ≡ some p l
+some-from : {A : Type 0} (p : A → Bool) (d : A) (g : ℕ → A) (l : List A) (k : ℕ) → ((i : ℕ) → i < length l → g (k + i) ≡ getD l i d) → some
+    (λ i. p (g i)) (upFrom k (length l)) ≡
+    some p l
 unfolding some upFrom
 some-from p d g [] k h = refl
 some-from p d g (x ∷ l) k h =

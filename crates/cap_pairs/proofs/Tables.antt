@@ -155,7 +155,8 @@ module _ (n nf k : ℕ) (capList w : List ℕ) (ready : CapReady n nf k capList 
       M = numbers-kept n nf k capList w u (upAt n nf nc) above-all (omega arith) few N
 
       -- a word of an edges' table
-      edges-at : (x f : ℕ) → f < 6 → x < heldAt n nf nc → getD z x 0 ≡ 0 → hasBit (getD u x 0) f ≡ some (λ j. eqb (edgeTarget n nf nc u j) x && hasBit (edgeMask n nf nc u j) f) (upTo k)
+      edges-at : (x f : ℕ) → f < 6 → x < heldAt n nf nc → getD z x 0 ≡ 0 → hasBit (getD u x 0) f ≡ some (λ j. eqb (edgeTarget n nf nc u j) x && hasBit (edgeMask n nf nc u j) f)
+          (upTo k)
       edges-at x f h l e =
           ap (λ (m : ℕ). hasBit m f) (below-held x l) ∙ E .at x f h e
           ∙ some-below (λ j. eqb (edgeTarget n nf nc z j) x && hasBit (edgeMask n nf nc z j) f) (λ j. eqb (edgeTarget n nf nc u j) x && hasBit (edgeMask n nf nc u j) f) k (λ j i.
@@ -190,8 +191,12 @@ module _ (n nf k : ℕ) (capList w : List ℕ) (ready : CapReady n nf k capList 
       known =
           record {
             numbers = M;
-            up = λ q f hq hf. edges-at (upAt n nf nc + numberIn n nf k capList u q) f hf (up-in q hq) (up-zero (numberIn n nf k capList u q) (low q hq)) ∙ up-some n nf k capList u R M q f hq hf;
-            down = λ q f hq hf. edges-at (downAt n nf nc + numberIn n nf k capList u q) f hf (down-in q hq) (down-zero (numberIn n nf k capList u q) (low q hq)) ∙ down-some n nf k capList u R M q f hq hf;
+            up =
+                λ q f hq hf. edges-at (upAt n nf nc + numberIn n nf k capList u q) f hf (up-in q hq) (up-zero (numberIn n nf k capList u q) (low q hq)) ∙ up-some n nf k capList u R
+                M q f hq hf;
+            down =
+                λ q f hq hf. edges-at (downAt n nf nc + numberIn n nf k capList u q) f hf (down-in q hq) (down-zero (numberIn n nf k capList u q) (low q hq)) ∙ down-some n nf k
+                capList u R M q f hq hf;
             held = λ q f hq hf. sides-at q hq f hf ∙ sides-some n nf k capList u R M q f hq hf;
             up-small = λ q hq. edges-small (upAt n nf nc + numberIn n nf k capList u q) (up-in q hq) (up-zero (numberIn n nf k capList u q) (low q hq));
             down-small = λ q hq. edges-small (downAt n nf nc + numberIn n nf k capList u q) (down-in q hq) (down-zero (numberIn n nf k capList u q) (low q hq));

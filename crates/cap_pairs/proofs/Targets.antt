@@ -29,7 +29,8 @@ pub small-fits : (x : ℕ) → x * 8 < 18446744073709551616 → x < 184467440737
 small-fits x h = omega arith
 
 -- where open edge i and its number stand, in numbers that fit a word
-module _ (n nf nc k : ℕ) (w₀ w : List ℕ) (tables : TablesFor n nf nc w₀ k) (long : length w ≡ length w₀) (edges numbers i : ℕ) (e : edges ≡ openEdgesAt n nf) (m : numbers ≡ numbersAt n nf nc)
+module _ (n nf nc k : ℕ) (w₀ w : List ℕ) (tables : TablesFor n nf nc w₀ k) (long : length w ≡ length w₀) (edges numbers i : ℕ) (e : edges ≡ openEdgesAt n nf)
+    (m : numbers ≡ numbersAt n nf nc)
     (h : i < k) where
   pub three-fits : 3 * i < 18446744073709551616
   three-fits = omega (arith, tables .few, tables .edges)

@@ -57,7 +57,8 @@ module _ (test : ℕ → Bool) (mask count face : ℕ) (s : FaceWalk test mask c
         record {
           within = omega (arith, s .within);
           few = omega (arith, s .few);
-          so = let e : place test (left mask face) ≡ suc (place test (left mask (face + 1))) = at-face b ∙ ap (λ (c : Bool). cond c 0 (suc (place test (left mask (face + 1))))) t in
+          so =
+              let e : place test (left mask face) ≡ suc (place test (left mask (face + 1))) = at-face b ∙ ap (λ (c : Bool). cond c 0 (suc (place test (left mask (face + 1))))) t in
               omega (arith, s .so, e);
         }
 

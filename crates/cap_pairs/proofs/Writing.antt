@@ -44,7 +44,8 @@ module _ (w₀ w : List ℕ) (n nf nc k edges records i : ℕ) (tables : TablesF
         (subst (λ (x : ℕ). SmallEdge w₀ (x + 3 * i)) (sym e) (s i h)),
   )
 
-  pub edge-turn : i < k → (key : ℕ) → key ≡ keyOf (edgePair w (edges + 3 * i)) → Recorded (λ j. edgePair w₀ (edges + 3 * j)) w₀ (putRecord w (records + 2 * i) (key, i)) records 0 (i + 1)
+  pub edge-turn : i < k → (key : ℕ) → key ≡ keyOf (edgePair w (edges + 3 * i)) → Recorded (λ j. edgePair w₀ (edges + 3 * j)) w₀ (putRecord w (records + 2 * i) (key, i)) records 0
+      (i + 1)
   edge-turn h key q =
       recording-turn (λ j. edgePair w₀ (edges + 3 * j)) w₀ records 0 w i inv (omega (arith, tables .edges, tables .size)) key i
       (q ∙ ap keyOf (edge-same w₀ w records (edges + 3 * i) (inv .above) (omega (arith, tables .edges)))) (omega arith)
@@ -83,7 +84,8 @@ module _ (w₀ w : List ℕ) (n nf nc k turned records s : ℕ) (tables : Tables
         let a = f s h in
         let b = f (nextSide s) next-low in
         let x : getD w (turned + s) 0 ≡ getD w₀ (turnedAt n nf + s) 0 = same-from ∙ ap (λ (y : ℕ). getD w₀ (y + s) 0) e in
-        let z : getD w (turned + next) 0 ≡ getD w₀ (turnedAt n nf + nextSide s) 0 = ap (λ (y : ℕ). getD w (turned + y) 0) q ∙ same-to ∙ ap (λ (y : ℕ). getD w₀ (y + nextSide s) 0) e in
+        let z : getD w (turned + next) 0 ≡ getD w₀ (turnedAt n nf + nextSide s) 0 = ap (λ (y : ℕ). getD w (turned + y) 0) q ∙ same-to ∙ ap (λ (y : ℕ). getD w₀ (y + nextSide s) 0) e
+        in
         (omega (arith, a, x), omega (arith, b, z))
 
     pub side-turn : (next key which : ℕ) → next ≡ nextSide s → key ≡ edge (getD w (turned + s) 0) (getD w (turned + next) 0) → which ≡ k + s

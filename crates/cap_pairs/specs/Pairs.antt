@@ -44,10 +44,13 @@ module _ (n nf k : ℕ) (capList : List ℕ) where
   pub record PairsKnown (w : List ℕ) : Type 0 where
     pub numbers : PairNumbers w
     pub up : (q f : ℕ) → q < pairCount → f < 6
-        → hasBit (getD w (upAt n nf (length capList / 4) + numberIn w q) 0) f ≡ some (λ e. eqb (e .face) f && (samePair (pairAt w q) (e .from, e .to) && ltb (e .from) (e .to))) (edgesAt w (openEdgesAt n nf) k)
+        → hasBit (getD w (upAt n nf (length capList / 4) + numberIn w q) 0) f ≡ some (λ e. eqb (e .face) f && (samePair (pairAt w q) (e .from, e .to) && ltb (e .from) (e .to)))
+        (edgesAt w (openEdgesAt n nf) k)
     pub down : (q f : ℕ) → q < pairCount → f < 6
-        → hasBit (getD w (downAt n nf (length capList / 4) + numberIn w q) 0) f ≡ some (λ e. eqb (e .face) f && (samePair (pairAt w q) (e .from, e .to) && ltb (e .to) (e .from))) (edgesAt w (openEdgesAt n nf) k)
+        → hasBit (getD w (downAt n nf (length capList / 4) + numberIn w q) 0) f ≡ some (λ e. eqb (e .face) f && (samePair (pairAt w q) (e .from, e .to) && ltb (e .to) (e .from)))
+        (edgesAt w (openEdgesAt n nf) k)
     pub held : (q f : ℕ) → q < pairCount → f < 6
-        → hasBit (getD w (heldAt n nf (length capList / 4) + numberIn w q) 0) f ≡ some (λ t. eqb (t .face) f && some (samePair (pairAt w q)) (edges (t .corners))) (outwardCaps (poolAt n w) (capsOf capList))
+        → hasBit (getD w (heldAt n nf (length capList / 4) + numberIn w q) 0) f ≡ some (λ t. eqb (t .face) f && some (samePair (pairAt w q)) (edges (t .corners)))
+        (outwardCaps (poolAt n w) (capsOf capList))
     pub up-small : (q : ℕ) → q < pairCount → getD w (upAt n nf (length capList / 4) + numberIn w q) 0 < 64
     pub down-small : (q : ℕ) → q < pairCount → getD w (downAt n nf (length capList / 4) + numberIn w q) 0 < 64

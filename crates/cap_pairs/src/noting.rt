@@ -83,7 +83,8 @@ fn note_sides(w: &mut [u64], n: usize, nf: usize, k: usize, cap_list: &[u64])
     requires { ⌜ ((s : ℕ) → s < 3 * (length (now «cap_list») / 4) → getD (now w) (numbersAt n nf (length (now «cap_list») / 4) + k + s) 0 < k + 3 * (length (now «cap_list») / 4)) ⌝ }
     requires { ⌜ ((r : ℕ) → r < k + 3 * (length (now «cap_list») / 4) → getD (now w) (heldAt n nf (length (now «cap_list») / 4) + r) 0 ≡ 0) ⌝ }
     requires { ⌜ ((s : ℕ) → s < 3 * (length (now «cap_list») / 4) → sideFace (now «cap_list») s < 6) ⌝ }
-    ensures { λ _. ⌜ Noted (sideTarget n nf (length (now («cap_list» .entry)) / 4) (now (w .entry)) k) (λ s. eqb (sideFace (now («cap_list» .entry)) s)) (now (w .entry)) (now (w .exit)) (3 * (length (now («cap_list» .entry)) / 4)) ⌝ }
+    ensures { λ _. ⌜ Noted (sideTarget n nf (length (now («cap_list» .entry)) / 4) (now (w .entry)) k) (λ s. eqb (sideFace (now («cap_list» .entry)) s))
+        (now (w .entry)) (now (w .exit)) (3 * (length (now («cap_list» .entry)) / 4)) ⌝ }
 {
     let nc = cap_list.len() / 4;
     let numbers = numbers_at(n, nf, nc) + k;

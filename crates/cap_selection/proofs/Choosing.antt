@@ -158,7 +158,8 @@ module _ (n nf k : ℕ) (capList w u v : List ℕ) (ready : CapReady n nf k capL
         ap (λ (x : ℕ). eqb (getD z (seededAt n nf nc + x) 0) 1) e
         ∙ ap (λ (x : ℕ). eqb x 1) (done .seeded (getD numbers i 0) (omega arith))
         ∙ bit-is (seededBy n nf nc k capList v nc (getD numbers i 0))
-        ∙ decides-same (seededBy n nf nc k capList v nc (getD numbers i 0)) (some (isSeed boundary caps) (componentOf (components link (upTo nc)) i)) (marked i h) (defined i h) (λ x. x) (λ x. x)
+        ∙ decides-same (seededBy n nf nc k capList v nc (getD numbers i 0)) (some (isSeed boundary caps) (componentOf (components link (upTo nc)) i)) (marked i h) (defined i h)
+        (λ x. x) (λ x. x)
 
     all-chosen : chosenIn n nf nc z ≡ map (λ i. some (isSeed boundary caps) (componentOf (components link (upTo nc)) i)) (upTo nc)
     all-chosen =

@@ -110,7 +110,8 @@ module _ (boundary : List OpenEdge) (caps : List Cap) (nc p : ℕ) (number label
   labels-shared : (i j a b : ℕ) → i < nc → j < nc → a < 3 → b < 3 → (i ≡ j → ⊥)
       → getD (map label (upTo (3 * nc))) (i * 3 + a) 0 ≡ getD (map label (upTo (3 * nc))) (j * 3 + b) 0 → T (shareEdge boundary caps i j)
   labels-shared i j a b hi hj ha hb d e =
-      let r = shared-pair (i * 3 + a) (j * 3 + b) (omega arith) (omega arith) (λ q. d (omega arith)) (sym (label-at (i * 3 + a) (omega arith)) ∙ e ∙ label-at (j * 3 + b) (omega arith)) in
+      let r = shared-pair (i * 3 + a) (j * 3 + b) (omega arith) (omega arith) (λ q. d (omega arith))
+      (sym (label-at (i * 3 + a) (omega arith)) ∙ e ∙ label-at (j * 3 + b) (omega arith)) in
       let x = side-edge i a hi ha in
       let y = side-edge j b hj hb in
       shares i j a b ha hb (ap (λ (s : ℕ × ℕ). isOpenPair boundary s) (sym x) ∙ r .0) ((λ t. samePair (sym x t) (sym y t)) ∙ r .1)

@@ -67,7 +67,8 @@ module _ (n nf nc k : ℕ) (capList w : List ℕ) where
               m .seeded r h
               ∙ ap (λ (b : Bool). cond b 1 0)
               (sym (more i r
-              ∙ ap (λ (b : Bool). seededBy n nf nc k capList w i r || b) (and-stop (seedIn n nf nc k w i (getD capList (4 * i) 0)) (eqb (getD w (componentsAt n nf nc + i) 0) r) off)
+              ∙ ap (λ (b : Bool). seededBy n nf nc k capList w i r || b) (and-stop (seedIn n nf nc k w i (getD capList (4 * i) 0)) (eqb (getD w (componentsAt n nf nc + i) 0) r)
+              off)
               ∙ or-last (seededBy n nf nc k capList w i r)));
         }
 

@@ -192,7 +192,8 @@ module _ (n nf k : ℕ) (capList w : List ℕ) (ready : CapReady n nf k capList 
         → some (λ d. eqb (d .face) (e .face) && (samePair (side s) (d .from, d .to) && way d)) boundary ≡ true
     to-entry e way m p q =
         is-true _ (some-of (λ d. eqb (d .face) (e .face) && (samePair (side s) (d .from, d .to) && way d)) m
-        (and-of (eqb (e .face) (e .face)) (samePair (side s) (e .from, e .to) && way e) (eqb-refl (e .face)) (and-of (samePair (side s) (e .from, e .to)) (way e) (test p) (test q))))
+        (and-of (eqb (e .face) (e .face)) (samePair (side s) (e .from, e .to) && way e) (eqb-refl (e .face))
+        (and-of (samePair (side s) (e .from, e .to)) (way e) (test p) (test q))))
 
     not-zero : (m f : ℕ) → f < 6 → hasBit m f ≡ true → m ≡ 0 → ⊥
     not-zero m f l b z = never (hasBit m f) b (ap (λ (x : ℕ). hasBit x f) z ∙ no-bit f l)
@@ -255,12 +256,14 @@ module _ (n nf k : ℕ) (capList w : List ℕ) (ready : CapReady n nf k capList 
         cond-true (ltb x y) (hasBit down f) (hasBit up f) (hasBit down f) q refl
         ∙ down-known f l
         ∙ some-same (runsDown (side s) f) (against f (side s)) boundary
-        (λ e m. ap (λ (b : Bool). eqb (e .face) f && b) (down-against (side s .0) (side s .1) (e .from) (e .to) (let u = first in let v = second in let t = ltb-true x y q in omega arith))))
+        (λ e m. ap (λ (b : Bool). eqb (e .face) f && b) (down-against (side s .0) (side s .1) (e .from) (e .to)
+        (let u = first in let v = second in let t = ltb-true x y q in omega arith))))
         (λ (q : ltb x y ≡ false).
         cond-false (ltb x y) (hasBit down f) (hasBit up f) (hasBit up f) q refl
         ∙ up-known f l
         ∙ some-same (runsUp (side s) f) (against f (side s)) boundary
-        (λ e m. ap (λ (b : Bool). eqb (e .face) f && b) (up-against (side s .0) (side s .1) (e .from) (e .to) (let u = first in let v = second in let t = ltb-false x y q in let d = differs s h in omega arith))))
+        (λ e m. ap (λ (b : Bool). eqb (e .face) f && b) (up-against (side s .0) (side s .1) (e .from) (e .to)
+        (let u = first in let v = second in let t = ltb-false x y q in let d = differs s h in omega arith))))
         (cases (ltb x y))
       where
         first : side s .0 ≡ x

@@ -85,7 +85,8 @@ pub fn select_caps(w: &mut [u64], n: usize, nf: usize, k: usize, cap_list: &[u64
 
 // Triangle i is a seed, or joined to one.
 pub fn is_selected(w: &[u64], n: usize, nf: usize, nc: usize, i: usize) -> bool
-    requires { ⌜ (n < 268435456) × (nf < 268435456) × (nc < 268435456) × (componentsAt n nf nc + i < length (now w)) × (seededAt n nf nc + getD (now w) (componentsAt n nf nc + i) 0 < length (now w)) ⌝ }
+    requires { ⌜ (n < 268435456) × (nf < 268435456) × (nc < 268435456) × (componentsAt n nf nc + i < length (now w)) ×
+        (seededAt n nf nc + getD (now w) (componentsAt n nf nc + i) 0 < length (now w)) ⌝ }
     ensures { λ r. ⌜ r ≡ eqb (getD (now (w .entry)) (seededAt n nf nc + getD (now (w .entry)) (componentsAt n nf nc + i) 0) 0) 1 ⌝ }
 {
     let component = w[components_at(n, nf, nc) + i] as usize;

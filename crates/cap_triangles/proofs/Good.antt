@@ -179,7 +179,8 @@ module _ (n nf : ℕ) (capList w : List ℕ) (r : TurnedReady n nf capList w) (i
       (λ t. tri (sym x t) (sym y t) (sym z t))
       ∙ sym (threes-at part i (tri 0 0 0) 0 (omega arith))
       ∙ ap (λ (l : List (Triangle ℕ)). getD l i (tri 0 0 0)) (r .turned)
-      ∙ at-map (λ (t : Cap). t .corners) (outwardCaps (poolAt n w) (capsOf capList)) i (cap 0 (tri 0 0 0)) (tri 0 0 0) (let e = length-map (capsOf capList) (outward (poolAt n w)) in let s = supplied-one in omega arith)
+      ∙ at-map (λ (t : Cap). t .corners) (outwardCaps (poolAt n w) (capsOf capList)) i (cap 0 (tri 0 0 0)) (tri 0 0 0)
+      (let e = length-map (capsOf capList) (outward (poolAt n w)) in let s = supplied-one in omega arith)
       ∙ ap (λ (t : Cap). t .corners) (outward-at (poolAt n w) (capsOf capList) i supplied-one)
 
   pub turned-low : (getD w (low + 3 * i) 0 < countAt w) × (getD w (low + 3 * i + 1) 0 < countAt w) × (getD w (low + 3 * i + 2) 0 < countAt w)

@@ -84,7 +84,8 @@ module _ (n : ℕ) (w : List ℕ) (pooled : Pooled n w) where
       let y = has-word n w pooled f h b in
       let z = has-word n w pooled f h c in
       let m = three-not (listedIn w f a) (listedIn w f b) (listedIn w f c) in
-      ap (λ (s : Bool). ltb f last || (s || (not (has (faceList (poolAt n w) f) a) || (not (has (faceList (poolAt n w) f) b) || (not (has (faceList (poolAt n w) f) c) || false))))) e
+      ap (λ (s : Bool). ltb f last || (s || (not (has (faceList (poolAt n w) f) a) || (not (has (faceList (poolAt n w) f) b) || (not (has (faceList (poolAt n w) f) c) || false)))))
+      e
       ∙ (λ t. ltb f last || ((eqb a b || (eqb b c || eqb c a)) || (not (x t) || (not (y t) || (not (z t) || false)))))
       ∙ ap (λ (s : Bool). ltb f last || ((eqb a b || (eqb b c || eqb c a)) || s)) m)
 
@@ -156,4 +157,5 @@ module _ (n : ℕ) (w capList : List ℕ) where
   passed-end i last s h =
       let l = caps-length capList in
       let u = length-up 0 (length caps) in
-      sym (place-all (badCap (poolAt n w) caps) 0 (upTo (length caps)) (λ j k. ap (badCap (poolAt n w) caps) (at-up 0 (length caps) j (omega arith) ∙ omega arith) ∙ s .none j (omega arith)) ∙ u ∙ l)
+      sym (place-all (badCap (poolAt n w) caps) 0 (upTo (length caps))
+      (λ j k. ap (badCap (poolAt n w) caps) (at-up 0 (length caps) j (omega arith) ∙ omega arith) ∙ s .none j (omega arith)) ∙ u ∙ l)

@@ -43,7 +43,8 @@ module _ (boundary : List OpenEdge) (caps : List Cap) where
       (subst (λ (b : Bool). T (not b)) (open-as boundary (r .0) (q .0) (q .2)) (h .0))
       (some-of (samePair (q .0)) (r .1) e))
 
-  selected-at : (i : ℕ) → i < length caps → getD (selected boundary caps) i false ≡ some (isSeed boundary caps) (componentOf (components (shareEdge boundary caps) (places boundary caps)) i)
+  selected-at : (i : ℕ) → i < length caps → getD (selected boundary caps) i false ≡ some (isSeed boundary caps)
+      (componentOf (components (shareEdge boundary caps) (places boundary caps)) i)
   unfolding selected
   selected-at i h = at-map-up (λ i. some (isSeed boundary caps) (componentOf (components (shareEdge boundary caps) (places boundary caps)) i)) false 0 (length caps) i h
       ∙ ap (λ (k : ℕ). some (isSeed boundary caps) (componentOf (components (shareEdge boundary caps) (places boundary caps)) k)) (omega arith)
@@ -51,13 +52,16 @@ module _ (boundary : List OpenEdge) (caps : List Cap) where
   pub selected-selects : Selects boundary caps (selected boundary caps)
   unfolding selected
   selected-selects = record {
-    long = length-map (upTo (length caps)) (λ i. some (isSeed boundary caps) (componentOf (components (shareEdge boundary caps) (places boundary caps)) i)) ∙ length-up 0 (length caps);
+    long =
+        length-map (upTo (length caps)) (λ i. some (isSeed boundary caps) (componentOf (components (shareEdge boundary caps) (places boundary caps)) i)) ∙ length-up 0
+        (length caps);
     exactly = λ i h.
         subst (Decides (ToSeed boundary caps i)) (sym (selected-at i h))
         (decides-as
         (λ r. let u = of-up 0 (length caps) (r .1) in let b = u .1 in record { seed = r .0; supplied = omega arith; seeds = r .2; chain = r .3 })
         (λ s. let b = s .supplied in (s .seed, up-of 0 (length caps) (omega arith) (omega arith), s .seeds, s .chain))
-        (component-some (shareEdge boundary caps) share-turn (upTo (length caps)) (once-up 0 (length caps)) (isSeed boundary caps) (up-of 0 (length caps) (omega arith) (omega arith))));
+        (component-some (shareEdge boundary caps) share-turn (upTo (length caps)) (once-up 0 (length caps)) (isSeed boundary caps)
+        (up-of 0 (length caps) (omega arith) (omega arith))));
   }
 
   pub selects-unique : (c d : List Bool) → Selects boundary caps c → Selects boundary caps d → c ≡ d

@@ -56,19 +56,22 @@ module _ (w : List ℕ) (f : ℕ) (t : Triangle ℕ) (x y z : Point) (p q r : Uv
 
 -- the turned triangle i, by where the table begins
 pub turned-words : (w : List ℕ) (at n nf i : ℕ) → at ≡ turnedAt n nf
-    → tri (getD w (at + 3 * i) 0) (getD w (at + 3 * i + 1) 0) (getD w (at + 3 * i + 2) 0) ≡ tri (getD w (turnedAt n nf + 3 * i) 0) (getD w (turnedAt n nf + 3 * i + 1) 0) (getD w (turnedAt n nf + 3 * i + 2) 0)
+    → tri (getD w (at + 3 * i) 0) (getD w (at + 3 * i + 1) 0) (getD w (at + 3 * i + 2) 0) ≡ tri (getD w (turnedAt n nf + 3 * i) 0) (getD w (turnedAt n nf + 3 * i + 1) 0)
+    (getD w (turnedAt n nf + 3 * i + 2) 0)
 turned-words w at n nf i e = ap (λ (o : ℕ). tri (getD w (o + 3 * i) 0) (getD w (o + 3 * i + 1) 0) (getD w (o + 3 * i + 2) 0)) e
 
 -- ---- by the words in the room, or by the pool
 
 module _ (n : ℕ) (w : List ℕ) where
-  pub outward-words : (t : Cap) → t .corners .a < countAt w → t .corners .b < countAt w → t .corners .c < countAt w → outward (poolAt n w) t .corners ≡ turnedBy w (t .face) (t .corners)
+  pub outward-words : (t : Cap) → t .corners .a < countAt w → t .corners .b < countAt w → t .corners .c < countAt w → outward (poolAt n w) t .corners ≡ turnedBy w (t .face)
+      (t .corners)
   unfolding outward turnedBy signedArea areaOf
   outward-words t a b c =
       let x = pool-point n w (t .corners .a) a in
       let y = pool-point n w (t .corners .b) b in
       let z = pool-point n w (t .corners .c) c in
-      λ i. cond (Bool·beq (lt zeroF (areaOf (tri (project (t .face) (x i)) (project (t .face) (y i)) (project (t .face) (z i))))) (ccwIsOutward (t .face))) (t .corners) (reversed (t .corners))
+      λ i. cond (Bool·beq (lt zeroF (areaOf (tri (project (t .face) (x i)) (project (t .face) (y i)) (project (t .face) (z i))))) (ccwIsOutward (t .face))) (t .corners)
+      (reversed (t .corners))
 
 -- ---- three stores
 
@@ -107,7 +110,8 @@ module _ (v : List ℕ) (o : ℕ) (t : Triangle ℕ) (low : o + 2 < length v) wh
 pub record Turning (n nf : ℕ) (capList w v : List ℕ) (i : ℕ) : Type 0 where
   pub low : i ≤ length capList / 4
   pub above : Above (turnedAt n nf) w v
-  pub done : (j : ℕ) → j < i → tri (getD v (turnedAt n nf + 3 * j) 0) (getD v (turnedAt n nf + 3 * j + 1) 0) (getD v (turnedAt n nf + 3 * j + 2) 0) ≡ outward (poolAt n w) (capAt (capsOf capList) j) .corners
+  pub done : (j : ℕ) → j < i → tri (getD v (turnedAt n nf + 3 * j) 0) (getD v (turnedAt n nf + 3 * j + 1) 0) (getD v (turnedAt n nf + 3 * j + 2) 0) ≡ outward (poolAt n w)
+      (capAt (capsOf capList) j) .corners
 
 module _ (n nf : ℕ) (capList w : List ℕ) (supplied : Supplied n nf capList w) (good : badCapPlace (poolAt n w) (capsOf capList) ≡ length (capsOf capList)) where
   abbrev o : ℕ
@@ -133,7 +137,8 @@ module _ (n nf : ℕ) (capList w : List ℕ) (supplied : Supplied n nf capList w
       fair : GoodCap (countAt v) (poolAt n v) (cap (word (4 * i)) t)
       fair =
           subst (GoodCap (countAt v) (poolAt n v)) given
-          (good-cap n v (kept .pooled) (capsOf capList) (subst (λ p. badCapPlace p (capsOf capList) ≡ length (capsOf capList)) (sym pool-is) good) i (let e = caps-length capList in omega arith))
+          (good-cap n v (kept .pooled) (capsOf capList) (subst (λ p. badCapPlace p (capsOf capList) ≡ length (capsOf capList)) (sym pool-is) good) i
+          (let e = caps-length capList in omega arith))
 
       pub turning-asks : Standing v t
       turning-asks =
@@ -172,7 +177,8 @@ module _ (n nf : ℕ) (capList w : List ℕ) (supplied : Supplied n nf capList w
               → tri (getD (storedAt v (o + 3 * i) r) (o + 3 * j) 0) (getD (storedAt v (o + 3 * i) r) (o + 3 * j + 1) 0) (getD (storedAt v (o + 3 * i) r) (o + 3 * j + 2) 0)
               ≡ outward (poolAt n w) (capAt (capsOf capList) j) .corners
           at-j j l (yes q) =
-              subst (λ (k : ℕ). tri (getD (storedAt v (o + 3 * i) r) (o + 3 * k) 0) (getD (storedAt v (o + 3 * i) r) (o + 3 * k + 1) 0) (getD (storedAt v (o + 3 * i) r) (o + 3 * k + 2) 0)
+              subst (λ (k : ℕ). tri (getD (storedAt v (o + 3 * i) r) (o + 3 * k) 0) (getD (storedAt v (o + 3 * i) r) (o + 3 * k + 1) 0)
+              (getD (storedAt v (o + 3 * i) r) (o + 3 * k + 2) 0)
               ≡ outward (poolAt n w) (capAt (capsOf capList) k) .corners) (sym q)
               (stored-here v (o + 3 * i) r fits ∙ outward-is r re)
           at-j j l (no d) =
@@ -229,9 +235,11 @@ module _ (n nf : ℕ) (capList w : List ℕ) (supplied : Supplied n nf capList w
             ∙ (λ t. tri (x t) (y t) (z t))
             ∙ s .done j (omega arith)
             ∙ sym (ap (λ (t : Cap). t .corners) (outward-at (poolAt n w) (capsOf capList) j k))
-            ∙ sym (at-map (λ (t : Cap). t .corners) (outwardCaps (poolAt n w) (capsOf capList)) j (cap 0 (tri 0 0 0)) (tri 0 0 0) (let m = length-map (capsOf capList) (outward (poolAt n w)) in omega arith))
+            ∙ sym (at-map (λ (t : Cap). t .corners) (outwardCaps (poolAt n w) (capsOf capList)) j (cap 0 (tri 0 0 0)) (tri 0 0 0)
+            (let m = length-map (capsOf capList) (outward (poolAt n w)) in omega arith))
 
         all : turnedIn n nf nc v ≡ wanted
         all =
-            let m : length wanted ≡ nc = length-map (outwardCaps (poolAt n w) (capsOf capList)) (λ t. t .corners) ∙ length-map (capsOf capList) (outward (poolAt n w)) ∙ caps-length capList in
+            let m : length wanted ≡ nc = length-map (outwardCaps (poolAt n w) (capsOf capList)) (λ t. t .corners) ∙ length-map (capsOf capList) (outward (poolAt n w)) ∙ caps-length
+            capList in
             ext-getD (tri 0 0 0) (turnedIn n nf nc v) wanted (long ∙ sym m) (λ j l. at-j j (let e = long in omega arith))

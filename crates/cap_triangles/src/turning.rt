@@ -71,7 +71,8 @@ pub fn turn_caps(w: &mut [u64], n: usize, nf: usize, cap_list: &[u64])
 // The triangle i, turned.
 pub fn turned_cap(w: &[u64], n: usize, nf: usize, i: usize) -> CandidateTriangle
     requires { ⌜ (n < 268435456) × (nf < 268435456) × (turnedAt n nf + 3 * i + 2 < length (now w)) ⌝ }
-    ensures { λ r. ⌜ candidatesOf r ≡ tri (getD (now (w .entry)) (turnedAt n nf + 3 * i) 0) (getD (now (w .entry)) (turnedAt n nf + 3 * i + 1) 0) (getD (now (w .entry)) (turnedAt n nf + 3 * i + 2) 0) ⌝ }
+    ensures { λ r. ⌜ candidatesOf r ≡ tri (getD (now (w .entry)) (turnedAt n nf + 3 * i) 0) (getD (now (w .entry)) (turnedAt n nf + 3 * i + 1) 0)
+        (getD (now (w .entry)) (turnedAt n nf + 3 * i + 2) 0) ⌝ }
 {
     let at = turned_at(n, nf) + 3 * i;
     CandidateTriangle {

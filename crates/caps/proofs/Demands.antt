@@ -65,7 +65,8 @@ module _ (pool : Pool) (boundary : List OpenEdge) (caps : List Cap) (positive : 
   pub demand-decides : (out : Mesh) → DemandThree pool boundary caps positive mesh out → out ≡ closed pool caps positive mesh (selected boundary (outwardCaps pool caps))
   unfolding closed
   demand-decides out d =
-      let e = selects-unique boundary (outwardCaps pool caps) (d .chosen) (selected boundary (outwardCaps pool caps)) (d .selects) (selected-selects boundary (outwardCaps pool caps)) in
+      let e = selects-unique boundary (outwardCaps pool caps) (d .chosen) (selected boundary (outwardCaps pool caps)) (d .selects)
+      (selected-selects boundary (outwardCaps pool caps)) in
       subst (λ (c : List Bool). out ≡ closed pool caps positive mesh c) e
       (same-mesh out (d .chosen) (d .points ∙ ap (λ n. n .points) (d .entering))
       (d .facets ∙ ap (λ n. ownFacets positive (mesh .facets) ++ capFacets n (taken positive (d .chosen) (outwardCaps pool caps))) (d .entering)))

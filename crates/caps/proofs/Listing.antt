@@ -36,7 +36,8 @@ use Rattle.caps.specs.Steps.{edgesIn, CapsChecked, Listable}
 pub pooled : (eps : Float) (n : ℕ) (w : List ℕ) → Holds eps n w → Pooled n w
 pooled eps n w H = record { size = H .size; few = H .table .few; stored = H .stored; masks = H .masks; tidy = H .tidy }
 
-pub supplied : (eps : Float) (vs : List Float) (fs capList : List ℕ) (n : ℕ) (w w' : List ℕ) → n ≤ 464920 → length fs / 3 ≤ 65536 → Listable vs fs capList n w → length w' ≡ length w → Holds eps n w'
+pub supplied : (eps : Float) (vs : List Float) (fs capList : List ℕ) (n : ℕ) (w w' : List ℕ) → n ≤ 464920 → length fs / 3 ≤ 65536 → Listable vs fs capList n w → length w' ≡ length
+    w → Holds eps n w'
     → Supplied n (length fs / 3) capList w'
 supplied eps vs fs capList n w w' small few L e H =
     record {

@@ -23,7 +23,8 @@ use Rattle.cap_outputs.specs.Written.{standing, Deliverable}
 use Rattle.caps.specs.Steps.{edgesIn, closedOf, closedMesh, Closable}
 use Rattle.caps.proofs.Numbering.{words-kept}
 
-module _ (vs : List Float) (fs capList : List ℕ) (n k : ℕ) (positive : Bool) (w : List ℕ) (D : Closable vs fs capList n k w) (w₁ : List ℕ) (C : Chosen n (length fs / 3) k capList w w₁) where
+module _ (vs : List Float) (fs capList : List ℕ) (n k : ℕ) (positive : Bool) (w : List ℕ) (D : Closable vs fs capList n k w) (w₁ : List ℕ)
+    (C : Chosen n (length fs / 3) k capList w w₁) where
   abbrev nf : ℕ
   nf = length fs / 3
 

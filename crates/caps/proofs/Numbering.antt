@@ -125,7 +125,8 @@ full-low vs fs q S =
     let m = length (pointsOf vs) in
     let a : Low m first = low-all m (first .all) S in
     let b = low-fold (byKey (q .eps)) m first (cornerVertices (q .box) (q .eps) mesh) a (corners-low (q .box) (q .eps) mesh) in
-    let c = low-fold (byKey (q .eps)) m (meshPool (q .box) (q .eps) (byKey (q .eps)) mesh) (grid (setting q) (edgeSurface (q .box) (q .eps) (byKey (q .eps)) mesh .edges) (meshPool (q .box) (q .eps) (byKey (q .eps)) mesh)) b
+    let c = low-fold (byKey (q .eps)) m (meshPool (q .box) (q .eps) (byKey (q .eps)) mesh)
+    (grid (setting q) (edgeSurface (q .box) (q .eps) (byKey (q .eps)) mesh .edges) (meshPool (q .box) (q .eps) (byKey (q .eps)) mesh)) b
     (grid-low (setting q) (edgeSurface (q .box) (q .eps) (byKey (q .eps)) mesh .edges) (meshPool (q .box) (q .eps) (byKey (q .eps)) mesh) m) in
     λ i. let h = c i in let l = length-pointsOf vs in omega (arith, h, l)
 
@@ -136,7 +137,8 @@ unfolding poolAt
 words-low n m w p e h c k =
     let a = ap (λ (q : Pool). getD (q .all) c noCandidate .mesh) e in
     let z : 0 + c ≡ c = omega arith in
-    let b : getD (poolAt n w .all) c noCandidate .mesh ≡ getD w (entryAt c + 3) 0 = ap (λ (x : Candidate). x .mesh) (at-map-up (candidateAt w) noCandidate 0 (countAt w) c k) ∙ ap (λ (x : ℕ). getD w (entryAt x + 3) 0) z in
+    let b : getD (poolAt n w .all) c noCandidate .mesh ≡ getD w (entryAt c + 3) 0 = ap (λ (x : Candidate). x .mesh) (at-map-up (candidateAt w) noCandidate 0 (countAt w) c k) ∙ ap
+    (λ (x : ℕ). getD w (entryAt x + 3) 0) z in
     let d = h c in
     omega (arith, a, b, d)
 

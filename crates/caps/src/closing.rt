@@ -62,7 +62,9 @@ pub fn close_mesh(
     out_facets: &mut [u32],
 ) -> Reply
     requires { ⌜ Closable (now vertices) (now facets) (now «cap_list») n k (now w) ⌝ }
-    ensures { λ r. ⌜ Answer [] (meshOutputs (closedMesh (now (vertices .entry)) (now (facets .entry)) (now («cap_list» .entry)) n k positive (now (w .entry))) (now («out_vertices» .entry)) (now («out_vertices» .exit)) (now («out_facets» .entry)) (now («out_facets» .exit))) (documentedReply r) ⌝ }
+    ensures { λ r. ⌜ Answer []
+        (meshOutputs (closedMesh (now (vertices .entry)) (now (facets .entry)) (now («cap_list» .entry)) n k positive (now (w .entry))) (now («out_vertices» .entry))
+        (now («out_vertices» .exit)) (now («out_facets» .entry)) (now («out_facets» .exit))) (documentedReply r) ⌝ }
 {
     let nf = facets.len() / 3;
     let nc = cap_list.len() / 4;

@@ -47,7 +47,11 @@ fn cap_edges(
     requires { ⌜ MeshFits (now vertices) (now facets) n (now w) × (n ≡ most (now vertices) (asked extents eps resolution)) ⌝ }
     requires { ⌜ Listable (now vertices) (now facets) (now «cap_list») n (now w) ⌝ }
     requires { ⌜ Tabled (now facets) n k (now w) ⌝ }
-    ensures { λ r. ⌜ Answer (unless (noTwoEnds (now (vertices .entry)) (now (facets .entry)) (asked extents eps resolution)) (capTests (now (vertices .entry)) (now (facets .entry)) (asked extents eps resolution) (now («cap_list» .entry)))) (meshOutputs (surfaceMesh (now (vertices .entry)) (now (facets .entry)) (now («cap_list» .entry)) (asked extents eps resolution) mode) (now («out_vertices» .entry)) (now («out_vertices» .exit)) (now («out_facets» .entry)) (now («out_facets» .exit))) (documentedReply r) ⌝ }
+    ensures { λ r. ⌜ Answer
+        (unless (noTwoEnds (now (vertices .entry)) (now (facets .entry)) (asked extents eps resolution))
+        (capTests (now (vertices .entry)) (now (facets .entry)) (asked extents eps resolution) (now («cap_list» .entry))))
+        (meshOutputs (surfaceMesh (now (vertices .entry)) (now (facets .entry)) (now («cap_list» .entry)) (asked extents eps resolution) mode) (now («out_vertices» .entry))
+        (now («out_vertices» .exit)) (now («out_facets» .entry)) (now («out_facets» .exit))) (documentedReply r) ⌝ }
 {
     let listed = enter_surface(vertices, facets, extents, eps, w, n, k);
     if listed == 0 {
@@ -85,7 +89,12 @@ fn make_caps(
 ) -> Reply
     requires { ⌜ Sound (now vertices) (now facets) (asked extents eps resolution) ⌝ }
     requires { ⌜ Listable (now vertices) (now facets) (now «cap_list») (most (now vertices) (asked extents eps resolution)) (now w) ⌝ }
-    ensures { λ r. ⌜ Answer (edgeTests (now (vertices .entry)) (now (facets .entry)) (asked extents eps resolution) ++ unless (noTwoEnds (now (vertices .entry)) (now (facets .entry)) (asked extents eps resolution)) (capTests (now (vertices .entry)) (now (facets .entry)) (asked extents eps resolution) (now («cap_list» .entry)))) (meshOutputs (surfaceMesh (now (vertices .entry)) (now (facets .entry)) (now («cap_list» .entry)) (asked extents eps resolution) mode) (now («out_vertices» .entry)) (now («out_vertices» .exit)) (now («out_facets» .entry)) (now («out_facets» .exit))) (documentedReply r) ⌝ }
+    ensures { λ r. ⌜ Answer
+        (edgeTests (now (vertices .entry)) (now (facets .entry)) (asked extents eps resolution) ++ unless
+        (noTwoEnds (now (vertices .entry)) (now (facets .entry)) (asked extents eps resolution))
+        (capTests (now (vertices .entry)) (now (facets .entry)) (asked extents eps resolution) (now («cap_list» .entry))))
+        (meshOutputs (surfaceMesh (now (vertices .entry)) (now (facets .entry)) (now («cap_list» .entry)) (asked extents eps resolution) mode) (now («out_vertices» .entry))
+        (now («out_vertices» .exit)) (now («out_facets» .entry)) (now («out_facets» .exit))) (documentedReply r) ⌝ }
 {
     let n = most_candidates(vertices, extents, eps, resolution);
     let k = table_edges(facets, w, n);
@@ -121,7 +130,10 @@ fn caps_lent(
     out_vertices: &mut [f64],
     out_facets: &mut [u32],
 ) -> Reply
-    ensures { λ r. ⌜ Answer (capsTests (now (vertices .entry)) (now (facets .entry)) (now («cap_list» .entry)) (asked extents eps resolution) mode (length (now (work .entry)))) (meshOutputs (capsResult (now (vertices .entry)) (now (facets .entry)) (now («cap_list» .entry)) (asked extents eps resolution) mode) (now («out_vertices» .entry)) (now («out_vertices» .exit)) (now («out_facets» .entry)) (now («out_facets» .exit))) (documentedReply r) ⌝ }
+    ensures { λ r. ⌜ Answer
+        (capsTests (now (vertices .entry)) (now (facets .entry)) (now («cap_list» .entry)) (asked extents eps resolution) mode (length (now (work .entry))))
+        (meshOutputs (capsResult (now (vertices .entry)) (now (facets .entry)) (now («cap_list» .entry)) (asked extents eps resolution) mode) (now («out_vertices» .entry))
+        (now («out_vertices» .exit)) (now («out_facets» .entry)) (now («out_facets» .exit))) (documentedReply r) ⌝ }
 {
     match check_closure(
         vertices,
@@ -169,7 +181,8 @@ pub fn cap_mesh_to_aabb(
     out_vertices: &mut [f64],
     out_facets: &mut [u32],
 ) -> Reply
-    ensures { λ r. ⌜ Capped (now (vertices .entry)) (now (facets .entry)) (now («cap_list» .entry)) (asked extents eps resolution) mode r (now (work .entry)) (now (work .exit)) (now («out_vertices» .entry)) (now («out_vertices» .exit)) (now («out_facets» .entry)) (now («out_facets» .exit)) ⌝ }
+    ensures { λ r. ⌜ Capped (now (vertices .entry)) (now (facets .entry)) (now («cap_list» .entry)) (asked extents eps resolution) mode r (now (work .entry))
+        (now (work .exit)) (now («out_vertices» .entry)) (now («out_vertices» .exit)) (now («out_facets» .entry)) (now («out_facets» .exit)) ⌝ }
 {
     let reply = caps_lent(
         vertices,

@@ -71,7 +71,8 @@ module _ (ws : List ℕ) (a : ℕ) (f : First (standsAt ws earlier earlier earli
     pub later-alone : (r : Bool) → b < length ws / 5 → getD ws (5 * b + 3) 0 ≡ 2 → r ≡ every (free ws b) (upTo (length ws / 5)) → r ≡ isLater ws
     later-alone r k o e = sym (later-is ∙ and-next _ _ _ (lt-ltb b (length ws / 5) k) (and-next _ _ _ (eq-eqb _ _ o) (sym e)))
 
-module _ (vs : List Float) (fs : List ℕ) (eps resolution : Float) (lent n : ℕ) (b box : AABB) (m r : ℕ) (ws c' : List ℕ) (e : b ≡ box) (long : m ≡ lent) (h : Listing vs fs (asked b eps resolution) m r ws (replicate n 0) c') where
+module _ (vs : List Float) (fs : List ℕ) (eps resolution : Float) (lent n : ℕ) (b box : AABB) (m r : ℕ) (ws c' : List ℕ) (e : b ≡ box) (long : m ≡ lent)
+    (h : Listing vs fs (asked b eps resolution) m r ws (replicate n 0) c') where
   zeros : length (replicate {A = ℕ} n 0) ≡ n
   zeros = length-replicate {A = ℕ} n 0
 

@@ -86,24 +86,25 @@ module _ (vs : List Float) (fs stated : List ℕ) (i : ℕ) (e : hasFacets vs fs
   unfolding hasFacets
   corner-end h = row-end states 36 i e h
 
-module _ (mode : BoundaryClosure) (l : List ℕ) (b : AABB) (reply : Reply) (w w' : List ℕ) (v' : List Float) (f' : List ℕ) (e : b ≡ boxTo oneF oneF oneF) (long : length w ≡ 8192) where
-  pub capped-to : Capped squareAtHalf twoFacets l (asked b 1e-10 oneF) mode reply w w' (replicate 24 zeroF) v' (replicate 36 0) f' → (stated : List ℕ)
-      → isHalf (documentedReply reply) v' f' stated ≡ closesTo mode l stated
-  unfolding closesTo
-  capped-to h stated =
-      ap₂ (λ (x : List Float) (y : List ℕ). isHalf (documentedReply reply) x y stated) (h .answered .answer .settled .0) (h .answered .answer .settled .1 .0)
-      ∙ (λ t.
-      isHalf (answer t)
-      (settle (answer t) (coordinates (capsResult squareAtHalf twoFacets l (asked (e t) 1e-10 oneF) mode .points)) (replicate 24 zeroF))
-      (settle (answer t) (flat (capsResult squareAtHalf twoFacets l (asked (e t) 1e-10 oneF) mode .facets)) (replicate 36 0))
-      stated)
-    where
-      answer : documentedReply reply ≡ capped mode l
-      answer =
-          h .answered .answer .replied
-          ∙ (λ t.
-          replyIn (capsTests squareAtHalf twoFacets l (asked (e t) 1e-10 oneF) mode (long t))
-          (meshLengths (capsResult squareAtHalf twoFacets l (asked (e t) 1e-10 oneF) mode)) (24 ∷ 36 ∷ []))
+module _ (mode : BoundaryClosure) (l : List ℕ) (b : AABB) (reply : Reply) (w w' : List ℕ) (v' : List Float) (f' : List ℕ) (e : b ≡ boxTo oneF oneF oneF) (long : length w ≡ 8192)
+  where
+    pub capped-to : Capped squareAtHalf twoFacets l (asked b 1e-10 oneF) mode reply w w' (replicate 24 zeroF) v' (replicate 36 0) f' → (stated : List ℕ)
+        → isHalf (documentedReply reply) v' f' stated ≡ closesTo mode l stated
+    unfolding closesTo
+    capped-to h stated =
+        ap₂ (λ (x : List Float) (y : List ℕ). isHalf (documentedReply reply) x y stated) (h .answered .answer .settled .0) (h .answered .answer .settled .1 .0)
+        ∙ (λ t.
+        isHalf (answer t)
+        (settle (answer t) (coordinates (capsResult squareAtHalf twoFacets l (asked (e t) 1e-10 oneF) mode .points)) (replicate 24 zeroF))
+        (settle (answer t) (flat (capsResult squareAtHalf twoFacets l (asked (e t) 1e-10 oneF) mode .facets)) (replicate 36 0))
+        stated)
+      where
+        answer : documentedReply reply ≡ capped mode l
+        answer =
+            h .answered .answer .replied
+            ∙ (λ t.
+            replyIn (capsTests squareAtHalf twoFacets l (asked (e t) 1e-10 oneF) mode (long t))
+            (meshLengths (capsResult squareAtHalf twoFacets l (asked (e t) 1e-10 oneF) mode)) (24 ∷ 36 ∷ []))
 
 pub point-goes : (vs q : List Float) (v p : ℕ) (r : Bool) → r ≡ begins sameBits nan (take (length vs - 3 * v) (drop (3 * v) vs)) q → q ≡ pointAt p
     → v < length vs / 3 → r ≡ isPoint vs v p

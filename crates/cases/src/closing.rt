@@ -33,7 +33,8 @@ pub fn list_candidates(
     candidates: &mut [u64],
     values: &mut [u64; 4],
 ) -> u32
-    ensures { λ r. ⌜ Listing (now (vertices .entry)) (now (facets .entry)) (asked extents eps resolution) (length (now (work .entry))) r (now (values .exit)) (now (candidates .entry)) (now (candidates .exit)) ⌝ }
+    ensures { λ r. ⌜ Listing (now (vertices .entry)) (now (facets .entry)) (asked extents eps resolution) (length (now (work .entry))) r (now (values .exit))
+        (now (candidates .entry)) (now (candidates .exit)) ⌝ }
 {
     let mut face_lists = [0u64; 8192];
     let mut constraints = [0u64; 8192];

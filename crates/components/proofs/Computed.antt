@@ -97,7 +97,8 @@ module _ (link : ℕ → ℕ → Bool) (k : ℕ) (l : List ℕ) (cs : List (List
       go (inl e) = subst (λ (x : ℕ). Joined (Among link (k ∷ l)) k x) (sym e) same
       go (inr w) =
           let z = of-some (link k) (w .0) (w .2) in
-          via (one (record { left-in = List·Memᴰ·head refl; right-in = List·Memᴰ·tail (h (w .0) (w .1) (z .0) (z .1)); linked = z .2 })) (wider k (s (w .0) (w .1) (z .0) i (z .1) (w .3)))
+          via (one (record { left-in = List·Memᴰ·head refl; right-in = List·Memᴰ·tail (h (w .0) (w .1) (z .0) (z .1)); linked = z .2 }))
+          (wider k (s (w .0) (w .1) (z .0) i (z .1) (w .3)))
 
   sound-step : Items l cs → Sound link l cs → Sound link (k ∷ l) (grown ∷ others)
   sound-step h s p m i j a b = go (new-component m)

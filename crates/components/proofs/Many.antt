@@ -29,6 +29,7 @@ module _ (link : ℕ → ℕ → Bool) (turn : (i j : ℕ) → T (link i j) → 
         complete = λ h.
             let e = h .enough in
             let s = once-shorter (h .others) (keep (has own) l) (h .once)
-            (λ j r. let c = h .chain j r in keep-of (has own) (joined-keeps (λ (x : ℕ). List·Memᴰ x l) (λ x y a. (a .left-in, a .right-in)) _ _ c .0 q) (component-decides link turn l once j q .complete c)) in
+            (λ j r. let c = h .chain j r in keep-of (has own) (joined-keeps (λ (x : ℕ). List·Memᴰ x l) (λ x y a. (a .left-in, a .right-in)) _ _ c .0 q)
+            (component-decides link turn l once j q .complete c)) in
             le→leb m (count (has own) l) (omega arith);
       }

@@ -88,7 +88,8 @@ module _ (s t : ℕ × ℕ) (a : Small s) (b : Small t) where
       let hs : max (s .0) (s .1) < 4294967296 = omega (arith, a .0, a .1) in
       let ht : max (t .0) (t .1) < 4294967296 = omega (arith, b .0, b .1) in
       ⊎-elim (λ (h : ltb (keyOf s) (keyOf t) ≡ true).
-      lex-before (sortedPair s) (sortedPair t) (pair-lex (min (s .0) (s .1)) (max (s .0) (s .1)) (min (t .0) (t .1)) (max (t .0) (t .1)) hs ht (ltb-true (keyOf s) (keyOf t) h)) ∙ sym h)
+      lex-before (sortedPair s) (sortedPair t) (pair-lex (min (s .0) (s .1)) (max (s .0) (s .1)) (min (t .0) (t .1)) (max (t .0) (t .1)) hs ht (ltb-true (keyOf s) (keyOf t) h)) ∙
+      sym h)
       (λ (h : ltb (keyOf s) (keyOf t) ≡ false).
       not-lex (sortedPair s) (sortedPair t) (λ l.
       let k = lex-pair (min (s .0) (s .1)) (max (s .0) (s .1)) (min (t .0) (t .1)) (max (t .0) (t .1)) hs ht l in

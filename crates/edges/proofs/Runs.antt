@@ -90,10 +90,12 @@ module _ (R : List (ℕ × ℕ)) (a : Ascending recordBefore R) (key i e : ℕ) 
       at-start : getD R i (0, 0) .0 ≡ key
       at-start = within i (omega arith) ie
 
-      before-it : (i : ℕ) → ((j : ℕ) → suc j ≡ i → getD R j (0, 0) .0 ≡ key → ⊥) → getD R i (0, 0) .0 ≡ key → i < length R → (j : ℕ) → j < i → getD R j (0, 0) .0 ≡ key → ⊥
+      before-it : (i : ℕ) → ((j : ℕ) → suc j ≡ i → getD R j (0, 0) .0 ≡ key → ⊥) → getD R i (0, 0) .0 ≡ key → i < length R → (j : ℕ) → j < i
+          → getD R j (0, 0) .0 ≡ key → ⊥
       before-it zero f s l j h q = omega arith
       before-it (suc i) f s l j h q =
-          f i refl (between (getD R j (0, 0) .0) (getD R i (0, 0) .0) (getD R (suc i) (0, 0) .0) key q s (keys-ascend R a j i (omega arith) (omega arith)) (keys-ascend R a i (suc i) (omega arith) l))
+          f i refl (between (getD R j (0, 0) .0) (getD R i (0, 0) .0) (getD R (suc i) (0, 0) .0) key q s (keys-ascend R a j i (omega arith) (omega arith))
+          (keys-ascend R a i (suc i) (omega arith) l))
         where
           between : (x y z k : ℕ) → x ≡ k → z ≡ k → x ≤ y → y ≤ z → y ≡ k
           between x y z k p q g h = omega arith

@@ -23,7 +23,8 @@ pub minus-within : (k : ℕ) → suc k ≤ 1023 → {p q : Point} → PointWithi
 unfolding minus
 minus-within k room h g = record { x = sub-pow k room (h .x) (g .x); y = sub-pow k room (h .y) (g .y); z = sub-pow k room (h .z) (g .z) }
 
-product : (k : ℕ) → suc (k + k) ≤ 1023 → {a b c d : Float} → Within (2 ^ k) a → Within (2 ^ k) b → Within (2 ^ k) c → Within (2 ^ k) d → Within (2 ^ suc (k + k)) (a ⊗ b ⊖ c ⊗ d)
+product : (k : ℕ) → suc (k + k) ≤ 1023 → {a b c d : Float} → Within (2 ^ k) a → Within (2 ^ k) b → Within (2 ^ k) c → Within (2 ^ k) d →
+    Within (2 ^ suc (k + k)) (a ⊗ b ⊖ c ⊗ d)
 product k room ha hb hc hd =
     let less : k + k ≤ 1023 = omega arith in
     sub-pow (k + k) room (mul-pow k k less ha hb) (mul-pow k k less hc hd)

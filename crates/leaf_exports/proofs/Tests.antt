@@ -58,7 +58,9 @@ at-least (fin false m e) r = go (0 * 1 * down e) (m * up e * 1) (zero-mul (down 
       where
         no : (a : ℕ) → suc a ≡ 0 → ⊥
         no a z = omega arith
-at-least (fin true m e) r = subst (λ (k : ℕ). T (eqb (0 * 1 * down e) (k * up e * 1) && (false || eqb (0 * 1 * down e) 0))) (sym (eqb→eq m 0 r)) (go (0 * 1 * down e) (0 * up e * 1) (zero-mul (down e)) (ap (λ (k : ℕ). k * 1) (zero-mul (up e))))
+at-least (fin true m e) r =
+    subst (λ (k : ℕ). T (eqb (0 * 1 * down e) (k * up e * 1) && (false || eqb (0 * 1 * down e) 0))) (sym (eqb→eq m 0 r))
+    (go (0 * 1 * down e) (0 * up e * 1) (zero-mul (down e)) (ap (λ (k : ℕ). k * 1) (zero-mul (up e))))
   where
     go : (a b : ℕ) → a ≡ 0 → b ≡ 0 → T (eqb a b && eqb a 0)
     go a b z w = subst (λ (k : ℕ). T (eqb k b && eqb k 0)) (sym z) (subst (λ (k : ℕ). T (eqb 0 k && true)) (sym w) tt)

@@ -125,7 +125,8 @@ pub extern "C" fn table_words(
     asked: &[u64],
     found: &mut [u64],
 ) -> bool
-    ensures { λ r. ⌜ (r ≡ true → Answers (now (keys .entry)) (now (asked .entry)) (now (found .exit)) (length (now (asked .entry)))) × (r ≡ false → now (found .exit) ≡ now (found .entry)) ⌝ }
+    ensures { λ r. ⌜ (r ≡ true → Answers (now (keys .entry)) (now (asked .entry)) (now (found .exit)) (length (now (asked .entry)))) ×
+        (r ≡ false → now (found .exit) ≡ now (found .entry)) ⌝ }
 {
     if nb == 0 {
         return false;

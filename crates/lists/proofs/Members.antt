@@ -3,7 +3,20 @@ use Prim.Native.Nat.{ℕ, zero, suc, _+_, _≤_, _<_}
 use native.Mathlib.Omega.{arith}
 use mathlib.Core.Path.{_≡_, refl, sym, ap, _∙_, subst}
 use mathlib.Core.Bool.{Bool, true, false, cond, not, _&&_, _||_}
-use mathlib.Core.List.{List, [], _∷_, _++_, flatMap, List·Memᴰ, List·Memᴰ·head, List·Memᴰ·tail, Memᴰ·append-left, Memᴰ·append-right, List·Memᴰ·append-cases, List·Memᴰ·not-nil}
+use mathlib.Core.List.{
+  List,
+  [],
+  _∷_,
+  _++_,
+  flatMap,
+  List·Memᴰ,
+  List·Memᴰ·head,
+  List·Memᴰ·tail,
+  Memᴰ·append-left,
+  Memᴰ·append-right,
+  List·Memᴰ·append-cases,
+  List·Memᴰ·not-nil,
+}
 use mathlib.Core.Logic.{_⊎_, inl, inr}
 use lib.Dec.{T, eqb, eqb→eq, eqb-refl}
 use lib.ListN.{getD, length}
@@ -142,6 +155,7 @@ module _ {A : Type 0} (p : A → Bool) where
   place-at d [] h = absurd (omega arith)
   place-at d (x ∷ l) h = go (p x) refl h (place-at d l)
     where
-      go : (b : Bool) → p x ≡ b → cond b 0 (suc (place p l)) < suc (length l) → (place p l < length l → T (p (getD l (place p l) d))) → T (p (getD (x ∷ l) (cond b 0 (suc (place p l))) d))
+      go : (b : Bool) → p x ≡ b → cond b 0 (suc (place p l)) < suc (length l) → (place p l < length l → T (p (getD l (place p l) d))) → T
+          (p (getD (x ∷ l) (cond b 0 (suc (place p l))) d))
       go true e h f = subst T (sym e) tt
       go false e h f = f (omega arith)

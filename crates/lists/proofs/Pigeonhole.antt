@@ -18,7 +18,8 @@ use Rattle.lists.proofs.Orders.{cases}
 
 pub pairwise-places : {A : Type 0} (R : A → A → Type 0) (d : A) (l : List A) → ((i j : ℕ) → i < j → j < length l → R (getD l i d) (getD l j d)) → Pairwise R l
 pairwise-places R d [] f = tt
-pairwise-places R d (x ∷ l) f = (each-places (R x) d l (λ j h. f 0 (suc j) (omega arith) (omega arith)), pairwise-places R d l (λ i j h k. f (suc i) (suc j) (omega arith) (omega arith)))
+pairwise-places R d (x ∷ l) f =
+    (each-places (R x) d l (λ j h. f 0 (suc j) (omega arith) (omega arith)), pairwise-places R d l (λ i j h k. f (suc i) (suc j) (omega arith) (omega arith)))
 
 abbrev Differ : ℕ → ℕ → Type 0
 Differ x y = x ≡ y → ⊥

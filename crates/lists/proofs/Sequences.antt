@@ -130,7 +130,8 @@ keep-up p n = ap (keep p) (up-snoc n) ∙ keep-append p (upTo n) (n ∷ [])
 pub flat-longer : {B : Type 0} (f : ℕ → List B) (i m : ℕ) → i ≤ m → length (flatMap f (upTo i)) ≤ length (flatMap f (upTo m))
 flat-longer f i m h =
     let e : i + (m - i) ≡ m = omega arith in
-    let a = ap length (ap (flatMap f) (up-split 0 i (m - i)) ∙ flatMap-append f (upTo i) (upFrom (0 + i) (m - i))) ∙ length-append (flatMap f (upTo i)) (flatMap f (upFrom (0 + i) (m - i))) in
+    let a = ap length (ap (flatMap f) (up-split 0 i (m - i)) ∙ flatMap-append f (upTo i) (upFrom (0 + i) (m - i))) ∙ length-append (flatMap f (upTo i))
+    (flatMap f (upFrom (0 + i) (m - i))) in
     let b = ap (λ (x : ℕ). length (flatMap f (upTo x))) e in
     omega arith
 

@@ -130,10 +130,12 @@ module _ (vs : List Float) (m : Mesh) (s : Staged) (w : List ℕ) (S : Staging v
   pub short-vertices : length v < 3 * s .vertices → v' ≡ v → f' ≡ f → Answer [] (meshOutputs m v v' f f') (documentedReply (reply.Refused (NoRoom (3 * s .vertices))))
   short-vertices h a b = short [] out-v (out-f ∷ []) (3 * s .vertices) length-is tt h (a, (b, tt))
 
-  pub short-facets : 3 * s .vertices ≤ length v → length f < s .numbers → v' ≡ v → f' ≡ f → Answer [] (meshOutputs m v v' f f') (documentedReply (reply.Refused (NoRoom (s .numbers))))
+  pub short-facets : 3 * s .vertices ≤ length v → length f < s .numbers → v' ≡ v → f' ≡ f → Answer [] (meshOutputs m v v' f f')
+      (documentedReply (reply.Refused (NoRoom (s .numbers))))
   short-facets h g a b = short (out-v ∷ []) out-f [] (s .numbers) numbers-is (omega (arith, length-is, h), tt) g (a, (b, tt))
 
-  pub done : 3 * s .vertices ≤ length v → s .numbers ≤ length f → v' ≡ overlay (coordinates (map (vertexOf vs) (view w (s .order) (s .vertices)))) v → f' ≡ overlay (view w (s .corners) (s .numbers)) f
+  pub done : 3 * s .vertices ≤ length v → s .numbers ≤ length f → v' ≡ overlay (coordinates (map (vertexOf vs) (view w (s .order) (s .vertices)))) v → f' ≡ overlay
+      (view w (s .corners) (s .numbers)) f
       → Answer [] (meshOutputs m v v' f f') (documentedReply (DoneTwo (3 * s .vertices) (s .numbers)))
   done h g a b =
       done-two out-v out-f (3 * s .vertices) (s .numbers) length-is numbers-is (omega (arith, length-is, h), (omega (arith, numbers-is, g), tt))

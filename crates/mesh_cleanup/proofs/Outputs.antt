@@ -20,7 +20,8 @@ use Rattle.mesh_weld.specs.Room.{vertexOf}
 
 -- the coordinates of point k
 coordinates-at : (l : List Point) (k : ℕ) (z : Float) → k < length l
-    → (getD (coordinates l) (3 * k) z ≡ getD l k origin .x) × ((getD (coordinates l) (3 * k + 1) z ≡ getD l k origin .y) × (getD (coordinates l) (3 * k + 2) z ≡ getD l k origin .z))
+    → (getD (coordinates l) (3 * k) z ≡ getD l k origin .x) × ((getD (coordinates l) (3 * k + 1) z ≡ getD l k origin .y) ×
+    (getD (coordinates l) (3 * k + 2) z ≡ getD l k origin .z))
 unfolding flatMap
 coordinates-at [] k z h = absurd (omega arith)
 coordinates-at (p ∷ l) zero z h = (refl, (refl, refl))
@@ -54,7 +55,8 @@ module _ (vs : List Float) (m : List ℕ) (at n : ℕ) (room : at + n ≤ length
     pub vertex-room : 3 * k + 2 < length out
     vertex-room = let a = flat-long in let b = R .room in let c = R .same in omega arith
 
-    three-stores : (p : Point) → p ≡ vertexOf vs (getD m (at + k) 0) → Writing (coordinates points) old (set (set (set out (3 * k) (p .x)) (3 * k + 1) (p .y)) (3 * k + 2) (p .z)) (3 * (k + 1))
+    three-stores : (p : Point) → p ≡ vertexOf vs (getD m (at + k) 0) → Writing (coordinates points) old (set (set (set out (3 * k) (p .x)) (3 * k + 1) (p .y)) (3 * k + 2) (p .z))
+        (3 * (k + 1))
     three-stores p e =
         let c = coordinates-at points k nan (let l = points-long in omega arith) in
         let q = e ∙ sym (point-is k h) in

@@ -116,7 +116,8 @@ module _ (vs : List Float) (fs : List ℕ) (eps : Float) (lent : ℕ) (R : Ready
           let x-in : j % 3 < 3 = omega arith in
           let z : j ≡ j / 3 * 3 + j % 3 = omega arith in
           subst (λ (x : ℕ). getD labels x 0 < r) (sym z)
-          (rw (label-at F l labels e (j / 3) (j % 3) i-in x-in) (corner (facetAt F (getD l (j / 3) 0)) (facet-below at vs fs (14 * nv) nf m₁ numbered (getD l (j / 3) 0) (low (j / 3) i-in)) (j % 3) x-in))
+          (rw (label-at F l labels e (j / 3) (j % 3) i-in x-in) (corner (facetAt F (getD l (j / 3) 0))
+          (facet-below at vs fs (14 * nv) nf m₁ numbered (getD l (j / 3) 0) (low (j / 3) i-in)) (j % 3) x-in))
         where
           corner : (t : Triangle ℕ) → Below r t → (x : ℕ) → x < 3 → getD (vertices t) x 0 < r
           corner t b zero h = b .a
@@ -150,7 +151,9 @@ module _ (vs : List Float) (fs : List ℕ) (eps : Float) (lent : ℕ) (R : Ready
           record {
             long = length-map (view m₁ (9 * nv) r) (vertexOf vs) ∙ view-long;
             pointed = λ u h. let b = W .few in record {
-              is = at-map (vertexOf vs) (view m₁ (9 * nv) r) u 0 origin (let e = view-long in omega arith) ∙ ap (vertexOf vs) (view-at m₁ (9 * nv) r u h ∙ sym (Q .rest (9 * nv + u) (omega arith)));
+              is =
+                  at-map (vertexOf vs) (view m₁ (9 * nv) r) u 0 origin (let e = view-long in omega arith) ∙ ap (vertexOf vs)
+                  (view-at m₁ (9 * nv) r u h ∙ sym (Q .rest (9 * nv + u) (omega arith)));
               low = rw (Q .rest (9 * nv + u) (omega arith)) (kept-low u h);
             };
             count = ap (λ (x : ℕ). length (passed eps P F x)) (facets-long at vs fs (14 * nv) nf m₁ numbered) ∙ passed-long;
@@ -166,7 +169,8 @@ module _ (vs : List Float) (fs : List ℕ) (eps : Float) (lent : ℕ) (R : Ready
       result-is = λ i.
           compacted eps 2 (map (vertexOf vs) ((W .kept ∙ again .0) i)) (map (mapped (λ v. getD ((W .oldToNew ∙ again .1) i) v 0)) (threes fs))
         where
-          again : (welds .kept ≡ weld (cells eps) (vertex (pointsOf vs)) (length (pointsOf vs)) .kept) × (welds .oldToNew ≡ weld (cells eps) (vertex (pointsOf vs)) (length (pointsOf vs)) .oldToNew)
+          again : (welds .kept ≡ weld (cells eps) (vertex (pointsOf vs)) (length (pointsOf vs)) .kept) ×
+              (welds .oldToNew ≡ weld (cells eps) (vertex (pointsOf vs)) (length (pointsOf vs)) .oldToNew)
           again =
               let e = sym (length-pointsOf vs) in
               (ap (λ (n : ℕ). weld (cells eps) (vertexOf vs) n .kept) e, ap (λ (n : ℕ). weld (cells eps) (vertexOf vs) n .oldToNew) e)

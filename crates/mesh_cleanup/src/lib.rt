@@ -118,7 +118,9 @@ fn clean_checked(
     out_facets: &mut [u32],
 ) -> Reply
     requires { ⌜ Ready (now vertices) (now facets) eps (length (now work)) ⌝ }
-    ensures { λ r. ⌜ Answer [] (meshOutputs (cleanResult (now (vertices .entry)) (now (facets .entry)) eps) (now («out_vertices» .entry)) (now («out_vertices» .exit)) (now («out_facets» .entry)) (now («out_facets» .exit))) (documentedReply r) ⌝ }
+    ensures { λ r. ⌜ Answer []
+        (meshOutputs (cleanResult (now (vertices .entry)) (now (facets .entry)) eps) (now («out_vertices» .entry)) (now («out_vertices» .exit)) (now («out_facets» .entry))
+        (now («out_facets» .exit))) (documentedReply r) ⌝ }
 {
     let s = stage(vertices, facets, eps, work);
     let order = s.order;
@@ -146,7 +148,9 @@ fn clean_lent(
     out_vertices: &mut [f64],
     out_facets: &mut [u32],
 ) -> Reply
-    ensures { λ r. ⌜ Answer (cleanTests (now (vertices .entry)) (now (facets .entry)) eps (length (now (work .entry)))) (meshOutputs (cleanResult (now (vertices .entry)) (now (facets .entry)) eps) (now («out_vertices» .entry)) (now («out_vertices» .exit)) (now («out_facets» .entry)) (now («out_facets» .exit))) (documentedReply r) ⌝ }
+    ensures { λ r. ⌜ Answer (cleanTests (now (vertices .entry)) (now (facets .entry)) eps (length (now (work .entry))))
+        (meshOutputs (cleanResult (now (vertices .entry)) (now (facets .entry)) eps) (now («out_vertices» .entry)) (now («out_vertices» .exit)) (now («out_facets» .entry))
+        (now («out_facets» .exit))) (documentedReply r) ⌝ }
 {
     match check(vertices, facets, eps, work.len()) {
         Checked::Passed => clean_checked(vertices, facets, eps, work, out_vertices, out_facets),
@@ -163,7 +167,8 @@ pub fn clean_mesh(
     out_vertices: &mut [f64],
     out_facets: &mut [u32],
 ) -> Reply
-    ensures { λ r. ⌜ Cleaned (now (vertices .entry)) (now (facets .entry)) eps r (now (work .entry)) (now (work .exit)) (now («out_vertices» .entry)) (now («out_vertices» .exit)) (now («out_facets» .entry)) (now («out_facets» .exit)) ⌝ }
+    ensures { λ r. ⌜ Cleaned (now (vertices .entry)) (now (facets .entry)) eps r (now (work .entry)) (now (work .exit)) (now («out_vertices» .entry))
+        (now («out_vertices» .exit)) (now («out_facets» .entry)) (now («out_facets» .exit)) ⌝ }
 {
     let reply = clean_lent(vertices, facets, eps, work, out_vertices, out_facets);
     let lent = work.len();

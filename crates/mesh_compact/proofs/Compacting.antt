@@ -44,7 +44,8 @@ module _ (kept n facets k at least : ℕ) (m : List ℕ) (L : Lent kept n facets
     all-points : map point (view m kept n) ≡ points
     all-points =
         ext-getD origin (map point (view m kept n)) points (long ∙ sym (S .long))
-        (λ u h. let h′ : u < n = omega (arith, long) in at-map point (view m kept n) u 0 origin (omega (arith, viewed)) ∙ ap point (view-at m kept n u h′) ∙ sym (S .pointed u h′ .is))
+        (λ u h. let h′ : u < n = omega (arith, long) in at-map point (view m kept n) u 0 origin (omega (arith, viewed)) ∙ ap point (view-at m kept n u h′) ∙ sym
+        (S .pointed u h′ .is))
       where
         viewed : length (view m kept n) ≡ n
         viewed = view-length m kept n (let a = L .kept-in in let b = L .all-in in omega arith)
@@ -55,7 +56,8 @@ module _ (kept n facets k at least : ℕ) (m : List ℕ) (L : Lent kept n facets
     pub as-welded : (eqb (length (allPassed eps points fs)) 0 || leb least 1) ≡ true → StagedMesh point top (compacted eps least points fs) whole m
     unfolding compacted
     as-welded e =
-        subst (λ (b : Bool). StagedMesh point top (cond b (record { points = points; facets = map (facetAt fs) (allPassed eps points fs) }) (renumbered points (map (facetAt fs) (keptFacets eps points fs least)))) whole m) (sym e)
+        subst (λ (b : Bool). StagedMesh point top (cond b (record { points = points; facets = map (facetAt fs) (allPassed eps points fs) })
+        (renumbered points (map (facetAt fs) (keptFacets eps points fs least)))) whole m) (sym e)
         (record {
           vertices = all-points;
           numbers = S .corners;
@@ -63,9 +65,12 @@ module _ (kept n facets k at least : ℕ) (m : List ℕ) (L : Lent kept n facets
           small = λ j h. let a = L .corner j h in let b = L .few in omega arith;
         })
 
-    pub renumbered-case : (eqb (length (allPassed eps points fs)) 0 || leb least 1) ≡ false → compacted eps least points fs ≡ renumbered points (map (facetAt fs) (keptFacets eps points fs least))
+    pub renumbered-case : (eqb (length (allPassed eps points fs)) 0 || leb least 1) ≡ false → compacted eps least points fs ≡ renumbered points
+        (map (facetAt fs) (keptFacets eps points fs least))
     unfolding compacted
-    renumbered-case e = ap (λ (b : Bool). cond b (record { points = points; facets = map (facetAt fs) (allPassed eps points fs) }) (renumbered points (map (facetAt fs) (keptFacets eps points fs least)))) e
+    renumbered-case e =
+        ap (λ (b : Bool). cond b (record { points = points; facets = map (facetAt fs) (allPassed eps points fs) })
+        (renumbered points (map (facetAt fs) (keptFacets eps points fs least)))) e
 
   whole-of : ((c : ℕ) → c ≡ k → (eqb c 0 || leb least 1) ≡ true) → MeshCompacted kept n facets k least whole m m
   whole-of h =
@@ -139,7 +144,8 @@ module _ (kept n facets k at least : ℕ) (m : List ℕ) (L : Lent kept n facets
       large-is i h =
           let h′ : i < k = omega (arith, S .count) in
           ap (leb least) (C .sizes (getD v (at + i) 0) (part-low i h′) ∙ ap (size (view v at k)) (sym (view-at v at k i h′))
-          ∙ size-component (view m facets (k * 3)) 3 (shareVertex fs) l (once-passed eps points fs) (labels-link fs l (view m facets (k * 3)) labels-are) (shares-back fs) (view v at k) numbers-are i h)
+          ∙ size-component (view m facets (k * 3)) 3 (shareVertex fs) l (once-passed eps points fs) (labels-link fs l (view m facets (k * 3)) labels-are) (shares-back fs)
+          (view v at k) numbers-are i h)
           ∙ large-enough eps points fs least (getD l i 0) (count (has (componentOf (components (shareVertex fs) l) (getD l i 0))) l) refl
 
       word-is : (i x : ℕ) → i < length l → x < 3 → getD v (facets + 3 * i + x) 0 ≡ getD (vertices (facetAt fs (getD l i 0))) x 0
@@ -161,13 +167,21 @@ module _ (kept n facets k at least : ℕ) (m : List ℕ) (L : Lent kept n facets
       corners-are =
           ap (λ (x : ℕ). flat (map (λ j. cornersAt v (facets + 3 * j)) (keep (isLargeAt v at k least) (upTo x)))) (sym (S .count))
           ∙ ap flat (keep-places (isLargeAt v at k least) (λ i. not (isAlone eps points fs least i)) (λ j. cornersAt v (facets + 3 * j)) (facetAt fs) l 0
-          (λ i h. let z : i ≡ 0 + i = omega arith in subst (λ (j : ℕ). (isLargeAt v at k least j ≡ not (isAlone eps points fs least (getD l i 0))) × (cornersAt v (facets + 3 * j) ≡ facetAt fs (getD l i 0))) z (large-is i h, facet-is i h)))
+          (λ i h. let z : i ≡ 0 + i = omega arith in subst (λ (j : ℕ). (isLargeAt v at k least j ≡ not (isAlone eps points fs least (getD l i 0))) ×
+          (cornersAt v (facets + 3 * j) ≡ facetAt fs (getD l i 0))) z (large-is i h, facet-is i h)))
           ∙ ap (λ (r : List ℕ). flat (map (facetAt fs) r)) (sym (kept-passed eps points fs least))
 
       delivered : (k ≡ 0 → ⊥) → 1 < least → (w : Numbered) (u : List ℕ) → NumberedSoFar kept facets at k (at + 2 * k + n) n least k w v u
-          → StagedMesh point top (compacted eps least points fs) (record { order = at + 2 * k + n + n; vertices = w .vertices; corners = at + 2 * k + n + n + 3 * k; numbers = w .corners }) u
+          → StagedMesh point top (compacted eps least points fs) (record
+          { order = at + 2 * k + n + n; vertices = w .vertices; corners = at + 2 * k + n + n + 3 * k; numbers = w .corners }) u
       unfolding renumbered
-      delivered nz big w u G = subst (λ (mesh : Mesh). StagedMesh point top mesh (record { order = at + 2 * k + n + n; vertices = w .vertices; corners = at + 2 * k + n + n + 3 * k; numbers = w .corners }) u) (sym (renumbered-case point eps points fs top S some)) (done N)
+      delivered nz big w u G =
+          subst (λ (mesh : Mesh). StagedMesh point top mesh (record {
+            order = at + 2 * k + n + n;
+            vertices = w .vertices;
+            corners = at + 2 * k + n + n + 3 * k;
+            numbers = w .corners;
+          }) u) (sym (renumbered-case point eps points fs top S some)) (done N)
         where
           some : (eqb (length (allPassed eps points fs)) 0 || leb least 1) ≡ false
           some = rw (ne-eqb (length (allPassed eps points fs)) 0 (λ z. nz (sym (S .count) ∙ z)), lt-leb least 1 big)
@@ -189,7 +203,8 @@ module _ (kept n facets k at least : ℕ) (m : List ℕ) (L : Lent kept n facets
               go (yes h) = h
               go (no h) =
                   absurd (let g = N .named v x in
-                  let z = List·getD-eq-default (numbering points (flat (map (facetAt fs) (keptFacets eps points fs least))) .given) 0 {n = v} (omega (arith, long, S .long)) in omega arith)
+                  let z = List·getD-eq-default (numbering points (flat (map (facetAt fs) (keptFacets eps points fs least))) .given) 0 {n = v} (omega (arith, long, S .long)) in
+                  omega arith)
 
           done : Naming point points top (at + 2 * k + n) n k (w .vertices) (w .corners) (flat (map (facetAt fs) (keptFacets eps points fs least))) u
               → StagedMesh point top (renumbered points (map (facetAt fs) (keptFacets eps points fs least)))

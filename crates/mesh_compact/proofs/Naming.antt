@@ -60,7 +60,8 @@ module _ (m : List ℕ) (kept at n count v : ℕ) where
     ap (λ (b : Bool). cond b (count + 1) count) (ne-eqb (getD m (at + v) 0) 0 h),
   )
 
-  pub after-new : getD m (at + v) 0 ≡ 0 → (afterVertex m kept at n count v ≡ set (set m (at + n + count) (getD m (kept + v) 0)) (at + v) (count + 1)) × (countAfter m at count v ≡ count + 1)
+  pub after-new : getD m (at + v) 0 ≡ 0 → (afterVertex m kept at n count v ≡ set (set m (at + n + count) (getD m (kept + v) 0)) (at + v) (count + 1)) ×
+      (countAfter m at count v ≡ count + 1)
   after-new h = (
     ap (λ (b : Bool). cond b (set (set m (at + n + count) (getD m (kept + v) 0)) (at + v) (count + 1)) m) (eq-eqb (getD m (at + v) 0) 0 h),
     ap (λ (b : Bool). cond b (count + 1) count) (eq-eqb (getD m (at + v) 0) 0 h),
@@ -203,7 +204,8 @@ module _ (point : ℕ → Point) (points : List Point) (top kept at n k a c v : 
     numbered-corner =
         record {
           given = view-same m₁ m₂ at n (omega (arith, S .long)) (len₂ ∙ sym (S .long)) (λ i lt. put (at + i) (λ q. omega arith)) ∙ S .given ∙ ap (λ (X : Named). X .given) (sym E);
-          used = ap (map point) (view-same m₁ m₂ (at + n) r (let g = rk in omega (arith, S .long)) (len₂ ∙ sym (S .long)) (λ i lt. put (at + n + i) (λ q. let g = rk in omega arith)))
+          used =
+              ap (map point) (view-same m₁ m₂ (at + n) r (let g = rk in omega (arith, S .long)) (len₂ ∙ sym (S .long)) (λ i lt. put (at + n + i) (λ q. let g = rk in omega arith)))
               ∙ S .used ∙ ap (λ (X : Named). X .points) (sym E);
           numbers = view-more m m₂ (at + n + 3 * k) c (getD m₁ (at + v) 0 - 1) (omega arith) len₂
               (λ j lt. put (at + n + 3 * k + j) (λ q. omega arith) ∙ S .beyond (at + n + 3 * k + j) (omega arith))
@@ -236,7 +238,11 @@ module _ (kept at n k v : ℕ) (w : Numbered) (m m₁ : List ℕ) (r : ℕ) (U :
     where
       go : Dec (getD m (at + v) 0 ≡ 0) → 0 < getD (afterVertex m kept at n (w .vertices) v) (at + v) 0
       go (yes h) =
-          rw (after-new m kept at n (w .vertices) v h .0, getD-set-same (set m (at + n + w .vertices) (getD m (kept + v) 0)) (at + v) (w .vertices + 1) 0 (let l = length-set m (at + n + w .vertices) (getD m (kept + v) 0) in omega arith))
+          rw (
+            after-new m kept at n (w .vertices) v h .0,
+            getD-set-same (set m (at + n + w .vertices) (getD m (kept + v) 0)) (at + v) (w .vertices + 1) 0
+                (let l = length-set m (at + n + w .vertices) (getD m (kept + v) 0) in omega arith),
+          )
           (omega arith)
       go (no h) = rw (after-old m kept at n (w .vertices) v h .0) (omega arith)
 

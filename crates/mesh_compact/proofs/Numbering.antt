@@ -61,7 +61,8 @@ module _ (points : List Point) where
       other v true i q = ap (λ (y : ℕ). y + 1) (sym (place-front (eqb v) used (x ∷ []) i))
       other v false i q = sym (ap (λ (b : Bool). cond b (place (eqb v) (used ++ (x ∷ [])) + 1) 0) (ne-eqb v x q))
 
-      go : (v : ℕ) → v < length points → Dec (v ≡ x) → getD (set (n .given) x (length (n .points) + 1)) v 0 ≡ cond (has (used ++ (x ∷ [])) v) (place (eqb v) (used ++ (x ∷ [])) + 1) 0
+      go : (v : ℕ) → v < length points → Dec (v ≡ x) → getD (set (n .given) x (length (n .points) + 1)) v 0 ≡ cond (has (used ++ (x ∷ [])) v) (place (eqb v) (used ++ (x ∷ [])) + 1)
+          0
       go v g (yes q) =
           ap (λ (y : ℕ). getD (set (n .given) y (length (n .points) + 1)) v 0) (sym q)
           ∙ getD-set-same (n .given) v (length (n .points) + 1) 0 (omega (arith, t .long))

@@ -41,7 +41,8 @@ unfolding keep upFrom
 keep-places p q f g [] o h = refl
 keep-places {A} p q f g (x ∷ l) o h =
     go (p o) (q x) (at-zero .0) (at-zero .1)
-    (keep-places p q f g l (suc o) (λ i lt. let z : o + suc i ≡ suc o + i = omega arith in subst (λ (j : ℕ). (p j ≡ q (getD l i 0)) × (f j ≡ g (getD l i 0))) z (h (suc i) (omega arith))))
+    (keep-places p q f g l (suc o) (λ i lt. let z : o + suc i ≡ suc o + i = omega arith in subst (λ (j : ℕ). (p j ≡ q (getD l i 0)) × (f j ≡ g (getD l i 0))) z
+    (h (suc i) (omega arith))))
   where
     zero-up : o + 0 ≡ o
     zero-up = omega arith

@@ -38,7 +38,8 @@ unfolding keep
 keep-both p q [] = refl
 keep-both {A} p q (x ∷ l) = go (p x) (keep-both p q l)
   where
-    go : (a : Bool) → keep (λ y. p y && q y) l ≡ keep q (keep p l) → cond (a && q x) (x ∷ keep (λ y. p y && q y) l) (keep (λ y. p y && q y) l) ≡ keep q (cond a (x ∷ keep p l) (keep p l))
+    go : (a : Bool) → keep (λ y. p y && q y) l ≡ keep q (keep p l) → cond (a && q x) (x ∷ keep (λ y. p y && q y) l) (keep (λ y. p y && q y) l) ≡ keep q
+        (cond a (x ∷ keep p l) (keep p l))
     go true e = ap (λ (s : List A). cond (q x) (x ∷ s) s) e
     go false e = e
 
@@ -114,11 +115,13 @@ module _ (eps : Float) (points : List Point) (facets : List (Triangle ℕ)) wher
       ∙ keep-both goes (λ i. not (isAlone eps points facets m i)) (upTo (length facets))
       ∙ ap (keep (λ i. not (isAlone eps points facets m i))) (sym (passed-keeps (length facets)))
 
-  not-alone : (m i : ℕ) → not (isAlone eps points facets m i) ≡ leb m (count (has (componentOf (components (shareVertex facets) (allPassed eps points facets)) i)) (allPassed eps points facets))
+  not-alone : (m i : ℕ) → not (isAlone eps points facets m i) ≡ leb m
+      (count (has (componentOf (components (shareVertex facets) (allPassed eps points facets)) i)) (allPassed eps points facets))
   unfolding isAlone
   not-alone m i = enough (count (has (componentOf (components (shareVertex facets) (allPassed eps points facets)) i)) (allPassed eps points facets)) m
 
-  pub large-enough : (m i c : ℕ) → c ≡ count (has (componentOf (components (shareVertex facets) (allPassed eps points facets)) i)) (allPassed eps points facets) → leb m c ≡ not (isAlone eps points facets m i)
+  pub large-enough : (m i c : ℕ) → c ≡ count (has (componentOf (components (shareVertex facets) (allPassed eps points facets)) i)) (allPassed eps points facets) → leb m c ≡ not
+      (isAlone eps points facets m i)
   large-enough m i c e = ap (leb m) e ∙ sym (not-alone m i)
 
   -- ---- the rule

@@ -38,7 +38,8 @@ module _ (w : WeldedAt) (vs : List Float) (fs : List ℕ) (at n : ℕ) (m : List
   facet-is f h =
       at-map (mapped (λ v. getD (numbersInRoom w vs m) v 0)) (threes fs) f (tri 0 0 0) (tri 0 0 0) (let e = N .facets in omega (arith, length-threes fs))
       ∙ ap (mapped (λ v. getD (numbersInRoom w vs m) v 0)) (threes-at fs f (tri 0 0 0) 0 (let e = N .facets in omega arith))
-      ∙ (λ i. tri (read (3 * f) (let e = N .facets in omega arith) i) (read (3 * f + 1) (let e = N .facets in omega arith) i) (read (3 * f + 2) (let e = N .facets in omega arith) i))
+      ∙ (λ i. tri (read (3 * f) (let e = N .facets in omega arith) i) (read (3 * f + 1) (let e = N .facets in omega arith) i)
+      (read (3 * f + 2) (let e = N .facets in omega arith) i))
     where
       read : (j : ℕ) → j < length fs → getD (numbersInRoom w vs m) (getD fs j 0) 0 ≡ getD m (w .numbers + getD fs j 0) 0
       read j lt = view-at m (w .numbers) (length vs / 3) (getD fs j 0) (N .corner j lt)
@@ -58,7 +59,9 @@ module _ (w : WeldedAt) (vs : List Float) (fs : List ℕ) (at n : ℕ) (m : List
     where
       go : Dec (f < n) → Below 2097152 (facetAt F f)
       go (yes h) = wider (facetAt F f) (facet-below f h)
-      go (no h) = subst (Below 2097152) (sym (List·getD-eq-default F (tri 0 0 0) {n = f} (let e = facets-long in omega arith))) (record { a = omega arith; b = omega arith; c = omega arith })
+      go (no h) =
+          subst (Below 2097152) (sym (List·getD-eq-default F (tri 0 0 0) {n = f} (let e = facets-long in omega arith)))
+          (record { a = omega arith; b = omega arith; c = omega arith })
 
   -- the welded points
   point-is : (v : ℕ) → v < w .count → vertex (pointsInRoom w vs m) v ≡ vertexOf vs (getD m (w .kept + v) 0)

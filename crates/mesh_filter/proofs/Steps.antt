@@ -22,7 +22,8 @@ use Rattle.mesh_filter.specs.Filters.{facetAt, passes, passed}
 use Rattle.mesh_filter.specs.Room.{cornersKey, pointsInRoom, facetsInRoom, keptInRoom, numbersInRoom, CornersNumbered, FilteredSoFar, FacetFiltered, Filtered}
 use Rattle.mesh_filter.proofs.Passing.{passed-not, passed-too}
 
-module _ (eps : Float) (points : List Point) (facets : List (Triangle ℕ)) (at n f count : ℕ) (m : List ℕ) (G : FilteredSoFar eps points facets at n f count m) (room : at + 14 * n ≤ length m) (h : f < n) where
+module _ (eps : Float) (points : List Point) (facets : List (Triangle ℕ)) (at n f count : ℕ) (m : List ℕ) (G : FilteredSoFar eps points facets at n f count m)
+    (room : at + 14 * n ≤ length m) (h : f < n) where
   abbrev before : List ℕ
   before = passed eps points facets f
 
@@ -100,7 +101,8 @@ module _ (eps : Float) (points : List Point) (facets : List (Triangle ℕ)) (at 
     unfolding v
     len = length-set s₄ (at + 11 * n + 3 * count + 2) (t .c) ∙ l₄
 
-    other : (x : ℕ) → (x ≡ at + 9 * n + count → ⊥) → (x ≡ at + 10 * n + count → ⊥) → (x ≡ at + 11 * n + 3 * count → ⊥) → (x ≡ at + 11 * n + 3 * count + 1 → ⊥) → (x ≡ at + 11 * n + 3 * count + 2 → ⊥)
+    other : (x : ℕ) → (x ≡ at + 9 * n + count → ⊥) → (x ≡ at + 10 * n + count → ⊥) → (x ≡ at + 11 * n + 3 * count → ⊥) → (x ≡ at + 11 * n + 3 * count + 1 → ⊥) →
+        (x ≡ at + 11 * n + 3 * count + 2 → ⊥)
         → getD v x 0 ≡ getD m₁ x 0
     unfolding v s₄ s₃ s₂ s₁
     other x na nb nc nd ne =
@@ -115,21 +117,25 @@ module _ (eps : Float) (points : List Point) (facets : List (Triangle ℕ)) (at 
     key-new : getD v (at + 9 * n + count) 0 ≡ key
     unfolding v s₄ s₃ s₂ s₁
     key-new =
-        getD-set-other s₄ (at + 11 * n + 3 * count + 2) (at + 9 * n + count) (t .c) 0 (λ q. omega (arith, few)) ∙ getD-set-other s₃ (at + 11 * n + 3 * count + 1) (at + 9 * n + count) (t .b) 0 (λ q. omega (arith, few))
-        ∙ getD-set-other s₂ (at + 11 * n + 3 * count) (at + 9 * n + count) (t .a) 0 (λ q. omega (arith, few)) ∙ getD-set-other s₁ (at + 10 * n + count) (at + 9 * n + count) f 0 (λ q. omega (arith, few))
+        getD-set-other s₄ (at + 11 * n + 3 * count + 2) (at + 9 * n + count) (t .c) 0 (λ q. omega (arith, few)) ∙ getD-set-other s₃ (at + 11 * n + 3 * count + 1)
+        (at + 9 * n + count) (t .b) 0 (λ q. omega (arith, few))
+        ∙ getD-set-other s₂ (at + 11 * n + 3 * count) (at + 9 * n + count) (t .a) 0 (λ q. omega (arith, few)) ∙ getD-set-other s₁ (at + 10 * n + count) (at + 9 * n + count) f 0
+        (λ q. omega (arith, few))
         ∙ getD-set-same m₁ (at + 9 * n + count) key 0 (omega (arith, room, len₁, few))
 
     number-new : getD v (at + 10 * n + count) 0 ≡ f
     unfolding v s₄ s₃ s₂
     number-new =
-        getD-set-other s₄ (at + 11 * n + 3 * count + 2) (at + 10 * n + count) (t .c) 0 (λ q. omega (arith, few)) ∙ getD-set-other s₃ (at + 11 * n + 3 * count + 1) (at + 10 * n + count) (t .b) 0 (λ q. omega (arith, few))
+        getD-set-other s₄ (at + 11 * n + 3 * count + 2) (at + 10 * n + count) (t .c) 0 (λ q. omega (arith, few)) ∙ getD-set-other s₃ (at + 11 * n + 3 * count + 1)
+        (at + 10 * n + count) (t .b) 0 (λ q. omega (arith, few))
         ∙ getD-set-other s₂ (at + 11 * n + 3 * count) (at + 10 * n + count) (t .a) 0 (λ q. omega (arith, few))
         ∙ getD-set-same s₁ (at + 10 * n + count) f 0 (omega (arith, room, l₁, few))
 
     a-new : getD v (at + 11 * n + 3 * count) 0 ≡ t .a
     unfolding v s₄ s₃
     a-new =
-        getD-set-other s₄ (at + 11 * n + 3 * count + 2) (at + 11 * n + 3 * count) (t .c) 0 (λ q. omega arith) ∙ getD-set-other s₃ (at + 11 * n + 3 * count + 1) (at + 11 * n + 3 * count) (t .b) 0 (λ q. omega arith)
+        getD-set-other s₄ (at + 11 * n + 3 * count + 2) (at + 11 * n + 3 * count) (t .c) 0 (λ q. omega arith) ∙ getD-set-other s₃ (at + 11 * n + 3 * count + 1)
+        (at + 11 * n + 3 * count) (t .b) 0 (λ q. omega arith)
         ∙ getD-set-same s₂ (at + 11 * n + 3 * count) (t .a) 0 (omega (arith, room, l₂, few))
 
     b-new : getD v (at + 11 * n + 3 * count + 1) 0 ≡ t .b
@@ -194,14 +200,16 @@ module _ (eps : Float) (points : List Point) (facets : List (Triangle ℕ)) (at 
         (λ x lt. other (at + x) (λ q. omega (arith, few)) (λ q. omega (arith, few)) (λ q. omega (arith, few)) (λ q. omega (arith, few)) (λ q. omega (arith, few)))
         (linked-more hash m at (4 * n) count b (B .is ∙ ap (λ (x : ℕ). bucketOf x 0 0 (4 * n)) (sym (new-is ∙ key-new))) (B .low) (omega (arith, room, few))
         (linked-cong (wordBucket (view m (at + 9 * n) count) (4 * n)) hash m at (4 * n) count
-        (λ k lt. ap (λ (x : ℕ). bucketOf x 0 0 (4 * n)) (view-at m (at + 9 * n) count k lt ∙ sym (key-old k lt) ∙ sym (view-at v (at + 9 * n) (count + 1) k (omega arith)))) (G .linked)))
+        (λ k lt. ap (λ (x : ℕ). bucketOf x 0 0 (4 * n)) (view-at m (at + 9 * n) count k lt ∙ sym (key-old k lt) ∙ sym (view-at v (at + 9 * n) (count + 1) k (omega arith))))
+        (G .linked)))
       where
         new-is : getD (view v (at + 9 * n) (count + 1)) count 0 ≡ getD v (at + 9 * n + count) 0
         new-is = view-at v (at + 9 * n) (count + 1) count (omega arith)
 
     pub through : passes eps points facets (passed eps points facets f) (facetAt facets f) ≡ true
         → FacetFiltered eps points facets at n (f + 1) (count + 1) m
-        (set (set (set (set (set (entered m at (4 * n) count b) (at + 9 * n + count) key) (at + 10 * n + count) f) (at + 11 * n + 3 * count) (t .a)) (at + 11 * n + 3 * count + 1) (t .b)) (at + 11 * n + 3 * count + 2) (t .c))
+        (set (set (set (set (set (entered m at (4 * n) count b) (at + 9 * n + count) key) (at + 10 * n + count) f) (at + 11 * n + 3 * count) (t .a)) (at + 11 * n + 3 * count + 1)
+        (t .b)) (at + 11 * n + 3 * count + 2) (t .c))
     unfolding v s₄ s₃ s₂ s₁ m₁ flatMap
     through e =
         let s = sym (passed-too eps points facets f e) in
@@ -228,7 +236,8 @@ module _ (eps : Float) (points : List Point) (facets : List (Triangle ℕ)) (at 
 
 -- ---- the first facet and the last
 
-pub going-start : (eps : Float) (points : List Point) (facets : List (Triangle ℕ)) (at n : ℕ) (m v : List ℕ) → at + 14 * n ≤ length m → Zeroed m v at (8 * n) → FacetFiltered eps points facets at n 0 0 m v
+pub going-start : (eps : Float) (points : List Point) (facets : List (Triangle ℕ)) (at n : ℕ) (m v : List ℕ) → at + 14 * n ≤ length m → Zeroed m v at (8 * n) → FacetFiltered eps
+    points facets at n 0 0 m v
 unfolding passed flatMap
 going-start eps points facets at n m v room z =
     record {
@@ -248,7 +257,8 @@ going-start eps points facets at n m v room z =
     none = refl
 
 -- the same welded vertices, in a room that is as it was below the table
-module _ (w : WeldedAt) (vs : List Float) (fs : List ℕ) (at n : ℕ) (m v : List ℕ) (N : CornersNumbered w vs fs at n m) (e : length v ≡ length m) (rest : (x : ℕ) → x < at → getD v x 0 ≡ getD m x 0) where
+module _ (w : WeldedAt) (vs : List Float) (fs : List ℕ) (at n : ℕ) (m v : List ℕ) (N : CornersNumbered w vs fs at n m) (e : length v ≡ length m)
+    (rest : (x : ℕ) → x < at → getD v x 0 ≡ getD m x 0) where
   pub same-kept : keptInRoom w v ≡ keptInRoom w m
   same-kept = view-same m v (w .kept) (w .count) (let k = N .kept-in in let r = N .room in omega arith) e (λ i h. rest (w .kept + i) (let k = N .kept-in in omega arith))
 
@@ -270,12 +280,14 @@ module _ (w : WeldedAt) (vs : List Float) (fs : List ℕ) (at n : ℕ) (m v : Li
   }
 
   module _ (eps : Float) (f count : ℕ) where
-    pub turn-same : (u : List ℕ) → FilteredSoFar eps (pointsInRoom w vs m) (facetsInRoom w vs fs m) at n f count u → FilteredSoFar eps (pointsInRoom w vs v) (facetsInRoom w vs fs v) at n f count u
+    pub turn-same : (u : List ℕ) → FilteredSoFar eps (pointsInRoom w vs m) (facetsInRoom w vs fs m) at n f count u → FilteredSoFar eps (pointsInRoom w vs v)
+        (facetsInRoom w vs fs v) at n f count u
     turn-same u G =
         subst (λ (l : List ℕ). FilteredSoFar eps (map (vertexOf vs) l) (facetsInRoom w vs fs v) at n f count u) (sym same-kept)
         (subst (λ (l : List ℕ). FilteredSoFar eps (pointsInRoom w vs m) (map (mapped (λ x. getD l x 0)) (threes fs)) at n f count u) (sym same-numbers) G)
 
-    pub turned-on : (u : List ℕ) → FacetFiltered eps (pointsInRoom w vs v) (facetsInRoom w vs fs v) at n f count v u → FacetFiltered eps (pointsInRoom w vs m) (facetsInRoom w vs fs m) at n f count m u
+    pub turned-on : (u : List ℕ) → FacetFiltered eps (pointsInRoom w vs v) (facetsInRoom w vs fs v) at n f count v u → FacetFiltered eps (pointsInRoom w vs m)
+        (facetsInRoom w vs fs m) at n f count m u
     turned-on u U =
         record {
           going =
@@ -284,7 +296,8 @@ module _ (w : WeldedAt) (vs : List Float) (fs : List ℕ) (at n : ℕ) (m v : Li
           rest = λ x q. U .rest x q ∙ rest x q;
         }
 
-pub filtered : (eps : Float) (points : List Point) (facets : List (Triangle ℕ)) (at n f count : ℕ) (m v : List ℕ) → FacetFiltered eps points facets at n f count m v → length v ≡ length m → n ≤ f
+pub filtered : (eps : Float) (points : List Point) (facets : List (Triangle ℕ)) (at n f count : ℕ) (m v : List ℕ) → FacetFiltered eps points facets at n f count m v → length v ≡
+    length m → n ≤ f
     → Filtered eps points facets at n count m v
 filtered eps points facets at n f count m v U e h =
     let z : f ≡ n = omega (arith, U .going .done) in

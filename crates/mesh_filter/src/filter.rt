@@ -35,7 +35,9 @@ fn find_key(m: &[u64], at: usize, n: usize, count: usize, key: u64) -> u64
 fn put_facet(m: &mut [u64], at: usize, n: usize, count: usize, f: usize, key: u64, t: MeshTriangle)
     requires { ⌜ at + 14 * n ≤ length (now m) ⌝ }
     requires { ⌜ count < n ⌝ }
-    ensures { λ _. ⌜ now (m .exit) ≡ set (set (set (set (set (now (m .entry)) (at + 9 * n + count) key) (at + 10 * n + count) f) (at + 11 * n + 3 * count) (t .a .0)) (at + 11 * n + 3 * count + 1) (t .b .0)) (at + 11 * n + 3 * count + 2) (t .c .0) ⌝ }
+    ensures { λ _. ⌜ now (m .exit) ≡ set
+        (set (set (set (set (now (m .entry)) (at + 9 * n + count) key) (at + 10 * n + count) f) (at + 11 * n + 3 * count) (t .a .0)) (at + 11 * n + 3 * count + 1) (t .b .0))
+        (at + 11 * n + 3 * count + 2) (t .c .0) ⌝ }
 {
     m[at + 9 * n + count] = key;
     m[at + 10 * n + count] = f as u64;
@@ -60,7 +62,8 @@ fn filter_facet(
     requires { ⌜ f < n ⌝ }
     requires { ⌜ CornersNumbered welded (now vertices) (now facets) at n (now m) ⌝ }
     requires { ⌜ FilteredSoFar eps (pointsInRoom welded (now vertices) (now m)) (facetsInRoom welded (now vertices) (now facets) (now m)) at n f count (now m) ⌝ }
-    ensures { λ r. ⌜ FacetFiltered eps (pointsInRoom welded (now (vertices .entry)) (now (m .entry))) (facetsInRoom welded (now (vertices .entry)) (now (facets .entry)) (now (m .entry))) at n (f + 1) r (now (m .entry)) (now (m .exit)) ⌝ }
+    ensures { λ r. ⌜ FacetFiltered eps (pointsInRoom welded (now (vertices .entry)) (now (m .entry)))
+        (facetsInRoom welded (now (vertices .entry)) (now (facets .entry)) (now (m .entry))) at n (f + 1) r (now (m .entry)) (now (m .exit)) ⌝ }
 {
     let t = corners_of(m, welded.numbers, facets, f);
     if has_repeated_corner(t) {
@@ -90,7 +93,8 @@ pub fn filter(
     eps: f64,
 ) -> usize
     requires { ⌜ CornersNumbered welded (now vertices) (now facets) at n (now m) ⌝ }
-    ensures { λ r. ⌜ Filtered eps (pointsInRoom welded (now (vertices .entry)) (now (m .entry))) (facetsInRoom welded (now (vertices .entry)) (now (facets .entry)) (now (m .entry))) at n r (now (m .entry)) (now (m .exit)) ⌝ }
+    ensures { λ r. ⌜ Filtered eps (pointsInRoom welded (now (vertices .entry)) (now (m .entry)))
+        (facetsInRoom welded (now (vertices .entry)) (now (facets .entry)) (now (m .entry))) at n r (now (m .entry)) (now (m .exit)) ⌝ }
 {
     if n == 0 {
         return 0;

@@ -100,14 +100,21 @@ or-third false true c e = refl
 or-third false false c e = e
 
 beside-all : (a b : ℤ) → Each (λ x. same b x ≡ true → nextTo a b ≡ true) (beside a)
-beside-all a b =
-    (or-first (same b (predℤ a)) (same b a) (same b (sucℤ a)), (or-second (same b (predℤ a)) (same b a) (same b (sucℤ a)), (or-third (same b (predℤ a)) (same b a) (same b (sucℤ a)), tt)))
+beside-all a b = (
+  or-first (same b (predℤ a)) (same b a) (same b (sucℤ a)),
+  (
+    or-second (same b (predℤ a)) (same b a) (same b (sucℤ a)),
+    (or-third (same b (predℤ a)) (same b a) (same b (sucℤ a)), tt),
+  ),
+)
 
 around-sound : (k q : Key) → Each (λ c. sameKey q c ≡ true → neighbours k q ≡ true) (around k)
 unfolding around sameKey neighbours
 around-sound k q =
-    all-flat (λ x. same (q .x) x ≡ true → nextTo (k .x) (q .x) ≡ true) (λ c. sameKey q c ≡ true → neighbours k q ≡ true) (λ x. flatMap (λ y. flatMap (λ z. record { x = x; y = y; z = z } ∷ []) (beside (k .z))) (beside (k .y)))
-    (λ x px. all-flat (λ y. same (q .y) y ≡ true → nextTo (k .y) (q .y) ≡ true) (λ c. sameKey q c ≡ true → neighbours k q ≡ true) (λ y. flatMap (λ z. record { x = x; y = y; z = z } ∷ []) (beside (k .z)))
+    all-flat (λ x. same (q .x) x ≡ true → nextTo (k .x) (q .x) ≡ true) (λ c. sameKey q c ≡ true → neighbours k q ≡ true)
+    (λ x. flatMap (λ y. flatMap (λ z. record { x = x; y = y; z = z } ∷ []) (beside (k .z))) (beside (k .y)))
+    (λ x px. all-flat (λ y. same (q .y) y ≡ true → nextTo (k .y) (q .y) ≡ true) (λ c. sameKey q c ≡ true → neighbours k q ≡ true)
+    (λ y. flatMap (λ z. record { x = x; y = y; z = z } ∷ []) (beside (k .z)))
     (λ y py. all-flat (λ z. same (q .z) z ≡ true → nextTo (k .z) (q .z) ≡ true) (λ c. sameKey q c ≡ true → neighbours k q ≡ true) (λ z. record { x = x; y = y; z = z } ∷ [])
     (λ z pz. (
       λ e.

@@ -42,7 +42,9 @@ sq-cond false false false x y e = refl
 
 sq-units : (s t : Bool) (q k : ℕ) → sq (Ieee.units binary64 s q k) ≡ sq (Ieee.units binary64 t q k)
 unfolding Ieee.units
-sq-units s t q k = sq-cond (ltb (q * 2 ^ k) (2 ^ (low binary64 + suc (emax binary64)))) s t (odd (suc (prec binary64)) s q k (low binary64)) (odd (suc (prec binary64)) t q k (low binary64)) (sq-odd (suc (prec binary64)) s t q k (low binary64))
+sq-units s t q k =
+    sq-cond (ltb (q * 2 ^ k) (2 ^ (low binary64 + suc (emax binary64)))) s t (odd (suc (prec binary64)) s q k (low binary64)) (odd (suc (prec binary64)) t q k (low binary64))
+    (sq-odd (suc (prec binary64)) s t q k (low binary64))
 
 sq-round : (s t : Bool) (a c : ℕ) → sq (round binary64 s a c) ≡ sq (round binary64 t a c)
 unfolding round

@@ -145,7 +145,8 @@ module _ (vs : List Float) (eps : Float) (n i count : ℕ) (m : List ℕ) (G : W
     len = length-set s₄ (10 * n + i) count ∙ l₄
 
     -- a place that no store names
-    other : (x : ℕ) → (x ≡ 9 * n + count → ⊥) → (x ≡ 11 * n + 3 * count → ⊥) → (x ≡ 11 * n + 3 * count + 1 → ⊥) → (x ≡ 11 * n + 3 * count + 2 → ⊥) → (x ≡ 10 * n + i → ⊥)
+    other : (x : ℕ) → (x ≡ 9 * n + count → ⊥) → (x ≡ 11 * n + 3 * count → ⊥) → (x ≡ 11 * n + 3 * count + 1 → ⊥) →
+        (x ≡ 11 * n + 3 * count + 2 → ⊥) → (x ≡ 10 * n + i → ⊥)
         → getD v x 0 ≡ getD m₁ x 0
     unfolding v s₄ s₃ s₂ s₁
     other x na nb nc nd ne =
@@ -160,8 +161,10 @@ module _ (vs : List Float) (eps : Float) (n i count : ℕ) (m : List ℕ) (G : W
     id-new : getD v (9 * n + count) 0 ≡ i
     unfolding v s₄ s₃ s₂ s₁
     id-new =
-        getD-set-other s₄ (10 * n + i) (9 * n + count) count 0 (λ q. omega (arith, few)) ∙ getD-set-other s₃ (11 * n + 3 * count + 2) (9 * n + count) (c .z) 0 (λ q. omega (arith, few))
-        ∙ getD-set-other s₂ (11 * n + 3 * count + 1) (9 * n + count) (c .y) 0 (λ q. omega (arith, few)) ∙ getD-set-other s₁ (11 * n + 3 * count) (9 * n + count) (c .x) 0 (λ q. omega (arith, few))
+        getD-set-other s₄ (10 * n + i) (9 * n + count) count 0 (λ q. omega (arith, few)) ∙ getD-set-other s₃ (11 * n + 3 * count + 2) (9 * n + count) (c .z) 0
+        (λ q. omega (arith, few))
+        ∙ getD-set-other s₂ (11 * n + 3 * count + 1) (9 * n + count) (c .y) 0 (λ q. omega (arith, few)) ∙ getD-set-other s₁ (11 * n + 3 * count) (9 * n + count) (c .x) 0
+        (λ q. omega (arith, few))
         ∙ getD-set-same m₁ (9 * n + count) i 0 (omega (arith, I .room, len₁, few))
 
     cell-new : cellAt v (11 * n + 3 * count) ≡ c
@@ -170,13 +173,15 @@ module _ (vs : List Float) (eps : Float) (n i count : ℕ) (m : List ℕ) (G : W
       where
         ex : getD v (11 * n + 3 * count) 0 ≡ c .x
         ex =
-            getD-set-other s₄ (10 * n + i) (11 * n + 3 * count) count 0 (λ q. omega arith) ∙ getD-set-other s₃ (11 * n + 3 * count + 2) (11 * n + 3 * count) (c .z) 0 (λ q. omega arith)
+            getD-set-other s₄ (10 * n + i) (11 * n + 3 * count) count 0 (λ q. omega arith) ∙ getD-set-other s₃ (11 * n + 3 * count + 2) (11 * n + 3 * count) (c .z) 0
+            (λ q. omega arith)
             ∙ getD-set-other s₂ (11 * n + 3 * count + 1) (11 * n + 3 * count) (c .y) 0 (λ q. omega arith)
             ∙ getD-set-same s₁ (11 * n + 3 * count) (c .x) 0 (omega (arith, I .room, l₁, few))
 
         ey : getD v (11 * n + 3 * count + 1) 0 ≡ c .y
         ey =
-            getD-set-other s₄ (10 * n + i) (11 * n + 3 * count + 1) count 0 (λ q. omega arith) ∙ getD-set-other s₃ (11 * n + 3 * count + 2) (11 * n + 3 * count + 1) (c .z) 0 (λ q. omega arith)
+            getD-set-other s₄ (10 * n + i) (11 * n + 3 * count + 1) count 0 (λ q. omega arith) ∙ getD-set-other s₃ (11 * n + 3 * count + 2) (11 * n + 3 * count + 1) (c .z) 0
+            (λ q. omega arith)
             ∙ getD-set-same s₂ (11 * n + 3 * count + 1) (c .y) 0 (omega (arith, I .room, l₂, few))
 
         ez : getD v (11 * n + 3 * count + 2) 0 ≡ c .z
@@ -190,11 +195,13 @@ module _ (vs : List Float) (eps : Float) (n i count : ℕ) (m : List ℕ) (G : W
 
     id-old : (k : ℕ) → k < count → getD v (9 * n + k) 0 ≡ getD m (9 * n + k) 0
     id-old k lt =
-        other (9 * n + k) (λ q. omega arith) (λ q. omega (arith, few)) (λ q. omega (arith, few)) (λ q. omega (arith, few)) (λ q. omega (arith, few)) ∙ rest₁ (9 * n + k) (omega (arith, few))
+        other (9 * n + k) (λ q. omega arith) (λ q. omega (arith, few)) (λ q. omega (arith, few)) (λ q. omega (arith, few)) (λ q. omega (arith, few)) ∙ rest₁ (9 * n + k)
+        (omega (arith, few))
 
     word-old : (k d : ℕ) → k < count → d < 3 → getD v (11 * n + 3 * k + d) 0 ≡ getD m (11 * n + 3 * k + d) 0
     word-old k d lt ld =
-        other (11 * n + 3 * k + d) (λ q. omega (arith, few)) (λ q. omega arith) (λ q. omega arith) (λ q. omega arith) (λ q. omega arith) ∙ rest₁ (11 * n + 3 * k + d) (omega (arith, few))
+        other (11 * n + 3 * k + d) (λ q. omega (arith, few)) (λ q. omega arith) (λ q. omega arith) (λ q. omega arith) (λ q. omega arith) ∙ rest₁ (11 * n + 3 * k + d)
+        (omega (arith, few))
 
     cell-old : (k : ℕ) → k < count → cellAt v (11 * n + 3 * k) ≡ cellAt m (11 * n + 3 * k)
     cell-old k lt =
@@ -237,7 +244,8 @@ module _ (vs : List Float) (eps : Float) (n i count : ℕ) (m : List ℕ) (G : W
           kept = view-more m v (9 * n) count i (omega (arith, I .room, few)) len id-old id-new
               ∙ ap (λ (l : List ℕ). l ++ (i ∷ [])) (G .kept) ∙ sym (ap (λ (w : Welded). w .kept) step);
           oldToNew = view-more m v (10 * n) i count (omega (arith, I .room)) len
-              (λ k lt. other (10 * n + k) (λ q. omega (arith, few)) (λ q. omega arith) (λ q. omega arith) (λ q. omega arith) (λ q. omega arith) ∙ rest₁ (10 * n + k) (omega (arith, few)))
+              (λ k lt. other (10 * n + k) (λ q. omega (arith, few)) (λ q. omega arith) (λ q. omega arith) (λ q. omega arith) (λ q. omega arith) ∙ rest₁ (10 * n + k)
+              (omega (arith, few)))
               number-new
               ∙ ap (λ (l : List ℕ). l ++ (count ∷ [])) (G .oldToNew)
               ∙ ap (λ (k : ℕ). weld (cells eps) (vertexOf vs) i .oldToNew ++ (k ∷ [])) (sym (kept-long vs eps n count m I) ∙ ap length (G .kept))
@@ -260,7 +268,8 @@ module _ (vs : List Float) (eps : Float) (n i count : ℕ) (m : List ℕ) (G : W
 
 -- ---- the first vertex and the last
 
-pub going-start : (vs : List Float) (eps : Float) (n : ℕ) (m v : List ℕ) → 0 < n → n < 268435456 → 3 * n ≤ length vs → 14 * n ≤ length m → Zeroed m v 0 (8 * n) → WeldedSoFar vs eps n 0 0 v
+pub going-start : (vs : List Float) (eps : Float) (n : ℕ) (m v : List ℕ) → 0 < n → n < 268435456 → 3 * n ≤ length vs → 14 * n ≤ length m → Zeroed m v 0 (8 * n) → WeldedSoFar vs eps
+    n 0 0 v
 unfolding weld
 going-start vs eps n m v any small size room z =
     record {

@@ -15,7 +15,8 @@ use words::zero_part;
 // Enters the vertex v, of the cell c, as the kept vertex at `count`.
 fn keep(m: &mut [u64], n: usize, count: usize, v: MeshVertexId, c: Cell)
     requires { ⌜ (14 * n ≤ length (now m)) × (count < n) ⌝ }
-    ensures { λ _. ⌜ now (m .exit) ≡ set (set (set (set (now (m .entry)) (9 * n + count) (v .0)) (11 * n + 3 * count) (c .x)) (11 * n + 3 * count + 1) (c .y)) (11 * n + 3 * count + 2) (c .z) ⌝ }
+    ensures { λ _. ⌜ now (m .exit) ≡ set (set (set (set (now (m .entry)) (9 * n + count) (v .0)) (11 * n + 3 * count) (c .x))
+        (11 * n + 3 * count + 1) (c .y)) (11 * n + 3 * count + 2) (c .z) ⌝ }
 {
     m[9 * n + count] = v.0 as u64;
     let at = 11 * n + 3 * count;

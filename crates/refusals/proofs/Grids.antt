@@ -43,7 +43,8 @@ not-too-fine b eps resolution e =
 pub small-product : (n m : ℕ) → n ≤ 258 → m ≤ 258 → n * m ≤ 66564
 small-product n m h k = mul-le-mul h k
 
-pub size-is : (b : AABB) (eps : Float) (resolution : ℕ → Float) (x y z : ℕ) → gridTooFine b eps resolution ≡ false → x ≡ min (segments b eps resolution 0) 257 → y ≡ min (segments b eps resolution 1) 257 → z ≡ min (segments b eps resolution 2) 257
+pub size-is : (b : AABB) (eps : Float) (resolution : ℕ → Float) (x y z : ℕ) → gridTooFine b eps resolution ≡ false → x ≡ min (segments b eps resolution 0) 257 → y ≡ min
+    (segments b eps resolution 1) 257 → z ≡ min (segments b eps resolution 2) 257
     → 2 * ((x + 1) * (y + 1) + (x + 1) * (z + 1) + (y + 1) * (z + 1)) ≡ gridSize b eps resolution
 unfolding gridSize
 size-is b eps resolution x y z e ex ey ez =

@@ -46,7 +46,8 @@ unfolding firstRefusal
 row-passed [] us e = refl
 row-passed (t ∷ ts) us e = go (t .0) (row-passed ts us) e
   where
-    go : (b : Bool) → (firstRefusal ts ≡ Passed → firstRefusal (ts ++ us) ≡ firstRefusal us) → cond b (Refused (t .1)) (firstRefusal ts) ≡ Passed → cond b (Refused (t .1)) (firstRefusal (ts ++ us)) ≡ firstRefusal us
+    go : (b : Bool) → (firstRefusal ts ≡ Passed → firstRefusal (ts ++ us) ≡ firstRefusal us) → cond b (Refused (t .1)) (firstRefusal ts) ≡ Passed → cond b (Refused (t .1))
+        (firstRefusal (ts ++ us)) ≡ firstRefusal us
     go true f e = cc
     go false f e = f e
 
@@ -56,7 +57,8 @@ unfolding firstRefusal
 row-refused [] us r e = cc
 row-refused (t ∷ ts) us r e = go (t .0) (row-refused ts us r) e
   where
-    go : (b : Bool) → (firstRefusal ts ≡ Refused r → firstRefusal (ts ++ us) ≡ Refused r) → cond b (Refused (t .1)) (firstRefusal ts) ≡ Refused r → cond b (Refused (t .1)) (firstRefusal (ts ++ us)) ≡ Refused r
+    go : (b : Bool) → (firstRefusal ts ≡ Refused r → firstRefusal (ts ++ us) ≡ Refused r) → cond b (Refused (t .1)) (firstRefusal ts) ≡ Refused r → cond b (Refused (t .1))
+        (firstRefusal (ts ++ us)) ≡ Refused r
     go true f e = e
     go false f e = f e
 

@@ -32,7 +32,43 @@ use Rattle.yongpham.specs.Calls.{boxOf, modeOf}
 use Rattle.replay.specs.Words.{Everywhere, Decides}
 use Rattle.replay.specs.Layout.{storedReply, outputsFrom, Laid}
 use Rattle.replay.specs.Contents.{table, oldDoubles, oldWords, oldDouble, doublesIn, numbersIn}
-use Rattle.replay.specs.Agreement.{SameDoubles, SameWords, Answered, Fresh, Stored, ClipStored, CleanStored, CandidatesStored, CapsStored, MeshStored, clip, clean, caps, AnswerStored, mesh, candidates, ListsStored, NoNan, ToleranceAgrees, ListsAgree, Agrees, tolerance, lists, doubleAt, boxIn, epsIn, resolutionIn, askedIn, modeIn, capsIn, outputsIn, reported, clipReply, cleanReply, capsReply}
+use Rattle.replay.specs.Agreement.{
+  SameDoubles,
+  SameWords,
+  Answered,
+  Fresh,
+  Stored,
+  ClipStored,
+  CleanStored,
+  CandidatesStored,
+  CapsStored,
+  MeshStored,
+  clip,
+  clean,
+  caps,
+  AnswerStored,
+  mesh,
+  candidates,
+  ListsStored,
+  NoNan,
+  ToleranceAgrees,
+  ListsAgree,
+  Agrees,
+  tolerance,
+  lists,
+  doubleAt,
+  boxIn,
+  epsIn,
+  resolutionIn,
+  askedIn,
+  modeIn,
+  capsIn,
+  outputsIn,
+  reported,
+  clipReply,
+  cleanReply,
+  capsReply,
+}
 use Rattle.replay.proofs.Deciding.{ends}
 
 pub length-table : {A : Type 0} (f : ℕ → A) (n : ℕ) → length (table f n) ≡ n
@@ -75,7 +111,8 @@ pub record MeshReported (reply : List ℕ) (result : Mesh) (number : ℕ) (value
   pub facets : f' ≡ settle reply (flat (result .facets)) f
   pub work : Zeroed w w'
 
-pub mesh-called : (ts : List Test) (result : Mesh) (number : ℕ) (values w w' : List ℕ) (v v' : List Float) (f f' : List ℕ) → Called ts (meshOutputs result v v' f f') w w' number values
+pub mesh-called : (ts : List Test) (result : Mesh) (number : ℕ) (values w w' : List ℕ) (v v' : List Float) (f f' : List ℕ) → Called ts (meshOutputs result v v' f f') w w' number
+    values
     → MeshReported (replyIn ts (meshLengths result) (length v ∷ length f ∷ [])) result number values w w' v v' f f'
 mesh-called ts result number values w w' v v' f f' c =
     record { told = c .reported; vertices = c .settled .0; facets = c .settled .1 .0; work = c .work }
@@ -162,7 +199,8 @@ caps-result stored vs fs c b e r m = λ t. capsResult vs fs (c t) (asked (b t) (
 
 -- the cap list, lent from behind the facet numbers to its end
 pub lent-caps : (stored : List ℕ)
-    → take (24 + getD stored 2 0 + getD stored 3 0 + getD stored 4 0 - (24 + getD stored 2 0 + getD stored 3 0)) (drop (24 + getD stored 2 0 + getD stored 3 0) stored) ≡ capsIn stored
+    → take (24 + getD stored 2 0 + getD stored 3 0 + getD stored 4 0 - (24 + getD stored 2 0 + getD stored 3 0)) (drop (24 + getD stored 2 0 + getD stored 3 0) stored) ≡ capsIn
+    stored
 lent-caps stored =
     let n : 24 + getD stored 2 0 + getD stored 3 0 + getD stored 4 0 - (24 + getD stored 2 0 + getD stored 3 0) ≡ getD stored 4 0 = omega arith in
     ap (λ (x : ℕ). take x (drop (24 + getD stored 2 0 + getD stored 3 0) stored)) n

@@ -58,12 +58,14 @@ module _ (stored w c l k e : List ℕ) (h : CandidatesFresh stored w c l k e) wh
       ∙ ap₂ (λ (a b : ℕ). reply (getD stored 14 0) (getD stored 15 0 ∷ getD stored 16 0 ∷ a ∷ b ∷ [])) (o .constraints) (o .open-edges)
 
   pub candidates-reply : (vs : List Float) (fs : List ℕ) {box : AABB} {eps resolution : Float} → box ≡ boxIn stored → eps ≡ epsIn stored → resolution ≡ resolutionIn stored
-      → candidatesReply vs fs (asked box eps resolution) (length w) (length c ∷ length l ∷ length k ∷ length e ∷ []) ≡ candidatesReply vs fs (askedIn stored) (getD stored 14 0) (fourIn stored)
+      → candidatesReply vs fs (asked box eps resolution) (length w) (length c ∷ length l ∷ length k ∷ length e ∷ []) ≡ candidatesReply vs fs (askedIn stored) (getD stored 14 0)
+      (fourIn stored)
   candidates-reply vs fs b p r =
       (λ t. candidatesReply vs fs (asked (b t) (p t) (r t)) (length w) (length c ∷ length l ∷ length k ∷ length e ∷ []))
       ∙ same-lengths (candidatesReply vs fs (askedIn stored))
 
-pub candidates-result : (stored : List ℕ) (vs : List Float) (fs : List ℕ) {box : AABB} {eps resolution : Float} → box ≡ boxIn stored → eps ≡ epsIn stored → resolution ≡ resolutionIn stored
+pub candidates-result : (stored : List ℕ) (vs : List Float) (fs : List ℕ) {box : AABB} {eps resolution : Float} → box ≡ boxIn stored → eps ≡ epsIn stored → resolution ≡
+    resolutionIn stored
     → candidatesResult vs fs (asked box eps resolution) ≡ candidatesResult vs fs (askedIn stored)
 candidates-result stored vs fs b p r = λ t. candidatesResult vs fs (asked (b t) (p t) (r t))
 

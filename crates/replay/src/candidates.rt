@@ -54,7 +54,9 @@ fn same_candidates(
 ) -> bool
     requires { ⌜ (24 ≤ length (now stored)) × (sizeOf (now stored) ≤ length (now stored)) ⌝ }
     requires { ⌜ OutputsLent (now stored) (now candidates) (now «face_lists») (now constraints) (now «open_edges») ⌝ }
-    ensures { λ r. ⌜ Decides (CandidatesAnswered (now (stored .entry)) (number ∷ now (values .entry)) (now (candidates .entry)) (now («face_lists» .entry)) (now (constraints .entry)) (now («open_edges» .entry)) (now (work .entry))) r ⌝ }
+    ensures { λ r. ⌜ Decides
+        (CandidatesAnswered (now (stored .entry)) (number ∷ now (values .entry)) (now (candidates .entry)) (now («face_lists» .entry)) (now (constraints .entry))
+        (now («open_edges» .entry)) (now (work .entry))) r ⌝ }
 {
     if !same_reply(stored, number, values) {
         return false;

@@ -3,7 +3,31 @@ use mathlib.Core.Path.{_≡_, refl, sym, ap, _∙_, subst}
 use mathlib.Core.Logic.{_⊎_, inl, inr}
 use mathlib.Core.Bool.{Bool, true, false, _&&_, _||_, Bool·beq, cond, true≢false}
 use Prim.Native.Nat.{ℕ, zero, suc, _+_, _-_, _*_, _^_, _≤_, _<_, zero-le}
-use native.Mathlib.Nat.{mul-comm, mul-assoc, mul-one, one-mul, mul-right-comm, mul-mul-mul-comm, mul-pos, mul-le-mul, mul-le-mul-left, mul-le-mul-right, le-antisymm, le-of-mul-le-mul-right, le-trans, le-of-eq, le-of-lt, div-le-of-le-mul, lt-of-le-of-lt, eq-zero-or-pos, add-mul, zero-lt-suc, zero-mul, mul-zero, mul-left-comm}
+use native.Mathlib.Nat.{
+  mul-comm,
+  mul-assoc,
+  mul-one,
+  one-mul,
+  mul-right-comm,
+  mul-mul-mul-comm,
+  mul-pos,
+  mul-le-mul,
+  mul-le-mul-left,
+  mul-le-mul-right,
+  le-antisymm,
+  le-of-mul-le-mul-right,
+  le-trans,
+  le-of-eq,
+  le-of-lt,
+  div-le-of-le-mul,
+  lt-of-le-of-lt,
+  eq-zero-or-pos,
+  add-mul,
+  zero-lt-suc,
+  zero-mul,
+  mul-zero,
+  mul-left-comm,
+}
 use native.Mathlib.Omega.{arith}
 use lib.IntN.{ℤ, pos}
 use lib.Dec.{T, ltb, eqb, ltb→lt, eqb·suc-zero, eqb→eq, lit<}
@@ -83,11 +107,13 @@ module _ (f : Format) (nu de B : ℕ) (D : 0 < de) (P : 0 < B) (h : nu ≤ B * d
     | inr p ↦
         let v = units-val f false q k fine in
         le-trans (le-of-eq (sym (mul-one (q * 2 ^ k))))
-        (values-of-le (units f false q k) (round f false B 1) (q * 2 ^ k) (2 ^ low f) B 1 (positive-of-value (units f false q k) (q * 2 ^ k) (2 ^ low f) v p) (positive-of-value (round f false B 1) B 1 R P) v R order)
+        (values-of-le (units f false q k) (round f false B 1) (q * 2 ^ k) (2 ^ low f) B 1 (positive-of-value (units f false q k) (q * 2 ^ k) (2 ^ low f) v p)
+        (positive-of-value (round f false B 1) B 1 R P) v R order)
   ]
 
   pub round-within : (s : Bool) → Within B (round f s nu de)
-  round-within s = subst (λ (z : Float). Within B z) (sym (round-is f s nu de)) (bounded (units f s q k) s (q * 2 ^ k) (2 ^ low f) B (pow-pos (low f)) (units-val f s q k fine) size)
+  round-within s =
+      subst (λ (z : Float). Within B z) (sym (round-is f s nu de)) (bounded (units f s q k) s (q * 2 ^ k) (2 ^ low f) B (pow-pos (low f)) (units-val f s q k fine) size)
 
 -- ---- the operations
 
@@ -163,7 +189,8 @@ pub within-units : (B : ℕ) (x : Float) → Within B x → spec.units x ≤ B *
 unfolding spec.units spec.one
 within-units B nan h = absurd (h .is-finite)
 within-units B (inf s) h = absurd (h .is-finite)
-within-units B (fin s m e) h = div-le-of-le-mul (down e) (le-trans (mul-le-mul-right (2 ^ 1074) (h .size)) (le-of-eq (ap (λ (a : ℕ). a * 2 ^ 1074) (mul-comm B (down e)) ∙ mul-assoc (down e) B (2 ^ 1074))))
+within-units B (fin s m e) h =
+    div-le-of-le-mul (down e) (le-trans (mul-le-mul-right (2 ^ 1074) (h .size)) (le-of-eq (ap (λ (a : ℕ). a * 2 ^ 1074) (mul-comm B (down e)) ∙ mul-assoc (down e) B (2 ^ 1074))))
 
 pub units-within : (B : ℕ) (x : Float) → T (fits binary64 x) → T (finite x) → spec.units x ≤ B * spec.one → Within B x
 unfolding spec.one
@@ -281,8 +308,22 @@ ratio-tests (inf true) (fin true n d) p z a b = absurd z
 ratio-tests (inf true) (fin false n d) p z a b = absurd b
 ratio-tests (inf false) (fin t n d) p z a b = absurd a
 ratio-tests (fin s m e) (fin true n d) p z a b = absurd z
-ratio-tests (fin false m e) (fin false n d) p z a b = record { left-finite = tt; right-finite = tt; some = mul-pos (above-zero n d z) (up-pos d); size = le-trans (either (m * up e * down d) (n * up d * down e) true a) (le-of-eq (sym (one-mul (n * up d * down e)))) }
-ratio-tests (fin true m e) (fin false n d) p z a b = record { left-finite = tt; right-finite = tt; some = mul-pos (above-zero n d z) (up-pos d); size = le-trans (either-back (m * up e * down d) (n * up d * down e) true b) (le-of-eq (sym (one-mul (n * up d * down e)))) }
+ratio-tests (fin false m e) (fin false n d) p z a b =
+    record {
+      left-finite = tt;
+      right-finite = tt;
+      some = mul-pos (above-zero n d z) (up-pos d);
+      size = le-trans (either (m * up e * down d) (n * up d * down e) true a)
+          (le-of-eq (sym (one-mul (n * up d * down e))));
+    }
+ratio-tests (fin true m e) (fin false n d) p z a b =
+    record {
+      left-finite = tt;
+      right-finite = tt;
+      some = mul-pos (above-zero n d z) (up-pos d);
+      size = le-trans (either-back (m * up e * down d) (n * up d * down e) true b)
+          (le-of-eq (sym (one-mul (n * up d * down e))));
+    }
 
 -- ---- a product by a number below 1, and the tests that a bounded number with no sign passes
 
@@ -331,7 +372,8 @@ unfolding le lt eq
 plus-from-zero {B = B} {x = nan} h p = absurd (h .is-finite)
 plus-from-zero {B = B} {x = inf s} h p = absurd (h .is-finite)
 plus-from-zero {B = B} {x = fin true m e} h p = absurd (true≢false p)
-plus-from-zero {B = B} {x = fin false m e} h p = at-most (0 * 1 * down e) (m * up e * 1) (eqb (0 * 1 * down e) 0) (subst (λ (a : ℕ). a ≤ m * up e * 1) (sym (zero-mul (down e))) zero-le)
+plus-from-zero {B =
+    B} {x = fin false m e} h p = at-most (0 * 1 * down e) (m * up e * 1) (eqb (0 * 1 * down e) 0) (subst (λ (a : ℕ). a ≤ m * up e * 1) (sym (zero-mul (down e))) zero-le)
 
 pub plus-to-one : {x : Float} → Within 1 x → negative x ≡ false → le x (fin false 1 (pos 0)) ≡ true
 unfolding le lt eq

@@ -3,7 +3,23 @@ use mathlib.Core.Path.{_≡_, refl, sym, ap, _∙_, subst}
 use mathlib.Core.Logic.{_⊎_, inl, inr}
 use mathlib.Core.Bool.{Bool, true, false, cond}
 use Prim.Native.Nat.{ℕ, _+_, _*_, _^_, _≤_, _<_}
-use native.Mathlib.Nat.{mul-comm, mul-assoc, mul-le-mul, mul-lt-mul-of-pos-right, le-trans, le-of-eq, le-of-lt, lt-of-lt-of-le, lt-of-le-of-lt, lt-irrefl, mul-le-mul-right, eq-zero-or-pos, zero-mul, one-mul, add-zero}
+use native.Mathlib.Nat.{
+  mul-comm,
+  mul-assoc,
+  mul-le-mul,
+  mul-lt-mul-of-pos-right,
+  le-trans,
+  le-of-eq,
+  le-of-lt,
+  lt-of-lt-of-le,
+  lt-of-le-of-lt,
+  lt-irrefl,
+  mul-le-mul-right,
+  eq-zero-or-pos,
+  zero-mul,
+  one-mul,
+  add-zero,
+}
 use native.Mathlib.Omega.{arith}
 use lib.Dec.{T, eqb, eqb→eq, eqb-refl, lit<, lit≤}
 use lib.Arith.{lt-of-le-ne}
@@ -93,7 +109,9 @@ module _ (x : Float) (F : T (fits binary64 x)) (p : T (rootable x)) where
 
   q-nearest : Nearest (2 * w + c) 2 q
   unfolding one
-  q-nearest = nearest-same ((2 * w + c) * 2 ^ 1074) (2 * 2 ^ 1074) (2 * w + c) 2 q unit (mul-assoc (2 * w + c) (2 ^ 1074) 2 ∙ ap (λ (z : ℕ). (2 * w + c) * z) (mul-comm (2 ^ 1074) 2)) (round-nearest (negative x) (2 * w + c) (2 * 2 ^ 1074) unit q-finite)
+  q-nearest =
+      nearest-same ((2 * w + c) * 2 ^ 1074) (2 * 2 ^ 1074) (2 * w + c) 2 q unit (mul-assoc (2 * w + c) (2 ^ 1074) 2 ∙ ap (λ (z : ℕ). (2 * w + c) * z) (mul-comm (2 ^ 1074) 2))
+      (round-nearest (negative x) (2 * w + c) (2 * 2 ^ 1074) unit q-finite)
 
   -- the root is w, or lies between w and w + 1
   which : ((w * w ≡ n) × (c ≡ 0)) ⊎ ((w * w < n) × (c ≡ 1))
@@ -150,7 +168,9 @@ module _ (x : Float) (F : T (fits binary64 x)) (p : T (rootable x)) where
         up h = omega arith
 
     q-large : 2 ^ 54 ≤ units q
-    q-large = le-trans (le-of-eq (sym large-units)) (nearest-at-least (2 * w + c) 2 q large (lit< tt) q-nearest large-fits large-finite (le-trans (le-of-eq (ap (λ (z : ℕ). z * 2) large-units)) (twice w c w-large)))
+    q-large =
+        le-trans (le-of-eq (sym large-units)) (nearest-at-least (2 * w + c) 2 q large (lit< tt) q-nearest large-fits large-finite
+        (le-trans (le-of-eq (ap (λ (z : ℕ). z * 2) large-units)) (twice w c w-large)))
       where
         twice : (w c : ℕ) → 2 ^ 54 ≤ w → 2 ^ 54 * 2 ≤ 2 * w + c
         twice w c h = omega arith

@@ -45,7 +45,9 @@ by-digit P next t y e f g = subst P (sym e) (go (leb t y) (leb→le t y) (nleb�
     go false h k = g (k tt)
 
 pub taken : (next t y d : ℕ) → next ≡ cond (leb t y) 1 0 → Taken next t y d
-taken next t y d e = by-digit (λ (k : ℕ). Taken k t y d) next t y e (λ (h : t ≤ y). record { off = omega arith; bit = omega arith; small = omega arith; part = omega arith }) (λ (h : y < t). record { off = omega arith; bit = omega arith; small = omega arith; part = omega arith })
+taken next t y d e =
+    by-digit (λ (k : ℕ). Taken k t y d) next t y e (λ (h : t ≤ y). record { off = omega arith; bit = omega arith; small = omega arith; part = omega arith })
+    (λ (h : y < t). record { off = omega arith; bit = omega arith; small = omega arith; part = omega arith })
 
 -- ---- a step
 

@@ -2,7 +2,25 @@
 use mathlib.Core.Path.{_≡_, refl, sym, ap, _∙_, subst}
 use mathlib.Core.Bool.{Bool, true, false, not, cond, _&&_, _||_, Bool·beq}
 use Prim.Native.Nat.{ℕ, zero, suc, _+_, _-_, _*_, _/_, _%_, _^_, _<_}
-use native.Mathlib.Nat.{mul-comm, mul-assoc, mul-one, zero-mul, one-mul, mul-pos, mul-right-comm, mod-eq-of-lt, add-mul, mul-lt-mul-of-pos-right, lt-of-mul-lt-mul-right, lt-of-le-of-lt, lt-of-lt-of-le, le-of-eq, eq-of-mul-eq-mul-right, zero-lt-suc, pow-succ'}
+use native.Mathlib.Nat.{
+  mul-comm,
+  mul-assoc,
+  mul-one,
+  zero-mul,
+  one-mul,
+  mul-pos,
+  mul-right-comm,
+  mod-eq-of-lt,
+  add-mul,
+  mul-lt-mul-of-pos-right,
+  lt-of-mul-lt-mul-right,
+  lt-of-le-of-lt,
+  lt-of-lt-of-le,
+  le-of-eq,
+  eq-of-mul-eq-mul-right,
+  zero-lt-suc,
+  pow-succ',
+}
 use native.Mathlib.Omega.{arith}
 use lib.IntN.{ℤ, pos, negsuc}
 use lib.Dec.{T, ltb, eqb, ltb→lt, lt→ltb, nleb→lt, eqb→eq, not-T}
@@ -84,14 +102,17 @@ some-below m e = is-true _ (lt→ltb 0 (suc m * up e * 1 + 0 * 1 * down e) (sum 
 
 some-above : (m : ℕ) (e : ℤ) → lt (fin false (suc m) e) zeroF ≡ false
 unfolding lt ofBits
-some-above m e = is-false _ (not-T (ltb (suc m * up e * 1) (0 * 1 * down e)) (λ t. no (suc m * up e * 1) (0 * 1 * down e) (ltb→lt (suc m * up e * 1) (0 * 1 * down e) t) (nothing (down e))))
+some-above m e =
+    is-false _ (not-T (ltb (suc m * up e * 1) (0 * 1 * down e)) (λ t. no (suc m * up e * 1) (0 * 1 * down e) (ltb→lt (suc m * up e * 1) (0 * 1 * down e) t) (nothing (down e))))
   where
     no : (a b : ℕ) → a < b → b ≡ 0 → ⊥
     no a b h e = omega arith
 
 some-unequal : (m : ℕ) (e : ℤ) → eq (fin false (suc m) e) zeroF ≡ false
 unfolding eq ofBits
-some-unequal m e = go (eqb (suc m * up e * 1) (0 * 1 * down e)) (λ t. no (suc m * up e * 1) (0 * 1 * down e) (mul-pos (mul-pos (zero-lt-suc m) (up-pos e)) (zero-lt-suc 0)) (eqb→eq (suc m * up e * 1) (0 * 1 * down e) t) (nothing (down e)))
+some-unequal m e =
+    go (eqb (suc m * up e * 1) (0 * 1 * down e)) (λ t. no (suc m * up e * 1) (0 * 1 * down e) (mul-pos (mul-pos (zero-lt-suc m) (up-pos e)) (zero-lt-suc 0))
+    (eqb→eq (suc m * up e * 1) (0 * 1 * down e) t) (nothing (down e)))
   where
     no : (a b : ℕ) → 0 < a → a ≡ b → b ≡ 0 → ⊥
     no a b h e z = omega arith
@@ -165,7 +186,8 @@ module _ (s t : Bool) (m n : ℕ) (e d : ℤ) (F : T (fits binary64 (fin s m e))
   left = mul-right-comm (m * up e) (down d) (2 ^ 1074) ∙ ap (λ (k : ℕ). k * down d) (own s m e F) ∙ mul-assoc X (down e) (down d)
 
   right : b * 2 ^ 1074 ≡ Y * (down e * down d)
-  right = mul-right-comm (n * up d) (down e) (2 ^ 1074) ∙ ap (λ (k : ℕ). k * down e) (own t n d G) ∙ mul-assoc Y (down d) (down e) ∙ ap (λ (k : ℕ). Y * k) (mul-comm (down d) (down e))
+  right =
+      mul-right-comm (n * up d) (down e) (2 ^ 1074) ∙ ap (λ (k : ℕ). k * down e) (own t n d G) ∙ mul-assoc Y (down d) (down e) ∙ ap (λ (k : ℕ). Y * k) (mul-comm (down d) (down e))
 
   none : 0 * 2 ^ 1074 ≡ 0 * (down e * down d)
   none = zero-mul (2 ^ 1074) ∙ sym (zero-mul (down e * down d))
@@ -203,7 +225,8 @@ eq-units (fin s m e) nan F G p q = absurd q
 eq-units (fin s m e) (inf t) F G p q = absurd q
 eq-units (fin s m e) (fin t n d) F G p q = fin-level s t m n e d F G
 
-pub le-units : (x y : Float) → T (fits binary64 x) → T (fits binary64 y) → T (finite x) → T (finite y) → le x y ≡ below (negative x) (units x) (negative y) (units y) || level (negative x) (units x) (negative y) (units y)
+pub le-units : (x y : Float) → T (fits binary64 x) → T (fits binary64 y) → T (finite x) → T (finite y) → le x y ≡ below (negative x) (units x) (negative y) (units y) || level
+    (negative x) (units x) (negative y) (units y)
 unfolding le
 le-units x y F G p q = ap (λ (k : Bool). k || eq x y) (lt-units x y F G p q) ∙ ap (λ (k : Bool). below (negative x) (units x) (negative y) (units y) || k) (eq-units x y F G p q)
 

@@ -2,7 +2,26 @@
 use mathlib.Core.Path.{_≡_, sym, ap, _∙_}
 use mathlib.Core.Logic.{_⊎_, inl, inr}
 use Prim.Native.Nat.{ℕ, _+_, _-_, _*_, _^_, _≤_, _<_}
-use native.Mathlib.Nat.{mul-comm, mul-assoc, mul-add, add-mul, suc-mul, mul-le-mul, mul-le-mul-left, mul-le-mul-right, mul-lt-mul-of-pos-right, lt-of-mul-lt-mul-right, le-trans, le-of-eq, le-of-lt, lt-of-le-of-lt, lt-of-lt-of-le, mul-mul-mul-comm, mul-pos, pow-succ'}
+use native.Mathlib.Nat.{
+  mul-comm,
+  mul-assoc,
+  mul-add,
+  add-mul,
+  suc-mul,
+  mul-le-mul,
+  mul-le-mul-left,
+  mul-le-mul-right,
+  mul-lt-mul-of-pos-right,
+  lt-of-mul-lt-mul-right,
+  le-trans,
+  le-of-eq,
+  le-of-lt,
+  lt-of-le-of-lt,
+  lt-of-lt-of-le,
+  mul-mul-mul-comm,
+  mul-pos,
+  pow-succ',
+}
 use native.Mathlib.Omega.{arith}
 use native.Mathlib.Numerals.{add-one}
 use mathlib.Core.Bool.{Bool, true, false, not}
@@ -87,7 +106,8 @@ module _ (m q h p k : ℕ) (d : Digits m q) (low : 2 ^ 104 ≤ m) (P : p < 2 ^ 5
 
   pub over : q * W < p * 2 ^ k → 4 * (m * 2 ^ (h + h)) < (q * W + p * 2 ^ k) * (q * W + p * 2 ^ k)
   over l =
-      let g : (2 * q + 1) * W ≤ q * W + p * 2 ^ k = le-trans (le-of-eq (simp add-mul (omega (arith, mul-assoc 2 q W)))) (far (q * W) W (p * 2 ^ k) (next-up q h p k (d .least) P l)) in
+      let g : (2 * q + 1) * W ≤ q * W + p * 2 ^ k = le-trans (le-of-eq (simp add-mul (omega (arith, mul-assoc 2 q W)))) (far (q * W) W (p * 2 ^ k) (next-up q h p k (d .least) P l))
+      in
       lt-of-le-of-lt (le-of-eq four)
       (lt-of-lt-of-le (mul-lt-mul-of-pos-right (sq-over m q (d .over)) (mul-pos (pow-pos h) (pow-pos h)))
       (le-trans (le-of-eq (mul-mul-mul-comm (2 * q + 1) (2 * q + 1) W W)) (mul-le-mul g g)))

@@ -3,7 +3,38 @@ use mathlib.Core.Path.{_≡_, refl, sym, ap, _∙_, subst}
 use mathlib.Core.Logic.{_⊎_, inl, inr}
 use mathlib.Core.Bool.{Bool, true, false, not, _&&_, cond, true≢false}
 use Prim.Native.Nat.{ℕ, zero, suc, _+_, _-_, _*_, _/_, _%_, _^_, _≤_, _<_, compare, Ordering, Ordering·lt, Ordering·eq, Ordering·gt}
-use native.Mathlib.Nat.{mul-comm, mul-assoc, mul-left-comm, mul-right-comm, mul-one, one-mul, add-mul, mul-add, suc-mul, mul-pos, mul-le-mul-left, mul-le-mul-right, le-of-mul-le-mul-right, mul-lt-mul-of-pos-right, mul-mul-mul-comm, div-add-mod', mod-lt, le-div-iff-mul-le, le-trans, le-of-eq, le-of-lt, lt-of-lt-of-le, lt-of-le-of-lt, lt-irrefl, le-antisymm, eq-zero-or-pos, zero-lt-suc, zero-mul, zero-div, mul-sub}
+use native.Mathlib.Nat.{
+  mul-comm,
+  mul-assoc,
+  mul-left-comm,
+  mul-right-comm,
+  mul-one,
+  one-mul,
+  add-mul,
+  mul-add,
+  suc-mul,
+  mul-pos,
+  mul-le-mul-left,
+  mul-le-mul-right,
+  le-of-mul-le-mul-right,
+  mul-lt-mul-of-pos-right,
+  mul-mul-mul-comm,
+  div-add-mod',
+  mod-lt,
+  le-div-iff-mul-le,
+  le-trans,
+  le-of-eq,
+  le-of-lt,
+  lt-of-lt-of-le,
+  lt-of-le-of-lt,
+  lt-irrefl,
+  le-antisymm,
+  eq-zero-or-pos,
+  zero-lt-suc,
+  zero-mul,
+  zero-div,
+  mul-sub,
+}
 use native.Mathlib.Omega.{arith}
 use lib.IntN.{ℤ}
 use lib.Dec.{T, isLe, isEq, ltb, eqb, ltb→lt, leb→le, nleb→lt, eqb→eq, eqb-refl, eqb·suc-zero, nltb→le}
@@ -49,7 +80,8 @@ half w r b a Ordering·lt e l c = (le-trans (lo (w * b) a r b e c) (le-of-eq (sy
 
     hi : (x a r b : ℕ) → x + r ≡ a → 2 * x ≤ 2 * a + b
     hi x a r b e = omega arith
-half w r b a Ordering·gt e l c = (le-trans (lo (w * b) a r b e l) (le-of-eq (sym (odd-times w b))), le-trans (le-of-eq (mul-assoc 2 (suc w) b ∙ ap (λ (x : ℕ). 2 * x) (suc-mul w b))) (hi (w * b) a r b e c))
+half w r b a Ordering·gt e l c =
+    (le-trans (lo (w * b) a r b e l) (le-of-eq (sym (odd-times w b))), le-trans (le-of-eq (mul-assoc 2 (suc w) b ∙ ap (λ (x : ℕ). 2 * x) (suc-mul w b))) (hi (w * b) a r b e c))
   where
     odd-times : (w b : ℕ) → (2 * suc w + 1) * b ≡ 2 * (w * b) + 3 * b
     odd-times w b = simp add-mul (omega (arith, mul-assoc 2 (suc w) b, suc-mul w b))
@@ -69,11 +101,17 @@ half w r b a Ordering·eq e l c = go (w % 2) (small w)
 
     go : (z : ℕ) → z < 2 → (2 * a ≤ (2 * (w + z) + 1) * b) × (2 * (w + z) * b ≤ 2 * a + b)
     go zero h =
-        let k = lo (w * b) a r b e c in
-        (le-trans (k .0) (le-of-eq (sym (simp (add-mul, mul-add) (omega (arith, mul-assoc 2 w b))))), le-trans (le-of-eq (simp (add-mul, mul-add) (omega (arith, mul-assoc 2 w b)))) (k .1))
+        let k = lo (w * b) a r b e c in (
+          le-trans (k .0) (le-of-eq (sym (simp (add-mul, mul-add) (omega (arith, mul-assoc 2 w b))))),
+          le-trans (le-of-eq (simp (add-mul, mul-add) (omega (arith, mul-assoc 2 w b))))
+              (k .1),
+        )
     go (suc zero) h =
-        let k = lo (w * b) a r b e c in
-        (le-trans (k .2) (le-of-eq (sym (simp (add-mul, mul-add) (omega (arith, mul-assoc 2 w b))))), le-trans (le-of-eq (simp (add-mul, mul-add) (omega (arith, mul-assoc 2 w b)))) (k .3))
+        let k = lo (w * b) a r b e c in (
+          le-trans (k .2) (le-of-eq (sym (simp (add-mul, mul-add) (omega (arith, mul-assoc 2 w b))))),
+          le-trans (le-of-eq (simp (add-mul, mul-add) (omega (arith, mul-assoc 2 w b))))
+              (k .3),
+        )
     go (suc (suc z)) h = absurd (no z h)
       where
         no : (z : ℕ) → suc (suc z) < 2 → ⊥
@@ -148,7 +186,9 @@ module _ (n den : ℕ) (D : 0 < den) where
     gap-down (inr h) l = next-down Q k p j (le-of-lt h) P h l
 
     clear : (k ≡ 0) ⊎ (2 ^ 52 < Q) → Y < Q * w → (Q * w + Y) * den ≤ 2 * n
-    clear c l = cut ((Q * w + Y) * den) (w * den) (2 * Q * u) (2 * n) u (le-trans (le-of-eq (sym (add-mul (Q * w + Y) w den))) (le-trans (mul-le-mul-right den (far (Q * w) w Y (gap-down c l))) (le-of-eq (twice 0)))) (closest-half n u U .1) (mul-comm w den)
+    clear c l =
+        cut ((Q * w + Y) * den) (w * den) (2 * Q * u) (2 * n) u (le-trans (le-of-eq (sym (add-mul (Q * w + Y) w den)))
+        (le-trans (mul-le-mul-right den (far (Q * w) w Y (gap-down c l))) (le-of-eq (twice 0)))) (closest-half n u U .1) (mul-comm w den)
       where
         far : (a w b : ℕ) → b + w ≤ a → a + b + w ≤ 2 * a
         far a w b x = omega arith
@@ -179,7 +219,8 @@ no-overflow s q k h = go (ltb (q * 2 ^ k) (2 ^ 2098)) (ltb→lt (q * 2 ^ k) (2 ^
     go true g t = g tt
     go false g t = absurd t
 
-pub round-is-units : (s : Bool) (num den : ℕ) → T (finite (round binary64 s num den)) → Is (round binary64 s num den) s (kept 53 (num * 2 ^ 1074) den * 2 ^ drop 53 (num * 2 ^ 1074) den)
+pub round-is-units : (s : Bool) (num den : ℕ) → T (finite (round binary64 s num den)) → Is (round binary64 s num den) s
+    (kept 53 (num * 2 ^ 1074) den * 2 ^ drop 53 (num * 2 ^ 1074) den)
 round-is-units s num den p =
     let n = num * 2 ^ 1074 in
     let q = kept 53 n den in
@@ -215,8 +256,12 @@ round-nearest s num den D p =
 pub nearest-same : (n d n′ d′ : ℕ) (r : Float) → 0 < d → n * d′ ≡ n′ * d → Nearest n d r → Nearest n′ d′ r
 nearest-same n d n′ d′ r D e a = record {
   is-finite = a .is-finite;
-  above = λ y F f l. le-of-mul-le-mul-right (le-trans (le-of-eq (mul-assoc 2 n′ d ∙ ap (λ (x : ℕ). 2 * x) (sym e) ∙ sym (mul-assoc 2 n d′))) (le-trans (mul-le-mul-right d′ (a .above y F f l)) (le-of-eq (mul-right-comm (units r + units y) d d′)))) D;
-  below = λ y F f l. le-of-mul-le-mul-right (le-trans (le-of-eq (mul-right-comm (units r + units y) d′ d)) (le-trans (mul-le-mul-right d′ (a .below y F f l)) (le-of-eq (mul-assoc 2 n d′ ∙ ap (λ (x : ℕ). 2 * x) e ∙ sym (mul-assoc 2 n′ d))))) D;
+  above =
+      λ y F f l. le-of-mul-le-mul-right (le-trans (le-of-eq (mul-assoc 2 n′ d ∙ ap (λ (x : ℕ). 2 * x) (sym e) ∙ sym (mul-assoc 2 n d′)))
+      (le-trans (mul-le-mul-right d′ (a .above y F f l)) (le-of-eq (mul-right-comm (units r + units y) d d′)))) D;
+  below =
+      λ y F f l. le-of-mul-le-mul-right (le-trans (le-of-eq (mul-right-comm (units r + units y) d′ d))
+      (le-trans (mul-le-mul-right d′ (a .below y F f l)) (le-of-eq (mul-assoc 2 n d′ ∙ ap (λ (x : ℕ). 2 * x) e ∙ sym (mul-assoc 2 n′ d))))) D;
 }
 
 -- ---- the operations
@@ -231,14 +276,16 @@ product : (a b X Y c d U : ℕ) → a * U ≡ X * c → b * U ≡ Y * d → a * 
 product a b X Y c d U p q = mul-assoc (a * b) U U ∙ mul-mul-mul-comm a b U U ∙ ap (λ (x : ℕ). x * (b * U)) p ∙ ap (λ (x : ℕ). X * c * x) q ∙ mul-mul-mul-comm X c Y d
 
 -- a product is nearest to X * Y / 2 ^ 1074 units
-pub mul-nearest : (x y : Float) → T (fits binary64 x) → T (fits binary64 y) → T (finite x) → T (finite y) → T (finite (mul binary64 x y)) → Nearest (units x * units y) one (mul binary64 x y)
+pub mul-nearest : (x y : Float) → T (fits binary64 x) → T (fits binary64 y) → T (finite x) → T (finite y) → T (finite (mul binary64 x y)) → Nearest (units x * units y) one
+    (mul binary64 x y)
 unfolding mul one
 mul-nearest nan y F G p q h = absurd p
 mul-nearest (inf s) y F G p q h = absurd p
 mul-nearest (fin s m e) nan F G p q h = absurd q
 mul-nearest (fin s m e) (inf t) F G p q h = absurd q
 mul-nearest (fin s m e) (fin t n d) F G p q h =
-    nearest-same (m * up e * (n * up d) * 2 ^ 1074) (down e * down d) (units (fin s m e) * units (fin t n d)) (2 ^ 1074) (round binary64 (unlike s t) (m * up e * (n * up d)) (down e * down d)) (mul-pos (down-pos e) (down-pos d))
+    nearest-same (m * up e * (n * up d) * 2 ^ 1074) (down e * down d) (units (fin s m e) * units (fin t n d)) (2 ^ 1074)
+    (round binary64 (unlike s t) (m * up e * (n * up d)) (down e * down d)) (mul-pos (down-pos e) (down-pos d))
     (product (m * up e) (n * up d) (units (fin s m e)) (units (fin t n d)) (down e) (down d) (2 ^ 1074) (own s m e F) (own t n d G))
     (round-nearest (unlike s t) (m * up e * (n * up d)) (down e * down d) (mul-pos (down-pos e) (down-pos d)) h)
 
@@ -251,7 +298,8 @@ not-zero : (s : Bool) (n : ℕ) (d : ℤ) → T (fits binary64 (fin s (suc n) d)
 not-zero s n d F = first-pos (units (fin s (suc n) d)) (down d) (lt-of-lt-of-le (mul-pos (mul-pos (zero-lt-suc n) (up-pos d)) (pow-pos 1074)) (le-of-eq (own s (suc n) d F)))
 
 -- a quotient is nearest to X * 2 ^ 1074 / Y units, where Y is not 0
-pub div-nearest : (x y : Float) → T (fits binary64 x) → T (fits binary64 y) → T (finite x) → T (finite y) → 0 < units y → T (finite (div binary64 x y)) → Nearest (units x * one) (units y) (div binary64 x y)
+pub div-nearest : (x y : Float) → T (fits binary64 x) → T (fits binary64 y) → T (finite x) → T (finite y) → 0 < units y → T (finite (div binary64 x y)) → Nearest (units x * one)
+    (units y) (div binary64 x y)
 unfolding div units one
 div-nearest nan y F G p q z h = absurd p
 div-nearest (inf s) y F G p q z h = absurd p
@@ -324,7 +372,8 @@ module _ (s t : Bool) (a b c X Y : ℕ) (C : 0 < c) (p : a * 2 ^ 1074 ≡ X * c)
       scaled : (a b X Y : ℕ) → a * 2 ^ 1074 ≡ X * c → b * 2 ^ 1074 ≡ Y * c → (b - a) * 2 ^ 1074 ≡ (Y - X) * c
       scaled a b X Y p q = sub-mul b a (2 ^ 1074) ∙ ap (λ (x : ℕ). x - a * 2 ^ 1074) q ∙ ap (λ (x : ℕ). Y * c - x) p ∙ sym (sub-mul Y X c)
 
-      go : (k : Bool) → (T k → a < b) → (T (not k) → b ≤ a) → T (finite (cond k (round binary64 (not s) (b - a) c) (round binary64 (s && ltb b a) (a - b) c))) → Nearest (X - Y + (Y - X)) 1 (cond k (round binary64 (not s) (b - a) c) (round binary64 (s && ltb b a) (a - b) c))
+      go : (k : Bool) → (T k → a < b) → (T (not k) → b ≤ a) → T (finite (cond k (round binary64 (not s) (b - a) c) (round binary64 (s && ltb b a) (a - b) c))) → Nearest
+          (X - Y + (Y - X)) 1 (cond k (round binary64 (not s) (b - a) c) (round binary64 (s && ltb b a) (a - b) c))
       go true l m h =
           same (round binary64 (not s) (b - a) c) (b - a) (X - Y + (Y - X)) (scaled a b X Y p q ∙ ap (λ (x : ℕ). x * c) (gone X Y (order a b X Y (le-of-lt (l tt)) p q)))
           (round-nearest (not s) (b - a) c C h)
@@ -339,7 +388,8 @@ shared′ : (a X e d U : ℕ) → a * U ≡ X * e → a * d * U ≡ X * (d * e)
 shared′ a X e d U p = shared a X e d U p ∙ ap (λ (x : ℕ). X * x) (mul-comm e d)
 
 -- a sum is nearest to X + Y units where the signs are the same, and to the difference where they are not
-pub add-same : (x y : Float) → T (fits binary64 x) → T (fits binary64 y) → T (finite x) → T (finite y) → negative x ≡ negative y → T (finite (add binary64 x y)) → Nearest (units x + units y) 1 (add binary64 x y)
+pub add-same : (x y : Float) → T (fits binary64 x) → T (fits binary64 y) → T (finite x) → T (finite y) → negative x ≡ negative y → T (finite (add binary64 x y)) → Nearest
+    (units x + units y) 1 (add binary64 x y)
 unfolding add
 add-same nan y F G p q e h = absurd p
 add-same (inf s) y F G p q e h = absurd p
@@ -349,7 +399,8 @@ add-same (fin s m a) (fin t n d) F G p q e h =
     sum-same s t (m * up a * down d) (n * up d * down a) (down a * down d) (units (fin s m a)) (units (fin t n d)) (mul-pos (down-pos a) (down-pos d))
     (shared (m * up a) (units (fin s m a)) (down a) (down d) (2 ^ 1074) (own s m a F)) (shared′ (n * up d) (units (fin t n d)) (down d) (down a) (2 ^ 1074) (own t n d G)) e h
 
-pub add-differ : (x y : Float) → T (fits binary64 x) → T (fits binary64 y) → T (finite x) → T (finite y) → negative y ≡ not (negative x) → T (finite (add binary64 x y)) → Nearest (units x - units y + (units y - units x)) 1 (add binary64 x y)
+pub add-differ : (x y : Float) → T (fits binary64 x) → T (fits binary64 y) → T (finite x) → T (finite y) → negative y ≡ not (negative x) → T (finite (add binary64 x y)) → Nearest
+    (units x - units y + (units y - units x)) 1 (add binary64 x y)
 unfolding add
 add-differ nan y F G p q e h = absurd p
 add-differ (inf s) y F G p q e h = absurd p
@@ -366,7 +417,8 @@ two-times a d = simp add-mul (omega arith)
 
 pub nearest-le : (n d : ℕ) (r y : Float) → 0 < d → Nearest n d r → T (fits binary64 y) → T (finite y) → n ≤ units y * d → units r ≤ units y
 nearest-le n d r y D a F p h = elim (lt-or-ge (units y) (units r)) [
-  | inl l ↦ absurd (lt-irrefl (2 * n) (lt-of-le-of-lt (le-trans (mul-le-mul-left 2 h) (le-of-eq (two-times (units y) d))) (lt-of-lt-of-le (mul-lt-mul-of-pos-right (more (units y) (units r) l) D) (a .below y F p l))))
+  | inl l ↦ absurd (lt-irrefl (2 * n) (lt-of-le-of-lt (le-trans (mul-le-mul-left 2 h) (le-of-eq (two-times (units y) d)))
+      (lt-of-lt-of-le (mul-lt-mul-of-pos-right (more (units y) (units r) l) D) (a .below y F p l))))
   | inr l ↦ l
 ]
   where
@@ -375,7 +427,8 @@ nearest-le n d r y D a F p h = elim (lt-or-ge (units y) (units r)) [
 
 pub nearest-at-least : (n d : ℕ) (r y : Float) → 0 < d → Nearest n d r → T (fits binary64 y) → T (finite y) → units y * d ≤ n → units y ≤ units r
 nearest-at-least n d r y D a F p h = elim (lt-or-ge (units r) (units y)) [
-  | inl l ↦ absurd (lt-irrefl (2 * n) (lt-of-le-of-lt (a .above y F p l) (lt-of-lt-of-le (mul-lt-mul-of-pos-right (more (units y) (units r) l) D) (le-trans (le-of-eq (sym (two-times (units y) d))) (mul-le-mul-left 2 h)))))
+  | inl l ↦ absurd (lt-irrefl (2 * n) (lt-of-le-of-lt (a .above y F p l)
+      (lt-of-lt-of-le (mul-lt-mul-of-pos-right (more (units y) (units r) l) D) (le-trans (le-of-eq (sym (two-times (units y) d))) (mul-le-mul-left 2 h)))))
   | inr l ↦ l
 ]
   where

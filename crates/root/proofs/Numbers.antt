@@ -84,5 +84,6 @@ div-number (fin s m e) nan p q h = absurd q
 div-number (fin s m e) (inf t) p q h = absurd q
 div-number (fin s m e) (fin t zero d) p q h = absurd (true≢false (sym (zero-eq t d) ∙ h))
 div-number (fin s m e) (fin t (suc n) d) p q h =
-    subst (λ (b : Bool). T (not (isNan (cond b (cond (eqb m 0) nan (inf (unlike s t))) (round binary64 (unlike s t) (m * up e * down d) (suc n * up d * down e)))))) (sym (eqb·suc-zero n))
+    subst (λ (b : Bool). T (not (isNan (cond b (cond (eqb m 0) nan (inf (unlike s t))) (round binary64 (unlike s t) (m * up e * down d) (suc n * up d * down e))))))
+    (sym (eqb·suc-zero n))
     (round-number binary64 (unlike s t) (m * up e * down d) (suc n * up d * down e))

@@ -60,7 +60,9 @@ pattern-less a b l = lt-of-le-of-lt (le-of-eq (pattern-is a)) (lt-of-lt-of-le (e
 -- so tests of patterns are those of units
 
 pattern-ltb : (a b : ℕ) → ltb (patternUnits a) (patternUnits b) ≡ ltb a b
-pattern-ltb a b = same-test (ltb (patternUnits a) (patternUnits b)) (ltb a b) (λ t. lt→ltb a b (back (ltb→lt (patternUnits a) (patternUnits b) t))) (λ t. lt→ltb (patternUnits a) (patternUnits b) (pattern-less a b (ltb→lt a b t)))
+pattern-ltb a b =
+    same-test (ltb (patternUnits a) (patternUnits b)) (ltb a b) (λ t. lt→ltb a b (back (ltb→lt (patternUnits a) (patternUnits b) t)))
+    (λ t. lt→ltb (patternUnits a) (patternUnits b) (pattern-less a b (ltb→lt a b t)))
   where
     no : (u v : ℕ) → u < v → v < u → ⊥
     no u v h k = omega arith
@@ -78,7 +80,8 @@ pattern-ltb a b = same-test (ltb (patternUnits a) (patternUnits b)) (ltb a b) (�
     ]
 
 pattern-eqb : (a b : ℕ) → eqb (patternUnits a) (patternUnits b) ≡ eqb a b
-pattern-eqb a b = same-test (eqb (patternUnits a) (patternUnits b)) (eqb a b) (λ t. eq→eqb (back (eqb→eq (patternUnits a) (patternUnits b) t))) (λ t. eq→eqb (ap patternUnits (eqb→eq a b t)))
+pattern-eqb a b =
+    same-test (eqb (patternUnits a) (patternUnits b)) (eqb a b) (λ t. eq→eqb (back (eqb→eq (patternUnits a) (patternUnits b) t))) (λ t. eq→eqb (ap patternUnits (eqb→eq a b t)))
   where
     same : (u v : ℕ) → u < v → u ≡ v → ⊥
     same u v h e = omega arith
@@ -96,7 +99,9 @@ unfolding patternUnits fieldUnits
 none = refl
 
 sum-ltb : (a b : ℕ) → ltb 0 (patternUnits a + patternUnits b) ≡ ltb 0 (a + b)
-sum-ltb a b = same-test (ltb 0 (patternUnits a + patternUnits b)) (ltb 0 (a + b)) (λ t. lt→ltb 0 (a + b) (to a b (ltb→lt 0 (patternUnits a + patternUnits b) t))) (λ t. lt→ltb 0 (patternUnits a + patternUnits b) (from a b (ltb→lt 0 (a + b) t)))
+sum-ltb a b =
+    same-test (ltb 0 (patternUnits a + patternUnits b)) (ltb 0 (a + b)) (λ t. lt→ltb 0 (a + b) (to a b (ltb→lt 0 (patternUnits a + patternUnits b) t)))
+    (λ t. lt→ltb 0 (patternUnits a + patternUnits b) (from a b (ltb→lt 0 (a + b) t)))
   where
     no : (u v : ℕ) → 0 < u + v → u ≡ 0 → v ≡ 0 → ⊥
     no u v h e f = omega arith
@@ -215,7 +220,9 @@ two-below true true I h = sym (is-false (ltb I I) (not-T (ltb I I) (λ k. no I (
 -- infinities
 inf-lt : (s t : Bool) → lt (inf s) (inf t) ≡ below s (unsigned (inf s)) t (unsigned (inf t))
 unfolding lt
-inf-lt s t = two-below s t (2047 * 2 ^ 52) (lit< tt) ∙ ap (λ (k : ℕ). below s k t (2047 * 2 ^ 52)) (sym (inf-unsigned s)) ∙ ap (λ (k : ℕ). below s (unsigned (inf s)) t k) (sym (inf-unsigned t))
+inf-lt s t =
+    two-below s t (2047 * 2 ^ 52) (lit< tt) ∙ ap (λ (k : ℕ). below s k t (2047 * 2 ^ 52)) (sym (inf-unsigned s)) ∙ ap (λ (k : ℕ). below s (unsigned (inf s)) t k)
+    (sym (inf-unsigned t))
 
 inf-eq : (s t : Bool) → eq (inf s) (inf t) ≡ level s (unsigned (inf s)) t (unsigned (inf t))
 unfolding eq
@@ -248,7 +255,8 @@ module _ (t : Bool) (n : ℕ) (d : ℤ) (G : T (fits binary64 (fin t n d))) (s :
   fin-eq-inf = level-large (unsigned (inf s)) (unsigned (fin t n d)) less t s
 
 -- every double but a NaN
-pub lt-patterns : (x y : Float) → T (fits binary64 x) → T (fits binary64 y) → T (not (isNan x)) → T (not (isNan y)) → lt x y ≡ below (negative x) (unsigned x) (negative y) (unsigned y)
+pub lt-patterns : (x y : Float) → T (fits binary64 x) → T (fits binary64 y) → T (not (isNan x)) → T (not (isNan y)) → lt x y ≡ below (negative x) (unsigned x) (negative y)
+    (unsigned y)
 unfolding isNan
 lt-patterns nan y F G p q = absurd p
 lt-patterns (inf s) nan F G p q = absurd q
@@ -258,7 +266,8 @@ lt-patterns (inf s) (fin t n d) F G p q = inf-lt-fin t n d G s
 lt-patterns (fin s m e) (inf t) F G p q = fin-lt-inf s m e F t
 lt-patterns (fin s m e) (fin t n d) F G p q = finite-lt (fin s m e) (fin t n d) F G tt tt
 
-pub eq-patterns : (x y : Float) → T (fits binary64 x) → T (fits binary64 y) → T (not (isNan x)) → T (not (isNan y)) → eq x y ≡ level (negative x) (unsigned x) (negative y) (unsigned y)
+pub eq-patterns : (x y : Float) → T (fits binary64 x) → T (fits binary64 y) → T (not (isNan x)) → T (not (isNan y)) → eq x y ≡ level (negative x) (unsigned x) (negative y)
+    (unsigned y)
 unfolding isNan
 eq-patterns nan y F G p q = absurd p
 eq-patterns (inf s) nan F G p q = absurd q

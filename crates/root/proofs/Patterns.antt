@@ -58,7 +58,8 @@ unfolding ofFields fieldUnits
 field-value s zero t h = subst (λ (a : ℕ). Is (odd 53 s t 0 1074) s a) (mul-one t) (odd-sign 53 s t 0 1074)
 field-value s (suc j) t h =
     subst (λ (v : Float). Is v s ((2 ^ 52 + t) * 2 ^ j))
-    (sym (cond-no (eqb (suc j) 2047) (cond (eqb t 0) (inf s) nan) (odd 53 s (2 ^ 52 + t) j 1074) (not-T (eqb (suc j) 2047) (λ (u : T (eqb (suc j) 2047)). differ (suc j) h (eqb→eq (suc j) 2047 u)))))
+    (sym (cond-no (eqb (suc j) 2047) (cond (eqb t 0) (inf s) nan) (odd 53 s (2 ^ 52 + t) j 1074)
+    (not-T (eqb (suc j) 2047) (λ (u : T (eqb (suc j) 2047)). differ (suc j) h (eqb→eq (suc j) 2047 u)))))
     (odd-sign 53 s (2 ^ 52 + t) j 1074)
 
 at-top : (a b s : Bool) (v : Float) → T (finite (cond a (cond b (inf s) nan) v)) → T (not a)
@@ -139,7 +140,8 @@ same-units nan y F G p q h k = absurd p
 same-units (inf s) y F G p q h k = absurd p
 same-units (fin s m e) nan F G p q h k = absurd q
 same-units (fin s m e) (inf t) F G p q h k = absurd q
-same-units (fin s m e) (fin t n d) F G p q h k = sym (ofBits-toBits binary64 (fin s m e) F) ∙ ap (ofBits binary64) (signed-pattern s t m n e d h k) ∙ ofBits-toBits binary64 (fin t n d) G
+same-units (fin s m e) (fin t n d) F G p q h k =
+    sym (ofBits-toBits binary64 (fin s m e) F) ∙ ap (ofBits binary64) (signed-pattern s t m n e d h k) ∙ ofBits-toBits binary64 (fin t n d) G
 
 -- ---- the units of a finite double are q * 2 ^ k, with q of at most 53 digits
 

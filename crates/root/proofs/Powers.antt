@@ -113,11 +113,13 @@ unfolding isNan lt ofBits
 clamp-number nan n a b = absurd n
 clamp-number (inf true) n a b = absurd (true≢false a)
 clamp-number (inf false) n a b = absurd (true≢false b)
-clamp-number (fin true m e) n a b = record { is-finite = tt; size = none (m * up e) (0 * 1 * down e) (1 * down e) (nltb→le 0 (m * up e * 1 + 0 * 1 * down e) (subst (λ (k : Bool). T (not k)) (sym a) tt)) }
+clamp-number (fin true m e) n a b =
+    record { is-finite = tt; size = none (m * up e) (0 * 1 * down e) (1 * down e) (nltb→le 0 (m * up e * 1 + 0 * 1 * down e) (subst (λ (k : Bool). T (not k)) (sym a) tt)) }
   where
     none : (n z d : ℕ) → n * 1 + z ≤ 0 → n ≤ d
     none n z d h = omega arith
-clamp-number (fin false m e) n a b = record { is-finite = tt; size = le-trans (le-of-eq (sym (mul-one (m * up e)))) (nltb→le (1 * down e) (m * up e * 1) (subst (λ (k : Bool). T (not k)) (sym b) tt)) }
+clamp-number (fin false m e) n a b =
+    record { is-finite = tt; size = le-trans (le-of-eq (sym (mul-one (m * up e)))) (nltb→le (1 * down e) (m * up e * 1) (subst (λ (k : Bool). T (not k)) (sym b) tt)) }
 
 one-within : Within 1 oneF
 unfolding ofBits
@@ -136,7 +138,9 @@ clamped-within t n = go (lt t zeroF) (lt oneF t) refl refl
 
 larger-number : (C : ℕ) (s : Bool) (m : ℕ) (e : ℤ) (n : ℕ) (d : ℤ) → AtLeast C (fin false n d) → lt (fin s m e) (fin false n d) ≡ false → AtLeast C (fin s m e)
 unfolding lt
-larger-number C true m e n d k h = absurd (none (m * up e * down d) (n * up d * down e) (mul-pos (some (C * (n * up d)) (n * up d) (lt-of-lt-of-le (down-pos d) (k .size)) refl) (down-pos e)) (nltb→le 0 (m * up e * down d + n * up d * down e) (subst (λ (b : Bool). T (not b)) (sym h) tt)))
+larger-number C true m e n d k h =
+    absurd (none (m * up e * down d) (n * up d * down e) (mul-pos (some (C * (n * up d)) (n * up d) (lt-of-lt-of-le (down-pos d) (k .size)) refl) (down-pos e))
+    (nltb→le 0 (m * up e * down d + n * up d * down e) (subst (λ (b : Bool). T (not b)) (sym h) tt)))
   where
     none : (a b : ℕ) → 0 < b → a + b ≤ 0 → ⊥
     none a b p l = omega arith
@@ -145,7 +149,11 @@ larger-number C true m e n d k h = absurd (none (m * up e * down d) (n * up d * 
     some c a p e = first-pos a C (lt-of-lt-of-le p (le-of-eq (e ∙ mul-comm C a)))
 larger-number C false m e n d k h = record {
   is-finite = tt;
-  size = le-of-mul-le-mul-right (le-trans (le-of-eq (mul-comm (down e) (down d))) (le-trans (mul-le-mul-right (down e) (k .size)) (le-trans (le-of-eq (mul-assoc C (n * up d) (down e))) (le-trans (mul-le-mul-left C (nltb→le (m * up e * down d) (n * up d * down e) (subst (λ (b : Bool). T (not b)) (sym h) tt))) (le-of-eq (sym (mul-assoc C (m * up e) (down d)))))))) (down-pos d);
+  size =
+      le-of-mul-le-mul-right (le-trans (le-of-eq (mul-comm (down e) (down d)))
+      (le-trans (mul-le-mul-right (down e) (k .size)) (le-trans (le-of-eq (mul-assoc C (n * up d) (down e)))
+      (le-trans (mul-le-mul-left C (nltb→le (m * up e * down d) (n * up d * down e) (subst (λ (b : Bool). T (not b)) (sym h) tt)))
+      (le-of-eq (sym (mul-assoc C (m * up e) (down d)))))))) (down-pos d);
 }
 
 larger-left : {C : ℕ} (x y : Float) → T (finite x) → negative y ≡ false → AtLeast C y → lt x y ≡ false → AtLeast C x

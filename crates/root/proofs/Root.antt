@@ -30,7 +30,8 @@ root-unique x r r′ F F′ a b = same-units r r′ F F′ (a .is-finite) (b .is
 
     no : (r s : Float) → T (fits binary64 r) → T (fits binary64 s) → IsRoot x r → IsRoot x s → units r ≤ units s
     no r s F G a b = elim (lt-or-ge (units s) (units r)) [
-      | inl l ↦ absurd (clash (4 * (units x * one)) ((units s + units r) * (units s + units r)) ((units r + units s) * (units r + units s)) (b .above r F (a .is-finite) l) (a .below s G (b .is-finite) l) (sides (units s) (units r)))
+      | inl l ↦ absurd (clash (4 * (units x * one)) ((units s + units r) * (units s + units r)) ((units r + units s) * (units r + units s)) (b .above r F (a .is-finite) l)
+          (a .below s G (b .is-finite) l) (sides (units s) (units r)))
       | inr l ↦ l
     ]
 
@@ -41,7 +42,9 @@ four a = simp (add-mul, mul-add) (omega arith)
 -- r is at most any double y whose square is x or more
 pub root-le : (x r y : Float) → IsRoot x r → T (fits binary64 y) → T (finite y) → units x * one ≤ units y * units y → units r ≤ units y
 root-le x r y a F p h = elim (lt-or-ge (units y) (units r)) [
-  | inl l ↦ absurd (lt-irrefl (4 * (units x * one)) (lt-of-le-of-lt (le-trans (mul-le-mul-left 4 h) (le-trans (le-of-eq (four (units y))) (le-of-lt (sq-lt (units y + units y) (units r + units y) (more (units y) (units r) l))))) (a .below y F p l)))
+  | inl l ↦ absurd (lt-irrefl (4 * (units x * one)) (lt-of-le-of-lt
+      (le-trans (mul-le-mul-left 4 h) (le-trans (le-of-eq (four (units y))) (le-of-lt (sq-lt (units y + units y) (units r + units y) (more (units y) (units r) l)))))
+      (a .below y F p l)))
   | inr l ↦ l
 ]
   where
@@ -51,7 +54,8 @@ root-le x r y a F p h = elim (lt-or-ge (units y) (units r)) [
 -- and at least any double whose square is x or less
 pub root-ge : (x r y : Float) → IsRoot x r → T (fits binary64 y) → T (finite y) → units y * units y ≤ units x * one → units y ≤ units r
 root-ge x r y a F p h = elim (lt-or-ge (units r) (units y)) [
-  | inl l ↦ absurd (lt-irrefl (4 * (units x * one)) (lt-of-lt-of-le (a .above y F p l) (le-trans (le-of-lt (sq-lt (units r + units y) (units y + units y) (more (units y) (units r) l))) (le-trans (le-of-eq (sym (four (units y)))) (mul-le-mul-left 4 h)))))
+  | inl l ↦ absurd (lt-irrefl (4 * (units x * one)) (lt-of-lt-of-le (a .above y F p l)
+      (le-trans (le-of-lt (sq-lt (units r + units y) (units y + units y) (more (units y) (units r) l))) (le-trans (le-of-eq (sym (four (units y)))) (mul-le-mul-left 4 h)))))
   | inr l ↦ l
 ]
   where

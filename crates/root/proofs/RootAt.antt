@@ -54,7 +54,8 @@ unfolding eq units one
 size-of nan h = refl
 size-of (inf s) h = refl
 size-of (fin s m e) h =
-    let z : m * up e ≡ 0 = tidy (m * up e) (down e) (eqb→eq (m * up e * 1) (0 * 1 * down e) (and-l (eqb (m * up e * 1) (0 * 1 * down e)) (Bool·beq s false || eqb (m * up e * 1) 0) h)) in
+    let z : m * up e ≡ 0 = tidy (m * up e) (down e) (eqb→eq (m * up e * 1) (0 * 1 * down e)
+    (and-l (eqb (m * up e * 1) (0 * 1 * down e)) (Bool·beq s false || eqb (m * up e * 1) 0) h)) in
     ap (λ (a : ℕ). a * 2 ^ 1074 / down e) z ∙ none (down e)
 
 zero-size : (x : Float) → eq x (ofBits binary64 0) ≡ true → units x ≡ 0
@@ -91,7 +92,8 @@ clear nan p h = absurd p
 clear (inf s) p h = absurd p
 clear (fin false m e) p h = refl
 clear (fin true m e) p h =
-    absurd (true≢false (sym (zero-eq true e) ∙ ap (λ (k : ℕ). eq (fin true k e) (fin false 0 (pos 0))) (sym (eqb→eq m 0 p)) ∙ ap (λ (z : Float). eq (fin true m e) z) (sym zero-is) ∙ h))
+    absurd (true≢false (sym (zero-eq true e) ∙ ap (λ (k : ℕ). eq (fin true k e) (fin false 0 (pos 0))) (sym (eqb→eq m 0 p)) ∙ ap (λ (z : Float). eq (fin true m e) z) (sym zero-is)
+    ∙ h))
 
 module _ (x : Float) (F : T (fits binary64 x)) (p : T (rootable x)) (n : eq x (ofBits binary64 0) ≡ false) where
   abbrev b : ℕ
@@ -111,7 +113,8 @@ module _ (x : Float) (F : T (fits binary64 x)) (p : T (rootable x)) (n : eq x (o
 
   some : 0 < b
   some = elim (eq-zero-or-pos b) [
-    | inl e ↦ absurd (true≢false (sym (ap (λ (v : Float). eq v (fin false 0 (pos 0))) (sym (ofBits-toBits binary64 x F) ∙ ap (ofBits binary64) e ∙ zero-is) ∙ zero-eq false (pos 0)) ∙ ap (λ (v : Float). eq x v) (sym zero-is) ∙ n))
+    | inl e ↦ absurd (true≢false (sym (ap (λ (v : Float). eq v (fin false 0 (pos 0))) (sym (ofBits-toBits binary64 x F) ∙ ap (ofBits binary64) e ∙ zero-is) ∙ zero-eq false (pos 0))
+        ∙ ap (λ (v : Float). eq x v) (sym zero-is) ∙ n))
     | inr g ↦ g
   ]
 
@@ -125,9 +128,11 @@ plain h q a c = omega arith
 pub result-is : {n r : ℕ} (s : RootAt n r) → Is (ofBits binary64 r) false (s .q * 2 ^ s .h)
 result-is {n} {r} s =
     let e : patternUnits r ≡ s .q * 2 ^ s .h = ap patternUnits (s .pattern) ∙ written (s .h) (s .q) (s .digits .least) (s .digits .most) in
-    subst (λ (a : ℕ). Is (ofBits binary64 r) false a) e (plain-pattern r (subst (λ (k : ℕ). k < 2047 * 2 ^ 52) (sym (s .pattern)) (plain (s .h) (s .q) (s .range) (s .digits .most))))
+    subst (λ (a : ℕ). Is (ofBits binary64 r) false a) e (plain-pattern r
+    (subst (λ (k : ℕ). k < 2047 * 2 ^ 52) (sym (s .pattern)) (plain (s .h) (s .q) (s .range) (s .digits .most))))
 
-pub is-root : (x : Float) (F : T (fits binary64 x)) (p : T (rootable x)) (n : eq x (ofBits binary64 0) ≡ false) (r : ℕ) → RootAt (patternUnits (toBits binary64 x) * 2 ^ 1074) r → IsRoot x (ofBits binary64 r)
+pub is-root : (x : Float) (F : T (fits binary64 x)) (p : T (rootable x)) (n : eq x (ofBits binary64 0) ≡ false) (r : ℕ) → RootAt (patternUnits (toBits binary64 x) * 2 ^ 1074) r →
+    IsRoot x (ofBits binary64 r)
 unfolding one
 is-root x F p n r s =
     let v = ofBits binary64 r in

@@ -139,6 +139,8 @@ square-on-grid q (suc (suc k)) w h e = elim (halved w) [
     up v a g = record {
       places = suc (g .places);
       digits = g .digits;
-      is = a ∙ ap (λ (z : ℕ). 2 * z) (g .is) ∙ mul-comm 2 (g .digits * 2 ^ g .places) ∙ mul-assoc (g .digits) (2 ^ g .places) 2 ∙ ap (λ (z : ℕ). g .digits * z) (sym (pow-suc 2 (g .places)));
+      is =
+          a ∙ ap (λ (z : ℕ). 2 * z) (g .is) ∙ mul-comm 2 (g .digits * 2 ^ g .places) ∙ mul-assoc (g .digits) (2 ^ g .places) 2 ∙ ap (λ (z : ℕ). g .digits * z)
+          (sym (pow-suc 2 (g .places)));
       few = g .few;
     }

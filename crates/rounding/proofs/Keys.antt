@@ -17,7 +17,9 @@ use Rattle.rounding.specs.Rounding.{beyond, keyWord}
 low : (k : ℤ) → ltZ (pos (2 ^ 62)) k ≡ false → ltZ k (negsuc (2 ^ 62 - 1)) ≡ beyond k
 unfolding beyond
 low (pos n) h = sym h
-low (negsuc n) h = same-test (ltb (2 ^ 62 - 1) n) (ltb (2 ^ 62) (suc n)) (λ t. lt→ltb (2 ^ 62) (suc n) (to n (ltb→lt (2 ^ 62 - 1) n t))) (λ t. lt→ltb (2 ^ 62 - 1) n (from n (ltb→lt (2 ^ 62) (suc n) t)))
+low (negsuc n) h =
+    same-test (ltb (2 ^ 62 - 1) n) (ltb (2 ^ 62) (suc n)) (λ t. lt→ltb (2 ^ 62) (suc n) (to n (ltb→lt (2 ^ 62 - 1) n t)))
+    (λ t. lt→ltb (2 ^ 62 - 1) n (from n (ltb→lt (2 ^ 62) (suc n) t)))
   where
     to : (n : ℕ) → 2 ^ 62 - 1 < n → 2 ^ 62 < suc n
     to n h = omega arith

@@ -20,11 +20,15 @@ use Rattle.rounding.proofs.Rounding.{plus, minus}
 
 pub key-plus : (x : Float) → toBits binary64 x < 2 ^ 63 → 2 ^ 63 + toBits binary64 x ≡ orderKey x
 unfolding orderKey
-key-plus x h = ap (λ (k : Bool). cond k (2 ^ 63 + toBits binary64 x) (2 ^ 64 - 1 - toBits binary64 x)) (sym (is-true (ltb (toBits binary64 x) (2 ^ 63)) (lt→ltb (toBits binary64 x) (2 ^ 63) h)))
+key-plus x h =
+    ap (λ (k : Bool). cond k (2 ^ 63 + toBits binary64 x) (2 ^ 64 - 1 - toBits binary64 x))
+    (sym (is-true (ltb (toBits binary64 x) (2 ^ 63)) (lt→ltb (toBits binary64 x) (2 ^ 63) h)))
 
 pub key-minus : (x : Float) → 2 ^ 63 ≤ toBits binary64 x → 2 ^ 64 - 1 - toBits binary64 x ≡ orderKey x
 unfolding orderKey
-key-minus x h = ap (λ (k : Bool). cond k (2 ^ 63 + toBits binary64 x) (2 ^ 64 - 1 - toBits binary64 x)) (sym (is-false (ltb (toBits binary64 x) (2 ^ 63)) (not-T (ltb (toBits binary64 x) (2 ^ 63)) (λ t. no (toBits binary64 x) (ltb→lt (toBits binary64 x) (2 ^ 63) t) h))))
+key-minus x h =
+    ap (λ (k : Bool). cond k (2 ^ 63 + toBits binary64 x) (2 ^ 64 - 1 - toBits binary64 x))
+    (sym (is-false (ltb (toBits binary64 x) (2 ^ 63)) (not-T (ltb (toBits binary64 x) (2 ^ 63)) (λ t. no (toBits binary64 x) (ltb→lt (toBits binary64 x) (2 ^ 63) t) h))))
   where
     no : (b : ℕ) → b < 2 ^ 63 → 2 ^ 63 ≤ b → ⊥
     no b l h = omega arith
@@ -73,11 +77,14 @@ zeros (suc a) b = or-l (ltb 0 (suc a + b)) (level true (suc a) false b && true) 
 module _ (a b : ℕ) (h : a < 2 ^ 63) (k : b < 2 ^ 63) where
   coded-before : (s t : Bool) → below s a t b || (level s a t b && (s && not t)) ≡ ltb (coded s a) (coded t b)
   coded-before false false = or-no (ltb a b) (level false a false b) ∙ same-ltb a b (2 ^ 63 + a) (2 ^ 63 + b) (λ l. omega arith) (λ l. omega arith)
-  coded-before false true = no-and (level false a true b) ∙ sym (is-false (ltb (2 ^ 63 + a) (2 ^ 63 - 1 - b)) (not-T (ltb (2 ^ 63 + a) (2 ^ 63 - 1 - b)) (λ t. no (ltb→lt (2 ^ 63 + a) (2 ^ 63 - 1 - b) t))))
+  coded-before false true =
+      no-and (level false a true b) ∙ sym (is-false (ltb (2 ^ 63 + a) (2 ^ 63 - 1 - b))
+      (not-T (ltb (2 ^ 63 + a) (2 ^ 63 - 1 - b)) (λ t. no (ltb→lt (2 ^ 63 + a) (2 ^ 63 - 1 - b) t))))
     where
       no : 2 ^ 63 + a < 2 ^ 63 - 1 - b → ⊥
       no l = omega arith
-  coded-before true false = is-true (ltb 0 (a + b) || (level true a false b && true)) (zeros a b) ∙ sym (is-true (ltb (2 ^ 63 - 1 - a) (2 ^ 63 + b)) (lt→ltb (2 ^ 63 - 1 - a) (2 ^ 63 + b) (omega arith)))
+  coded-before true false =
+      is-true (ltb 0 (a + b) || (level true a false b && true)) (zeros a b) ∙ sym (is-true (ltb (2 ^ 63 - 1 - a) (2 ^ 63 + b)) (lt→ltb (2 ^ 63 - 1 - a) (2 ^ 63 + b) (omega arith)))
   coded-before true true = or-no (ltb b a) (level true a true b) ∙ same-ltb b a (2 ^ 63 - 1 - a) (2 ^ 63 - 1 - b) (λ l. omega arith) (λ l. omega arith)
 
 module _ (x y : Float) (F : T (fits binary64 x)) (G : T (fits binary64 y)) (p : T (not (isNan x))) (q : T (not (isNan y))) where

@@ -91,7 +91,8 @@ from-units : (x : Float) (s : Bool) (n : ℕ) → HasValue x s n 1 → Is x s (n
 unfolding one
 from-units x s n v = to-units x s n (2 ^ 1074) v
 
-rounded-units : (x : Float) → T (fits binary64 x) → T (finite x) → rounded x ≡ cond (negative x) (negℤ (pos (min (2 ^ 63) (halfUp (units x) one)))) (pos (min (2 ^ 63 - 1) (halfUp (units x) one)))
+rounded-units : (x : Float) → T (fits binary64 x) → T (finite x) → rounded x ≡ cond (negative x) (negℤ (pos (min (2 ^ 63) (halfUp (units x) one))))
+    (pos (min (2 ^ 63 - 1) (halfUp (units x) one)))
 unfolding rounded
 rounded-units nan F p = absurd p
 rounded-units (inf s) F p = absurd p
@@ -193,7 +194,9 @@ module _ (x : Float) (F : T (fits binary64 x)) (p : T (finite x)) where
 
   -- only one double is the rounded one
   pub rounded-unique : (r : Float) → T (fits binary64 r) → IsRounded x r → r ≡ halfAway x
-  rounded-unique r G a = same-units r (halfAway x) G (subst (λ (v : Float). T (fits binary64 v)) (sym half-away-is) (round-fits binary64 (negative x) n 1)) (a .is-finite) (half-away .is-finite) (a .sign ∙ sym (half-away .sign)) (a .size ∙ sym (half-away .size))
+  rounded-unique r G a =
+      same-units r (halfAway x) G (subst (λ (v : Float). T (fits binary64 v)) (sym half-away-is) (round-fits binary64 (negative x) n 1)) (a .is-finite) (half-away .is-finite)
+      (a .sign ∙ sym (half-away .sign)) (a .size ∙ sym (half-away .size))
 
 -- ---- `round`
 
@@ -221,7 +224,9 @@ neg-value (inf t) n h = h
 neg-value (fin t m e) n h = (ap not (h .0), h .1)
 
 neg-round : (n : ℕ) → n ≤ 2 ^ 53 → neg (round binary64 false n 1) ≡ round binary64 true n 1
-neg-round n h = whole-unique binary64 (neg (round binary64 false n 1)) (round binary64 true n 1) true n (neg-fits binary64 (round binary64 false n 1) (round-fits binary64 false n 1)) (round-fits binary64 true n 1) (neg-value (round binary64 false n 1) n (round-whole binary64 false n h)) (round-whole binary64 true n h)
+neg-round n h =
+    whole-unique binary64 (neg (round binary64 false n 1)) (round binary64 true n 1) true n (neg-fits binary64 (round binary64 false n 1) (round-fits binary64 false n 1))
+    (round-fits binary64 true n 1) (neg-value (round binary64 false n 1) n (round-whole binary64 false n h)) (round-whole binary64 true n h)
 
 module _ (x : Float) (F : T (fits binary64 x)) (p : T (finite x)) (n : ℕ) (e : n ≡ halfUp (patternUnits (toBits binary64 x % 2 ^ 63)) one) where
   right : n ≡ halfUp (units x) one
@@ -241,13 +246,17 @@ module _ (x : Float) (F : T (fits binary64 x)) (p : T (finite x)) (n : ℕ) (e :
   -- ---- `rounded`, where the whole number is an `i64`
 
   pub cast-plus : n < 2 ^ 63 → negative x ≡ false → toZ w64 n ≡ rounded x
-  cast-plus h g = toZ-pos w64 n h ∙ ap pos (sym (min-eq-right (le-of n h)) ∙ ap (min (2 ^ 63 - 1)) right) ∙ ap (λ (z : Bool). cond z (negℤ (pos (min (2 ^ 63) (halfUp (units x) one)))) (pos (min (2 ^ 63 - 1) (halfUp (units x) one)))) (sym g) ∙ sym (rounded-is x F p)
+  cast-plus h g =
+      toZ-pos w64 n h ∙ ap pos (sym (min-eq-right (le-of n h)) ∙ ap (min (2 ^ 63 - 1)) right) ∙ ap
+      (λ (z : Bool). cond z (negℤ (pos (min (2 ^ 63) (halfUp (units x) one)))) (pos (min (2 ^ 63 - 1) (halfUp (units x) one)))) (sym g) ∙ sym (rounded-is x F p)
     where
       le-of : (n : ℕ) → n < 2 ^ 63 → n ≤ 2 ^ 63 - 1
       le-of n h = omega arith
 
   pub cast-minus : n < 2 ^ 63 → negative x ≡ true → toZ w64 (ofZ w64 (pos 0 -ℤ toZ w64 n)) ≡ rounded x
-  cast-minus h g = turned-is n h ∙ ap (λ (k : ℕ). negℤ (pos k)) (sym (min-eq-right (le-of-lt h)) ∙ ap (min (2 ^ 63)) right) ∙ ap (λ (z : Bool). cond z (negℤ (pos (min (2 ^ 63) (halfUp (units x) one)))) (pos (min (2 ^ 63 - 1) (halfUp (units x) one)))) (sym g) ∙ sym (rounded-is x F p)
+  cast-minus h g =
+      turned-is n h ∙ ap (λ (k : ℕ). negℤ (pos k)) (sym (min-eq-right (le-of-lt h)) ∙ ap (min (2 ^ 63)) right) ∙ ap
+      (λ (z : Bool). cond z (negℤ (pos (min (2 ^ 63) (halfUp (units x) one)))) (pos (min (2 ^ 63 - 1) (halfUp (units x) one)))) (sym g) ∙ sym (rounded-is x F p)
 
 pub nan-rounded : (x : Float) → ne x x ≡ true → pos 0 ≡ rounded x
 unfolding rounded

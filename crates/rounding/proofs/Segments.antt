@@ -2,7 +2,25 @@
 use mathlib.Core.Path.{_≡_, refl, sym, ap, _∙_, subst}
 use mathlib.Core.Bool.{Bool, true, false, not, true≢false}
 use Prim.Native.Nat.{ℕ, zero, suc, _+_, _-_, _*_, _/_, _%_, _^_, _≤_, _<_, min, max}
-use native.Mathlib.Nat.{mul-comm, mul-assoc, mul-one, one-mul, add-mul, mod-lt, div-add-mod', mul-le-mul-right, mul-lt-mul-of-pos-right, le-trans, le-of-eq, le-of-lt, lt-of-lt-of-le, lt-of-le-of-lt, suc-mul, lt-of-mul-lt-mul-right, mod-eq-of-lt}
+use native.Mathlib.Nat.{
+  mul-comm,
+  mul-assoc,
+  mul-one,
+  one-mul,
+  add-mul,
+  mod-lt,
+  div-add-mod',
+  mul-le-mul-right,
+  mul-lt-mul-of-pos-right,
+  le-trans,
+  le-of-eq,
+  le-of-lt,
+  lt-of-lt-of-le,
+  lt-of-le-of-lt,
+  suc-mul,
+  lt-of-mul-lt-mul-right,
+  mod-eq-of-lt,
+}
 use native.Mathlib.Omega.{arith}
 use lib.IntN.{ℤ}
 use lib.Dec.{T, ltb, ltb→lt, lt→ltb, nltb→le, lit<}
@@ -134,7 +152,9 @@ many nan h = absurd (true≢false (sym h))
 many (inf true) h = absurd (true≢false (sym h))
 many (inf false) h = refl
 many (fin true m e) h = absurd (true≢false (sym h))
-many (fin false m e) h = count-many (ceil (m * up e) (down e)) (above (m * up e) (down e) (ceil (m * up e) (down e)) (ceil-is (m * up e) (down e) (down-pos e)) 256 (lt-of-lt-of-le (ltb→lt (256 * down e) (m * up e * 1) (subst T (sym h) tt)) (le-of-eq (mul-one (m * up e)))))
+many (fin false m e) h =
+    count-many (ceil (m * up e) (down e)) (above (m * up e) (down e) (ceil (m * up e) (down e)) (ceil-is (m * up e) (down e) (down-pos e)) 256
+    (lt-of-lt-of-le (ltb→lt (256 * down e) (m * up e * 1) (subst T (sym h) tt)) (le-of-eq (mul-one (m * up e)))))
 
 -- one, or a number that is not above one
 pub single : (q : Float) → lt oneF q ≡ false → 1 ≡ count (wholeUp q)
@@ -143,7 +163,9 @@ single nan h = refl
 single (inf true) h = refl
 single (inf false) h = absurd (true≢false h)
 single (fin true m e) h = refl
-single (fin false m e) h = count-none (ceil (m * up e) (down e)) (at-most (m * up e) (down e) (ceil (m * up e) (down e)) (ceil-is (m * up e) (down e) (down-pos e)) 1 (le-trans (le-of-eq (sym (mul-one (m * up e)))) (nltb→le (1 * down e) (m * up e * 1) (subst (λ (k : Bool). T (not k)) (sym h) tt))))
+single (fin false m e) h =
+    count-none (ceil (m * up e) (down e)) (at-most (m * up e) (down e) (ceil (m * up e) (down e)) (ceil-is (m * up e) (down e) (down-pos e)) 1
+    (le-trans (le-of-eq (sym (mul-one (m * up e)))) (nltb→le (1 * down e) (m * up e * 1) (subst (λ (k : Bool). T (not k)) (sym h) tt))))
 
 -- above one and at most 256: what the code asks of the pattern, and what it finds
 pub record Counted (q : Float) : Type 0 where
@@ -180,10 +202,13 @@ module _ (m : ℕ) (e : ℤ) (F : T (fits binary64 (fin false m e))) (a : lt one
 
   few : ceil (m * up e) (down e) ≤ 256
   unfolding lt ofBits
-  few = at-most (m * up e) (down e) (ceil (m * up e) (down e)) is-ceil 256 (le-trans (le-of-eq (sym (mul-one (m * up e)))) (nltb→le (256 * down e) (m * up e * 1) (subst (λ (k : Bool). T (not k)) (sym h) tt)))
+  few =
+      at-most (m * up e) (down e) (ceil (m * up e) (down e)) is-ceil 256
+      (le-trans (le-of-eq (sym (mul-one (m * up e)))) (nltb→le (256 * down e) (m * up e * 1) (subst (λ (k : Bool). T (not k)) (sym h) tt)))
 
   -- against a constant with the pattern b
-  compared : (b : ℕ) → T (not (isNan (ofBits binary64 b))) → negative (ofBits binary64 b) ≡ false → unsigned (ofBits binary64 b) ≡ b → lt (ofBits binary64 b) (fin false m e) ≡ ltb b (toBits binary64 (fin false m e))
+  compared : (b : ℕ) → T (not (isNan (ofBits binary64 b))) → negative (ofBits binary64 b) ≡ false → unsigned (ofBits binary64 b) ≡ b → lt (ofBits binary64 b) (fin false m e) ≡ ltb
+      b (toBits binary64 (fin false m e))
   compared b n s u =
       lt-patterns (ofBits binary64 b) (fin false m e) (ofBits-fits binary64 b) F n finite-number
       ∙ ap (λ (z : Bool). below z (unsigned (ofBits binary64 b)) false (unsigned (fin false m e))) s
@@ -202,7 +227,9 @@ module _ (m : ℕ) (e : ℤ) (F : T (fits binary64 (fin false m e))) (a : lt one
     number = finite-number;
     low = le-of-lt (ltb→lt (1023 * 2 ^ 52) (toBits binary64 (fin false m e)) (subst T (sym above-one) tt));
     high = nltb→le (1031 * 2 ^ 52) (toBits binary64 (fin false m e)) (subst (λ (k : Bool). T (not k)) (sym up-to-top) tt);
-    same = ap (λ (k : ℕ). ceil (patternUnits k) one) (sym is-bits) ∙ ap (λ (k : ℕ). ceil k one) (sym (finite-unsigned (fin false m e) F tt)) ∙ sym (ceil-units false m e F) ∙ count-some (ceil (m * up e) (down e)) (le-of-lt more) few;
+    same =
+        ap (λ (k : ℕ). ceil (patternUnits k) one) (sym is-bits) ∙ ap (λ (k : ℕ). ceil k one) (sym (finite-unsigned (fin false m e) F tt)) ∙ sym (ceil-units false m e F) ∙
+        count-some (ceil (m * up e) (down e)) (le-of-lt more) few;
   }
 
 pub counted : (q : Float) → T (fits binary64 q) → lt oneF q ≡ true → lt (ofBits binary64 (1031 * 2 ^ 52)) q ≡ false → Counted q

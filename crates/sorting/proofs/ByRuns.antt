@@ -111,8 +111,12 @@ same-start m at n i h =
 
 pub same-more : (m : List ℕ) (at n i e : ℕ) → Same m at n i e → e < n → getD m (at + 2 * e) 0 ≡ getD m (at + 2 * i) 0 → Same m at n i (e + 1)
 same-more m at n i e s h q =
-    record
-    { more = omega (arith, s .more); within = omega arith; same = λ j a b. ⊎-elim (λ (g : j < e). s .same j a g) (λ (g : j ≡ e). ap (λ (k : ℕ). getD m (at + 2 * k) 0) g ∙ q) (which j b) }
+    record {
+      more =
+          omega (arith, s .more);
+      within = omega arith;
+      same = λ j a b. ⊎-elim (λ (g : j < e). s .same j a g) (λ (g : j ≡ e). ap (λ (k : ℕ). getD m (at + 2 * k) 0) g ∙ q) (which j b);
+    }
   where
     which : (j : ℕ) → j < e + 1 → (j < e) ⊎ (j ≡ e)
     which j b = ⊎-elim (λ (g : j < e). inl g) (λ (g : e ≤ j). inr (omega arith)) (lt-or-le j e)

@@ -130,10 +130,15 @@ pub record WorkedBlocks : Type 0 where
   few : reply pointsFew lone (boxTo 0·1 0·1 0·1) +1 +1 ≡ 0 ∷ 10 ∷ 18 ∷ 0 ∷ 36 ∷ []
   -- "the Rust's order puts -0.0 before 0.0": on the side that runs downward the box's corner, place 6, with t -0.0, stands before
   -- place 0, whose t was below 0 and became 0.0: 6 0 2 in that order
-  downward : zMinPairs (getD (outputs pointsBeyond lone (boxTo +1 +1 +1) 1e-10 +1) 2 []) ≡ tri 4 0 1 ∷ tri 4 0 2 ∷ tri 4 0 5 ∷ tri 4 0 6 ∷ tri 4 1 2 ∷ tri 4 2 4 ∷ tri 4 3 4 ∷ tri 4 3 5 ∷ []
+  downward : zMinPairs (getD (outputs pointsBeyond lone (boxTo +1 +1 +1) 1e-10 +1) 2 []) ≡ tri 4 0 1 ∷ tri 4 0 2 ∷ tri 4 0 5 ∷ tri 4 0 6 ∷ tri 4 1 2 ∷ tri 4 2 4 ∷ tri 4 3 4 ∷ tri 4
+      3 5 ∷ []
   -- "12 candidates"
   c15 : reply points15 (0 ∷ 1 ∷ 2 ∷ 0 ∷ 2 ∷ 3 ∷ []) (boxTo +1 +1 +1) 1e-10 +1 ≡ 0 ∷ 60 ∷ 38 ∷ 108 ∷ 12 ∷ []
 
 pub computed : WorkedBlocks
-unfolding every some keep place insertBy sortBy distinctFrom upFrom flatMap magnitude within larger clamped before halfUp rounded key beyond farKey ceil wholeUp rounding.segments along threes segments gridLine gridSize first keyOf sameKey samePair pairBefore openEdges documented firstRefusal ragged tooMany badIndex inRange epsInRange resolutionInRange boxInRange badBox gridTooFine workNeed farKeys roomTests project faceBits onFace facesOf faceSides betweenEnds alongSide onSide byKey renewed listed numberFor insert gridPoint skipped gridAt faceGrid grid neighbours sideOrder edgePlaces faceConstraints enterEdge edgeSurface cornerVertices meshPool candidates candidateWords listWords closureTests strayEdge edgeTests noTwoEnds candidatesResult ofBits toBits ofInt round add sub mul div neg lt le eq
+unfolding every some keep place insertBy sortBy distinctFrom upFrom flatMap magnitude within larger clamped before halfUp rounded key beyond farKey ceil wholeUp
+    rounding.segments along threes segments gridLine gridSize first keyOf sameKey samePair pairBefore openEdges documented firstRefusal ragged tooMany badIndex inRange
+    epsInRange resolutionInRange boxInRange badBox gridTooFine workNeed farKeys roomTests project faceBits onFace facesOf faceSides betweenEnds alongSide onSide byKey renewed
+    listed numberFor insert gridPoint skipped gridAt faceGrid grid neighbours sideOrder edgePlaces faceConstraints enterEdge edgeSurface cornerVertices meshPool candidates
+    candidateWords listWords closureTests strayEdge edgeTests noTwoEnds candidatesResult ofBits toBits ofInt round add sub mul div neg lt le eq
 computed = record { c9 = refl; c10 = refl; c13 = refl; c3b-first = refl; c3b-edges = refl; c3b = refl; infinite = refl; few = refl; downward = refl; c15 = refl }

@@ -163,16 +163,45 @@ pub record Rules : Type 0 where
   dropped : reply (square 2^-20 2^-21) squareFacets list15 (boxTo 2^-20 2^-20 2^-20) 1e-10 2^-20 ClosePositive ≡ 0 ∷ 24 ∷ 6 ∷ []
   -- a closed mesh, which has no open edge, is not turned
   closed-mesh :
-      flat (capsResult (1/4 ∷ 1/4 ∷ 1/4 ∷ 1/2 ∷ 1/4 ∷ 1/4 ∷ 1/4 ∷ 1/2 ∷ 1/4 ∷ 1/4 ∷ 1/4 ∷ 1/2 ∷ []) (0 ∷ 2 ∷ 1 ∷ 0 ∷ 1 ∷ 3 ∷ 1 ∷ 2 ∷ 3 ∷ 0 ∷ 3 ∷ 2 ∷ []) (9 ∷ 9 ∷ 9 ∷ 9 ∷ []) (asked (boxTo +1 +1 +1) 1e-10 +1) CloseNegative .facets)
+      flat (capsResult (1/4 ∷ 1/4 ∷ 1/4 ∷ 1/2 ∷ 1/4 ∷ 1/4 ∷ 1/4 ∷ 1/2 ∷ 1/4 ∷ 1/4 ∷ 1/4 ∷ 1/2 ∷ [])
+      (0 ∷ 2 ∷ 1 ∷ 0 ∷ 1 ∷ 3 ∷ 1 ∷ 2 ∷ 3 ∷ 0 ∷ 3 ∷ 2 ∷ []) (9 ∷ 9 ∷ 9 ∷ 9 ∷ [])
+      (asked (boxTo +1 +1 +1) 1e-10 +1) CloseNegative .facets)
       ≡ 0 ∷ 2 ∷ 1 ∷ 0 ∷ 1 ∷ 3 ∷ 1 ∷ 2 ∷ 3 ∷ 0 ∷ 3 ∷ 2 ∷ []
   -- a box thinner than eps: two candidates on each face, so that 11 does not apply; the facet is turned
   few : flat (capsResult (+0 ∷ +0 ∷ +0 ∷ +0 ∷ +1 ∷ +0 ∷ +0 ∷ +0 ∷ 0·01 ∷ []) lone [] (asked (boxTo 0·1 0·1 0·1) +1 +1) CloseNegative .facets) ≡ 0 ∷ 2 ∷ 1 ∷ []
   few-reply : reply (+0 ∷ +0 ∷ +0 ∷ +0 ∷ +1 ∷ +0 ∷ +0 ∷ +0 ∷ 0·01 ∷ []) lone [] (boxTo 0·1 0·1 0·1) +1 +1 CloseNegative ≡ 0 ∷ 9 ∷ 3 ∷ []
 
 pub computed : WorkedBlocks
-unfolding every some keep place insertBy sortBy distinctFrom upFrom flatMap magnitude within larger clamped before one units root rootOfSquare wholeRoot halfUp rounded key beyond farKey ceil wholeUp rounding.segments along minus dot cross threes containsOrientedEdge sortedVertices enter segments gridLine gridSize first components keyOf sameKey sameCorners samePair pairBefore openEdges documented firstRefusal ragged tooMany badIndex inRange epsInRange resolutionInRange boxInRange badBox gridTooFine workNeed farKeys roomTests project onFace facesOf byKey renewed listed numberFor insert gridPoint skipped gridAt faceGrid grid enterEdge edgeSurface cornerVertices meshPool candidates closureTests strayEdge edgeTests noTwoEnds capsOf signedArea outward isSeed isOpenPair shareEdge selected badCap badCapPlace missingEdge missingPlace taken entered isLarge capFacets ownFacets closed surface capTests capsResult ofBits ofInt round add sub mul div neg lt le eq
+unfolding every some keep place insertBy sortBy distinctFrom upFrom flatMap magnitude within larger clamped before one units root rootOfSquare wholeRoot halfUp rounded key
+    beyond farKey ceil wholeUp rounding.segments along minus dot cross threes containsOrientedEdge sortedVertices enter segments gridLine gridSize first components keyOf
+    sameKey sameCorners samePair pairBefore openEdges documented firstRefusal ragged tooMany badIndex inRange epsInRange resolutionInRange boxInRange badBox gridTooFine
+    workNeed farKeys roomTests project onFace facesOf byKey renewed listed numberFor insert gridPoint skipped gridAt faceGrid grid enterEdge edgeSurface cornerVertices
+    meshPool candidates closureTests strayEdge edgeTests noTwoEnds capsOf signedArea outward isSeed isOpenPair shareEdge selected badCap badCapPlace missingEdge missingPlace
+    taken entered isLarge capFacets ownFacets closed surface capTests capsResult ofBits ofInt round add sub mul div neg lt le eq
 computed = record { c10 = refl; c9 = refl; c13 = refl; c14-near = refl; c14-far = refl; c15-positive = refl; c15-points = refl; c15-negative = refl; c15-above = refl }
 
 pub rules : Rules
-unfolding every some keep place insertBy sortBy distinctFrom upFrom flatMap magnitude within larger clamped before one units root rootOfSquare wholeRoot halfUp rounded key beyond farKey ceil wholeUp rounding.segments along minus dot cross threes containsOrientedEdge sortedVertices enter segments gridLine gridSize first components keyOf sameKey sameCorners samePair pairBefore openEdges documented firstRefusal ragged tooMany badIndex inRange epsInRange resolutionInRange boxInRange badBox gridTooFine workNeed farKeys roomTests project onFace facesOf byKey renewed listed numberFor insert gridPoint skipped gridAt faceGrid grid enterEdge edgeSurface cornerVertices meshPool candidates closureTests strayEdge edgeTests noTwoEnds capsOf signedArea outward isSeed isOpenPair shareEdge selected badCap badCapPlace missingEdge missingPlace taken entered isLarge capFacets ownFacets closed surface capTests capsResult ofBits ofInt round add sub mul div neg lt le eq
-rules = record { reply-positive = refl; reply-negative = refl; left-open = refl; left-ragged = refl; bad-place = refl; bad-repeat = refl; bad-order = refl; bad-face = refl; missing-second = refl; missing-third = refl; once = refl; dropped = refl; closed-mesh = refl; few = refl; few-reply = refl }
+unfolding every some keep place insertBy sortBy distinctFrom upFrom flatMap magnitude within larger clamped before one units root rootOfSquare wholeRoot halfUp rounded key
+    beyond farKey ceil wholeUp rounding.segments along minus dot cross threes containsOrientedEdge sortedVertices enter segments gridLine gridSize first components keyOf
+    sameKey sameCorners samePair pairBefore openEdges documented firstRefusal ragged tooMany badIndex inRange epsInRange resolutionInRange boxInRange badBox gridTooFine
+    workNeed farKeys roomTests project onFace facesOf byKey renewed listed numberFor insert gridPoint skipped gridAt faceGrid grid enterEdge edgeSurface cornerVertices
+    meshPool candidates closureTests strayEdge edgeTests noTwoEnds capsOf signedArea outward isSeed isOpenPair shareEdge selected badCap badCapPlace missingEdge missingPlace
+    taken entered isLarge capFacets ownFacets closed surface capTests capsResult ofBits ofInt round add sub mul div neg lt le eq
+rules =
+    record {
+      reply-positive = refl;
+      reply-negative = refl;
+      left-open = refl;
+      left-ragged = refl;
+      bad-place = refl;
+      bad-repeat = refl;
+      bad-order = refl;
+      bad-face = refl;
+      missing-second = refl;
+      missing-third = refl;
+      once = refl;
+      dropped = refl;
+      closed-mesh = refl;
+      few = refl;
+      few-reply = refl;
+    }

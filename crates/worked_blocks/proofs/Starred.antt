@@ -206,7 +206,13 @@ of-all a {r} (List·Memᴰ·head {x} {xs} e) = subst⁻¹ (λ (q : Row). q .give
 of-all a {r} (List·Memᴰ·tail {x} {xs} m) = of-all (a .1) m
 
 computed : All starred
-unfolding every some distinctFrom upFrom threes magnitude within inside snapTo snapped crossing interpolated onPlane crossed sideClipped walk clipToPlane clipPolygon along enter fan fanned insideBox sharedNumber shareOnce sharing clipFacet clipFacets clipped flatMap firstRefusal documented ragged tooMany badIndex inRange epsInRange boxInRange badBox workNeed roomTests clipTests clipResult keep place insertBy sortBy halfUp rounded key beyond farKey farKeys minus dot cross keyOf sameKey around near neighbours cells first weldNext weld hasRepeatedCorner isFlat sortedVertices sameCorners isDuplicate filtered passedNext passed components shareVertex isAlone status orElse keptFacets renumbered compacted weldedMesh cleanedMesh cleanResult cleanTests larger one units root rootOfSquare wholeRoot wholeUp ceil rounding.segments segments gridLine axisPoints gridSize resolutionInRange gridTooFine samePair pairBefore openEdges onFace facesOf closureTests strayEdge edgeTests ofBits ofInt round add sub mul div neg lt le eq
+unfolding every some distinctFrom upFrom threes magnitude within inside snapTo snapped crossing interpolated onPlane crossed sideClipped walk clipToPlane clipPolygon along
+    enter fan fanned insideBox sharedNumber shareOnce sharing clipFacet clipFacets clipped flatMap firstRefusal documented ragged tooMany badIndex inRange epsInRange
+    boxInRange badBox workNeed roomTests clipTests clipResult keep place insertBy sortBy halfUp rounded key beyond farKey farKeys minus dot cross keyOf sameKey around near
+    neighbours cells first weldNext weld hasRepeatedCorner isFlat sortedVertices sameCorners isDuplicate filtered passedNext passed components shareVertex isAlone status
+    orElse keptFacets renumbered compacted weldedMesh cleanedMesh cleanResult cleanTests larger one units root rootOfSquare wholeRoot wholeUp ceil rounding.segments segments
+    gridLine axisPoints gridSize resolutionInRange gridTooFine samePair pairBefore openEdges onFace facesOf closureTests strayEdge edgeTests ofBits ofInt round add sub mul div
+    neg lt le eq
 computed = (refl, (refl, (refl, (refl, (refl, (refl, (refl, (refl, (refl, (refl, tt))))))))))
 
 pub every-row : {r : Row} → List·Memᴰ r starred → r .given ≡ r .stated

@@ -35,11 +35,14 @@ use Rattle.caps.specs.Operation.{capsTests, capsResult, unchanged, Closes, Capp
 use Rattle.caps.proofs.Demands.{closes}
 use Rattle.yongpham.specs.Calls.{modeOf, noModeTests, capsCallTests, CapsCalled}
 
-pub tolerance-done : (b : AABB) (t : Tolerance) (eps : Float) (r : ℕ) (ws : List ℕ) → Tolerated b t → t ≡ Of eps → (r ≡ 0) × (ws ≡ toBits binary64 eps ∷ 0 ∷ 0 ∷ 0 ∷ []) → Reported (toleranceReply b) r ws
+pub tolerance-done : (b : AABB) (t : Tolerance) (eps : Float) (r : ℕ) (ws : List ℕ) → Tolerated b t → t ≡ Of eps → (r ≡ 0) ×
+    (ws ≡ toBits binary64 eps ∷ 0 ∷ 0 ∷ 0 ∷ []) → Reported
+    (toleranceReply b) r ws
 tolerance-done b t eps r ws h e k =
     same-reply (0 ∷ toBits binary64 eps ∷ []) (toleranceReply b) r ws (sym (ap documentedTolerance e) ∙ h .replied) (record { number = k .0; words = k .1 })
 
-pub tolerance-refused : (b : AABB) (t : Tolerance) (q : Refusal) (r : ℕ) (ws : List ℕ) → Tolerated b t → t ≡ Refused q → Reported (documented q) r ws → Reported (toleranceReply b) r ws
+pub tolerance-refused : (b : AABB) (t : Tolerance) (q : Refusal) (r : ℕ) (ws : List ℕ) → Tolerated b t → t ≡ Refused q → Reported (documented q) r ws → Reported (toleranceReply b)
+    r ws
 tolerance-refused b t q r ws h e k = same-reply (documented q) (toleranceReply b) r ws (sym (ap documentedTolerance e) ∙ h .replied) k
 
 -- ---- caps
@@ -68,10 +71,12 @@ module _ (vs : List Float) (fs : List ℕ) (n : ℕ) where
   no-mode-passes : Passes lists → firstRefusal (lists ++ last) ≡ checked.Refused BadNumber
   no-mode-passes e = row-passed lists last e ∙ holds true BadNumber [] refl
 
-  pub no-mode-passed : (c : Checked) (r : ℕ) (ws : List ℕ) → c ≡ firstRefusal lists → c ≡ checked.Passed → Reported (documented BadNumber) r ws → Reported (replyTo (lists ++ last) []) r ws
+  pub no-mode-passed : (c : Checked) (r : ℕ) (ws : List ℕ) → c ≡ firstRefusal lists → c ≡ checked.Passed → Reported (documented BadNumber) r ws → Reported
+      (replyTo (lists ++ last) []) r ws
   no-mode-passed c r ws e p h = same-reply (documented BadNumber) _ r ws (ap (λ (x : Checked). numbered x []) (sym (no-mode-passes (sym e ∙ p)))) h
 
-  pub no-mode-refused : (c : Checked) (q : Refusal) (r : ℕ) (ws : List ℕ) → c ≡ firstRefusal lists → c ≡ checked.Refused q → Reported (documented q) r ws → Reported (replyTo (lists ++ last) []) r ws
+  pub no-mode-refused : (c : Checked) (q : Refusal) (r : ℕ) (ws : List ℕ) → c ≡ firstRefusal lists → c ≡ checked.Refused q → Reported (documented q) r ws → Reported
+      (replyTo (lists ++ last) []) r ws
   no-mode-refused c q r ws e p h = same-reply (documented q) _ r ws (ap (λ (x : Checked). numbered x []) (sym (row-refused lists last q (sym e ∙ p)))) h
 
   -- one or the other

@@ -60,7 +60,9 @@ pub extern "C" fn yongpham_caps(
     out_facets: &mut [u32],
     values: &mut [u64; 4],
 ) -> u32
-    ensures { λ r. ⌜ CapsCalled (now (vertices .entry)) (now (facets .entry)) (now («cap_list» .entry)) (asked (boxOf «min_x» «min_y» «min_z» «max_x» «max_y» «max_z») eps resolution) mode r (now (values .exit)) (now (work .entry)) (now (work .exit)) (now («out_vertices» .entry)) (now («out_vertices» .exit)) (now («out_facets» .entry)) (now («out_facets» .exit)) ⌝ }
+    ensures { λ r. ⌜ CapsCalled (now (vertices .entry)) (now (facets .entry)) (now («cap_list» .entry))
+        (asked (boxOf «min_x» «min_y» «min_z» «max_x» «max_y» «max_z») eps resolution) mode r (now (values .exit)) (now (work .entry)) (now (work .exit))
+        (now («out_vertices» .entry)) (now («out_vertices» .exit)) (now («out_facets» .entry)) (now («out_facets» .exit)) ⌝ }
 {
     if mode > 2 {
         zero(work);

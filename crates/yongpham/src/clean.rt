@@ -15,7 +15,9 @@ pub extern "C" fn yongpham_clean(
     out_facets: &mut [u32],
     values: &mut [u64; 4],
 ) -> u32
-    ensures answered { λ r. ⌜ Called (cleanTests (now (vertices .entry)) (now (facets .entry)) eps (length (now (work .entry)))) (meshOutputs (cleanResult (now (vertices .entry)) (now (facets .entry)) eps) (now («out_vertices» .entry)) (now («out_vertices» .exit)) (now («out_facets» .entry)) (now («out_facets» .exit))) (now (work .entry)) (now (work .exit)) r (now (values .exit)) ⌝ }
+    ensures answered { λ r. ⌜ Called (cleanTests (now (vertices .entry)) (now (facets .entry)) eps (length (now (work .entry))))
+        (meshOutputs (cleanResult (now (vertices .entry)) (now (facets .entry)) eps) (now («out_vertices» .entry)) (now («out_vertices» .exit)) (now («out_facets» .entry))
+        (now («out_facets» .exit))) (now (work .entry)) (now (work .exit)) r (now (values .exit)) ⌝ }
     ensures rule { λ _. ⌜ KeptRule (now (vertices .entry)) (now (facets .entry)) eps ⌝ }
 {
     let reply = clean_mesh(vertices, facets, eps, work, out_vertices, out_facets);

@@ -23,7 +23,10 @@ pub extern "C" fn yongpham_clip(
     out_facets: &mut [u32],
     values: &mut [u64; 4],
 ) -> u32
-    ensures { λ r. ⌜ Called (clipTests (now (vertices .entry)) (now (facets .entry)) (boxOf «min_x» «min_y» «min_z» «max_x» «max_y» «max_z») eps (length (now (work .entry)))) (meshOutputs (clipResult (now (vertices .entry)) (now (facets .entry)) (boxOf «min_x» «min_y» «min_z» «max_x» «max_y» «max_z») eps) (now («out_vertices» .entry)) (now («out_vertices» .exit)) (now («out_facets» .entry)) (now («out_facets» .exit))) (now (work .entry)) (now (work .exit)) r (now (values .exit)) ⌝ }
+    ensures { λ r. ⌜ Called
+        (clipTests (now (vertices .entry)) (now (facets .entry)) (boxOf «min_x» «min_y» «min_z» «max_x» «max_y» «max_z») eps (length (now (work .entry))))
+        (meshOutputs (clipResult (now (vertices .entry)) (now (facets .entry)) (boxOf «min_x» «min_y» «min_z» «max_x» «max_y» «max_z») eps) (now («out_vertices» .entry))
+        (now («out_vertices» .exit)) (now («out_facets» .entry)) (now («out_facets» .exit))) (now (work .entry)) (now (work .exit)) r (now (values .exit)) ⌝ }
 {
     let extents = AABB {
         min_corner: [min_x, min_y, min_z],

@@ -76,7 +76,8 @@ returns-2 c =
 
 run-pass-requires-2 : tie.Need-run-pass-requires-2
 run-pass-requires-2 c κs =
-    let s = c .before .before .before .before .before .before .before .before .before .before .before .before .before .before .before .before .before .before .before .before .before in
+    let s = c .before .before .before .before .before .before .before .before .before .before .before .before .before .before .before .before .before .before .before .before
+    .before in
     let a = s .args in
     (s .pre .0, (s .pre .1 .0, c .before .before .before .before .before .before .before .before .before .before .before .before .run-pass .kept .1 .1 .1 .1 .0 ∙ s .pre .1 .1))
 

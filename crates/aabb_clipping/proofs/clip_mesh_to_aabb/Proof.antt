@@ -27,7 +27,16 @@ same-length-3 : tie.Need-same-length-3
 same-length-3 c = search needs
 
 returns : tie.Need-returns
-returns c = let p = c .before .before .before .before .before .before .before .before .before .before .clip-or-refuse in let z = c .before .before .zero-front in let a = c .before .before .before .before .before .before .before .before .before .before .before .before .before .before .before .before .before .before .before .before .args in let w = a .work .now in let u = p .last .1 .1 .1 .1 .1 .0 in let l = p .kept .1 .1 .1 .1 .1 .0 in answered _ _ w u _ _ (p .ensures) l (z .ensures ∙ overlay-whole (replicate (length w) 0) u (omega (arith, l, length-replicate {A = ℕ} (length w) 0)) ∙ ap (λ (n : ℕ). replicate n 0) (sym l))
+returns c =
+    let p = c .before .before .before .before .before .before .before .before .before .before .clip-or-refuse in
+    let z = c .before .before .zero-front in
+    let a = c .before .before .before .before .before .before .before .before .before .before .before .before .before .before .before .before .before .before .before .before .args
+    in
+    let w = a .work .now in
+    let u = p .last .1 .1 .1 .1 .1 .0 in
+    let l = p .kept .1 .1 .1 .1 .1 .0 in
+    answered _ _ w u _ _ (p .ensures) l (z .ensures ∙ overlay-whole (replicate (length w) 0) u (omega (arith, l, length-replicate {A = ℕ} (length w) 0)) ∙ ap
+    (λ (n : ℕ). replicate n 0) (sym l))
 
 pub clip-mesh-to-aabb-spec : {M : Type 1} → statement M
 clip-mesh-to-aabb-spec =

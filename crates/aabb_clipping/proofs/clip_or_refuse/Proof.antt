@@ -48,10 +48,20 @@ same-length-3 : tie.Need-same-length-3
 same-length-3 c = search needs
 
 returns : tie.Need-returns
-returns c = let s = c .before .before .before .before .before .before .before .before .before .before .before .before .before .before .before .before .before in let a = s .args in behind (clipTests (a .vertices .now) (a .facets .now) (a .extents) (a .eps) (length (a .work .now))) _ _ (sym (s .pre) ∙ c .before .before .before .before .before .before .before .before .before .before .enum-told .given .1) (c .before .before .before .before .before .before .clip-checked .ensures)
+returns c =
+    let s = c .before .before .before .before .before .before .before .before .before .before .before .before .before .before .before .before .before in
+    let a = s .args in
+    behind (clipTests (a .vertices .now) (a .facets .now) (a .extents) (a .eps) (length (a .work .now))) _ _
+    (sym (s .pre) ∙ c .before .before .before .before .before .before .before .before .before .before .enum-told .given .1)
+    (c .before .before .before .before .before .before .clip-checked .ensures)
 
 returns-2 : tie.Need-returns-2
-returns-2 c = let s = c .before .before .before .before .before .before .before .before in let a = s .args in refused (clipTests (a .vertices .now) (a .facets .now) (a .extents) (a .eps) (length (a .work .now))) (meshOutputs (clipResult (a .vertices .now) (a .facets .now) (a .extents) (a .eps)) (a .out-vertices .now) (a .out-vertices .now) (a .out-facets .now) (a .out-facets .now)) _ (sym (s .pre) ∙ c .before .found .given .1) (refl, (refl, tt))
+returns-2 c =
+    let s = c .before .before .before .before .before .before .before .before in
+    let a = s .args in
+    refused (clipTests (a .vertices .now) (a .facets .now) (a .extents) (a .eps) (length (a .work .now)))
+    (meshOutputs (clipResult (a .vertices .now) (a .facets .now) (a .extents) (a .eps)) (a .out-vertices .now) (a .out-vertices .now) (a .out-facets .now) (a .out-facets .now)) _
+    (sym (s .pre) ∙ c .before .found .given .1) (refl, (refl, tt))
 
 pub clip-or-refuse-spec : {M : Type 1} → statement M
 clip-or-refuse-spec =

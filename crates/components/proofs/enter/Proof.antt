@@ -33,8 +33,12 @@ returns : tie.Need-returns
 returns c =
     let s = c .before .before .before .args in
     let pre = c .before .before .before .pre .1 .1 .1 in
-    record
-    { unseen = λ e. refl; seen = λ f e. absurd (omega arith); rooted = rooted-elsewhere (s .w .now) (s .at) (s .n) (s .i) (s .r) (s .s) (s .i + 1) (omega arith) (omega arith) (pre .1 .1) }
+    record {
+      unseen =
+          λ e. refl;
+      seen = λ f e. absurd (omega arith);
+      rooted = rooted-elsewhere (s .w .now) (s .at) (s .n) (s .i) (s .r) (s .s) (s .i + 1) (omega arith) (omega arith) (pre .1 .1);
+    }
 
 sub-find : tie.Need-sub-find
 sub-find c = search needs

@@ -28,7 +28,10 @@ shared-slice-read-find-word : tie.Need-shared-slice-read-find-word Inv-loop μ-l
 shared-slice-read-find-word c = omega arith
 
 find-word-requires : tie.Need-find-word-requires Inv-loop μ-loop
-find-word-requires c κs = (c .before .before .before .before .before .before .before .pre .0, (c .before .before .before .before .before .before .before .pre .1 .0, c .before .before .before .before .before .before .before .pre .1 .1 .0))
+find-word-requires c κs = (
+  c .before .before .before .before .before .before .before .pre .0,
+  (c .before .before .before .before .before .before .before .pre .1 .0, c .before .before .before .before .before .before .before .pre .1 .1 .0),
+)
 
 mul-found : tie.Need-mul-found Inv-loop μ-loop
 mul-found c = omega arith

@@ -71,8 +71,15 @@ components-requires : tie.Need-components-requires
 components-requires c κs =
     let s = c .before .before .before .before .before .before .before .before .before .args in
     let h = labels-fit (s .n) (s .k) (length (s .w .now) - s .n - s .n - s .m) (omega arith) (omega arith) in
-    record
-    { some = omega arith; room = omega arith; fits = omega arith; apart = λ i l j q e. omega arith; below = labels-below (s .w .now) (s .n + s .n + s .m) (s .n * s .k) (s .m) (omega arith) (c .before .before .all-below .ensures (c .before .if5 .taken)) }
+    record {
+      some =
+          omega arith;
+      room = omega arith;
+      fits = omega arith;
+      apart = λ i l j q e. omega arith;
+      below = labels-below (s .w .now) (s .n + s .n + s .m) (s .n * s .k) (s .m)
+          (omega arith) (c .before .before .all-below .ensures (c .before .if5 .taken));
+    }
 
 same-length : tie.Need-same-length
 same-length c = search needs

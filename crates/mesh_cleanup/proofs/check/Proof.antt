@@ -16,7 +16,10 @@ enum-told : tie.Need-enum-told
 enum-told c = search needs
 
 returns : tie.Need-returns
-returns c = let s = c .before .before .before .before .before in let a = s .args in lists-refused (a .vertices .now) (a .facets .now) (a .eps) (a .lent) _ _ (c .before .before .check-lists .ensures) (c .enum-told .given .1)
+returns c =
+    let s = c .before .before .before .before .before in
+    let a = s .args in
+    lists-refused (a .vertices .now) (a .facets .now) (a .eps) (a .lent) _ _ (c .before .before .check-lists .ensures) (c .enum-told .given .1)
 
 enum-told-2 : tie.Need-enum-told-2
 enum-told-2 c = search needs
@@ -25,28 +28,65 @@ all-in-range-requires : tie.Need-all-in-range-requires
 all-in-range-requires c κs = search needs
 
 returns-2 : tie.Need-returns-2
-returns-2 c = let s = c .before .before .before .before .before .before .before in let a = s .args in number-refused (a .vertices .now) (a .facets .now) (a .eps) (a .lent) (sym (c .before .before .before .before .check-lists .ensures) ∙ c .before .before .enum-told2 .given .1) (ap not (and-stop _ _ (sym (c .before .all-in-range .ensures) ∙ not-true _ (c .if1 .taken))))
+returns-2 c =
+    let s = c .before .before .before .before .before .before .before in
+    let a = s .args in
+    number-refused (a .vertices .now) (a .facets .now) (a .eps) (a .lent) (sym (c .before .before .before .before .check-lists .ensures) ∙ c .before .before .enum-told2 .given .1)
+    (ap not (and-stop _ _ (sym (c .before .all-in-range .ensures) ∙ not-true _ (c .if1 .taken))))
 
 eps-in-range-requires : tie.Need-eps-in-range-requires
 eps-in-range-requires c κs = search needs
 
 returns-3 : tie.Need-returns-3
-returns-3 c = let s = c .before .before .before .before .before .before .before .before .before in let a = s .args in number-refused (a .vertices .now) (a .facets .now) (a .eps) (a .lent) (sym (c .before .before .before .before .before .before .check-lists .ensures) ∙ c .before .before .before .before .enum-told2 .given .1) (ap not (and-next _ _ _ (sym (c .before .before .before .all-in-range .ensures) ∙ not-false _ (c .before .before .if1 .left)) (sym (c .before .eps-in-range .ensures) ∙ not-true _ (c .if2 .taken))))
+returns-3 c =
+    let s = c .before .before .before .before .before .before .before .before .before in
+    let a = s .args in
+    number-refused (a .vertices .now) (a .facets .now) (a .eps) (a .lent)
+    (sym (c .before .before .before .before .before .before .check-lists .ensures) ∙ c .before .before .before .before .enum-told2 .given .1)
+    (ap not (and-next _ _ _ (sym (c .before .before .before .all-in-range .ensures) ∙ not-false _ (c .before .before .if1 .left))
+    (sym (c .before .eps-in-range .ensures) ∙ not-true _ (c .if2 .taken))))
 
 work-need-requires : tie.Need-work-need-requires
-work-need-requires c κs = let s = c .before .before .before .before .before .before .before .before .before in let a = s .args in let l = listed _ (a .vertices .now) (a .facets .now) _ (sym (c .before .before .before .before .before .before .check-lists .ensures) ∙ c .before .before .before .before .enum-told2 .given .1) in omega (arith, l .few-vertices, l .few-facets)
+work-need-requires c κs =
+    let s = c .before .before .before .before .before .before .before .before .before in
+    let a = s .args in
+    let l = listed _ (a .vertices .now) (a .facets .now) _ (sym (c .before .before .before .before .before .before .check-lists .ensures) ∙ c .before .before .before .before
+    .enum-told2 .given .1) in
+    omega (arith, l .few-vertices, l .few-facets)
 
 returns-4 : tie.Need-returns-4
-returns-4 c = let s = c .before .before .before .before .before .before .before .before .before .before .before in let a = s .args in room-refused (a .vertices .now) (a .facets .now) (a .eps) (a .lent) (sym (c .before .before .before .before .before .before .before .before .check-lists .ensures) ∙ c .before .before .before .before .before .before .enum-told2 .given .1) (ap not (and-next _ _ _ (sym (c .before .before .before .before .before .all-in-range .ensures) ∙ not-false _ (c .before .before .before .before .if1 .left)) (sym (c .before .before .before .eps-in-range .ensures) ∙ not-false _ (c .before .before .if2 .left)))) _ (c .before .work-need .ensures) (c .if3 .taken)
+returns-4 c =
+    let s = c .before .before .before .before .before .before .before .before .before .before .before in
+    let a = s .args in
+    room-refused (a .vertices .now) (a .facets .now) (a .eps) (a .lent)
+    (sym (c .before .before .before .before .before .before .before .before .check-lists .ensures) ∙ c .before .before .before .before .before .before .enum-told2 .given .1)
+    (ap not (and-next _ _ _ (sym (c .before .before .before .before .before .all-in-range .ensures) ∙ not-false _ (c .before .before .before .before .if1 .left))
+    (sym (c .before .before .before .eps-in-range .ensures) ∙ not-false _ (c .before .before .if2 .left)))) _ (c .before .work-need .ensures) (c .if3 .taken)
 
 has-far-key-requires : tie.Need-has-far-key-requires
 has-far-key-requires c κs = search needs
 
 returns-5 : tie.Need-returns-5
-returns-5 c = let s = c .before .before .before .before .before .before .before .before .before .before .before .before .before in let a = s .args in key-refused (a .vertices .now) (a .facets .now) (a .eps) (a .lent) (sym (c .before .before .before .before .before .before .before .before .before .before .check-lists .ensures) ∙ c .before .before .before .before .before .before .before .before .enum-told2 .given .1) (ap not (and-next _ _ _ (sym (c .before .before .before .before .before .before .before .all-in-range .ensures) ∙ not-false _ (c .before .before .before .before .before .before .if1 .left)) (sym (c .before .before .before .before .before .eps-in-range .ensures) ∙ not-false _ (c .before .before .before .before .if2 .left)))) _ (c .before .before .before .work-need .ensures) (c .before .before .if3 .left) (sym (c .before .has-far-key .ensures) ∙ c .if4 .taken)
+returns-5 c =
+    let s = c .before .before .before .before .before .before .before .before .before .before .before .before .before in
+    let a = s .args in
+    key-refused (a .vertices .now) (a .facets .now) (a .eps) (a .lent)
+    (sym (c .before .before .before .before .before .before .before .before .before .before .check-lists .ensures) ∙ c .before .before .before .before .before .before .before
+    .before .enum-told2 .given .1) (ap not (and-next _ _ _ (sym (c .before .before .before .before .before .before .before .all-in-range .ensures) ∙ not-false _
+    (c .before .before .before .before .before .before .if1 .left))
+    (sym (c .before .before .before .before .before .eps-in-range .ensures) ∙ not-false _ (c .before .before .before .before .if2 .left)))) _
+    (c .before .before .before .work-need .ensures) (c .before .before .if3 .left) (sym (c .before .has-far-key .ensures) ∙ c .if4 .taken)
 
 returns-6 : tie.Need-returns-6
-returns-6 c = let s = c .before .before .before .before .before .before .before .before .before .before .before .before .before in let a = s .args in all-passed (a .vertices .now) (a .facets .now) (a .eps) (a .lent) (sym (c .before .before .before .before .before .before .before .before .before .before .check-lists .ensures) ∙ c .before .before .before .before .before .before .before .before .enum-told2 .given .1) (ap not (and-next _ _ _ (sym (c .before .before .before .before .before .before .before .all-in-range .ensures) ∙ not-false _ (c .before .before .before .before .before .before .if1 .left)) (sym (c .before .before .before .before .before .eps-in-range .ensures) ∙ not-false _ (c .before .before .before .before .if2 .left)))) _ (c .before .before .before .work-need .ensures) (c .before .before .if3 .left) (sym (c .before .has-far-key .ensures) ∙ c .if4 .left)
+returns-6 c =
+    let s = c .before .before .before .before .before .before .before .before .before .before .before .before .before in
+    let a = s .args in
+    all-passed (a .vertices .now) (a .facets .now) (a .eps) (a .lent)
+    (sym (c .before .before .before .before .before .before .before .before .before .before .check-lists .ensures) ∙ c .before .before .before .before .before .before .before
+    .before .enum-told2 .given .1) (ap not (and-next _ _ _ (sym (c .before .before .before .before .before .before .before .all-in-range .ensures) ∙ not-false _
+    (c .before .before .before .before .before .before .if1 .left))
+    (sym (c .before .before .before .before .before .eps-in-range .ensures) ∙ not-false _ (c .before .before .before .before .if2 .left)))) _
+    (c .before .before .before .work-need .ensures) (c .before .before .if3 .left) (sym (c .before .has-far-key .ensures) ∙ c .if4 .left)
 
 pub check-spec : {M : Type 1} → statement M
 check-spec =

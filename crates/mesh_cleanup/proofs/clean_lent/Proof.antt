@@ -15,7 +15,11 @@ enum-told : tie.Need-enum-told
 enum-told c = search needs
 
 clean-checked-requires : tie.Need-clean-checked-requires
-clean-checked-requires c κs = let s = c .before .before .before .before .before .before .before .before .before .before .before in let a = s .args in ready (a .vertices .now) (a .facets .now) (a .eps) (length (a .work .now)) (sym (c .before .before .before .before .before .check .ensures) ∙ c .before .before .before .enum-told .given .1)
+clean-checked-requires c κs =
+    let s = c .before .before .before .before .before .before .before .before .before .before .before in
+    let a = s .args in
+    ready (a .vertices .now) (a .facets .now) (a .eps) (length (a .work .now))
+    (sym (c .before .before .before .before .before .check .ensures) ∙ c .before .before .before .enum-told .given .1)
 
 enum-known-r : tie.Need-enum-known-r
 enum-known-r c = search needs
@@ -30,10 +34,18 @@ same-length-3 : tie.Need-same-length-3
 same-length-3 c = search needs
 
 returns : tie.Need-returns
-returns c = let a = c .before .before .before .before .before .before .before .before .before .before .before .before .before .before .before .before .before .before .args in behind (cleanTests (a .vertices .now) (a .facets .now) (a .eps) (length (a .work .now))) _ _ (sym (c .before .before .before .before .before .before .before .before .before .before .before .before .check .ensures) ∙ c .before .before .before .before .before .before .before .before .before .before .enum-told .given .1) (c .before .before .before .before .before .before .clean-checked .ensures)
+returns c =
+    let a = c .before .before .before .before .before .before .before .before .before .before .before .before .before .before .before .before .before .before .args in
+    behind (cleanTests (a .vertices .now) (a .facets .now) (a .eps) (length (a .work .now))) _ _
+    (sym (c .before .before .before .before .before .before .before .before .before .before .before .before .check .ensures) ∙ c .before .before .before .before .before .before
+    .before .before .before .before .enum-told .given .1) (c .before .before .before .before .before .before .clean-checked .ensures)
 
 returns-2 : tie.Need-returns-2
-returns-2 c = let a = c .before .before .before .before .before .before .before .before .before .args in refused (cleanTests (a .vertices .now) (a .facets .now) (a .eps) (length (a .work .now))) (meshOutputs (cleanResult (a .vertices .now) (a .facets .now) (a .eps)) (a .out-vertices .now) (a .out-vertices .now) (a .out-facets .now) (a .out-facets .now)) _ (sym (c .before .before .before .check .ensures) ∙ c .before .r .given .1) (refl, (refl, tt))
+returns-2 c =
+    let a = c .before .before .before .before .before .before .before .before .before .args in
+    refused (cleanTests (a .vertices .now) (a .facets .now) (a .eps) (length (a .work .now)))
+    (meshOutputs (cleanResult (a .vertices .now) (a .facets .now) (a .eps)) (a .out-vertices .now) (a .out-vertices .now) (a .out-facets .now) (a .out-facets .now)) _
+    (sym (c .before .before .before .check .ensures) ∙ c .before .r .given .1) (refl, (refl, tt))
 
 pub clean-lent-spec : {M : Type 1} → statement M
 clean-lent-spec =

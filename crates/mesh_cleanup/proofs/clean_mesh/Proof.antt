@@ -19,7 +19,15 @@ same-length-3 : tie.Need-same-length-3
 same-length-3 c = search needs
 
 returns : tie.Need-returns
-returns c = let s = c .before .before .before .before .before .before .before .before .before .before .before .before .before .before .before .before .before .before .before in let a = s .args in cleaned-up (a .vertices .now) (a .facets .now) (a .eps) (c .before .before .before .before .before .before .before .before .before .before .clean-lent .result) (a .work .now) (c .before .before .before .before .before .before .before .before .before .before .clean-lent .last .1 .1 .1 .0) (c .before .before .zero-front .last .0) (a .out-vertices .now) (c .before .before .before .before .before .before .before .before .before .before .clean-lent .last .1 .1 .1 .1 .0) (a .out-facets .now) (c .before .before .before .before .before .before .before .before .before .before .clean-lent .last .1 .1 .1 .1 .1 .0) (c .before .before .before .before .before .before .before .before .before .before .clean-lent .ensures) (c .before .before .before .before .before .before .before .before .before .before .clean-lent .kept .1 .1 .1 .0) (c .before .before .zero-front .ensures)
+returns c =
+    let s = c .before .before .before .before .before .before .before .before .before .before .before .before .before .before .before .before .before .before .before in
+    let a = s .args in
+    cleaned-up (a .vertices .now) (a .facets .now) (a .eps) (c .before .before .before .before .before .before .before .before .before .before .clean-lent .result) (a .work .now)
+    (c .before .before .before .before .before .before .before .before .before .before .clean-lent .last .1 .1 .1 .0) (c .before .before .zero-front .last .0)
+    (a .out-vertices .now) (c .before .before .before .before .before .before .before .before .before .before .clean-lent .last .1 .1 .1 .1 .0) (a .out-facets .now)
+    (c .before .before .before .before .before .before .before .before .before .before .clean-lent .last .1 .1 .1 .1 .1 .0)
+    (c .before .before .before .before .before .before .before .before .before .before .clean-lent .ensures)
+    (c .before .before .before .before .before .before .before .before .before .before .clean-lent .kept .1 .1 .1 .0) (c .before .before .zero-front .ensures)
 
 pub clean-mesh-spec : {M : Type 1} → statement M
 clean-mesh-spec =

@@ -5,7 +5,10 @@ use Rattle.mesh_cleanup.proofs.stage.Statement.{statement}
 use Rattle.mesh_cleanup.proofs.stage.Tie as tie
 
 weld-requires : tie.Need-weld-requires
-weld-requires c κs = let s = c .before .before .before .before in let a = s .args in (weld-room (a .vertices .now) (a .facets .now) (a .eps) (length (a .work .now)) (s .pre), keys-in (a .vertices .now) (a .facets .now) (a .eps) (length (a .work .now)) (s .pre))
+weld-requires c κs =
+    let s = c .before .before .before .before in
+    let a = s .args in
+    (weld-room (a .vertices .now) (a .facets .now) (a .eps) (length (a .work .now)) (s .pre), keys-in (a .vertices .now) (a .facets .now) (a .eps) (length (a .work .now)) (s .pre))
 
 mul-filter : tie.Need-mul-filter
 mul-filter c = search needs
@@ -17,7 +20,11 @@ mul-filter-2 : tie.Need-mul-filter-2
 mul-filter-2 c = search needs
 
 filter-requires : tie.Need-filter-requires
-filter-requires c κs = let s = c .before .before .before .before .before .before .before .before in let a = s .args in numbered (a .vertices .now) (a .facets .now) (a .eps) (length (a .work .now)) (s .pre) (c .before .before .before .weld .last .0) (c .before .before .before .weld .kept .0) (c .before .before .before .weld .result) (c .before .before .before .weld .ensures)
+filter-requires c κs =
+    let s = c .before .before .before .before .before .before .before .before in
+    let a = s .args in
+    numbered (a .vertices .now) (a .facets .now) (a .eps) (length (a .work .now)) (s .pre) (c .before .before .before .weld .last .0) (c .before .before .before .weld .kept .0)
+    (c .before .before .before .weld .result) (c .before .before .before .weld .ensures)
 
 mul-remove-small-disconnected-components-2 : tie.Need-mul-remove-small-disconnected-components-2
 mul-remove-small-disconnected-components-2 c = search needs
@@ -41,13 +48,29 @@ add-remove-small-disconnected-components-2 : tie.Need-add-remove-small-disconnec
 add-remove-small-disconnected-components-2 c = search needs
 
 remove-small-disconnected-components-requires : tie.Need-remove-small-disconnected-components-requires
-remove-small-disconnected-components-requires c κs = let s = c .before .before .before .before .before .before .before .before .before .before .before .before in let a = s .args in last-room (a .vertices .now) (a .facets .now) (a .eps) (length (a .work .now)) (s .pre) (c .before .before .before .before .before .before .before .weld .last .0) (c .before .before .before .before .before .before .before .weld .kept .0) (c .before .before .before .before .before .before .before .weld .result) (c .before .before .before .before .before .before .before .weld .ensures) (c .before .before .before .filter .last .0) (c .before .before .before .filter .result) (c .before .before .before .filter .ensures)
+remove-small-disconnected-components-requires c κs =
+    let s = c .before .before .before .before .before .before .before .before .before .before .before .before in
+    let a = s .args in
+    last-room (a .vertices .now) (a .facets .now) (a .eps) (length (a .work .now)) (s .pre) (c .before .before .before .before .before .before .before .weld .last .0)
+    (c .before .before .before .before .before .before .before .weld .kept .0) (c .before .before .before .before .before .before .before .weld .result)
+    (c .before .before .before .before .before .before .before .weld .ensures) (c .before .before .before .filter .last .0) (c .before .before .before .filter .result)
+    (c .before .before .before .filter .ensures)
 
 same-length : tie.Need-same-length
 same-length c = search needs
 
 returns : tie.Need-returns
-returns c = let s = c .before .before .before .before .before .before .before .before .before .before .before .before .before .before .before in let a = s .args in staged (a .vertices .now) (a .facets .now) (a .eps) (length (a .work .now)) (s .pre) (c .before .before .before .before .before .before .before .before .before .before .weld .last .0) (c .before .before .before .before .before .before .before .before .before .before .weld .kept .0) (c .before .before .before .before .before .before .before .before .before .before .weld .result) (c .before .before .before .before .before .before .before .before .before .before .weld .ensures) (c .before .before .before .before .before .before .filter .last .0) (c .before .before .before .before .before .before .filter .result) (c .before .before .before .before .before .before .filter .ensures) (c .before .before .remove-small-disconnected-components .result) (c .before .before .remove-small-disconnected-components .last .0) (c .before .before .remove-small-disconnected-components .ensures)
+returns c =
+    let s = c .before .before .before .before .before .before .before .before .before .before .before .before .before .before .before in
+    let a = s .args in
+    staged (a .vertices .now) (a .facets .now) (a .eps) (length (a .work .now)) (s .pre)
+    (c .before .before .before .before .before .before .before .before .before .before .weld .last .0)
+    (c .before .before .before .before .before .before .before .before .before .before .weld .kept .0)
+    (c .before .before .before .before .before .before .before .before .before .before .weld .result)
+    (c .before .before .before .before .before .before .before .before .before .before .weld .ensures) (c .before .before .before .before .before .before .filter .last .0)
+    (c .before .before .before .before .before .before .filter .result) (c .before .before .before .before .before .before .filter .ensures)
+    (c .before .before .remove-small-disconnected-components .result) (c .before .before .remove-small-disconnected-components .last .0)
+    (c .before .before .remove-small-disconnected-components .ensures)
 
 pub stage-spec : {M : Type 1} → statement M
 stage-spec =

@@ -29,10 +29,19 @@ cast-out : tie.Need-cast-out Inv-loop μ-loop
 cast-out c = let h = c .before .before .before .pre .1 (c .before .before .loop .i) (c .before .loop-test .taken) in omega arith
 
 mul-out-2 : tie.Need-mul-out-2 Inv-loop μ-loop
-mul-out-2 c = let s = c .before .before .before in let a = s .args in let h = number-room [] (a .m .now) (a .at) (a .n) (s .pre .0 .0) (a .out .now) (c .before .before .loop .out) (c .before .before .loop .i) (c .before .before .loop .inv) (c .before .loop-test .taken) in omega arith
+mul-out-2 c =
+    let s = c .before .before .before in
+    let a = s .args in
+    let h = number-room [] (a .m .now) (a .at) (a .n) (s .pre .0 .0) (a .out .now) (c .before .before .loop .out) (c .before .before .loop .i) (c .before .before .loop .inv)
+    (c .before .loop-test .taken) in
+    omega arith
 
 slice-write-out : tie.Need-slice-write-out Inv-loop μ-loop
-slice-write-out c = let s = c .before .before .before in let a = s .args in number-room [] (a .m .now) (a .at) (a .n) (s .pre .0 .0) (a .out .now) (c .before .before .loop .out) (c .before .before .loop .i) (c .before .before .loop .inv) (c .before .loop-test .taken)
+slice-write-out c =
+    let s = c .before .before .before in
+    let a = s .args in
+    number-room [] (a .m .now) (a .at) (a .n) (s .pre .0 .0) (a .out .now) (c .before .before .loop .out) (c .before .before .loop .i) (c .before .before .loop .inv)
+    (c .before .loop-test .taken)
 
 add-i : tie.Need-add-i Inv-loop μ-loop
 add-i c = omega arith
@@ -41,13 +50,20 @@ loop-less : tie.Need-loop-less Inv-loop μ-loop
 loop-less c = omega arith
 
 loop-again : tie.Need-loop-again Inv-loop μ-loop
-loop-again c = let s = c .before .before .before in let a = s .args in numbers-turn [] (a .m .now) (a .at) (a .n) (s .pre .0 .0) (a .out .now) (c .before .before .loop .out) (c .before .before .loop .i) (c .before .before .loop .inv) (c .before .loop-test .taken)
+loop-again c =
+    let s = c .before .before .before in
+    let a = s .args in
+    numbers-turn [] (a .m .now) (a .at) (a .n) (s .pre .0 .0) (a .out .now) (c .before .before .loop .out) (c .before .before .loop .i) (c .before .before .loop .inv)
+    (c .before .loop-test .taken)
 
 same-length : tie.Need-same-length Inv-loop μ-loop
 same-length c = c .before .loop .inv .same
 
 returns : tie.Need-returns Inv-loop μ-loop
-returns c = let s = c .before .before in let a = s .args in numbers-end [] (a .m .now) (a .at) (a .n) (s .pre .0 .0) (a .out .now) (c .before .loop .out) (c .before .loop .i) (c .before .loop .inv) (c .loop-test .left)
+returns c =
+    let s = c .before .before in
+    let a = s .args in
+    numbers-end [] (a .m .now) (a .at) (a .n) (s .pre .0 .0) (a .out .now) (c .before .loop .out) (c .before .loop .i) (c .before .loop .inv) (c .loop-test .left)
 
 pub write-numbers-spec : {M : Type 1} → statement M
 write-numbers-spec =

@@ -31,13 +31,19 @@ shared-slice-read-v : tie.Need-shared-slice-read-v Inv-loop μ-loop
 shared-slice-read-v c = omega arith
 
 vertex-at-requires : tie.Need-vertex-at-requires Inv-loop μ-loop
-vertex-at-requires c κs = let h = c .before .before .before .before .before .before .before .pre .1 (c .before .before .before .loop .k) (c .before .before .loop-test .taken) in omega arith
+vertex-at-requires c κs =
+    let h = c .before .before .before .before .before .before .before .pre .1 (c .before .before .before .loop .k) (c .before .before .loop-test .taken) in
+    omega arith
 
 mul-write-point : tie.Need-mul-write-point Inv-loop μ-loop
 mul-write-point c = omega arith
 
 write-point-requires : tie.Need-write-point-requires Inv-loop μ-loop
-write-point-requires c κs = let s = c .before .before .before .before .before .before .before .before in let a = s .args in vertex-room (a .vertices .now) (a .m .now) (a .at) (a .n) (s .pre .0 .0) (a .out .now) (c .before .before .before .before .loop .out) (c .before .before .before .before .loop .k) (c .before .before .before .before .loop .inv) (c .before .before .before .loop-test .taken)
+write-point-requires c κs =
+    let s = c .before .before .before .before .before .before .before .before in
+    let a = s .args in
+    vertex-room (a .vertices .now) (a .m .now) (a .at) (a .n) (s .pre .0 .0) (a .out .now) (c .before .before .before .before .loop .out)
+    (c .before .before .before .before .loop .k) (c .before .before .before .before .loop .inv) (c .before .before .before .loop-test .taken)
 
 add-k : tie.Need-add-k Inv-loop μ-loop
 add-k c = omega arith
@@ -46,13 +52,23 @@ loop-less : tie.Need-loop-less Inv-loop μ-loop
 loop-less c = omega arith
 
 loop-again : tie.Need-loop-again Inv-loop μ-loop
-loop-again c = let s = c .before .before .before .before .before .before .before .before .before .before .before in let a = s .args in subst (λ (l : List Float). Writing (coordinates (map (vertexOf (a .vertices .now)) (view (a .m .now) (a .at) (a .n)))) (a .out .now) l (3 * (c .before .before .before .before .before .before .before .loop .k + 1))) (sym (c .before .before .write-point .ensures)) (vertices-turn (a .vertices .now) (a .m .now) (a .at) (a .n) (s .pre .0 .0) (a .out .now) (c .before .before .before .before .before .before .before .loop .out) (c .before .before .before .before .before .before .before .loop .k) (c .before .before .before .before .before .before .before .loop .inv) (c .before .before .before .before .before .before .loop-test .taken) (c .before .before .before .vertex-at .result) (c .before .before .before .vertex-at .ensures))
+loop-again c =
+    let s = c .before .before .before .before .before .before .before .before .before .before .before in
+    let a = s .args in
+    subst (λ (l : List Float). Writing (coordinates (map (vertexOf (a .vertices .now)) (view (a .m .now) (a .at) (a .n)))) (a .out .now) l
+    (3 * (c .before .before .before .before .before .before .before .loop .k + 1))) (sym (c .before .before .write-point .ensures))
+    (vertices-turn (a .vertices .now) (a .m .now) (a .at) (a .n) (s .pre .0 .0) (a .out .now) (c .before .before .before .before .before .before .before .loop .out)
+    (c .before .before .before .before .before .before .before .loop .k) (c .before .before .before .before .before .before .before .loop .inv)
+    (c .before .before .before .before .before .before .loop-test .taken) (c .before .before .before .vertex-at .result) (c .before .before .before .vertex-at .ensures))
 
 same-length : tie.Need-same-length Inv-loop μ-loop
 same-length c = c .before .loop .inv .same
 
 returns : tie.Need-returns Inv-loop μ-loop
-returns c = let s = c .before .before .before .before .before in let a = s .args in vertices-end (a .vertices .now) (a .m .now) (a .at) (a .n) (s .pre .0 .0) (a .out .now) (c .before .loop .out) (c .before .loop .k) (c .before .loop .inv) (c .loop-test .left)
+returns c =
+    let s = c .before .before .before .before .before in
+    let a = s .args in
+    vertices-end (a .vertices .now) (a .m .now) (a .at) (a .n) (s .pre .0 .0) (a .out .now) (c .before .loop .out) (c .before .loop .k) (c .before .loop .inv) (c .loop-test .left)
 
 pub write-vertices-spec : {M : Type 1} → statement M
 write-vertices-spec =

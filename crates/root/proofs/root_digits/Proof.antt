@@ -11,8 +11,10 @@ abbrev μ-loop : tie.MeasureT-loop
 μ-loop m q₀ d₀ y₀ q d y = d
 
 -- what the new digit takes
-taken-by : (c : tie.After-digit Inv-loop μ-loop) → Taken (c .digit .result) (2 * c .before .before .loop .q + c .before .before .loop .d / 2) (2 * c .before .before .loop .y) (c .before .before .loop .d / 2)
-taken-by c = taken (c .digit .result) (2 * c .before .before .loop .q + c .before .before .loop .d / 2) (2 * c .before .before .loop .y) (c .before .before .loop .d / 2) (c .digit .ensures)
+taken-by : (c : tie.After-digit Inv-loop μ-loop) → Taken (c .digit .result) (2 * c .before .before .loop .q + c .before .before .loop .d / 2) (2 * c .before .before .loop .y)
+    (c .before .before .loop .d / 2)
+taken-by c =
+    taken (c .digit .result) (2 * c .before .before .loop .q + c .before .before .loop .d / 2) (2 * c .before .before .loop .y) (c .before .before .loop .d / 2) (c .digit .ensures)
 
 sub-y : tie.Need-sub-y Inv-loop μ-loop
 sub-y c = omega arith

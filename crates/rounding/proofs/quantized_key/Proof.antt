@@ -16,7 +16,9 @@ rounded-requires c κs = search needs
 
 returns : tie.Need-returns
 unfolding key
-returns c = toZ-ofZ w64 (c .rounded .result) (record { sfits = c .rounded .ok }) ∙ c .rounded .ensures ∙ ap (λ (scale : Float). rounded (c .before .before .args .x ⊘ scale)) (c .before .max .ensures)
+returns c =
+    toZ-ofZ w64 (c .rounded .result) (record { sfits = c .rounded .ok }) ∙ c .rounded .ensures ∙ ap (λ (scale : Float). rounded (c .before .before .args .x ⊘ scale))
+    (c .before .max .ensures)
 
 pub quantized-key-spec : {M : Type 1} → statement M
 quantized-key-spec = tie.close (tie.spec max-requires rounded-requires returns)

@@ -30,20 +30,27 @@ is-bad-box-requires : tie.Need-is-bad-box-requires
 is-bad-box-requires c κs = search needs
 
 returns-2 : tie.Need-returns-2
-returns-2 c = refused _ _ (reply-bad-box _ (sym (c .before .before .before .box-in-range .ensures) ∙ not-false _ (c .before .before .if1 .left)) (sym (c .before .is-bad-box .ensures) ∙ c .if2 .taken))
+returns-2 c =
+    refused _ _ (reply-bad-box _ (sym (c .before .before .before .box-in-range .ensures) ∙ not-false _ (c .before .before .if1 .left))
+    (sym (c .before .is-bad-box .ensures) ∙ c .if2 .taken))
 
 sides-requires : tie.Need-sides-requires
 sides-requires c κs = search needs
 
 norm-requires : tie.Need-norm-requires
-norm-requires c κs = subst⁻¹ (λ (q : Point). T (rootable (norm2 q))) (c .sides .ensures) (sides-rootable _ (sym (c .before .before .before .before .box-in-range .ensures) ∙ not-false _ (c .before .before .before .if1 .left)))
+norm-requires c κs =
+    subst⁻¹ (λ (q : Point). T (rootable (norm2 q))) (c .sides .ensures)
+    (sides-rootable _ (sym (c .before .before .before .before .box-in-range .ensures) ∙ not-false _ (c .before .before .before .if1 .left)))
 
 max-requires : tie.Need-max-requires
 max-requires c κs = search needs
 
 returns-3 : tie.Need-returns-3
 unfolding tolerance
-returns-3 c = tolerated _ _ (ap (λ (d : Float). 1e-10 ⊗ d) (c .max .ensures ∙ ap (λ (d : Float). larger d oneF) (c .before .norm .ensures ∙ ap norm (c .before .before .sides .ensures)))) (sym (c .before .before .before .before .before .before .box-in-range .ensures) ∙ not-false _ (c .before .before .before .before .before .if1 .left)) (sym (c .before .before .before .before .is-bad-box .ensures) ∙ c .before .before .before .if2 .left)
+returns-3 c =
+    tolerated _ _ (ap (λ (d : Float). 1e-10 ⊗ d) (c .max .ensures ∙ ap (λ (d : Float). larger d oneF) (c .before .norm .ensures ∙ ap norm (c .before .before .sides .ensures))))
+    (sym (c .before .before .before .before .before .before .box-in-range .ensures) ∙ not-false _ (c .before .before .before .before .before .if1 .left))
+    (sym (c .before .before .before .before .is-bad-box .ensures) ∙ c .before .before .before .if2 .left)
 
 pub bbox-eps-spec : {M : Type 1} → statement M
 bbox-eps-spec =

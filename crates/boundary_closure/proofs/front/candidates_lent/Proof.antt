@@ -17,10 +17,22 @@ enum-told : tie.Need-enum-told
 enum-told c = search needs
 
 returns : tie.Need-returns
-returns c = let a = c .before .before .before .before .before .before .before .before .before .before .before .args in no-facet (a .vertices .now) (a .facets .now) (asked (a .extents) (a .eps) (a .resolution)) (a .candidates .now) (a .face-lists .now) (a .constraints .now) (a .open-edges .now) (closureTests (a .vertices .now) (a .facets .now) (asked (a .extents) (a .eps) (a .resolution)) 0 (length (a .work .now))) (sym (c .before .before .before .check-closure .ensures) ∙ c .before .enum-told .given .1) (eq-eqb _ 0 (c .if1 .taken))
+returns c =
+    let a = c .before .before .before .before .before .before .before .before .before .before .before .args in
+    no-facet (a .vertices .now) (a .facets .now) (asked (a .extents) (a .eps) (a .resolution)) (a .candidates .now) (a .face-lists .now) (a .constraints .now) (a .open-edges .now)
+    (closureTests (a .vertices .now) (a .facets .now) (asked (a .extents) (a .eps) (a .resolution)) 0 (length (a .work .now)))
+    (sym (c .before .before .before .check-closure .ensures) ∙ c .before .enum-told .given .1) (eq-eqb _ 0 (c .if1 .taken))
 
 make-candidates-requires : tie.Need-make-candidates-requires
-make-candidates-requires c κs = let a = c .before .before .before .before .before .before .before .before .before .before .before .before .before .before .before .before .args in let s = sound (a .vertices .now) (a .facets .now) (asked (a .extents) (a .eps) (a .resolution)) 0 (length (a .work .now)) (sym (c .before .before .before .before .before .before .before .before .check-closure .ensures) ∙ c .before .before .before .before .before .before .enum-told .given .1) in (s, room-for (a .vertices .now) (a .facets .now) (asked (a .extents) (a .eps) (a .resolution)) s 0 (length (a .work .now)) (room-passed (a .vertices .now) (a .facets .now) (asked (a .extents) (a .eps) (a .resolution)) 0 (length (a .work .now)) (sym (c .before .before .before .before .before .before .before .before .check-closure .ensures) ∙ c .before .before .before .before .before .before .enum-told .given .1)))
+make-candidates-requires c κs =
+    let a = c .before .before .before .before .before .before .before .before .before .before .before .before .before .before .before .before .args in
+    let s = sound (a .vertices .now) (a .facets .now) (asked (a .extents) (a .eps) (a .resolution)) 0 (length (a .work .now))
+    (sym (c .before .before .before .before .before .before .before .before .check-closure .ensures) ∙ c .before .before .before .before .before .before .enum-told .given .1) in (
+      s,
+      room-for (a .vertices .now) (a .facets .now) (asked (a .extents) (a .eps) (a .resolution)) s 0 (length (a .work .now))
+          (room-passed (a .vertices .now) (a .facets .now) (asked (a .extents) (a .eps) (a .resolution)) 0 (length (a .work .now))
+          (sym (c .before .before .before .before .before .before .before .before .check-closure .ensures) ∙ c .before .before .before .before .before .before .enum-told .given .1)),
+    )
 
 enum-known-r : tie.Need-enum-known-r
 enum-known-r c = search needs
@@ -41,10 +53,22 @@ same-length-5 : tie.Need-same-length-5
 same-length-5 c = search needs
 
 returns-2 : tie.Need-returns-2
-returns-2 c = let a = c .before .before .before .before .before .before .before .before .before .before .before .before .before .before .before .before .before .before .before .before .before .before .before .before .before .before .before .args in some-facet (a .vertices .now) (a .facets .now) (asked (a .extents) (a .eps) (a .resolution)) (a .candidates .now) _ (a .face-lists .now) _ (a .constraints .now) _ (a .open-edges .now) _ (closureTests (a .vertices .now) (a .facets .now) (asked (a .extents) (a .eps) (a .resolution)) 0 (length (a .work .now))) (sym (c .before .before .before .before .before .before .before .before .before .before .before .before .before .before .before .before .before .before .before .check-closure .ensures) ∙ c .before .before .before .before .before .before .before .before .before .before .before .before .before .before .before .before .before .enum-told .given .1) (ne-eqb _ 0 (c .before .before .before .before .before .before .before .before .before .before .before .before .before .before .before .before .if1 .left)) _ (c .before .before .before .before .before .before .before .before .before .before .make-candidates .ensures)
+returns-2 c =
+    let a = c .before .before .before .before .before .before .before .before .before .before .before .before .before .before .before .before .before .before .before .before
+    .before .before .before .before .before .before .before .args in
+    some-facet (a .vertices .now) (a .facets .now) (asked (a .extents) (a .eps) (a .resolution)) (a .candidates .now) _ (a .face-lists .now) _ (a .constraints .now) _
+    (a .open-edges .now) _ (closureTests (a .vertices .now) (a .facets .now) (asked (a .extents) (a .eps) (a .resolution)) 0 (length (a .work .now)))
+    (sym (c .before .before .before .before .before .before .before .before .before .before .before .before .before .before .before .before .before .before .before .check-closure
+    .ensures) ∙ c .before .before .before .before .before .before .before .before .before .before .before .before .before .before .before .before .before .enum-told .given .1)
+    (ne-eqb _ 0 (c .before .before .before .before .before .before .before .before .before .before .before .before .before .before .before .before .if1 .left)) _
+    (c .before .before .before .before .before .before .before .before .before .before .make-candidates .ensures)
 
 returns-3 : tie.Need-returns-3
-returns-3 c = let a = c .before .before .before .before .before .before .before .before .before .before .before .args in refused-before (a .vertices .now) (a .facets .now) (asked (a .extents) (a .eps) (a .resolution)) (a .candidates .now) (a .face-lists .now) (a .constraints .now) (a .open-edges .now) (closureTests (a .vertices .now) (a .facets .now) (asked (a .extents) (a .eps) (a .resolution)) 0 (length (a .work .now))) _ (sym (c .before .before .before .check-closure .ensures) ∙ c .before .r .given .1)
+returns-3 c =
+    let a = c .before .before .before .before .before .before .before .before .before .before .before .args in
+    refused-before (a .vertices .now) (a .facets .now) (asked (a .extents) (a .eps) (a .resolution)) (a .candidates .now) (a .face-lists .now) (a .constraints .now)
+    (a .open-edges .now) (closureTests (a .vertices .now) (a .facets .now) (asked (a .extents) (a .eps) (a .resolution)) 0 (length (a .work .now))) _
+    (sym (c .before .before .before .check-closure .ensures) ∙ c .before .r .given .1)
 
 pub candidates-lent-spec : {M : Type 1} → statement M
 candidates-lent-spec =

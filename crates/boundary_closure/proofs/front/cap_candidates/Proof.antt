@@ -25,7 +25,13 @@ same-length-5 : tie.Need-same-length-5
 same-length-5 c = search needs
 
 returns : tie.Need-returns
-returns c = let a = c .before .before .before .before .before .before .before .before .before .before .before .before .before .before .before .before .before .before .before .before .before .before .before .before .before .before .before .args in answered _ _ (a .work .now) (c .before .before .before .before .before .before .before .before .before .before .before .before .before .before .candidates-lent .last .1 .1 .1 .1 .1 .0) (c .before .before .zero .last .0) _ (c .before .before .before .before .before .before .before .before .before .before .before .before .before .before .candidates-lent .ensures) (c .before .before .before .before .before .before .before .before .before .before .before .before .before .before .candidates-lent .kept .1 .1 .1 .1 .1 .0) (c .before .before .zero .ensures)
+returns c =
+    let a = c .before .before .before .before .before .before .before .before .before .before .before .before .before .before .before .before .before .before .before .before
+    .before .before .before .before .before .before .before .args in
+    answered _ _ (a .work .now) (c .before .before .before .before .before .before .before .before .before .before .before .before .before .before .candidates-lent .last .1 .1 .1
+    .1 .1 .0) (c .before .before .zero .last .0) _ (c .before .before .before .before .before .before .before .before .before .before .before .before .before .before
+    .candidates-lent .ensures) (c .before .before .before .before .before .before .before .before .before .before .before .before .before .before .candidates-lent .kept .1 .1 .1 .1
+    .1 .0) (c .before .before .zero .ensures)
 
 pub cap-candidates-spec : {M : Type 1} → statement M
 cap-candidates-spec =

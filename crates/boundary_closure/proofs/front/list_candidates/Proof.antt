@@ -9,22 +9,100 @@ use Rattle.boundary_closure.proofs.front.list_candidates.Statement.{sta
 use Rattle.boundary_closure.proofs.front.list_candidates.Tie as tie
 
 enter-surface-requires : tie.Need-enter-surface-requires
-enter-surface-requires c κs = let a = c .before .before .before .before .before .before .before .before .args in ((c .before .before .before .before .before .before .before .before .pre .1 .0 .0), ((c .before .before .before .before .before .before .before .before .pre .1 .1), vertices-in (a .vertices .now) (a .facets .now) (asked (a .extents) (a .eps) (a .resolution)) (c .before .before .before .before .before .before .before .before .pre .0)))
+enter-surface-requires c κs =
+    let a = c .before .before .before .before .before .before .before .before .args in (
+      (c .before .before .before .before .before .before .before .before .pre .1 .0 .0),
+      (
+        (c .before .before .before .before .before .before .before .before .pre .1 .1),
+        vertices-in (a .vertices .now) (a .facets .now) (asked (a .extents) (a .eps) (a .resolution))
+            (c .before .before .before .before .before .before .before .before .pre .0),
+      ),
+    )
 
 same-length : tie.Need-same-length
 same-length c = search needs
 
 returns : tie.Need-returns
-returns c = let a = c .before .before .before .before .before .before .before .before .before .before .before .before .args in no-ends (a .vertices .now) (a .facets .now) (asked (a .extents) (a .eps) (a .resolution)) (a .candidates .now) (a .face-lists .now) (a .constraints .now) (a .open-edges .now) (no-ends-left (a .vertices .now) (a .facets .now) (asked (a .extents) (a .eps) (a .resolution)) (c .before .before .before .enter-surface .result) (c .before .before .before .enter-surface .ensures .1) (c .if1 .taken))
+returns c =
+    let a = c .before .before .before .before .before .before .before .before .before .before .before .before .args in
+    no-ends (a .vertices .now) (a .facets .now) (asked (a .extents) (a .eps) (a .resolution)) (a .candidates .now) (a .face-lists .now) (a .constraints .now) (a .open-edges .now)
+    (no-ends-left (a .vertices .now) (a .facets .now) (asked (a .extents) (a .eps) (a .resolution)) (c .before .before .before .enter-surface .result)
+    (c .before .before .before .enter-surface .ensures .1) (c .if1 .taken))
 
 complete-requires : tie.Need-complete-requires
-complete-requires c κs = let a = c .before .before .before .before .before .before .before .before .before .before .before .before .before .args in ((c .before .before .before .before .before .before .before .before .before .before .before .before .before .pre .0), (((fits-same (a .vertices .now) (a .facets .now) (a .n) (a .w .now) (c .before .before .before .before .enter-surface .last .1 .1 .1 .1 .0) (c .before .before .before .before .enter-surface .kept .1 .1 .1 .1 .0) (c .before .before .before .before .before .before .before .before .before .before .before .before .before .pre .1 .0 .0)), (c .before .before .before .before .before .before .before .before .before .before .before .before .before .pre .1 .0 .1), ((c .before .before .before .before .before .before .before .before .before .before .before .before .before .pre .1 .1) .table .within)), c .before .before .before .before .enter-surface .ensures .0))
+complete-requires c κs =
+    let a = c .before .before .before .before .before .before .before .before .before .before .before .before .before .args in (
+      (c .before .before .before .before .before .before .before .before .before .before .before .before .before .pre .0),
+      (
+        (
+          (fits-same (a .vertices .now) (a .facets .now) (a .n) (a .w .now) (c .before .before .before .before .enter-surface .last .1 .1 .1 .1 .0)
+              (c .before .before .before .before .enter-surface .kept .1 .1 .1 .1 .0)
+              (c .before .before .before .before .before .before .before .before .before .before .before .before .before .pre .1 .0 .0)),
+          (c .before .before .before .before .before .before .before .before .before .before .before .before .before .pre .1 .0 .1),
+          ((c .before .before .before .before .before .before .before .before .before .before .before .before .before .pre .1 .1) .table .within),
+        ),
+        c .before .before .before .before
+            .enter-surface .ensures .0,
+      ),
+    )
 
 all-constraints-requires : tie.Need-all-constraints-requires
-all-constraints-requires c κs = let a = c .before .before .before .before .before .before .before .before .before .before .before .before .before .before .before .before .before .args in (c .before .before .before .complete .ensures .holds, (c .before .before .before .complete .ensures .held, ((omega (arith, (c .before .before .before .before .before .before .before .before .before .before .before .before .before .before .before .before .before .pre .1 .0 .1), most-small (a .vertices .now) (a .facets .now) (asked (a .extents) (a .eps) (a .resolution)) (c .before .before .before .before .before .before .before .before .before .before .before .before .before .before .before .before .before .pre .0)), (fits-same (a .vertices .now) (a .facets .now) (a .n) (c .before .before .before .before .before .before .before .before .enter-surface .last .1 .1 .1 .1 .0) (c .before .before .before .complete .last .1 .1 .1 .1 .1 .0) (c .before .before .before .complete .kept .1 .1 .1 .1 .1 .0) (fits-same (a .vertices .now) (a .facets .now) (a .n) (a .w .now) (c .before .before .before .before .before .before .before .before .enter-surface .last .1 .1 .1 .1 .0) (c .before .before .before .before .before .before .before .before .enter-surface .kept .1 .1 .1 .1 .0) (c .before .before .before .before .before .before .before .before .before .before .before .before .before .before .before .before .before .pre .1 .0 .0))) .few, omega (arith, (fits-same (a .vertices .now) (a .facets .now) (a .n) (c .before .before .before .before .before .before .before .before .enter-surface .last .1 .1 .1 .1 .0) (c .before .before .before .complete .last .1 .1 .1 .1 .1 .0) (c .before .before .before .complete .kept .1 .1 .1 .1 .1 .0) (fits-same (a .vertices .now) (a .facets .now) (a .n) (a .w .now) (c .before .before .before .before .before .before .before .before .enter-surface .last .1 .1 .1 .1 .0) (c .before .before .before .before .before .before .before .before .enter-surface .kept .1 .1 .1 .1 .0) (c .before .before .before .before .before .before .before .before .before .before .before .before .before .before .before .before .before .pre .1 .0 .0))) .threes, ((c .before .before .before .before .before .before .before .before .before .before .before .before .before .before .before .before .before .pre .1 .1) .table .within)), (fits-same (a .vertices .now) (a .facets .now) (a .n) (c .before .before .before .before .before .before .before .before .enter-surface .last .1 .1 .1 .1 .0) (c .before .before .before .complete .last .1 .1 .1 .1 .1 .0) (c .before .before .before .complete .kept .1 .1 .1 .1 .1 .0) (fits-same (a .vertices .now) (a .facets .now) (a .n) (a .w .now) (c .before .before .before .before .before .before .before .before .enter-surface .last .1 .1 .1 .1 .0) (c .before .before .before .before .before .before .before .before .enter-surface .kept .1 .1 .1 .1 .0) (c .before .before .before .before .before .before .before .before .before .before .before .before .before .before .before .before .before .pre .1 .0 .0))) .size))))
+all-constraints-requires c κs =
+    let a = c .before .before .before .before .before .before .before .before .before .before .before .before .before .before .before .before .before .args in (
+      c .before .before .before .complete .ensures .holds,
+      (
+        c .before .before .before .complete .ensures .held,
+        ((
+          omega (
+            arith,
+            (c .before .before .before .before .before .before .before .before .before .before .before .before .before .before .before .before .before .pre .1 .0 .1),
+            most-small (a .vertices .now) (a .facets .now) (asked (a .extents) (a .eps) (a .resolution))
+                (c .before .before .before .before .before .before .before .before .before .before .before .before .before .before .before .before .before .pre .0),
+          ),
+          (fits-same (a .vertices .now) (a .facets .now) (a .n) (c .before .before .before .before .before .before .before .before .enter-surface .last .1 .1 .1 .1 .0)
+              (c .before .before .before .complete .last .1 .1 .1 .1 .1 .0) (c .before .before .before .complete .kept .1 .1 .1 .1 .1 .0)
+              (fits-same (a .vertices .now) (a .facets .now) (a .n) (a .w .now) (c .before .before .before .before .before .before .before .before .enter-surface .last .1 .1 .1 .1 .0)
+              (c .before .before .before .before .before .before .before .before .enter-surface .kept .1 .1 .1 .1 .0)
+              (c .before .before .before .before .before .before .before .before .before .before .before .before .before .before .before .before .before .pre .1 .0 .0))) .few,
+          omega (
+            arith,
+            (fits-same (a .vertices .now) (a .facets .now) (a .n) (c .before .before .before .before .before .before .before .before .enter-surface .last .1 .1 .1 .1 .0)
+                (c .before .before .before .complete .last .1 .1 .1 .1 .1 .0) (c .before .before .before .complete .kept .1 .1 .1 .1 .1 .0)
+                (fits-same (a .vertices .now) (a .facets .now) (a .n) (a .w .now) (c .before .before .before .before .before .before .before .before .enter-surface .last .1 .1 .1 .1 .0)
+                (c .before .before .before .before .before .before .before .before .enter-surface .kept .1 .1 .1 .1 .0)
+                (c .before .before .before .before .before .before .before .before .before .before .before .before .before .before .before .before .before .pre .1 .0 .0))) .threes,
+            ((c .before .before .before .before .before .before .before .before .before .before .before .before .before .before .before .before .before .pre .1 .1) .table .within),
+          ),
+          (fits-same (a .vertices .now) (a .facets .now) (a .n) (c .before .before .before .before .before .before .before .before .enter-surface .last .1 .1 .1 .1 .0)
+              (c .before .before .before .complete .last .1 .1 .1 .1 .1 .0) (c .before .before .before .complete .kept .1 .1 .1 .1 .1 .0)
+              (fits-same (a .vertices .now) (a .facets .now) (a .n) (a .w .now) (c .before .before .before .before .before .before .before .before .enter-surface .last .1 .1 .1 .1 .0)
+              (c .before .before .before .before .before .before .before .before .enter-surface .kept .1 .1 .1 .1 .0)
+              (c .before .before .before .before .before .before .before .before .before .before .before .before .before .before .before .before .before .pre .1 .0 .0))) .size,
+        )),
+      ),
+    )
 
 deliver-requires : tie.Need-deliver-requires
-deliver-requires c κs = let a = c .before .before .before .before .before .before .before .before .before .before .before .before .before .before .before .before .before .before .before .before .before .before .before .before .before .args in readable (a .vertices .now) (a .facets .now) (asked (a .extents) (a .eps) (a .resolution)) (c .before .before .before .before .before .before .before .before .before .before .before .before .before .before .before .before .enter-surface .result) (c .before .before .before .before .before .before .before .before .before .before .before .before .before .before .before .before .enter-surface .ensures .1) (a .n) (a .k) (c .before .before .before .before .before .before .before .all-constraints .result) (c .before .before .before .before .before .before .before .before .before .before .before .complete .last .1 .1 .1 .1 .1 .0) (c .before .before .before .before .before .before .before .all-constraints .last .0) (fits-same (a .vertices .now) (a .facets .now) (a .n) (c .before .before .before .before .before .before .before .before .before .before .before .before .before .before .before .before .enter-surface .last .1 .1 .1 .1 .0) (c .before .before .before .before .before .before .before .before .before .before .before .complete .last .1 .1 .1 .1 .1 .0) (c .before .before .before .before .before .before .before .before .before .before .before .complete .kept .1 .1 .1 .1 .1 .0) (fits-same (a .vertices .now) (a .facets .now) (a .n) (a .w .now) (c .before .before .before .before .before .before .before .before .before .before .before .before .before .before .before .before .enter-surface .last .1 .1 .1 .1 .0) (c .before .before .before .before .before .before .before .before .before .before .before .before .before .before .before .before .enter-surface .kept .1 .1 .1 .1 .0) (c .before .before .before .before .before .before .before .before .before .before .before .before .before .before .before .before .before .before .before .before .before .before .before .before .before .pre .1 .0 .0))) ((c .before .before .before .before .before .before .before .before .before .before .before .before .before .before .before .before .before .before .before .before .before .before .before .before .before .pre .1 .1) .table .within) (c .before .before .before .before .before .before .before .before .before .before .before .complete .ensures) (c .before .before .before .before .before .before .before .all-constraints .ensures)
+deliver-requires c κs =
+    let a = c .before .before .before .before .before .before .before .before .before .before .before .before .before .before .before .before .before .before .before .before
+    .before .before .before .before .before .args in
+    readable (a .vertices .now) (a .facets .now) (asked (a .extents) (a .eps) (a .resolution))
+    (c .before .before .before .before .before .before .before .before .before .before .before .before .before .before .before .before .enter-surface .result)
+    (c .before .before .before .before .before .before .before .before .before .before .before .before .before .before .before .before .enter-surface .ensures .1) (a .n) (a .k)
+    (c .before .before .before .before .before .before .before .all-constraints .result)
+    (c .before .before .before .before .before .before .before .before .before .before .before .complete .last .1 .1 .1 .1 .1 .0)
+    (c .before .before .before .before .before .before .before .all-constraints .last .0)
+    (fits-same (a .vertices .now) (a .facets .now) (a .n) (c .before .before .before .before .before .before .before .before .before .before .before .before .before .before .before
+    .before .enter-surface .last .1 .1 .1 .1 .0) (c .before .before .before .before .before .before .before .before .before .before .before .complete .last .1 .1 .1 .1 .1 .0)
+    (c .before .before .before .before .before .before .before .before .before .before .before .complete .kept .1 .1 .1 .1 .1 .0)
+    (fits-same (a .vertices .now) (a .facets .now) (a .n) (a .w .now)
+    (c .before .before .before .before .before .before .before .before .before .before .before .before .before .before .before .before .enter-surface .last .1 .1 .1 .1 .0)
+    (c .before .before .before .before .before .before .before .before .before .before .before .before .before .before .before .before .enter-surface .kept .1 .1 .1 .1 .0)
+    (c .before .before .before .before .before .before .before .before .before .before .before .before .before .before .before .before .before .before .before .before .before
+    .before .before .before .before .pre .1 .0 .0))) ((c .before .before .before .before .before .before .before .before .before .before .before .before .before .before .before
+    .before .before .before .before .before .before .before .before .before .before .pre .1 .1) .table .within)
+    (c .before .before .before .before .before .before .before .before .before .before .before .complete .ensures)
+    (c .before .before .before .before .before .before .before .all-constraints .ensures)
 
 same-length-2 : tie.Need-same-length-2
 same-length-2 c = search needs
@@ -42,7 +120,39 @@ same-length-6 : tie.Need-same-length-6
 same-length-6 c = search needs
 
 returns-2 : tie.Need-returns-2
-returns-2 c = let a = c .before .before .before .before .before .before .before .before .before .before .before .before .before .before .before .before .before .before .before .before .before .before .before .before .before .before .before .before .before .before .before .before .before .before .args in some-ends (a .vertices .now) (a .facets .now) (asked (a .extents) (a .eps) (a .resolution)) (a .candidates .now) _ (a .face-lists .now) _ (a .constraints .now) _ (a .open-edges .now) _ (ends-left (a .vertices .now) (a .facets .now) (asked (a .extents) (a .eps) (a .resolution)) (c .before .before .before .before .before .before .before .before .before .before .before .before .before .before .before .before .before .before .before .before .before .before .before .before .before .enter-surface .result) (c .before .before .before .before .before .before .before .before .before .before .before .before .before .before .before .before .before .before .before .before .before .before .before .before .before .enter-surface .ensures .1) (c .before .before .before .before .before .before .before .before .before .before .before .before .before .before .before .before .before .before .before .before .before .before .if1 .left)) _ (standing-is (a .vertices .now) (a .facets .now) (asked (a .extents) (a .eps) (a .resolution)) (c .before .before .before .before .before .before .before .before .before .before .before .before .before .before .before .before .before .before .before .before .before .before .before .before .before .enter-surface .result) (c .before .before .before .before .before .before .before .before .before .before .before .before .before .before .before .before .before .before .before .before .before .before .before .before .before .enter-surface .ensures .1) (a .n) (a .k) (c .before .before .before .before .before .before .before .before .before .before .before .before .before .before .before .before .all-constraints .result) (c .before .before .before .before .before .before .before .before .before .before .before .before .before .before .before .before .before .before .before .before .complete .last .1 .1 .1 .1 .1 .0) (c .before .before .before .before .before .before .before .before .before .before .before .before .before .before .before .before .all-constraints .last .0) (fits-same (a .vertices .now) (a .facets .now) (a .n) (c .before .before .before .before .before .before .before .before .before .before .before .before .before .before .before .before .before .before .before .before .before .before .before .before .before .enter-surface .last .1 .1 .1 .1 .0) (c .before .before .before .before .before .before .before .before .before .before .before .before .before .before .before .before .before .before .before .before .complete .last .1 .1 .1 .1 .1 .0) (c .before .before .before .before .before .before .before .before .before .before .before .before .before .before .before .before .before .before .before .before .complete .kept .1 .1 .1 .1 .1 .0) (fits-same (a .vertices .now) (a .facets .now) (a .n) (a .w .now) (c .before .before .before .before .before .before .before .before .before .before .before .before .before .before .before .before .before .before .before .before .before .before .before .before .before .enter-surface .last .1 .1 .1 .1 .0) (c .before .before .before .before .before .before .before .before .before .before .before .before .before .before .before .before .before .before .before .before .before .before .before .before .before .enter-surface .kept .1 .1 .1 .1 .0) (c .before .before .before .before .before .before .before .before .before .before .before .before .before .before .before .before .before .before .before .before .before .before .before .before .before .before .before .before .before .before .before .before .before .before .pre .1 .0 .0))) ((c .before .before .before .before .before .before .before .before .before .before .before .before .before .before .before .before .before .before .before .before .before .before .before .before .before .before .before .before .before .before .before .before .before .before .pre .1 .1) .table .within) (c .before .before .before .before .before .before .before .before .before .before .before .before .before .before .before .before .before .before .before .before .complete .ensures) (c .before .before .before .before .before .before .before .before .before .before .before .before .before .before .before .before .all-constraints .ensures)) _ (c .before .before .before .before .before .before .before .before .deliver .ensures)
+returns-2 c =
+    let a = c .before .before .before .before .before .before .before .before .before .before .before .before .before .before .before .before .before .before .before .before
+    .before .before .before .before .before .before .before .before .before .before .before .before .before .before .args in
+    some-ends (a .vertices .now) (a .facets .now) (asked (a .extents) (a .eps) (a .resolution)) (a .candidates .now) _ (a .face-lists .now) _ (a .constraints .now) _
+    (a .open-edges .now) _ (ends-left (a .vertices .now) (a .facets .now) (asked (a .extents) (a .eps) (a .resolution))
+    (c .before .before .before .before .before .before .before .before .before .before .before .before .before .before .before .before .before .before .before .before .before
+    .before .before .before .before .enter-surface .result) (c .before .before .before .before .before .before .before .before .before .before .before .before .before .before
+    .before .before .before .before .before .before .before .before .before .before .before .enter-surface .ensures .1)
+    (c .before .before .before .before .before .before .before .before .before .before .before .before .before .before .before .before .before .before .before .before .before
+    .before .if1 .left)) _ (standing-is (a .vertices .now) (a .facets .now) (asked (a .extents) (a .eps) (a .resolution))
+    (c .before .before .before .before .before .before .before .before .before .before .before .before .before .before .before .before .before .before .before .before .before
+    .before .before .before .before .enter-surface .result) (c .before .before .before .before .before .before .before .before .before .before .before .before .before .before
+    .before .before .before .before .before .before .before .before .before .before .before .enter-surface .ensures .1) (a .n) (a .k)
+    (c .before .before .before .before .before .before .before .before .before .before .before .before .before .before .before .before .all-constraints .result)
+    (c .before .before .before .before .before .before .before .before .before .before .before .before .before .before .before .before .before .before .before .before .complete
+    .last .1 .1 .1 .1 .1 .0) (c .before .before .before .before .before .before .before .before .before .before .before .before .before .before .before .before .all-constraints
+    .last .0) (fits-same (a .vertices .now) (a .facets .now) (a .n)
+    (c .before .before .before .before .before .before .before .before .before .before .before .before .before .before .before .before .before .before .before .before .before
+    .before .before .before .before .enter-surface .last .1 .1 .1 .1 .0)
+    (c .before .before .before .before .before .before .before .before .before .before .before .before .before .before .before .before .before .before .before .before .complete
+    .last .1 .1 .1 .1 .1 .0) (c .before .before .before .before .before .before .before .before .before .before .before .before .before .before .before .before .before .before
+    .before .before .complete .kept .1 .1 .1 .1 .1 .0) (fits-same (a .vertices .now) (a .facets .now) (a .n) (a .w .now)
+    (c .before .before .before .before .before .before .before .before .before .before .before .before .before .before .before .before .before .before .before .before .before
+    .before .before .before .before .enter-surface .last .1 .1 .1 .1 .0)
+    (c .before .before .before .before .before .before .before .before .before .before .before .before .before .before .before .before .before .before .before .before .before
+    .before .before .before .before .enter-surface .kept .1 .1 .1 .1 .0)
+    (c .before .before .before .before .before .before .before .before .before .before .before .before .before .before .before .before .before .before .before .before .before
+    .before .before .before .before .before .before .before .before .before .before .before .before .before .pre .1 .0 .0)))
+    ((c .before .before .before .before .before .before .before .before .before .before .before .before .before .before .before .before .before .before .before .before .before
+    .before .before .before .before .before .before .before .before .before .before .before .before .before .pre .1 .1) .table .within)
+    (c .before .before .before .before .before .before .before .before .before .before .before .before .before .before .before .before .before .before .before .before .complete
+    .ensures) (c .before .before .before .before .before .before .before .before .before .before .before .before .before .before .before .before .all-constraints .ensures)) _
+    (c .before .before .before .before .before .before .before .before .deliver .ensures)
 
 pub list-candidates-spec : {M : Type 1} → statement M
 list-candidates-spec =

@@ -13,16 +13,51 @@ most-candidates-requires : tie.Need-most-candidates-requires
 most-candidates-requires c κs = search needs
 
 table-edges-requires : tie.Need-table-edges-requires
-table-edges-requires c κs = let a = c .before .before .before .before .before .before .before .before .before .args in let m = (mesh-fits (a .vertices .now) (a .facets .now) (asked (a .extents) (a .eps) (a .resolution)) (c .before .before .before .before .before .before .before .before .before .pre .0) (c .before .most-candidates .result) (a .w .now) (c .before .most-candidates .ensures) (c .before .before .before .before .before .before .before .before .before .pre .1)) in (m .threes, ((m .small, m .few), m .size))
+table-edges-requires c κs =
+    let a = c .before .before .before .before .before .before .before .before .before .args in
+    let m = (mesh-fits (a .vertices .now) (a .facets .now) (asked (a .extents) (a .eps) (a .resolution))
+    (c .before .before .before .before .before .before .before .before .before .pre .0) (c .before .most-candidates .result) (a .w .now) (c .before .most-candidates .ensures)
+    (c .before .before .before .before .before .before .before .before .before .pre .1)) in
+    (m .threes, ((m .small, m .few), m .size))
 
 check-edges-requires : tie.Need-check-edges-requires
-check-edges-requires c κs = let a = c .before .before .before .before .before .before .before .before .before .before .before .before .before .args in ((fits-same (a .vertices .now) (a .facets .now) (c .before .before .before .before .before .most-candidates .result) (a .w .now) (c .before .before .before .table-edges .last .1 .0) (c .before .before .before .table-edges .kept .1 .0) (mesh-fits (a .vertices .now) (a .facets .now) (asked (a .extents) (a .eps) (a .resolution)) (c .before .before .before .before .before .before .before .before .before .before .before .before .before .pre .0) (c .before .before .before .before .before .most-candidates .result) (a .w .now) (c .before .before .before .before .before .most-candidates .ensures) (c .before .before .before .before .before .before .before .before .before .before .before .before .before .pre .1))), c .before .before .before .table-edges .ensures)
+check-edges-requires c κs =
+    let a = c .before .before .before .before .before .before .before .before .before .before .before .before .before .args in (
+      (fits-same (a .vertices .now) (a .facets .now) (c .before .before .before .before .before .most-candidates .result) (a .w .now)
+          (c .before .before .before .table-edges .last .1 .0) (c .before .before .before .table-edges .kept .1 .0)
+          (mesh-fits (a .vertices .now) (a .facets .now) (asked (a .extents) (a .eps) (a .resolution))
+          (c .before .before .before .before .before .before .before .before .before .before .before .before .before .pre .0)
+          (c .before .before .before .before .before .most-candidates .result) (a .w .now) (c .before .before .before .before .before .most-candidates .ensures)
+          (c .before .before .before .before .before .before .before .before .before .before .before .before .before .pre .1))),
+      c .before .before .before .table-edges .ensures,
+    )
 
 enum-told : tie.Need-enum-told
 enum-told c = search needs
 
 list-candidates-requires : tie.Need-list-candidates-requires
-list-candidates-requires c κs = let a = c .before .before .before .before .before .before .before .before .before .before .before .before .before .before .before .before .before .before .before .before .before .args in (c .before .before .before .before .before .before .before .before .before .before .before .before .before .before .before .before .before .before .before .before .before .pre .0, (((fits-same (a .vertices .now) (a .facets .now) (c .before .before .before .before .before .before .before .before .before .before .before .before .before .most-candidates .result) (a .w .now) (c .before .before .before .before .before .before .before .before .before .before .before .table-edges .last .1 .0) (c .before .before .before .before .before .before .before .before .before .before .before .table-edges .kept .1 .0) (mesh-fits (a .vertices .now) (a .facets .now) (asked (a .extents) (a .eps) (a .resolution)) (c .before .before .before .before .before .before .before .before .before .before .before .before .before .before .before .before .before .before .before .before .before .pre .0) (c .before .before .before .before .before .before .before .before .before .before .before .before .before .most-candidates .result) (a .w .now) (c .before .before .before .before .before .before .before .before .before .before .before .before .before .most-candidates .ensures) (c .before .before .before .before .before .before .before .before .before .before .before .before .before .before .before .before .before .before .before .before .before .pre .1))), c .before .before .before .before .before .before .before .before .before .before .before .before .before .most-candidates .ensures), c .before .before .before .before .before .before .before .before .before .before .before .table-edges .ensures))
+list-candidates-requires c κs =
+    let a = c .before .before .before .before .before .before .before .before .before .before .before .before .before .before .before .before .before .before .before .before
+    .before .args in (
+      c .before .before .before .before .before .before .before .before .before .before .before .before .before .before .before .before .before .before .before .before .before .pre
+          .0,
+      (
+        (
+          (fits-same (a .vertices .now) (a .facets .now) (c .before .before .before .before .before .before .before .before .before .before .before .before .before .most-candidates
+              .result) (a .w .now) (c .before .before .before .before .before .before .before .before .before .before .before .table-edges .last .1 .0)
+              (c .before .before .before .before .before .before .before .before .before .before .before .table-edges .kept .1 .0)
+              (mesh-fits (a .vertices .now) (a .facets .now) (asked (a .extents) (a .eps) (a .resolution))
+              (c .before .before .before .before .before .before .before .before .before .before .before .before .before .before .before .before .before .before .before .before .before .pre
+              .0) (c .before .before .before .before .before .before .before .before .before .before .before .before .before .most-candidates .result) (a .w .now)
+              (c .before .before .before .before .before .before .before .before .before .before .before .before .before .most-candidates .ensures)
+              (c .before .before .before .before .before .before .before .before .before .before .before .before .before .before .before .before .before .before .before .before .before .pre
+              .1))),
+          c .before .before .before .before .before .before .before .before .before .before .before .before .before .most-candidates .ensures,
+        ),
+        c .before .before .before .before
+            .before .before .before .before .before .before .before .table-edges .ensures,
+      ),
+    )
 
 enum-known-r : tie.Need-enum-known-r
 enum-known-r c = search needs
@@ -43,13 +78,24 @@ same-length-5 : tie.Need-same-length-5
 same-length-5 c = search needs
 
 returns : tie.Need-returns
-returns c = let a = c .before .before .before .before .before .before .before .before .before .before .before .before .before .before .before .before .before .before .before .before .before .before .before .before .before .before .before .before .before .before .before .before .args in behind (edgeTests (a .vertices .now) (a .facets .now) (asked (a .extents) (a .eps) (a .resolution))) _ _ (sym (c .before .before .before .before .before .before .before .before .before .before .before .before .before .before .before .before .before .before .check-edges .ensures) ∙ c .before .before .before .before .before .before .before .before .before .before .before .before .before .before .before .before .enum-told .given .1) (c .before .before .before .before .before .before .before .before .before .before .list-candidates .ensures)
+returns c =
+    let a = c .before .before .before .before .before .before .before .before .before .before .before .before .before .before .before .before .before .before .before .before
+    .before .before .before .before .before .before .before .before .before .before .before .before .args in
+    behind (edgeTests (a .vertices .now) (a .facets .now) (asked (a .extents) (a .eps) (a .resolution))) _ _
+    (sym (c .before .before .before .before .before .before .before .before .before .before .before .before .before .before .before .before .before .before .check-edges .ensures) ∙
+    c .before .before .before .before .before .before .before .before .before .before .before .before .before .before .before .before .enum-told .given .1)
+    (c .before .before .before .before .before .before .before .before .before .before .list-candidates .ensures)
 
 same-length-6 : tie.Need-same-length-6
 same-length-6 c = search needs
 
 returns-2 : tie.Need-returns-2
-returns-2 c = let a = c .before .before .before .before .before .before .before .before .before .before .before .before .before .before .before .before .before .args in refused (edgeTests (a .vertices .now) (a .facets .now) (asked (a .extents) (a .eps) (a .resolution))) (candidateOutputs (surfaceResult (a .vertices .now) (a .facets .now) (asked (a .extents) (a .eps) (a .resolution))) (a .candidates .now) (a .candidates .now) (a .face-lists .now) (a .face-lists .now) (a .constraints .now) (a .constraints .now) (a .open-edges .now) (a .open-edges .now)) _ (sym (c .before .before .before .check-edges .ensures) ∙ c .before .r .given .1) (refl, (refl, (refl, (refl, tt))))
+returns-2 c =
+    let a = c .before .before .before .before .before .before .before .before .before .before .before .before .before .before .before .before .before .args in
+    refused (edgeTests (a .vertices .now) (a .facets .now) (asked (a .extents) (a .eps) (a .resolution)))
+    (candidateOutputs (surfaceResult (a .vertices .now) (a .facets .now) (asked (a .extents) (a .eps) (a .resolution))) (a .candidates .now) (a .candidates .now)
+    (a .face-lists .now) (a .face-lists .now) (a .constraints .now) (a .constraints .now) (a .open-edges .now) (a .open-edges .now)) _
+    (sym (c .before .before .before .check-edges .ensures) ∙ c .before .r .given .1) (refl, (refl, (refl, (refl, tt))))
 
 pub make-candidates-spec : {M : Type 1} → statement M
 make-candidates-spec =

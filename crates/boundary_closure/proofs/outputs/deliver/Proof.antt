@@ -138,7 +138,8 @@ write-edges-requires c κs =
             arith,
             c .before .before .before .before .before .before .before .before .before .before .before .before .before .before .before .if4 .left,
             edges-long (a .n) (a .nf) (a .k)
-                (a .listed) (a .total) w (c .before .before .before .before .before .before .before .before .before .before .before .before .before .before .before .before .before .before
+                (a .listed) (a .total) w (c .before .before .before .before .before .before .before .before .before .before .before .before .before .before .before .before .before
+                .before
                 .before .before .before .before .before .before .before .before .pre),
             e,
           ),
@@ -187,7 +188,8 @@ returns-5 c =
     (c .before .before .before .before .before .before .before .write-constraints .ensures ∙ ap
     (λ (x : ℕ). sets (a .constraints .now) 0 (constraintWords (map unpacked (view w x (a .total)))))
     (c .before .before .before .before .before .before .before .before .before .constraints-at .ensures))
-    (c .before .before .write-edges .ensures ∙ ap (λ (x : ℕ). sets (a .open-edges .now) 0 (openEdgeWords (edgesAt w x (a .k)))) (c .before .before .before .before .open-edges-at .ensures))
+    (c .before .before .write-edges .ensures ∙ ap (λ (x : ℕ). sets (a .open-edges .now) 0 (openEdgeWords (edgesAt w x (a .k))))
+    (c .before .before .before .before .open-edges-at .ensures))
 
 pub deliver-spec : {M : Type 1} → statement M
 deliver-spec =

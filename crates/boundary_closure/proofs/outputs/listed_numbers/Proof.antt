@@ -23,22 +23,95 @@ shared-slice-read-result-6 : tie.Need-shared-slice-read-result-6
 shared-slice-read-result-6 c = search needs
 
 add-result : tie.Need-add-result
-add-result c = let h = c .before .before .before .before .before .before .pre .1 in omega (arith, c .before .before .before .before .before .before .pre .0 .1, h 0 (omega arith), h 1 (omega arith), h 2 (omega arith), h 3 (omega arith), h 4 (omega arith), h 5 (omega arith))
+add-result c =
+    let h = c .before .before .before .before .before .before .pre .1 in
+    omega (
+      arith,
+      c .before .before .before .before .before .before .pre .0 .1,
+      h 0 (omega arith),
+      h 1 (omega arith),
+      h 2 (omega arith),
+      h 3 (omega arith),
+      h 4 (omega arith),
+      h 5
+          (omega arith),
+    )
 
 add-result-2 : tie.Need-add-result-2
-add-result-2 c = let h = c .before .before .before .before .before .before .pre .1 in omega (arith, c .before .before .before .before .before .before .pre .0 .1, h 0 (omega arith), h 1 (omega arith), h 2 (omega arith), h 3 (omega arith), h 4 (omega arith), h 5 (omega arith))
+add-result-2 c =
+    let h = c .before .before .before .before .before .before .pre .1 in
+    omega (
+      arith,
+      c .before .before .before .before .before .before .pre .0 .1,
+      h 0 (omega arith),
+      h 1 (omega arith),
+      h 2 (omega arith),
+      h 3 (omega arith),
+      h 4 (omega arith),
+      h 5
+          (omega arith),
+    )
 
 add-result-3 : tie.Need-add-result-3
-add-result-3 c = let h = c .before .before .before .before .before .before .pre .1 in omega (arith, c .before .before .before .before .before .before .pre .0 .1, h 0 (omega arith), h 1 (omega arith), h 2 (omega arith), h 3 (omega arith), h 4 (omega arith), h 5 (omega arith))
+add-result-3 c =
+    let h = c .before .before .before .before .before .before .pre .1 in
+    omega (
+      arith,
+      c .before .before .before .before .before .before .pre .0 .1,
+      h 0 (omega arith),
+      h 1 (omega arith),
+      h 2 (omega arith),
+      h 3 (omega arith),
+      h 4 (omega arith),
+      h 5
+          (omega arith),
+    )
 
 add-result-4 : tie.Need-add-result-4
-add-result-4 c = let h = c .before .before .before .before .before .before .pre .1 in omega (arith, c .before .before .before .before .before .before .pre .0 .1, h 0 (omega arith), h 1 (omega arith), h 2 (omega arith), h 3 (omega arith), h 4 (omega arith), h 5 (omega arith))
+add-result-4 c =
+    let h = c .before .before .before .before .before .before .pre .1 in
+    omega (
+      arith,
+      c .before .before .before .before .before .before .pre .0 .1,
+      h 0 (omega arith),
+      h 1 (omega arith),
+      h 2 (omega arith),
+      h 3 (omega arith),
+      h 4 (omega arith),
+      h 5
+          (omega arith),
+    )
 
 add-result-5 : tie.Need-add-result-5
-add-result-5 c = let h = c .before .before .before .before .before .before .pre .1 in omega (arith, c .before .before .before .before .before .before .pre .0 .1, h 0 (omega arith), h 1 (omega arith), h 2 (omega arith), h 3 (omega arith), h 4 (omega arith), h 5 (omega arith))
+add-result-5 c =
+    let h = c .before .before .before .before .before .before .pre .1 in
+    omega (
+      arith,
+      c .before .before .before .before .before .before .pre .0 .1,
+      h 0 (omega arith),
+      h 1 (omega arith),
+      h 2 (omega arith),
+      h 3 (omega arith),
+      h 4 (omega arith),
+      h 5
+          (omega arith),
+    )
 
 returns : tie.Need-returns
-returns c = (refl, let h = c .before .before .before .before .before .before .pre .1 in omega (arith, c .before .before .before .before .before .before .pre .0 .1, h 0 (omega arith), h 1 (omega arith), h 2 (omega arith), h 3 (omega arith), h 4 (omega arith), h 5 (omega arith)))
+returns c = (
+  refl,
+  let h = c .before .before .before .before .before .before .pre .1 in omega (
+    arith,
+    c .before .before .before .before .before .before .pre .0 .1,
+    h 0 (omega arith),
+    h 1 (omega arith),
+    h 2 (omega arith),
+    h 3 (omega arith),
+    h 4 (omega arith),
+    h 5
+        (omega arith),
+  ),
+)
 
 pub listed-numbers-spec : {M : Type 1} → statement M
 listed-numbers-spec =

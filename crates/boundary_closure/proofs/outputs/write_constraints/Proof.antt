@@ -37,10 +37,31 @@ triple-third-requires : tie.Need-triple-third-requires Inv-loop μ-loop
 triple-third-requires c κs = search needs
 
 write-three-requires : tie.Need-write-three-requires Inv-loop μ-loop
-write-three-requires c κs = let a = c .before .before .before .before .before .before .before .before .before .args in let l = keys-long (a .w .now) (a .at) (a .total) (c .before .before .before .before .before .before .before .before .before .pre .0) in let r = run-room (keyBlock (a .w .now) (a .at)) (a .out .now) (c .before .before .before .before .before .before .loop .out) 0 (c .before .before .before .before .before .before .loop .i) (c .before .before .before .before .before .before .loop .o) (c .before .before .before .before .before .before .loop .inv .1) (a .total) (c .before .before .before .before .before .loop-test .taken) (omega (arith, l, c .before .before .before .before .before .before .before .before .before .pre .1)) in omega (arith, r)
+write-three-requires c κs =
+    let a = c .before .before .before .before .before .before .before .before .before .args in
+    let l = keys-long (a .w .now) (a .at) (a .total) (c .before .before .before .before .before .before .before .before .before .pre .0) in
+    let r = run-room (keyBlock (a .w .now) (a .at)) (a .out .now) (c .before .before .before .before .before .before .loop .out) 0
+    (c .before .before .before .before .before .before .loop .i) (c .before .before .before .before .before .before .loop .o)
+    (c .before .before .before .before .before .before .loop .inv .1) (a .total) (c .before .before .before .before .before .loop-test .taken)
+    (omega (arith, l, c .before .before .before .before .before .before .before .before .before .pre .1)) in
+    omega (arith, r)
 
 add-o : tie.Need-add-o Inv-loop μ-loop
-add-o c = let a = c .before .before .before .before .before .before .before .before .before .before .before .before .args in let l = keys-long (a .w .now) (a .at) (a .total) (c .before .before .before .before .before .before .before .before .before .before .before .before .pre .0) in let r = run-room (keyBlock (a .w .now) (a .at)) (a .out .now) (c .before .before .before .before .before .before .before .before .before .loop .out) 0 (c .before .before .before .before .before .before .before .before .before .loop .i) (c .before .before .before .before .before .before .before .before .before .loop .o) (c .before .before .before .before .before .before .before .before .before .loop .inv .1) (a .total) (c .before .before .before .before .before .before .before .before .loop-test .taken) (omega (arith, l, c .before .before .before .before .before .before .before .before .before .before .before .before .pre .1)) in omega (arith, r, run-long (keyBlock (a .w .now) (a .at)) (a .out .now) (c .before .before .before .before .before .before .before .before .before .loop .out) 0 (c .before .before .before .before .before .before .before .before .before .loop .i) (c .before .before .before .before .before .before .before .before .before .loop .o) (c .before .before .before .before .before .before .before .before .before .loop .inv .1))
+add-o c =
+    let a = c .before .before .before .before .before .before .before .before .before .before .before .before .args in
+    let l = keys-long (a .w .now) (a .at) (a .total) (c .before .before .before .before .before .before .before .before .before .before .before .before .pre .0) in
+    let r = run-room (keyBlock (a .w .now) (a .at)) (a .out .now) (c .before .before .before .before .before .before .before .before .before .loop .out) 0
+    (c .before .before .before .before .before .before .before .before .before .loop .i) (c .before .before .before .before .before .before .before .before .before .loop .o)
+    (c .before .before .before .before .before .before .before .before .before .loop .inv .1) (a .total)
+    (c .before .before .before .before .before .before .before .before .loop-test .taken)
+    (omega (arith, l, c .before .before .before .before .before .before .before .before .before .before .before .before .pre .1)) in
+    omega (
+      arith,
+      r,
+      run-long (keyBlock (a .w .now) (a .at)) (a .out .now) (c .before .before .before .before .before .before .before .before .before .loop .out) 0
+          (c .before .before .before .before .before .before .before .before .before .loop .i) (c .before .before .before .before .before .before .before .before .before .loop .o)
+          (c .before .before .before .before .before .before .before .before .before .loop .inv .1),
+    )
 
 add-i : tie.Need-add-i Inv-loop μ-loop
 add-i c = omega arith
@@ -49,13 +70,28 @@ loop-less : tie.Need-loop-less Inv-loop μ-loop
 loop-less c = omega arith
 
 loop-again : tie.Need-loop-again Inv-loop μ-loop
-loop-again c = let a = c .before .before .before .before .before .before .before .before .before .before .before .before .args in (omega arith, run-turn (keyBlock (a .w .now) (a .at)) (a .out .now) (c .before .before .before .before .before .before .before .before .before .loop .out) 0 (c .before .before .before .before .before .before .before .before .before .loop .i) (c .before .before .before .before .before .before .before .before .before .loop .o) (c .before .before .before .before .before .before .before .before .before .loop .inv .1) _ _ (c .before .before .write-three .ensures ∙ (λ t. sets (c .before .before .before .before .before .before .before .before .before .loop .out) (c .before .before .before .before .before .before .before .before .before .loop .o) (c .before .before .before .before .before .triple-first .ensures t ∷ c .before .before .before .before .triple-second .ensures t ∷ c .before .before .before .triple-third .ensures t ∷ []))) refl)
+loop-again c =
+    let a = c .before .before .before .before .before .before .before .before .before .before .before .before .args in (
+      omega arith,
+      run-turn (keyBlock (a .w .now) (a .at)) (a .out .now) (c .before .before .before .before .before .before .before .before .before .loop .out) 0
+          (c .before .before .before .before .before .before .before .before .before .loop .i) (c .before .before .before .before .before .before .before .before .before .loop .o)
+          (c .before .before .before .before .before .before .before .before .before .loop .inv .1) _ _
+          (c .before .before .write-three .ensures ∙ (λ t. sets (c .before .before .before .before .before .before .before .before .before .loop .out)
+          (c .before .before .before .before .before .before .before .before .before .loop .o)
+          (c .before .before .before .before .before .triple-first .ensures t ∷ c .before .before .before .before .triple-second .ensures t ∷ c .before .before .before .triple-third
+          .ensures t ∷ []))) refl,
+    )
 
 same-length : tie.Need-same-length Inv-loop μ-loop
-same-length c = let a = c .before .before .before .before .args in run-long (keyBlock (a .w .now) (a .at)) (a .out .now) (c .before .loop .out) 0 (c .before .loop .i) (c .before .loop .o) (c .before .loop .inv .1)
+same-length c =
+    let a = c .before .before .before .before .args in
+    run-long (keyBlock (a .w .now) (a .at)) (a .out .now) (c .before .loop .out) 0 (c .before .loop .i) (c .before .loop .o) (c .before .loop .inv .1)
 
 returns : tie.Need-returns Inv-loop μ-loop
-returns c = let a = c .before .before .before .before .args in run-end (keyBlock (a .w .now) (a .at)) (a .out .now) (c .before .loop .out) 0 (c .before .loop .i) (c .before .loop .o) (c .before .loop .inv .1) (a .total) (c .before .loop .inv .0) (c .loop-test .left) _ (keys-are (a .w .now) (a .at) (a .total) (c .before .before .before .before .pre .0))
+returns c =
+    let a = c .before .before .before .before .args in
+    run-end (keyBlock (a .w .now) (a .at)) (a .out .now) (c .before .loop .out) 0 (c .before .loop .i) (c .before .loop .o) (c .before .loop .inv .1) (a .total)
+    (c .before .loop .inv .0) (c .loop-test .left) _ (keys-are (a .w .now) (a .at) (a .total) (c .before .before .before .before .pre .0))
 
 pub write-constraints-spec : {M : Type 1} → statement M
 write-constraints-spec =

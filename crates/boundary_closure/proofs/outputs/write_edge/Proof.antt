@@ -23,7 +23,9 @@ shared-slice-read-mask : tie.Need-shared-slice-read-mask Inv-loop μ-loop
 shared-slice-read-mask c = omega arith
 
 loop-holds : tie.Need-loop-holds Inv-loop μ-loop
-loop-holds c = let a = c .before .before .before .args in (omega arith, run-start (faceWords (getD (a .w .now) (a .edge + 2) 0) (getD (a .w .now) (a .edge) 0) (getD (a .w .now) (a .edge + 1) 0)) (a .out .now) (a .at))
+loop-holds c =
+    let a = c .before .before .before .args in
+    (omega arith, run-start (faceWords (getD (a .w .now) (a .edge + 2) 0) (getD (a .w .now) (a .edge) 0) (getD (a .w .now) (a .edge + 1) 0)) (a .out .now) (a .at))
 
 mul-write-face : tie.Need-mul-write-face Inv-loop μ-loop
 mul-write-face c = omega arith
@@ -41,7 +43,14 @@ shared-slice-read-write-face-2 : tie.Need-shared-slice-read-write-face-2 Inv-loo
 shared-slice-read-write-face-2 c = omega arith
 
 write-face-requires : tie.Need-write-face-requires Inv-loop μ-loop
-write-face-requires c κs = let a = c .before .before .before .before .before .before .before .before .args in let l = faces-long (getD (a .w .now) (a .edge + 2) 0) (getD (a .w .now) (a .edge) 0) (getD (a .w .now) (a .edge + 1) 0) in let r = run-room (faceWords (getD (a .w .now) (a .edge + 2) 0) (getD (a .w .now) (a .edge) 0) (getD (a .w .now) (a .edge + 1) 0)) (a .out .now) (c .before .before .before .before .loop .out) (a .at) (c .before .before .before .before .loop .face) (c .before .before .before .before .loop .o) (c .before .before .before .before .loop .inv .1) 6 (c .before .before .before .loop-test .taken) (omega (arith, l, c .before .before .before .before .before .before .before .before .pre .1)) in (c .before .before .before .loop-test .taken, r)
+write-face-requires c κs =
+    let a = c .before .before .before .before .before .before .before .before .args in
+    let l = faces-long (getD (a .w .now) (a .edge + 2) 0) (getD (a .w .now) (a .edge) 0) (getD (a .w .now) (a .edge + 1) 0) in
+    let r = run-room (faceWords (getD (a .w .now) (a .edge + 2) 0) (getD (a .w .now) (a .edge) 0) (getD (a .w .now) (a .edge + 1) 0)) (a .out .now)
+    (c .before .before .before .before .loop .out) (a .at) (c .before .before .before .before .loop .face) (c .before .before .before .before .loop .o)
+    (c .before .before .before .before .loop .inv .1) 6 (c .before .before .before .loop-test .taken)
+    (omega (arith, l, c .before .before .before .before .before .before .before .before .pre .1)) in
+    (c .before .before .before .loop-test .taken, r)
 
 add-face : tie.Need-add-face Inv-loop μ-loop
 add-face c = omega arith
@@ -50,13 +59,32 @@ loop-less : tie.Need-loop-less Inv-loop μ-loop
 loop-less c = omega arith
 
 loop-again : tie.Need-loop-again Inv-loop μ-loop
-loop-again c = let a = c .before .before .before .before .before .before .before .before .before .before .before .args in (omega arith, run-turn (faceWords (getD (a .w .now) (a .edge + 2) 0) (getD (a .w .now) (a .edge) 0) (getD (a .w .now) (a .edge + 1) 0)) (a .out .now) (c .before .before .before .before .before .before .before .loop .out) (a .at) (c .before .before .before .before .before .before .before .loop .face) (c .before .before .before .before .before .before .before .loop .o) (c .before .before .before .before .before .before .before .loop .inv .1) _ _ (c .before .before .write-face .ensures .1) (c .before .before .write-face .ensures .0))
+loop-again c =
+    let a = c .before .before .before .before .before .before .before .before .before .before .before .args in (
+      omega arith,
+      run-turn (faceWords (getD (a .w .now) (a .edge + 2) 0) (getD (a .w .now) (a .edge) 0) (getD (a .w .now) (a .edge + 1) 0)) (a .out .now)
+          (c .before .before .before .before .before .before .before .loop .out) (a .at) (c .before .before .before .before .before .before .before .loop .face)
+          (c .before .before .before .before .before .before .before .loop .o) (c .before .before .before .before .before .before .before .loop .inv .1) _ _
+          (c .before .before .write-face .ensures .1) (c .before .before .write-face .ensures .0),
+    )
 
 same-length : tie.Need-same-length Inv-loop μ-loop
-same-length c = let a = c .before .before .before .before .before .args in run-long (faceWords (getD (a .w .now) (a .edge + 2) 0) (getD (a .w .now) (a .edge) 0) (getD (a .w .now) (a .edge + 1) 0)) (a .out .now) (c .before .loop .out) (a .at) (c .before .loop .face) (c .before .loop .o) (c .before .loop .inv .1)
+same-length c =
+    let a = c .before .before .before .before .before .args in
+    run-long (faceWords (getD (a .w .now) (a .edge + 2) 0) (getD (a .w .now) (a .edge) 0) (getD (a .w .now) (a .edge + 1) 0)) (a .out .now) (c .before .loop .out) (a .at)
+    (c .before .loop .face) (c .before .loop .o) (c .before .loop .inv .1)
 
 returns : tie.Need-returns Inv-loop μ-loop
-returns c = let a = c .before .before .before .before .before .args in (run-place (faceWords (getD (a .w .now) (a .edge + 2) 0) (getD (a .w .now) (a .edge) 0) (getD (a .w .now) (a .edge + 1) 0)) (a .out .now) (c .before .loop .out) (a .at) (c .before .loop .face) (c .before .loop .o) (c .before .loop .inv .1) 6 (c .before .loop .inv .0) (c .loop-test .left) _ (faces-are (getD (a .w .now) (a .edge + 2) 0) (getD (a .w .now) (a .edge) 0) (getD (a .w .now) (a .edge + 1) 0)), run-end (faceWords (getD (a .w .now) (a .edge + 2) 0) (getD (a .w .now) (a .edge) 0) (getD (a .w .now) (a .edge + 1) 0)) (a .out .now) (c .before .loop .out) (a .at) (c .before .loop .face) (c .before .loop .o) (c .before .loop .inv .1) 6 (c .before .loop .inv .0) (c .loop-test .left) _ (faces-are (getD (a .w .now) (a .edge + 2) 0) (getD (a .w .now) (a .edge) 0) (getD (a .w .now) (a .edge + 1) 0)))
+returns c =
+    let a = c .before .before .before .before .before .args in (
+      run-place (faceWords (getD (a .w .now) (a .edge + 2) 0) (getD (a .w .now) (a .edge) 0) (getD (a .w .now) (a .edge + 1) 0)) (a .out .now) (c .before .loop .out) (a .at)
+          (c .before .loop .face) (c .before .loop .o) (c .before .loop .inv .1) 6 (c .before .loop .inv .0) (c .loop-test .left) _
+          (faces-are (getD (a .w .now) (a .edge + 2) 0) (getD (a .w .now) (a .edge) 0) (getD (a .w .now) (a .edge + 1) 0)),
+      run-end
+          (faceWords (getD (a .w .now) (a .edge + 2) 0) (getD (a .w .now) (a .edge) 0) (getD (a .w .now) (a .edge + 1) 0)) (a .out .now) (c .before .loop .out) (a .at)
+          (c .before .loop .face) (c .before .loop .o) (c .before .loop .inv .1) 6 (c .before .loop .inv .0) (c .loop-test .left) _
+          (faces-are (getD (a .w .now) (a .edge + 2) 0) (getD (a .w .now) (a .edge) 0) (getD (a .w .now) (a .edge + 1) 0)),
+    )
 
 pub write-edge-spec : {M : Type 1} → statement M
 write-edge-spec =

@@ -40,7 +40,10 @@ same-length : tie.Need-same-length
 same-length c = search needs
 
 returns : tie.Need-returns
-returns c = let a = c .before .before .before .before .before .before .before .args in part-copied (a .w .now) (a .out .now) _ (a .from) (a .n) (a .at) (c .before .before .before .before .before .before .before .pre .0) (c .before .before .before .before .before .before .before .pre .1) (c .before .before .copy-words .ensures)
+returns c =
+    let a = c .before .before .before .before .before .before .before .args in
+    part-copied (a .w .now) (a .out .now) _ (a .from) (a .n) (a .at) (c .before .before .before .before .before .before .before .pre .0)
+    (c .before .before .before .before .before .before .before .pre .1) (c .before .before .copy-words .ensures)
 
 pub write-words-spec : {M : Type 1} → statement M
 write-words-spec =

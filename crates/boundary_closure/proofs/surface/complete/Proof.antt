@@ -6,16 +6,39 @@ use Rattle.boundary_closure.proofs.surface.complete.Statement.{statemen
 use Rattle.boundary_closure.proofs.surface.complete.Tie as tie
 
 enter-corners-requires : tie.Need-enter-corners-requires
-enter-corners-requires c κs = let a = c .before .before .before .before .args in (((c .before .before .before .before .pre .1 .1 .holds, c .before .before .before .before .pre .1 .0 .0 .vertices)), (vertices-in (a .vertices .now) (a .facets .now) (asked (a .extents) (a .eps) (a .resolution)) (c .before .before .before .before .pre .0), (c .before .before .before .before .pre .1 .1 .sourced)))
+enter-corners-requires c κs =
+    let a = c .before .before .before .before .args in (
+      ((c .before .before .before .before .pre .1 .1 .holds, c .before .before .before .before .pre .1 .0 .0 .vertices)),
+      (
+        vertices-in (a .vertices .now) (a .facets .now) (asked (a .extents) (a .eps) (a .resolution)) (c .before .before .before .before .pre .0),
+        (c .before .before .before .before .pre .1 .1 .sourced),
+      ),
+    )
 
 enter-grids-requires : tie.Need-enter-grids-requires
-enter-grids-requires c κs = let a = c .before .before .before .before .before .before .before .before .args in (grids-ready (a .vertices .now) (a .facets .now) (a .extents) (a .eps) (a .n) (a .k) (a .resolution) (c .before .before .before .before .before .before .before .before .pre .0) (a .w .now) (c .before .before .before .enter-corners .last .0) (c .before .before .before .before .before .before .before .before .pre .1 .0 .0) (c .before .before .before .before .before .before .before .before .pre .1 .0 .1) (c .before .before .before .before .before .before .before .before .pre .1 .0 .2) (c .before .before .before .before .before .before .before .before .pre .1 .1) (c .before .before .before .enter-corners .kept .0) (c .before .before .before .enter-corners .ensures))
+enter-grids-requires c κs =
+    let a = c .before .before .before .before .before .before .before .before .args in
+    (grids-ready (a .vertices .now) (a .facets .now) (a .extents) (a .eps) (a .n) (a .k) (a .resolution) (c .before .before .before .before .before .before .before .before .pre .0)
+    (a .w .now) (c .before .before .before .enter-corners .last .0) (c .before .before .before .before .before .before .before .before .pre .1 .0 .0)
+    (c .before .before .before .before .before .before .before .before .pre .1 .0 .1) (c .before .before .before .before .before .before .before .before .pre .1 .0 .2)
+    (c .before .before .before .before .before .before .before .before .pre .1 .1) (c .before .before .before .enter-corners .kept .0)
+    (c .before .before .before .enter-corners .ensures))
 
 same-length : tie.Need-same-length
 same-length c = search needs
 
 returns : tie.Need-returns
-returns c = let a = c .before .before .before .before .before .before .before .before .before .before .before .args in completed (a .vertices .now) (a .facets .now) (a .extents) (a .eps) (a .n) (a .k) (a .resolution) (c .before .before .before .before .before .before .before .before .before .before .before .pre .0) (a .w .now) (c .before .before .before .before .before .before .enter-corners .last .0) (c .before .before .before .before .before .before .before .before .before .before .before .pre .1 .0 .0) (c .before .before .before .before .before .before .before .before .before .before .before .pre .1 .0 .1) (c .before .before .before .before .before .before .before .before .before .before .before .pre .1 .0 .2) (c .before .before .before .before .before .before .before .before .before .before .before .pre .1 .1) (c .before .before .before .before .before .before .enter-corners .kept .0) (c .before .before .before .before .before .before .enter-corners .ensures) _ (c .before .before .enter-grids .ensures)
+returns c =
+    let a = c .before .before .before .before .before .before .before .before .before .before .before .args in
+    completed (a .vertices .now) (a .facets .now) (a .extents) (a .eps) (a .n) (a .k) (a .resolution)
+    (c .before .before .before .before .before .before .before .before .before .before .before .pre .0) (a .w .now)
+    (c .before .before .before .before .before .before .enter-corners .last .0)
+    (c .before .before .before .before .before .before .before .before .before .before .before .pre .1 .0 .0)
+    (c .before .before .before .before .before .before .before .before .before .before .before .pre .1 .0 .1)
+    (c .before .before .before .before .before .before .before .before .before .before .before .pre .1 .0 .2)
+    (c .before .before .before .before .before .before .before .before .before .before .before .pre .1 .1)
+    (c .before .before .before .before .before .before .enter-corners .kept .0) (c .before .before .before .before .before .before .enter-corners .ensures) _
+    (c .before .before .enter-grids .ensures)
 
 pub complete-spec : {M : Type 1} → statement M
 complete-spec =

@@ -9,7 +9,10 @@ grid-size-requires : tie.Need-grid-size-requires
 grid-size-requires c κs = search needs
 
 add-result : tie.Need-add-result
-add-result c = let a = c .before .before .args in let g = grid-small (a .extents) (a .eps) (oneResolution (a .resolution)) (c .before .before .pre .1) in omega (arith, g, c .grid-size .ensures, c .before .before .pre .0)
+add-result c =
+    let a = c .before .before .args in
+    let g = grid-small (a .extents) (a .eps) (oneResolution (a .resolution)) (c .before .before .pre .1) in
+    omega (arith, g, c .grid-size .ensures, c .before .before .pre .0)
 
 returns : tie.Need-returns
 returns c = search needs

@@ -31,7 +31,11 @@ same-length : tie.Need-same-length
 same-length c = search needs
 
 returns : tie.Need-returns
-returns c = let a = c .before .before .before .before .before .before .before .args in table-put (a .facets .now) (a .w .now) (c .before .before .open-edges .last .1 .0) (a .n) _ (c .before .before .before .before .edge-table-at .result) (c .before .before .before .before .edge-table-at .ensures) (c .before .before .before .before .before .before .before .pre .0) (c .before .before .before .before .before .before .before .pre .1 .1) (c .before .before .open-edges .ensures)
+returns c =
+    let a = c .before .before .before .before .before .before .before .args in
+    table-put (a .facets .now) (a .w .now) (c .before .before .open-edges .last .1 .0) (a .n) _ (c .before .before .before .before .edge-table-at .result)
+    (c .before .before .before .before .edge-table-at .ensures) (c .before .before .before .before .before .before .before .pre .0)
+    (c .before .before .before .before .before .before .before .pre .1 .1) (c .before .before .open-edges .ensures)
 
 pub table-edges-spec : {M : Type 1} → statement M
 table-edges-spec =

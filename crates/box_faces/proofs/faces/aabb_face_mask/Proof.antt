@@ -64,7 +64,16 @@ add-result-5 c = omega arith
 
 returns : tie.Need-returns
 unfolding facesOf onFace along
-returns c = mask-of (λ f. onFace (c .before .before .before .before .before .before .before .before .before .before .before .before .args .t3) (c .before .before .before .before .before .before .before .before .before .before .before .before .args .eps) f (c .before .before .before .before .before .before .before .before .before .before .before .before .args .a) && onFace (c .before .before .before .before .before .before .before .before .before .before .before .before .args .t3) (c .before .before .before .before .before .before .before .before .before .before .before .before .args .eps) f (c .before .before .before .before .before .before .before .before .before .before .before .before .args .b)) _ _ _ _ _ _ (c .before .before .before .before .before .before .before .before .before .before .both-on .ensures .1) (c .before .before .before .before .before .before .before .before .both-on2 .ensures .1) (c .before .before .before .before .before .before .both-on3 .ensures .1) (c .before .before .before .before .both-on4 .ensures .1) (c .before .before .both-on5 .ensures .1) (c .both-on6 .ensures .1)
+returns c =
+    mask-of (λ f. onFace (c .before .before .before .before .before .before .before .before .before .before .before .before .args .t3)
+    (c .before .before .before .before .before .before .before .before .before .before .before .before .args .eps) f
+    (c .before .before .before .before .before .before .before .before .before .before .before .before .args .a) && onFace
+    (c .before .before .before .before .before .before .before .before .before .before .before .before .args .t3)
+    (c .before .before .before .before .before .before .before .before .before .before .before .before .args .eps) f
+    (c .before .before .before .before .before .before .before .before .before .before .before .before .args .b)) _ _ _ _ _ _
+    (c .before .before .before .before .before .before .before .before .before .before .both-on .ensures .1)
+    (c .before .before .before .before .before .before .before .before .both-on2 .ensures .1) (c .before .before .before .before .before .before .both-on3 .ensures .1)
+    (c .before .before .before .before .both-on4 .ensures .1) (c .before .before .both-on5 .ensures .1) (c .both-on6 .ensures .1)
 
 pub aabb-face-mask-spec : {M : Type 1} → statement M
 aabb-face-mask-spec =

@@ -44,7 +44,10 @@ add-result-5 c = omega arith
 
 returns : tie.Need-returns
 unfolding bitCount
-returns c = count-of (hasBit (c .before .before .before .before .before .before .args .mask)) _ _ _ _ _ _ (c .before .before .before .before .before .face-bit .ensures .1) (c .before .before .before .before .face-bit2 .ensures .1) (c .before .before .before .face-bit3 .ensures .1) (c .before .before .face-bit4 .ensures .1) (c .before .face-bit5 .ensures .1) (c .face-bit6 .ensures .1)
+returns c =
+    count-of (hasBit (c .before .before .before .before .before .before .args .mask)) _ _ _ _ _ _ (c .before .before .before .before .before .face-bit .ensures .1)
+    (c .before .before .before .before .face-bit2 .ensures .1) (c .before .before .before .face-bit3 .ensures .1) (c .before .before .face-bit4 .ensures .1)
+    (c .before .face-bit5 .ensures .1) (c .face-bit6 .ensures .1)
 
 pub count-faces-spec : {M : Type 1} → statement M
 count-faces-spec =

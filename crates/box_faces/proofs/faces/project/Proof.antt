@@ -25,7 +25,9 @@ along-requires-2 c κs = c .before .v-axis .ensures .0
 
 returns : tie.Need-returns
 unfolding project
-returns c = uv-is (c .before .along .ensures ∙ ap (points.along (c .before .before .before .before .args .p)) (c .before .before .before .u-axis .ensures .1)) (c .along2 .ensures ∙ ap (points.along (c .before .before .before .before .args .p)) (c .before .before .v-axis .ensures .1))
+returns c =
+    uv-is (c .before .along .ensures ∙ ap (points.along (c .before .before .before .before .args .p)) (c .before .before .before .u-axis .ensures .1))
+    (c .along2 .ensures ∙ ap (points.along (c .before .before .before .before .args .p)) (c .before .before .v-axis .ensures .1))
 
 pub project-spec : {M : Type 1} → statement M
 project-spec =

@@ -22,10 +22,25 @@ abs-requires : tie.Need-abs-requires
 abs-requires c κs = search needs
 
 returns : tie.Need-returns
-returns c = far-off (c .before .before .before .before .before .before .before .before .before .args .bound) (c .before .before .before .before .before .before .before .before .before .args .tolerance) (c .before .before .before .before .before .before .before .before .before .args .p) (c .before .before .before .before .before .before .before .before .before .args .a) (c .before .before .before .before .before .before .before .before .before .args .b) (c .before .before .before .before .before .before .before .before .sub .ensures) (c .before .before .before .before .before .before .before .sub2 .ensures) (c .before .before .before .before .before .before .sub3 .ensures) (c .before .abs .ensures) (c .if1 .taken)
+returns c =
+    far-off (c .before .before .before .before .before .before .before .before .before .args .bound)
+    (c .before .before .before .before .before .before .before .before .before .args .tolerance)
+    (c .before .before .before .before .before .before .before .before .before .args .p) (c .before .before .before .before .before .before .before .before .before .args .a)
+    (c .before .before .before .before .before .before .before .before .before .args .b) (c .before .before .before .before .before .before .before .before .sub .ensures)
+    (c .before .before .before .before .before .before .before .sub2 .ensures) (c .before .before .before .before .before .before .sub3 .ensures) (c .before .abs .ensures)
+    (c .if1 .taken)
 
 returns-2 : tie.Need-returns-2
-returns-2 c = near-by (c .before .before .before .before .before .before .before .before .before .before .before .before .before .args .bound) (c .before .before .before .before .before .before .before .before .before .before .before .before .before .args .tolerance) (c .before .before .before .before .before .before .before .before .before .before .before .before .before .args .p) (c .before .before .before .before .before .before .before .before .before .before .before .before .before .args .a) (c .before .before .before .before .before .before .before .before .before .before .before .before .before .args .b) (c .before .before .before .before .before .before .before .before .before .before .before .before .sub .ensures) (c .before .before .before .before .before .before .before .before .before .before .before .sub2 .ensures) (c .before .before .before .before .before .before .before .before .before .before .sub3 .ensures) (c .before .before .before .before .before .abs .ensures) (c .before .before .before .before .if1 .left)
+returns-2 c =
+    near-by (c .before .before .before .before .before .before .before .before .before .before .before .before .before .args .bound)
+    (c .before .before .before .before .before .before .before .before .before .before .before .before .before .args .tolerance)
+    (c .before .before .before .before .before .before .before .before .before .before .before .before .before .args .p)
+    (c .before .before .before .before .before .before .before .before .before .before .before .before .before .args .a)
+    (c .before .before .before .before .before .before .before .before .before .before .before .before .before .args .b)
+    (c .before .before .before .before .before .before .before .before .before .before .before .before .sub .ensures)
+    (c .before .before .before .before .before .before .before .before .before .before .before .sub2 .ensures)
+    (c .before .before .before .before .before .before .before .before .before .before .sub3 .ensures) (c .before .before .before .before .before .abs .ensures)
+    (c .before .before .before .before .if1 .left)
 
 pub point-on-segment2-spec : {M : Type 1} → statement M
 point-on-segment2-spec =

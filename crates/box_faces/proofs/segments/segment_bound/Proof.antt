@@ -26,7 +26,9 @@ max-requires c κs = search needs
 
 returns : tie.Need-returns
 unfolding segmentBound
-returns c = ap (λ x. c .before .before .before .args .tolerance ⊗ x) (c .max .ensures ∙ ap (λ l. larger l oneF) (c .before .segment-length .ensures ∙ ap segmentLength (c .before .before .sub .ensures)))
+returns c =
+    ap (λ x. c .before .before .before .args .tolerance ⊗ x) (c .max .ensures ∙ ap (λ l. larger l oneF)
+    (c .before .segment-length .ensures ∙ ap segmentLength (c .before .before .sub .ensures)))
 
 pub segment-bound-spec : {M : Type 1} → statement M
 segment-bound-spec = tie.close (tie.spec sub-requires segment-length-requires max-requires returns)

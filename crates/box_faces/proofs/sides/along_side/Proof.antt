@@ -26,7 +26,11 @@ between-ends-requires c κs = search needs
 
 returns : tie.Need-returns
 unfolding alongSide
-returns c = simp (sym (c .before .before .before .before .within .ensures) ∙ c .before .before .before .if1 .taken) (c .between-ends .ensures ∙ ap (λ l. betweenEnds (c .before .before .before .before .before .args .from ⊘ c .before .before .before .before .before .args .d) (c .before .before .before .before .before .args .eps ⊘ l)) (c .before .max .ensures ∙ ap (λ m. larger m (c .before .before .before .before .before .args .eps)) (c .before .before .abs .ensures)))
+returns c =
+    simp (sym (c .before .before .before .before .within .ensures) ∙ c .before .before .before .if1 .taken)
+    (c .between-ends .ensures ∙ ap (λ l. betweenEnds (c .before .before .before .before .before .args .from ⊘ c .before .before .before .before .before .args .d)
+    (c .before .before .before .before .before .args .eps ⊘ l)) (c .before .max .ensures ∙ ap (λ m. larger m (c .before .before .before .before .before .args .eps))
+    (c .before .before .abs .ensures)))
 
 returns-2 : tie.Need-returns-2
 unfolding alongSide

@@ -45,15 +45,25 @@ returns c = simp (c .if1 .taken, c .before .before .before .before .before .befo
 
 returns-2 : tie.Need-returns-2
 unfolding faceSides
-returns-2 c = simp (c .if2 .taken, c .before .before .before .before .before .before .before .u-axis .ensures .1, c .before .before .before .before .before .before .v-axis .ensures .1)
+returns-2 c =
+    simp (c .if2 .taken, c .before .before .before .before .before .before .before .u-axis .ensures .1, c .before .before .before .before .before .before .v-axis .ensures .1)
 
 returns-3 : tie.Need-returns-3
 unfolding faceSides
-returns-3 c = simp (c .if3 .taken, c .before .before .before .before .before .before .before .before .u-axis .ensures .1, c .before .before .before .before .before .before .before .v-axis .ensures .1)
+returns-3 c =
+    simp (
+      c .if3 .taken,
+      c .before .before .before .before .before .before .before .before .u-axis .ensures .1,
+      c .before .before .before .before .before .before .before .v-axis
+          .ensures .1,
+    )
 
 returns-4 : tie.Need-returns-4
 unfolding faceSides
-returns-4 c = let e : c .before .before .before .before .before .before .before .before .before .args .k ≡ 3 = fourth _ (c .before .before .before .before .before .before .before .before .before .pre) (c .before .before .if1 .left) (c .before .if2 .left) (c .if3 .left) in simp (e, c .before .before .before .before .before .before .before .before .u-axis .ensures .1, c .before .before .before .before .before .before .before .v-axis .ensures .1)
+returns-4 c =
+    let e : c .before .before .before .before .before .before .before .before .before .args .k ≡ 3 = fourth _
+    (c .before .before .before .before .before .before .before .before .before .pre) (c .before .before .if1 .left) (c .before .if2 .left) (c .if3 .left) in
+    simp (e, c .before .before .before .before .before .before .before .before .u-axis .ensures .1, c .before .before .before .before .before .before .before .v-axis .ensures .1)
 
 pub face-boundary-side-spec : {M : Type 1} → statement M
 face-boundary-side-spec =

@@ -19,8 +19,25 @@ face-constraints-requires : tie.Need-face-constraints-requires Inv-loop μ-loop
 face-constraints-requires c κs =
     let s = c .before .before .before .before in
     let a = s .args in
-    let l = c .before .before .loop in
-    (faced-shown (a .extents) (a .eps) (a .n) (a .nf) (a .k) (a .w .now) (holds-shown (a .eps) (a .n) (a .w .now) (s .pre .0)) (s .pre .1 .0) (s .pre .1 .1 .0) (s .pre .1 .1 .1) (s .pre .1 .1 .3) (l .w) (l .total) (l .face) (l .inv), (faced-roomy (a .extents) (a .eps) (a .n) (a .nf) (a .k) (a .w .now) (holds-shown (a .eps) (a .n) (a .w .now) (s .pre .0)) (s .pre .1 .0) (s .pre .1 .1 .0) (s .pre .1 .1 .1) (s .pre .1 .1 .3) (l .w) (l .total) (l .face) (l .inv), (faced-held (a .extents) (a .eps) (a .n) (a .nf) (a .k) (a .w .now) (holds-shown (a .eps) (a .n) (a .w .now) (s .pre .0)) (s .pre .1 .0) (s .pre .1 .1 .0) (s .pre .1 .1 .1) (s .pre .1 .1 .3) (l .w) (l .total) (l .face) (l .inv), (c .before .loop-test .taken, s .pre .1 .1 .2, faced-few (a .extents) (a .eps) (a .n) (a .nf) (a .k) (a .w .now) (holds-shown (a .eps) (a .n) (a .w .now) (s .pre .0)) (s .pre .1 .0) (s .pre .1 .1 .0) (s .pre .1 .1 .1) (s .pre .1 .1 .3) (l .w) (l .total) (l .face) (l .inv) (c .before .loop-test .taken)))))
+    let l = c .before .before .loop in (
+      faced-shown (a .extents) (a .eps) (a .n) (a .nf) (a .k) (a .w .now) (holds-shown (a .eps) (a .n) (a .w .now) (s .pre .0)) (s .pre .1 .0) (s .pre .1 .1 .0) (s .pre .1 .1 .1)
+          (s .pre .1 .1 .3) (l .w) (l .total) (l .face) (l .inv),
+      (
+        faced-roomy (a .extents) (a .eps) (a .n) (a .nf) (a .k) (a .w .now)
+            (holds-shown (a .eps) (a .n) (a .w .now) (s .pre .0)) (s .pre .1 .0) (s .pre .1 .1 .0) (s .pre .1 .1 .1) (s .pre .1 .1 .3) (l .w) (l .total) (l .face) (l .inv),
+        (
+          faced-held (a .extents) (a .eps) (a .n) (a .nf) (a .k) (a .w .now) (holds-shown (a .eps) (a .n) (a .w .now) (s .pre .0)) (s .pre .1 .0) (s .pre .1 .1 .0) (s .pre .1 .1 .1)
+              (s .pre .1 .1 .3) (l .w) (l .total) (l .face) (l .inv),
+          (
+            c .before .loop-test .taken,
+            s .pre .1 .1 .2,
+            faced-few (a .extents) (a .eps) (a .n) (a .nf) (a .k) (a .w .now)
+                (holds-shown (a .eps) (a .n) (a .w .now) (s .pre .0)) (s .pre .1 .0) (s .pre .1 .1 .0) (s .pre .1 .1 .1) (s .pre .1 .1 .3) (l .w) (l .total) (l .face) (l .inv)
+                (c .before .loop-test .taken),
+          ),
+        ),
+      ),
+    )
 
 add-face : tie.Need-add-face Inv-loop μ-loop
 add-face c = omega (arith, c .before .before .before .before .loop-test .taken)
@@ -34,7 +51,9 @@ loop-again c =
     let a = s .args in
     let l = c .before .before .before .before .before .loop in
     let face-constraints′ = c .before .before .face-constraints in
-    faced-turn (a .extents) (a .eps) (a .n) (a .nf) (a .k) (a .w .now) (holds-shown (a .eps) (a .n) (a .w .now) (s .pre .0)) (s .pre .1 .0) (s .pre .1 .1 .0) (s .pre .1 .1 .1) (s .pre .1 .1 .3) (l .w) (l .total) (l .face) (l .inv) (face-constraints′ .last .0) (face-constraints′ .result) (c .before .before .before .before .loop-test .taken) (face-constraints′ .ensures)
+    faced-turn (a .extents) (a .eps) (a .n) (a .nf) (a .k) (a .w .now) (holds-shown (a .eps) (a .n) (a .w .now) (s .pre .0)) (s .pre .1 .0) (s .pre .1 .1 .0) (s .pre .1 .1 .1)
+    (s .pre .1 .1 .3) (l .w) (l .total) (l .face) (l .inv) (face-constraints′ .last .0) (face-constraints′ .result) (c .before .before .before .before .loop-test .taken)
+    (face-constraints′ .ensures)
 
 same-length : tie.Need-same-length Inv-loop μ-loop
 same-length c = c .before .loop .inv .kept .long
@@ -43,7 +62,8 @@ returns : tie.Need-returns Inv-loop μ-loop
 returns c =
     let s = c .before .before .before in
     let a = s .args in
-    faced-end (a .extents) (a .eps) (a .n) (a .nf) (a .k) (a .w .now) (holds-shown (a .eps) (a .n) (a .w .now) (s .pre .0)) (s .pre .1 .0) (s .pre .1 .1 .0) (s .pre .1 .1 .1) (s .pre .1 .1 .3) (c .before .loop .w) (c .before .loop .total) (c .before .loop .face) (c .before .loop .inv) (c .loop-test .left)
+    faced-end (a .extents) (a .eps) (a .n) (a .nf) (a .k) (a .w .now) (holds-shown (a .eps) (a .n) (a .w .now) (s .pre .0)) (s .pre .1 .0) (s .pre .1 .1 .0) (s .pre .1 .1 .1)
+    (s .pre .1 .1 .3) (c .before .loop .w) (c .before .loop .total) (c .before .loop .face) (c .before .loop .inv) (c .loop-test .left)
 
 pub all-constraints-spec : {M : Type 1} → statement M
 all-constraints-spec =

@@ -18,7 +18,8 @@ returns : tie.Need-returns
 returns c =
     let s = c .before .before .before in
     let a = s .args in
-    face-none (a .extents) (a .eps) (a .n) (a .nf) (a .k) (a .face) (a .total) (a .w .now) (s .pre .0) (s .pre .1 .0) (s .pre .1 .1 .1 .0) (s .pre .1 .1 .1 .2) (omega (arith, c .if1 .taken))
+    face-none (a .extents) (a .eps) (a .n) (a .nf) (a .k) (a .face) (a .total) (a .w .now) (s .pre .0) (s .pre .1 .0) (s .pre .1 .1 .1 .0) (s .pre .1 .1 .1 .2)
+    (omega (arith, c .if1 .taken))
 
 list-pairs-requires : tie.Need-list-pairs-requires
 list-pairs-requires c κs =
@@ -55,8 +56,15 @@ keep-distinct-requires c κs =
     let a = s .args in
     let list-pairs′ = c .before .before .before .before .before .before .before .before .list-pairs in
     let pairs-at′ = c .before .before .before .before .before .pairs-at in
-    let sort-records′ = c .before .before .before .sort-records in
-    (sorted-roomy (a .extents) (a .eps) (a .n) (a .nf) (a .k) (a .face) (a .total) (a .w .now) (s .pre .0) (s .pre .1 .0) (s .pre .1 .1 .1 .0) (s .pre .1 .1 .1 .2) (list-pairs′ .last .0) (putMid (pairs-at′ .result) ((pairs-at′ .result) + 4 * (list-pairs′ .result) - (pairs-at′ .result)) (list-pairs′ .last .0) (sort-records′ .last .0)) (putMid (pairs-at′ .result) ((pairs-at′ .result) + 4 * (list-pairs′ .result) - (pairs-at′ .result)) (list-pairs′ .last .0) (sort-records′ .last .0)) (list-pairs′ .result) 0 (pairs-at′ .result) (list-pairs′ .ensures) (pairs-at′ .ensures) (sorted-part (list-pairs′ .last .0) (sort-records′ .last .0) (pairs-at′ .result) (list-pairs′ .result) (omega (arith, s .pre .1 .0 .room, pairs-at′ .ensures, list-pairs′ .ensures .few, list-pairs′ .ensures .kept .long)) (sort-records′ .ensures)), (omega (arith, s .pre .1 .0 .room, pairs-at′ .ensures, list-pairs′ .ensures .few, list-pairs′ .ensures .kept .long), s .pre .1 .1 .1 .2))
+    let sort-records′ = c .before .before .before .sort-records in (
+      sorted-roomy (a .extents) (a .eps) (a .n) (a .nf) (a .k) (a .face) (a .total) (a .w .now) (s .pre .0) (s .pre .1 .0) (s .pre .1 .1 .1 .0) (s .pre .1 .1 .1 .2)
+          (list-pairs′ .last .0) (putMid (pairs-at′ .result) ((pairs-at′ .result) + 4 * (list-pairs′ .result) - (pairs-at′ .result)) (list-pairs′ .last .0) (sort-records′ .last .0))
+          (putMid (pairs-at′ .result) ((pairs-at′ .result) + 4 * (list-pairs′ .result) - (pairs-at′ .result)) (list-pairs′ .last .0) (sort-records′ .last .0)) (list-pairs′ .result) 0
+          (pairs-at′ .result) (list-pairs′ .ensures) (pairs-at′ .ensures)
+          (sorted-part (list-pairs′ .last .0) (sort-records′ .last .0) (pairs-at′ .result) (list-pairs′ .result)
+          (omega (arith, s .pre .1 .0 .room, pairs-at′ .ensures, list-pairs′ .ensures .few, list-pairs′ .ensures .kept .long)) (sort-records′ .ensures)),
+      (omega (arith, s .pre .1 .0 .room, pairs-at′ .ensures, list-pairs′ .ensures .few, list-pairs′ .ensures .kept .long), s .pre .1 .1 .1 .2),
+    )
 
 same-length : tie.Need-same-length
 same-length c = search needs
@@ -69,7 +77,12 @@ returns-2 c =
     let pairs-at′ = c .before .before .before .before .before .before .before .before .pairs-at in
     let sort-records′ = c .before .before .before .before .before .before .sort-records in
     let keep-distinct′ = c .before .before .keep-distinct in
-    face-listed (a .extents) (a .eps) (a .n) (a .nf) (a .k) (a .face) (a .total) (a .w .now) (s .pre .0) (s .pre .1 .0) (s .pre .1 .1 .1 .0) (s .pre .1 .1 .1 .2) (list-pairs′ .last .0) (putMid (pairs-at′ .result) ((pairs-at′ .result) + 4 * (list-pairs′ .result) - (pairs-at′ .result)) (list-pairs′ .last .0) (sort-records′ .last .0)) (keep-distinct′ .last .0) (list-pairs′ .result) (keep-distinct′ .result) (pairs-at′ .result) (list-pairs′ .ensures) (pairs-at′ .ensures) (sorted-part (list-pairs′ .last .0) (sort-records′ .last .0) (pairs-at′ .result) (list-pairs′ .result) (omega (arith, s .pre .1 .0 .room, pairs-at′ .ensures, list-pairs′ .ensures .few, list-pairs′ .ensures .kept .long)) (sort-records′ .ensures)) (omega (arith, c .before .before .before .before .before .before .before .before .before .before .before .before .before .if1 .left)) (keep-distinct′ .ensures)
+    face-listed (a .extents) (a .eps) (a .n) (a .nf) (a .k) (a .face) (a .total) (a .w .now) (s .pre .0) (s .pre .1 .0) (s .pre .1 .1 .1 .0) (s .pre .1 .1 .1 .2)
+    (list-pairs′ .last .0) (putMid (pairs-at′ .result) ((pairs-at′ .result) + 4 * (list-pairs′ .result) - (pairs-at′ .result)) (list-pairs′ .last .0) (sort-records′ .last .0))
+    (keep-distinct′ .last .0) (list-pairs′ .result) (keep-distinct′ .result) (pairs-at′ .result) (list-pairs′ .ensures) (pairs-at′ .ensures)
+    (sorted-part (list-pairs′ .last .0) (sort-records′ .last .0) (pairs-at′ .result) (list-pairs′ .result)
+    (omega (arith, s .pre .1 .0 .room, pairs-at′ .ensures, list-pairs′ .ensures .few, list-pairs′ .ensures .kept .long)) (sort-records′ .ensures))
+    (omega (arith, c .before .before .before .before .before .before .before .before .before .before .before .before .before .if1 .left)) (keep-distinct′ .ensures)
 
 pub face-constraints-spec : {M : Type 1} → statement M
 face-constraints-spec =

@@ -12,16 +12,40 @@ push-sides-requires : tie.Need-push-sides-requires
 push-sides-requires c κs =
     let s = c .before .before .before .before .before .before in
     let a = s .args in
-    let note-places′ = c .before .before .before .note-places in
-    (shown1 (a .extents) (a .eps) (a .n) (a .nf) (a .k) (a .face) (a .w .now) (note-places′ .last .0) (s .pre .0) (s .pre .1 .0) (s .pre .1 .1 .0) (s .pre .1 .1 .1 .0) (s .pre .1 .1 .1 .1) (note-places′ .ensures .0) (note-places′ .ensures .1), (s .pre .1 .0 .small, s .pre .1 .1 .1 .0, omega (arith, s .pre .1 .0 .room, note-places′ .ensures .0 .long)))
+    let note-places′ = c .before .before .before .note-places in (
+      shown1 (a .extents) (a .eps) (a .n) (a .nf) (a .k) (a .face) (a .w .now) (note-places′ .last .0) (s .pre .0) (s .pre .1 .0) (s .pre .1 .1 .0) (s .pre .1 .1 .1 .0)
+          (s .pre .1 .1 .1 .1) (note-places′ .ensures .0) (note-places′ .ensures .1),
+      (s .pre .1 .0 .small, s .pre .1 .1 .1 .0, omega (arith, s .pre .1 .0 .room, note-places′ .ensures .0 .long)),
+    )
 
 push-open-edges-requires : tie.Need-push-open-edges-requires
 push-open-edges-requires c κs =
     let s = c .before .before .before .before .before .before .before .before .before .before in
     let a = s .args in
     let note-places′ = c .before .before .before .before .before .before .before .note-places in
-    let push-sides′ = c .before .before .before .push-sides in
-    (shown2 (a .extents) (a .eps) (a .n) (a .nf) (a .k) (a .face) (a .w .now) (note-places′ .last .0) (s .pre .0) (s .pre .1 .0) (s .pre .1 .1 .0) (s .pre .1 .1 .1 .0) (s .pre .1 .1 .1 .1) (note-places′ .ensures .0) (note-places′ .ensures .1) (push-sides′ .last .0) (push-sides′ .result) (push-sides′ .ensures), (roomy2 (a .extents) (a .eps) (a .n) (a .nf) (a .k) (a .face) (a .w .now) (note-places′ .last .0) (s .pre .0) (s .pre .1 .0) (s .pre .1 .1 .0) (s .pre .1 .1 .1 .0) (s .pre .1 .1 .1 .1) (note-places′ .ensures .0) (note-places′ .ensures .1) (push-sides′ .last .0) (push-sides′ .result) (push-sides′ .ensures), (placed2 (a .extents) (a .eps) (a .n) (a .nf) (a .k) (a .face) (a .w .now) (note-places′ .last .0) (s .pre .0) (s .pre .1 .0) (s .pre .1 .1 .0) (s .pre .1 .1 .1 .0) (s .pre .1 .1 .1 .1) (note-places′ .ensures .0) (note-places′ .ensures .1) (push-sides′ .last .0) (push-sides′ .result) (push-sides′ .ensures), (held2 (a .extents) (a .eps) (a .n) (a .nf) (a .k) (a .face) (a .w .now) (note-places′ .last .0) (s .pre .0) (s .pre .1 .0) (s .pre .1 .1 .0) (s .pre .1 .1 .1 .0) (s .pre .1 .1 .1 .1) (note-places′ .ensures .0) (note-places′ .ensures .1) (push-sides′ .last .0) (push-sides′ .result) (push-sides′ .ensures), (s .pre .1 .1 .1 .0, s .pre .1 .1 .1 .1, few2 (a .extents) (a .eps) (a .n) (a .nf) (a .k) (a .face) (a .w .now) (note-places′ .last .0) (s .pre .0) (s .pre .1 .0) (s .pre .1 .1 .0) (s .pre .1 .1 .1 .0) (s .pre .1 .1 .1 .1) (note-places′ .ensures .0) (note-places′ .ensures .1) (push-sides′ .last .0) (push-sides′ .result) (push-sides′ .ensures))))))
+    let push-sides′ = c .before .before .before .push-sides in (
+      shown2 (a .extents) (a .eps) (a .n) (a .nf) (a .k) (a .face) (a .w .now) (note-places′ .last .0) (s .pre .0) (s .pre .1 .0) (s .pre .1 .1 .0) (s .pre .1 .1 .1 .0)
+          (s .pre .1 .1 .1 .1) (note-places′ .ensures .0) (note-places′ .ensures .1) (push-sides′ .last .0) (push-sides′ .result) (push-sides′ .ensures),
+      (
+        roomy2 (a .extents) (a .eps) (a .n) (a .nf) (a .k) (a .face) (a .w .now) (note-places′ .last .0) (s .pre .0) (s .pre .1 .0) (s .pre .1 .1 .0) (s .pre .1 .1 .1 .0)
+            (s .pre .1 .1 .1 .1) (note-places′ .ensures .0) (note-places′ .ensures .1) (push-sides′ .last .0) (push-sides′ .result) (push-sides′ .ensures),
+        (
+          placed2 (a .extents) (a .eps) (a .n) (a .nf) (a .k) (a .face) (a .w .now) (note-places′ .last .0) (s .pre .0) (s .pre .1 .0) (s .pre .1 .1 .0) (s .pre .1 .1 .1 .0)
+              (s .pre .1 .1 .1 .1) (note-places′ .ensures .0) (note-places′ .ensures .1) (push-sides′ .last .0) (push-sides′ .result) (push-sides′ .ensures),
+          (
+            held2 (a .extents) (a .eps) (a .n) (a .nf) (a .k) (a .face) (a .w .now) (note-places′ .last .0) (s .pre .0) (s .pre .1 .0) (s .pre .1 .1 .0) (s .pre .1 .1 .1 .0)
+                (s .pre .1 .1 .1 .1) (note-places′ .ensures .0) (note-places′ .ensures .1) (push-sides′ .last .0) (push-sides′ .result) (push-sides′ .ensures),
+            (
+              s .pre .1 .1 .1 .0,
+              s .pre .1 .1 .1 .1,
+              few2 (a .extents) (a .eps) (a .n) (a .nf) (a .k) (a .face) (a .w .now) (note-places′ .last .0) (s .pre .0) (s .pre .1 .0)
+                  (s .pre .1 .1 .0) (s .pre .1 .1 .1 .0) (s .pre .1 .1 .1 .1) (note-places′ .ensures .0) (note-places′ .ensures .1) (push-sides′ .last .0) (push-sides′ .result)
+                  (push-sides′ .ensures),
+            ),
+          ),
+        ),
+      ),
+    )
 
 same-length : tie.Need-same-length
 same-length c = search needs
@@ -33,7 +57,9 @@ returns c =
     let note-places′ = c .before .before .before .before .before .before .before .before .before .before .note-places in
     let push-sides′ = c .before .before .before .before .before .before .push-sides in
     let push-open-edges′ = c .before .before .push-open-edges in
-    pairs-listed (a .extents) (a .eps) (a .n) (a .nf) (a .k) (a .face) (a .w .now) (note-places′ .last .0) (s .pre .0) (s .pre .1 .0) (s .pre .1 .1 .0) (s .pre .1 .1 .1 .0) (s .pre .1 .1 .1 .1) (note-places′ .ensures .0) (note-places′ .ensures .1) (push-sides′ .last .0) (push-sides′ .result) (push-sides′ .ensures) (push-open-edges′ .last .0) (push-open-edges′ .result) (push-open-edges′ .ensures)
+    pairs-listed (a .extents) (a .eps) (a .n) (a .nf) (a .k) (a .face) (a .w .now) (note-places′ .last .0) (s .pre .0) (s .pre .1 .0) (s .pre .1 .1 .0) (s .pre .1 .1 .1 .0)
+    (s .pre .1 .1 .1 .1) (note-places′ .ensures .0) (note-places′ .ensures .1) (push-sides′ .last .0) (push-sides′ .result) (push-sides′ .ensures) (push-open-edges′ .last .0)
+    (push-open-edges′ .result) (push-open-edges′ .ensures)
 
 pub list-pairs-spec : {M : Type 1} → statement M
 list-pairs-spec =

@@ -50,42 +50,114 @@ add-a c =
     let s = c .before .before .before .before .before .before .before .before in
     let a = s .args in
     let open-edges-at′ = c .before .before .before .before .before .before .open-edges-at in
-    omega (arith, from-low (a .n) (a .nf) (a .i) (a .face) (a .c) (a .w .now) (s .pre .0) (s .pre .1 .0) (s .pre .1 .1 .0) (s .pre .1 .1 .1 .0) (s .pre .1 .1 .1 .1 .0) (s .pre .1 .1 .1 .1 .1) (s .pre .1 .1 .1 .1 .2) (open-edges-at′ .result) (open-edges-at′ .ensures) (sym (c .before .before .before .before .has-face .ensures) ∙ c .before .before .before .if1 .taken), c .before .before .places-at .ensures, s .pre .1 .0 .small, s .pre .1 .0 .facets, s .pre .1 .0 .room, s .pre .1 .1 .1 .1, open-edges-at′ .ensures)
+    omega (
+      arith,
+      from-low (a .n) (a .nf) (a .i) (a .face) (a .c) (a .w .now) (s .pre .0) (s .pre .1 .0) (s .pre .1 .1 .0) (s .pre .1 .1 .1 .0) (s .pre .1 .1 .1 .1 .0)
+          (s .pre .1 .1 .1 .1 .1) (s .pre .1 .1 .1 .1 .2) (open-edges-at′ .result) (open-edges-at′ .ensures)
+          (sym (c .before .before .before .before .has-face .ensures) ∙ c .before .before .before .if1 .taken),
+      c .before .before .places-at .ensures,
+      s .pre .1 .0 .small,
+      s .pre .1
+          .0 .facets,
+      s .pre .1 .0 .room,
+      s .pre .1 .1 .1 .1,
+      open-edges-at′ .ensures,
+    )
 
 mul-a : tie.Need-mul-a
 mul-a c =
     let s = c .before .before .before .before .before .before .before .before in
     let a = s .args in
     let open-edges-at′ = c .before .before .before .before .before .before .open-edges-at in
-    omega (arith, from-low (a .n) (a .nf) (a .i) (a .face) (a .c) (a .w .now) (s .pre .0) (s .pre .1 .0) (s .pre .1 .1 .0) (s .pre .1 .1 .1 .0) (s .pre .1 .1 .1 .1 .0) (s .pre .1 .1 .1 .1 .1) (s .pre .1 .1 .1 .1 .2) (open-edges-at′ .result) (open-edges-at′ .ensures) (sym (c .before .before .before .before .has-face .ensures) ∙ c .before .before .before .if1 .taken), c .before .before .places-at .ensures, s .pre .1 .0 .small, s .pre .1 .0 .facets, s .pre .1 .0 .room, s .pre .1 .1 .1 .1, open-edges-at′ .ensures)
+    omega (
+      arith,
+      from-low (a .n) (a .nf) (a .i) (a .face) (a .c) (a .w .now) (s .pre .0) (s .pre .1 .0) (s .pre .1 .1 .0) (s .pre .1 .1 .1 .0) (s .pre .1 .1 .1 .1 .0)
+          (s .pre .1 .1 .1 .1 .1) (s .pre .1 .1 .1 .1 .2) (open-edges-at′ .result) (open-edges-at′ .ensures)
+          (sym (c .before .before .before .before .has-face .ensures) ∙ c .before .before .before .if1 .taken),
+      c .before .before .places-at .ensures,
+      s .pre .1 .0 .small,
+      s .pre .1
+          .0 .facets,
+      s .pre .1 .0 .room,
+      s .pre .1 .1 .1 .1,
+      open-edges-at′ .ensures,
+    )
 
 slice-read-a : tie.Need-slice-read-a
 slice-read-a c =
     let s = c .before .before .before .before .before .before .before .before .before in
     let a = s .args in
     let open-edges-at′ = c .before .before .before .before .before .before .before .open-edges-at in
-    omega (arith, from-low (a .n) (a .nf) (a .i) (a .face) (a .c) (a .w .now) (s .pre .0) (s .pre .1 .0) (s .pre .1 .1 .0) (s .pre .1 .1 .1 .0) (s .pre .1 .1 .1 .1 .0) (s .pre .1 .1 .1 .1 .1) (s .pre .1 .1 .1 .1 .2) (open-edges-at′ .result) (open-edges-at′ .ensures) (sym (c .before .before .before .before .before .has-face .ensures) ∙ c .before .before .before .before .if1 .taken), c .before .before .before .places-at .ensures, s .pre .1 .0 .small, s .pre .1 .0 .facets, s .pre .1 .0 .room, s .pre .1 .1 .1 .1, open-edges-at′ .ensures)
+    omega (
+      arith,
+      from-low (a .n) (a .nf) (a .i) (a .face) (a .c) (a .w .now) (s .pre .0) (s .pre .1 .0) (s .pre .1 .1 .0) (s .pre .1 .1 .1 .0) (s .pre .1 .1 .1 .1 .0)
+          (s .pre .1 .1 .1 .1 .1) (s .pre .1 .1 .1 .1 .2) (open-edges-at′ .result) (open-edges-at′ .ensures)
+          (sym (c .before .before .before .before .before .has-face .ensures) ∙ c .before .before .before .before .if1 .taken),
+      c .before .before .before .places-at .ensures,
+      s .pre
+          .1 .0 .small,
+      s .pre .1 .0 .facets,
+      s .pre .1 .0 .room,
+      s .pre .1 .1 .1 .1,
+      open-edges-at′ .ensures,
+    )
 
 add-b : tie.Need-add-b
 add-b c =
     let s = c .before .before .before .before .before .before .before .before .before in
     let a = s .args in
     let open-edges-at′ = c .before .before .before .before .before .before .before .open-edges-at in
-    omega (arith, to-low (a .n) (a .nf) (a .i) (a .face) (a .c) (a .w .now) (s .pre .0) (s .pre .1 .0) (s .pre .1 .1 .0) (s .pre .1 .1 .1 .0) (s .pre .1 .1 .1 .1 .0) (s .pre .1 .1 .1 .1 .1) (s .pre .1 .1 .1 .1 .2) (open-edges-at′ .result) (open-edges-at′ .ensures) (sym (c .before .before .before .before .before .has-face .ensures) ∙ c .before .before .before .before .if1 .taken), c .before .before .before .places-at .ensures, s .pre .1 .0 .small, s .pre .1 .0 .facets, s .pre .1 .0 .room, s .pre .1 .1 .1 .1, open-edges-at′ .ensures)
+    omega (
+      arith,
+      to-low (a .n) (a .nf) (a .i) (a .face) (a .c) (a .w .now) (s .pre .0) (s .pre .1 .0) (s .pre .1 .1 .0) (s .pre .1 .1 .1 .0) (s .pre .1 .1 .1 .1 .0)
+          (s .pre .1 .1 .1 .1 .1) (s .pre .1 .1 .1 .1 .2) (open-edges-at′ .result) (open-edges-at′ .ensures)
+          (sym (c .before .before .before .before .before .has-face .ensures) ∙ c .before .before .before .before .if1 .taken),
+      c .before .before .before .places-at .ensures,
+      s .pre
+          .1 .0 .small,
+      s .pre .1 .0 .facets,
+      s .pre .1 .0 .room,
+      s .pre .1 .1 .1 .1,
+      open-edges-at′ .ensures,
+    )
 
 mul-b : tie.Need-mul-b
 mul-b c =
     let s = c .before .before .before .before .before .before .before .before .before in
     let a = s .args in
     let open-edges-at′ = c .before .before .before .before .before .before .before .open-edges-at in
-    omega (arith, to-low (a .n) (a .nf) (a .i) (a .face) (a .c) (a .w .now) (s .pre .0) (s .pre .1 .0) (s .pre .1 .1 .0) (s .pre .1 .1 .1 .0) (s .pre .1 .1 .1 .1 .0) (s .pre .1 .1 .1 .1 .1) (s .pre .1 .1 .1 .1 .2) (open-edges-at′ .result) (open-edges-at′ .ensures) (sym (c .before .before .before .before .before .has-face .ensures) ∙ c .before .before .before .before .if1 .taken), c .before .before .before .places-at .ensures, s .pre .1 .0 .small, s .pre .1 .0 .facets, s .pre .1 .0 .room, s .pre .1 .1 .1 .1, open-edges-at′ .ensures)
+    omega (
+      arith,
+      to-low (a .n) (a .nf) (a .i) (a .face) (a .c) (a .w .now) (s .pre .0) (s .pre .1 .0) (s .pre .1 .1 .0) (s .pre .1 .1 .1 .0) (s .pre .1 .1 .1 .1 .0)
+          (s .pre .1 .1 .1 .1 .1) (s .pre .1 .1 .1 .1 .2) (open-edges-at′ .result) (open-edges-at′ .ensures)
+          (sym (c .before .before .before .before .before .has-face .ensures) ∙ c .before .before .before .before .if1 .taken),
+      c .before .before .before .places-at .ensures,
+      s .pre
+          .1 .0 .small,
+      s .pre .1 .0 .facets,
+      s .pre .1 .0 .room,
+      s .pre .1 .1 .1 .1,
+      open-edges-at′ .ensures,
+    )
 
 slice-read-b : tie.Need-slice-read-b
 slice-read-b c =
     let s = c .before .before .before .before .before .before .before .before .before .before in
     let a = s .args in
     let open-edges-at′ = c .before .before .before .before .before .before .before .before .open-edges-at in
-    omega (arith, to-low (a .n) (a .nf) (a .i) (a .face) (a .c) (a .w .now) (s .pre .0) (s .pre .1 .0) (s .pre .1 .1 .0) (s .pre .1 .1 .1 .0) (s .pre .1 .1 .1 .1 .0) (s .pre .1 .1 .1 .1 .1) (s .pre .1 .1 .1 .1 .2) (open-edges-at′ .result) (open-edges-at′ .ensures) (sym (c .before .before .before .before .before .before .has-face .ensures) ∙ c .before .before .before .before .before .if1 .taken), c .before .before .before .before .places-at .ensures, s .pre .1 .0 .small, s .pre .1 .0 .facets, s .pre .1 .0 .room, s .pre .1 .1 .1 .1, open-edges-at′ .ensures)
+    omega (
+      arith,
+      to-low (a .n) (a .nf) (a .i) (a .face) (a .c) (a .w .now) (s .pre .0) (s .pre .1 .0) (s .pre .1 .1 .0) (s .pre .1 .1 .1 .0) (s .pre .1 .1 .1 .1 .0)
+          (s .pre .1 .1 .1 .1 .1) (s .pre .1 .1 .1 .1 .2) (open-edges-at′ .result) (open-edges-at′ .ensures)
+          (sym (c .before .before .before .before .before .before .has-face .ensures) ∙ c .before .before .before .before .before .if1 .taken),
+      c .before .before .before .before
+          .places-at .ensures,
+      s .pre .1 .0 .small,
+      s .pre .1 .0 .facets,
+      s .pre .1 .0 .room,
+      s .pre .1 .1 .1 .1,
+      open-edges-at′ .ensures,
+    )
 
 pairs-at-requires : tie.Need-pairs-at-requires
 pairs-at-requires c κs = search needs
@@ -103,8 +175,32 @@ put-pair-requires c κs =
     let open-edges-at′ = c .before .before .before .before .before .before .before .before .before .before .open-edges-at in
     let has-face′ = c .before .before .before .before .before .before .before .before .has-face in
     let if1′ = c .before .before .before .before .before .before .before .if1 in
-    let places-at′ = c .before .before .before .before .before .before .places-at in
-    (omega (arith, c .pairs-at .ensures, s .pre .1 .0 .small, s .pre .1 .0 .facets, s .pre .1 .0 .room, s .pre .1 .1 .1 .1, open-edges-at′ .ensures), s .pre .1 .1 .1 .1 .0, omega (arith, from-place-low (a .n) (a .nf) (a .i) (a .face) (a .c) (a .w .now) (s .pre .0) (s .pre .1 .0) (s .pre .1 .1 .0) (s .pre .1 .1 .1 .0) (s .pre .1 .1 .1 .1 .0) (s .pre .1 .1 .1 .1 .1) (s .pre .1 .1 .1 .1 .2) (open-edges-at′ .result) (open-edges-at′ .ensures) (sym (has-face′ .ensures) ∙ if1′ .taken) (places-at′ .result) (places-at′ .ensures), s .pre .1 .0 .small, s .pre .1 .0 .facets, s .pre .1 .0 .room, s .pre .1 .1 .1 .1, open-edges-at′ .ensures), omega (arith, to-place-low (a .n) (a .nf) (a .i) (a .face) (a .c) (a .w .now) (s .pre .0) (s .pre .1 .0) (s .pre .1 .1 .0) (s .pre .1 .1 .1 .0) (s .pre .1 .1 .1 .1 .0) (s .pre .1 .1 .1 .1 .1) (s .pre .1 .1 .1 .1 .2) (open-edges-at′ .result) (open-edges-at′ .ensures) (sym (has-face′ .ensures) ∙ if1′ .taken) (places-at′ .result) (places-at′ .ensures), s .pre .1 .0 .small, s .pre .1 .0 .facets, s .pre .1 .0 .room, s .pre .1 .1 .1 .1, open-edges-at′ .ensures))
+    let places-at′ = c .before .before .before .before .before .before .places-at in (
+      omega (arith, c .pairs-at .ensures, s .pre .1 .0 .small, s .pre .1 .0 .facets, s .pre .1 .0 .room, s .pre .1 .1 .1 .1, open-edges-at′ .ensures),
+      s .pre .1 .1 .1 .1 .0,
+      omega (
+        arith,
+        from-place-low (a .n) (a .nf) (a .i) (a .face) (a .c) (a .w .now) (s .pre .0) (s .pre .1 .0) (s .pre .1 .1 .0) (s .pre .1 .1 .1 .0) (s .pre .1 .1 .1 .1 .0)
+            (s .pre .1 .1 .1 .1 .1) (s .pre .1 .1 .1 .1 .2) (open-edges-at′ .result) (open-edges-at′ .ensures) (sym (has-face′ .ensures) ∙ if1′ .taken) (places-at′ .result)
+            (places-at′ .ensures),
+        s .pre .1 .0 .small,
+        s .pre .1 .0 .facets,
+        s .pre .1 .0 .room,
+        s .pre .1 .1 .1 .1,
+        open-edges-at′ .ensures,
+      ),
+      omega (
+        arith,
+        to-place-low (a .n) (a .nf) (a .i) (a .face) (a .c) (a .w .now) (s .pre .0) (s .pre .1 .0) (s .pre .1 .1 .0) (s .pre .1 .1 .1 .0) (s .pre .1 .1 .1 .1 .0)
+            (s .pre .1 .1 .1 .1 .1) (s .pre .1 .1 .1 .1 .2) (open-edges-at′ .result) (open-edges-at′ .ensures) (sym (has-face′ .ensures) ∙ if1′ .taken) (places-at′ .result)
+            (places-at′ .ensures),
+        s .pre .1 .0 .small,
+        s .pre .1 .0 .facets,
+        s .pre .1 .0 .room,
+        s .pre .1 .1 .1 .1,
+        open-edges-at′ .ensures,
+      ),
+    )
 
 add-result : tie.Need-add-result
 add-result c = search needs
@@ -120,14 +216,18 @@ returns c =
     let places-at′ = c .before .before .before .before .before .before .before .before .before .places-at in
     let pairs-at′ = c .before .before .before .pairs-at in
     let put-pair′ = c .before .before .put-pair in
-    edge-pushed (a .n) (a .nf) (a .i) (a .face) (a .c) (a .w .now) (s .pre .0) (s .pre .1 .0) (s .pre .1 .1 .0) (s .pre .1 .1 .1 .0) (s .pre .1 .1 .1 .1 .0) (s .pre .1 .1 .1 .1 .1) (s .pre .1 .1 .1 .1 .2) (open-edges-at′ .result) (open-edges-at′ .ensures) (sym (c .before .before .before .before .before .before .before .before .before .before .before .has-face .ensures) ∙ c .before .before .before .before .before .before .before .before .before .before .if1 .taken) (places-at′ .result) (places-at′ .ensures) (pairs-at′ .result) (put-pair′ .last .0) (pairs-at′ .ensures) (put-pair′ .ensures)
+    edge-pushed (a .n) (a .nf) (a .i) (a .face) (a .c) (a .w .now) (s .pre .0) (s .pre .1 .0) (s .pre .1 .1 .0) (s .pre .1 .1 .1 .0) (s .pre .1 .1 .1 .1 .0) (s .pre .1 .1 .1 .1 .1)
+    (s .pre .1 .1 .1 .1 .2) (open-edges-at′ .result) (open-edges-at′ .ensures)
+    (sym (c .before .before .before .before .before .before .before .before .before .before .before .has-face .ensures) ∙ c .before .before .before .before .before .before
+    .before .before .before .before .if1 .taken) (places-at′ .result) (places-at′ .ensures) (pairs-at′ .result) (put-pair′ .last .0) (pairs-at′ .ensures) (put-pair′ .ensures)
 
 returns-2 : tie.Need-returns-2
 returns-2 c =
     let s = c .before .before .before .before .before in
     let a = s .args in
     let open-edges-at′ = c .before .before .before .open-edges-at in
-    edge-skipped (a .n) (a .nf) (a .i) (a .face) (a .c) (a .w .now) (s .pre .1 .1 .1 .1 .0) (open-edges-at′ .result) (open-edges-at′ .ensures) (sym (c .before .has-face .ensures) ∙ c .if1 .left)
+    edge-skipped (a .n) (a .nf) (a .i) (a .face) (a .c) (a .w .now) (s .pre .1 .1 .1 .1 .0) (open-edges-at′ .result) (open-edges-at′ .ensures)
+    (sym (c .before .has-face .ensures) ∙ c .if1 .left)
 
 pub push-open-edge-spec : {M : Type 1} → statement M
 push-open-edge-spec =

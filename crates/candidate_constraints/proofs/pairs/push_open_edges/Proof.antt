@@ -13,14 +13,36 @@ abbrev μ-loop : tie.MeasureT-loop
 μ-loop w₀ n nf k face count c₀ i₀ w c i = k - i
 
 loop-holds : tie.Need-loop-holds Inv-loop μ-loop
-loop-holds c = edging-start (c .before .args .n) (c .before .args .face) (openEdgesAt (c .before .args .n) (c .before .args .nf)) (c .before .args .count) (c .before .args .w .now) (c .before .args .k)
+loop-holds c =
+    edging-start (c .before .args .n) (c .before .args .face) (openEdgesAt (c .before .args .n) (c .before .args .nf)) (c .before .args .count) (c .before .args .w .now)
+    (c .before .args .k)
 
 push-open-edge-requires : tie.Need-push-open-edge-requires Inv-loop μ-loop
 push-open-edge-requires c κs =
     let s = c .before .before .before .before in
     let a = s .args in
-    let l = c .before .before .loop in
-    (edging-shown (a .n) (a .face) (openEdgesAt (a .n) (a .nf)) (a .count) (a .w .now) (a .nf) (a .k) (s .pre .0) (s .pre .1 .0) (s .pre .1 .1 .0) (s .pre .1 .1 .1 .0) (s .pre .1 .1 .1 .1 .0) (omega (arith, s .pre .1 .1 .1 .1)) (l .w) (l .c) (l .i) (l .inv), (edging-roomy (a .n) (a .face) (openEdgesAt (a .n) (a .nf)) (a .count) (a .w .now) (a .nf) (a .k) (s .pre .0) (s .pre .1 .0) (s .pre .1 .1 .0) (s .pre .1 .1 .1 .0) (s .pre .1 .1 .1 .1 .0) (omega (arith, s .pre .1 .1 .1 .1)) (l .w) (l .c) (l .i) (l .inv), (edging-placed (a .n) (a .face) (openEdgesAt (a .n) (a .nf)) (a .count) (a .w .now) (a .nf) (a .k) (s .pre .0) (s .pre .1 .0) (s .pre .1 .1 .0) (s .pre .1 .1 .1 .0) (s .pre .1 .1 .1 .1 .0) (omega (arith, s .pre .1 .1 .1 .1)) (l .w) (l .c) (l .i) (l .inv), (edging-held (a .n) (a .face) (openEdgesAt (a .n) (a .nf)) (a .count) (a .w .now) (a .nf) (a .k) (s .pre .0) (s .pre .1 .0) (s .pre .1 .1 .0) (s .pre .1 .1 .1 .0) (s .pre .1 .1 .1 .1 .0) (omega (arith, s .pre .1 .1 .1 .1)) (l .w) (l .c) (l .i) (l .inv) (c .before .loop-test .taken), (s .pre .1 .1 .1 .1 .0, omega (arith, s .pre .1 .1 .1 .1, c .before .loop-test .taken), omega (arith, s .pre .1 .1 .1 .1, l .inv .pushed .few, c .before .loop-test .taken))))))
+    let l = c .before .before .loop in (
+      edging-shown (a .n) (a .face) (openEdgesAt (a .n) (a .nf)) (a .count) (a .w .now) (a .nf) (a .k) (s .pre .0) (s .pre .1 .0) (s .pre .1 .1 .0) (s .pre .1 .1 .1 .0)
+          (s .pre .1 .1 .1 .1 .0) (omega (arith, s .pre .1 .1 .1 .1)) (l .w) (l .c) (l .i) (l .inv),
+      (
+        edging-roomy (a .n) (a .face) (openEdgesAt (a .n) (a .nf)) (a .count) (a .w .now) (a .nf) (a .k) (s .pre .0) (s .pre .1 .0) (s .pre .1 .1 .0) (s .pre .1 .1 .1 .0)
+            (s .pre .1 .1 .1 .1 .0) (omega (arith, s .pre .1 .1 .1 .1)) (l .w) (l .c) (l .i) (l .inv),
+        (
+          edging-placed (a .n) (a .face) (openEdgesAt (a .n) (a .nf)) (a .count) (a .w .now) (a .nf) (a .k) (s .pre .0) (s .pre .1 .0) (s .pre .1 .1 .0) (s .pre .1 .1 .1 .0)
+              (s .pre .1 .1 .1 .1 .0) (omega (arith, s .pre .1 .1 .1 .1)) (l .w) (l .c) (l .i) (l .inv),
+          (
+            edging-held (a .n) (a .face) (openEdgesAt (a .n) (a .nf)) (a .count) (a .w .now) (a .nf) (a .k) (s .pre .0) (s .pre .1 .0) (s .pre .1 .1 .0) (s .pre .1 .1 .1 .0)
+                (s .pre .1 .1 .1 .1 .0) (omega (arith, s .pre .1 .1 .1 .1)) (l .w) (l .c) (l .i) (l .inv) (c .before .loop-test .taken),
+            (
+              s .pre .1 .1 .1 .1 .0,
+              omega (arith, s .pre .1 .1 .1 .1, c .before .loop-test .taken),
+              omega
+                  (arith, s .pre .1 .1 .1 .1, l .inv .pushed .few, c .before .loop-test .taken),
+            ),
+          ),
+        ),
+      ),
+    )
 
 add-i : tie.Need-add-i Inv-loop μ-loop
 add-i c =
@@ -36,7 +58,9 @@ loop-again c =
     let a = s .args in
     let l = c .before .before .before .before .before .loop in
     let push-open-edge′ = c .before .before .push-open-edge in
-    edging-next (a .n) (a .face) (openEdgesAt (a .n) (a .nf)) (a .count) (a .w .now) (a .nf) (a .k) (s .pre .0) (s .pre .1 .0) (s .pre .1 .1 .0) (s .pre .1 .1 .1 .0) (s .pre .1 .1 .1 .1 .0) (omega (arith, s .pre .1 .1 .1 .1)) (l .w) (l .c) (l .i) (l .inv) (push-open-edge′ .last .0) (push-open-edge′ .result) (c .before .before .before .before .loop-test .taken) (push-open-edge′ .ensures)
+    edging-next (a .n) (a .face) (openEdgesAt (a .n) (a .nf)) (a .count) (a .w .now) (a .nf) (a .k) (s .pre .0) (s .pre .1 .0) (s .pre .1 .1 .0) (s .pre .1 .1 .1 .0)
+    (s .pre .1 .1 .1 .1 .0) (omega (arith, s .pre .1 .1 .1 .1)) (l .w) (l .c) (l .i) (l .inv) (push-open-edge′ .last .0) (push-open-edge′ .result)
+    (c .before .before .before .before .loop-test .taken) (push-open-edge′ .ensures)
 
 same-length : tie.Need-same-length Inv-loop μ-loop
 same-length c = c .before .loop .inv .pushed .kept .long
@@ -45,7 +69,8 @@ returns : tie.Need-returns Inv-loop μ-loop
 returns c =
     let s = c .before .before .before in
     let a = s .args in
-    edging-end (a .n) (a .face) (openEdgesAt (a .n) (a .nf)) (a .count) (a .w .now) (a .k) (c .before .loop .w) (c .before .loop .c) (c .before .loop .i) (c .before .loop .inv) (c .loop-test .left)
+    edging-end (a .n) (a .face) (openEdgesAt (a .n) (a .nf)) (a .count) (a .w .now) (a .k) (c .before .loop .w) (c .before .loop .c) (c .before .loop .i) (c .before .loop .inv)
+    (c .loop-test .left)
 
 pub push-open-edges-spec : {M : Type 1} → statement M
 push-open-edges-spec =

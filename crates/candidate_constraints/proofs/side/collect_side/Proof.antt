@@ -41,28 +41,74 @@ add-note-fraction c =
     let s = c .before .before .before .before .before .before .before in
     let a = s .args in
     let l = c .before .before .loop in
-    omega (arith, s .pre .0 .size, s .pre .1 .0, s .pre .1 .2, s .pre .0 .lengths (a .face) (s .pre .1 .1), list-in (a .n) (a .face) (s .pre .1 .1), l .inv .0 .within, l .inv .0 .few, l .inv .0 .kept .long, l .inv .1, l .inv .2, l .inv .3, c .before .loop-test .taken)
+    omega (
+      arith,
+      s .pre .0 .size,
+      s .pre .1 .0,
+      s .pre .1 .2,
+      s .pre .0 .lengths (a .face) (s .pre .1 .1),
+      list-in (a .n) (a .face) (s .pre .1 .1),
+      l .inv .0 .within,
+      l .inv .0
+          .few,
+      l .inv .0 .kept .long,
+      l .inv .1,
+      l .inv .2,
+      l .inv .3,
+      c .before .loop-test .taken,
+    )
 
 mul-note-fraction : tie.Need-mul-note-fraction Inv-loop μ-loop
 mul-note-fraction c =
     let s = c .before .before .before .before .before .before .before in
     let a = s .args in
     let l = c .before .before .loop in
-    omega (arith, s .pre .0 .size, s .pre .1 .0, s .pre .1 .2, s .pre .0 .lengths (a .face) (s .pre .1 .1), list-in (a .n) (a .face) (s .pre .1 .1), l .inv .0 .within, l .inv .0 .few, l .inv .0 .kept .long, l .inv .1, l .inv .2, l .inv .3, c .before .loop-test .taken)
+    omega (
+      arith,
+      s .pre .0 .size,
+      s .pre .1 .0,
+      s .pre .1 .2,
+      s .pre .0 .lengths (a .face) (s .pre .1 .1),
+      list-in (a .n) (a .face) (s .pre .1 .1),
+      l .inv .0 .within,
+      l .inv .0
+          .few,
+      l .inv .0 .kept .long,
+      l .inv .1,
+      l .inv .2,
+      l .inv .3,
+      c .before .loop-test .taken,
+    )
 
 slice-reshared-read-note-fraction : tie.Need-slice-reshared-read-note-fraction Inv-loop μ-loop
 slice-reshared-read-note-fraction c =
     let s = c .before .before .before .before .before .before .before in
     let a = s .args in
     let l = c .before .before .loop in
-    omega (arith, s .pre .0 .size, s .pre .1 .0, s .pre .1 .2, s .pre .0 .lengths (a .face) (s .pre .1 .1), list-in (a .n) (a .face) (s .pre .1 .1), l .inv .0 .within, l .inv .0 .few, l .inv .0 .kept .long, l .inv .1, l .inv .2, l .inv .3, c .before .loop-test .taken)
+    omega (
+      arith,
+      s .pre .0 .size,
+      s .pre .1 .0,
+      s .pre .1 .2,
+      s .pre .0 .lengths (a .face) (s .pre .1 .1),
+      list-in (a .n) (a .face) (s .pre .1 .1),
+      l .inv .0 .within,
+      l .inv .0
+          .few,
+      l .inv .0 .kept .long,
+      l .inv .1,
+      l .inv .2,
+      l .inv .3,
+      c .before .loop-test .taken,
+    )
 
 point-of-requires : tie.Need-point-of-requires Inv-loop μ-loop
 point-of-requires c κs =
     let s = c .before .before .before .before .before .before .before in
     let a = s .args in
     let l = c .before .before .loop in
-    (collected-stored (a .eps) (a .n) (a .face) (a .side) (a .w .now) (s .pre .0) (s .pre .1 .1) (l .w) (l .m) (l .i) (l .inv .0) (c .before .before .before .before .before .list-at .result) (l .inv .1) (omega (arith, l .inv .3, c .before .loop-test .taken)))
+    (collected-stored (a .eps) (a .n) (a .face) (a .side) (a .w .now) (s .pre .0) (s .pre .1 .1) (l .w) (l .m) (l .i) (l .inv .0)
+    (c .before .before .before .before .before .list-at .result) (l .inv .1) (omega (arith, l .inv .3, c .before .loop-test .taken)))
 
 project-requires : tie.Need-project-requires Inv-loop μ-loop
 project-requires c κs = tt
@@ -75,35 +121,115 @@ mul-note-fraction-2 c =
     let s = c .before .before .before .before .before .before .before .before .before .before .before in
     let a = s .args in
     let l = c .before .before .before .before .before .before .loop in
-    omega (arith, s .pre .0 .size, s .pre .1 .0, s .pre .1 .2, s .pre .0 .lengths (a .face) (s .pre .1 .1), list-in (a .n) (a .face) (s .pre .1 .1), l .inv .0 .within, l .inv .0 .few, l .inv .0 .kept .long, l .inv .1, l .inv .2, l .inv .3, c .before .before .before .before .before .loop-test .taken)
+    omega (
+      arith,
+      s .pre .0 .size,
+      s .pre .1 .0,
+      s .pre .1 .2,
+      s .pre .0 .lengths (a .face) (s .pre .1 .1),
+      list-in (a .n) (a .face) (s .pre .1 .1),
+      l .inv .0 .within,
+      l .inv .0
+          .few,
+      l .inv .0 .kept .long,
+      l .inv .1,
+      l .inv .2,
+      l .inv .3,
+      c .before .before .before .before .before .loop-test .taken,
+    )
 
 add-note-fraction-2 : tie.Need-add-note-fraction-2 Inv-loop μ-loop
 add-note-fraction-2 c =
     let s = c .before .before .before .before .before .before .before .before .before .before .before in
     let a = s .args in
     let l = c .before .before .before .before .before .before .loop in
-    omega (arith, s .pre .0 .size, s .pre .1 .0, s .pre .1 .2, s .pre .0 .lengths (a .face) (s .pre .1 .1), list-in (a .n) (a .face) (s .pre .1 .1), l .inv .0 .within, l .inv .0 .few, l .inv .0 .kept .long, l .inv .1, l .inv .2, l .inv .3, c .before .before .before .before .before .loop-test .taken)
+    omega (
+      arith,
+      s .pre .0 .size,
+      s .pre .1 .0,
+      s .pre .1 .2,
+      s .pre .0 .lengths (a .face) (s .pre .1 .1),
+      list-in (a .n) (a .face) (s .pre .1 .1),
+      l .inv .0 .within,
+      l .inv .0
+          .few,
+      l .inv .0 .kept .long,
+      l .inv .1,
+      l .inv .2,
+      l .inv .3,
+      c .before .before .before .before .before .loop-test .taken,
+    )
 
 note-fraction-requires : tie.Need-note-fraction-requires Inv-loop μ-loop
 note-fraction-requires c κs =
     let s = c .before .before .before .before .before .before .before .before .before .before .before in
     let a = s .args in
-    let l = c .before .before .before .before .before .before .loop in
-    (omega (arith, s .pre .0 .size, s .pre .1 .0, s .pre .1 .2, s .pre .0 .lengths (a .face) (s .pre .1 .1), list-in (a .n) (a .face) (s .pre .1 .1), l .inv .0 .within, l .inv .0 .few, l .inv .0 .kept .long, l .inv .1, l .inv .2, l .inv .3, c .before .before .before .before .before .loop-test .taken), on-side-no-nan (a .eps) (a .side) (c .before .before .project .result) (c .before .candidate-on-face-side .result) (c .before .candidate-on-face-side .ensures))
+    let l = c .before .before .before .before .before .before .loop in (
+      omega (
+        arith,
+        s .pre .0 .size,
+        s .pre .1 .0,
+        s .pre .1 .2,
+        s .pre .0 .lengths (a .face) (s .pre .1 .1),
+        list-in (a .n) (a .face) (s .pre .1 .1),
+        l .inv .0 .within,
+        l .inv .0
+            .few,
+        l .inv .0 .kept .long,
+        l .inv .1,
+        l .inv .2,
+        l .inv .3,
+        c .before .before .before .before .before .loop-test .taken,
+      ),
+      on-side-no-nan (a .eps) (a .side)
+          (c .before .before .project .result) (c .before .candidate-on-face-side .result) (c .before .candidate-on-face-side .ensures),
+    )
 
 add-m : tie.Need-add-m Inv-loop μ-loop
 add-m c =
     let s = c .before .before .before .before .before .before .before .before .before .before .before .before .before .before in
     let a = s .args in
     let l = c .before .before .before .before .before .before .before .before .before .loop in
-    omega (arith, c .before .before .note-fraction .ensures .few, s .pre .0 .size, s .pre .1 .0, s .pre .1 .2, s .pre .0 .lengths (a .face) (s .pre .1 .1), list-in (a .n) (a .face) (s .pre .1 .1), l .inv .0 .within, l .inv .0 .few, l .inv .0 .kept .long, l .inv .1, l .inv .2, l .inv .3, c .before .before .before .before .before .before .before .before .loop-test .taken)
+    omega (
+      arith,
+      c .before .before .note-fraction .ensures .few,
+      s .pre .0 .size,
+      s .pre .1 .0,
+      s .pre .1 .2,
+      s .pre .0 .lengths (a .face) (s .pre .1 .1),
+      list-in (a .n) (a .face)
+          (s .pre .1 .1),
+      l .inv .0 .within,
+      l .inv .0 .few,
+      l .inv .0 .kept .long,
+      l .inv .1,
+      l .inv .2,
+      l .inv .3,
+      c .before .before .before .before .before .before .before .before
+          .loop-test .taken,
+    )
 
 add-i : tie.Need-add-i Inv-loop μ-loop
 add-i c =
     let s = c .before .before .before .before .before .before .before .before .before .before .before .before .before .before in
     let a = s .args in
     let l = c .before .before .before .before .before .before .before .before .before .loop in
-    omega (arith, s .pre .0 .size, s .pre .1 .0, s .pre .1 .2, s .pre .0 .lengths (a .face) (s .pre .1 .1), list-in (a .n) (a .face) (s .pre .1 .1), l .inv .0 .within, l .inv .0 .few, l .inv .0 .kept .long, l .inv .1, l .inv .2, l .inv .3, c .before .before .before .before .before .before .before .before .loop-test .taken)
+    omega (
+      arith,
+      s .pre .0 .size,
+      s .pre .1 .0,
+      s .pre .1 .2,
+      s .pre .0 .lengths (a .face) (s .pre .1 .1),
+      list-in (a .n) (a .face) (s .pre .1 .1),
+      l .inv .0 .within,
+      l .inv .0
+          .few,
+      l .inv .0 .kept .long,
+      l .inv .1,
+      l .inv .2,
+      l .inv .3,
+      c .before .before .before .before .before .before .before .before .loop-test .taken,
+    )
 
 loop-less : tie.Need-loop-less Inv-loop μ-loop
 loop-less c = omega (arith, c .before .before .before .before .before .before .before .before .loop-test .taken)
@@ -116,8 +242,17 @@ loop-again c =
     let note-fraction′ = c .before .before .note-fraction in
     let point-of′ = c .before .before .before .before .before .before .point-of in
     let project′ = c .before .before .before .before .before .project in
-    let candidate-on-face-side′ = c .before .before .before .before .candidate-on-face-side in
-    (collecting-named (a .eps) (a .n) (a .face) (a .side) (a .w .now) (s .pre .0) (s .pre .1 .1) (l .w) (l .m) (l .i) (l .inv .0) (c .before .before .before .before .before .before .before .before .before .before .before .before .list-at .result) (l .inv .1) (c .before .before .before .before .before .before .before .before .before .before .before .side-at .result) (note-fraction′ .last .0) (point-of′ .result) (project′ .result) (candidate-on-face-side′ .result) (note-fraction′ .result) (l .inv .2) (omega (arith, l .inv .3, c .before .before .before .before .before .before .before .before .loop-test .taken)) (point-of′ .ensures) (project′ .ensures) (candidate-on-face-side′ .ensures) (note-fraction′ .ensures), l .inv .1, l .inv .2, l .inv .3)
+    let candidate-on-face-side′ = c .before .before .before .before .candidate-on-face-side in (
+      collecting-named (a .eps) (a .n) (a .face) (a .side) (a .w .now) (s .pre .0) (s .pre .1 .1) (l .w) (l .m) (l .i) (l .inv .0)
+          (c .before .before .before .before .before .before .before .before .before .before .before .before .list-at .result) (l .inv .1)
+          (c .before .before .before .before .before .before .before .before .before .before .before .side-at .result) (note-fraction′ .last .0) (point-of′ .result)
+          (project′ .result) (candidate-on-face-side′ .result) (note-fraction′ .result) (l .inv .2)
+          (omega (arith, l .inv .3, c .before .before .before .before .before .before .before .before .loop-test .taken)) (point-of′ .ensures) (project′ .ensures)
+          (candidate-on-face-side′ .ensures) (note-fraction′ .ensures),
+      l .inv .1,
+      l .inv .2,
+      l .inv .3,
+    )
 
 same-length : tie.Need-same-length Inv-loop μ-loop
 same-length c = c .before .loop .inv .0 .kept .long
@@ -126,7 +261,8 @@ returns : tie.Need-returns Inv-loop μ-loop
 returns c =
     let s = c .before .before .before .before .before .before in
     let a = s .args in
-    collecting-end (a .eps) (a .n) (a .face) (a .side) (a .w .now) (s .pre .0) (s .pre .1 .1) (c .before .loop .w) (c .before .loop .m) (c .before .loop .i) (c .before .loop .inv .0) (omega (arith, c .before .loop .inv .3, c .loop-test .left))
+    collecting-end (a .eps) (a .n) (a .face) (a .side) (a .w .now) (s .pre .0) (s .pre .1 .1) (c .before .loop .w) (c .before .loop .m) (c .before .loop .i)
+    (c .before .loop .inv .0) (omega (arith, c .before .loop .inv .3, c .loop-test .left))
 
 pub collect-side-spec : {M : Type 1} → statement M
 collect-side-spec =

@@ -39,7 +39,9 @@ returns c =
     fraction-one (a .at) (a .place .0) (a .t) (t′ .given .0 .0) (c .order-key .result) (a .w .now) (t′ .given .1) (c .order-key .ensures) (s .pre .0)
 
 returns-2 : tie.Need-returns-2
-returns-2 c = fraction-none (c .before .before .before .args .at) (c .before .before .before .args .place .0) (c .before .before .before .args .t) (c .before .before .before .args .w .now) (c .enum-told .given .1)
+returns-2 c =
+    fraction-none (c .before .before .before .args .at) (c .before .before .before .args .place .0) (c .before .before .before .args .t) (c .before .before .before .args .w .now)
+    (c .enum-told .given .1)
 
 pub note-fraction-spec : {M : Type 1} → statement M
 note-fraction-spec =

@@ -26,19 +26,64 @@ loop-holds c =
     (nearing-start (a .n) (a .face) (a .m) (a .count) (a .w .now), c .before .side-at .ensures, c .pairs-at .ensures)
 
 add-loop : tie.Need-add-loop Inv-loop μ-loop
-add-loop c = omega (arith, c .before .before .before .before .pre .0, c .loop .inv .0 .sum, c .loop .inv .0 .within, c .loop .inv .0 .pushed .kept .long, c .loop .inv .1, c .loop .inv .2)
+add-loop c =
+    omega (arith, c .before .before .before .before .pre .0, c .loop .inv .0 .sum, c .loop .inv .0 .within, c .loop .inv .0 .pushed .kept .long, c .loop .inv .1, c .loop .inv .2)
 
 mul-a : tie.Need-mul-a Inv-loop μ-loop
-mul-a c = omega (arith, c .before .before .before .before .before .pre .0, c .before .loop .inv .0 .sum, c .before .loop .inv .0 .within, c .before .loop .inv .0 .pushed .kept .long, c .before .loop .inv .1, c .before .loop .inv .2, c .loop-test .taken)
+mul-a c =
+    omega (
+      arith,
+      c .before .before .before .before .before .pre .0,
+      c .before .loop .inv .0 .sum,
+      c .before .loop .inv .0 .within,
+      c .before .loop .inv .0 .pushed .kept .long,
+      c
+          .before .loop .inv .1,
+      c .before .loop .inv .2,
+      c .loop-test .taken,
+    )
 
 add-a : tie.Need-add-a Inv-loop μ-loop
-add-a c = omega (arith, c .before .before .before .before .before .pre .0, c .before .loop .inv .0 .sum, c .before .loop .inv .0 .within, c .before .loop .inv .0 .pushed .kept .long, c .before .loop .inv .1, c .before .loop .inv .2, c .loop-test .taken)
+add-a c =
+    omega (
+      arith,
+      c .before .before .before .before .before .pre .0,
+      c .before .loop .inv .0 .sum,
+      c .before .loop .inv .0 .within,
+      c .before .loop .inv .0 .pushed .kept .long,
+      c
+          .before .loop .inv .1,
+      c .before .loop .inv .2,
+      c .loop-test .taken,
+    )
 
 add-a-2 : tie.Need-add-a-2 Inv-loop μ-loop
-add-a-2 c = omega (arith, c .before .before .before .before .before .pre .0, c .before .loop .inv .0 .sum, c .before .loop .inv .0 .within, c .before .loop .inv .0 .pushed .kept .long, c .before .loop .inv .1, c .before .loop .inv .2, c .loop-test .taken)
+add-a-2 c =
+    omega (
+      arith,
+      c .before .before .before .before .before .pre .0,
+      c .before .loop .inv .0 .sum,
+      c .before .loop .inv .0 .within,
+      c .before .loop .inv .0 .pushed .kept .long,
+      c
+          .before .loop .inv .1,
+      c .before .loop .inv .2,
+      c .loop-test .taken,
+    )
 
 mul-a-2 : tie.Need-mul-a-2 Inv-loop μ-loop
-mul-a-2 c = omega (arith, c .before .before .before .before .before .pre .0, c .before .loop .inv .0 .sum, c .before .loop .inv .0 .within, c .before .loop .inv .0 .pushed .kept .long, c .before .loop .inv .1, c .before .loop .inv .2, c .loop-test .taken)
+mul-a-2 c =
+    omega (
+      arith,
+      c .before .before .before .before .before .pre .0,
+      c .before .loop .inv .0 .sum,
+      c .before .loop .inv .0 .within,
+      c .before .loop .inv .0 .pushed .kept .long,
+      c
+          .before .loop .inv .1,
+      c .before .loop .inv .2,
+      c .loop-test .taken,
+    )
 
 slice-read-a : tie.Need-slice-read-a Inv-loop μ-loop
 slice-read-a c =
@@ -94,20 +139,47 @@ put-pair-requires c κs =
     let a = s .args in
     let l = c .before .before .before .before .loop in
     let t = c .before .before .before .loop-test in
-    let side-at′ = c .before .before .before .before .before .before .side-at in
-    (omega (arith, s .pre .0, l .inv .0 .sum, l .inv .0 .within, l .inv .0 .pushed .kept .long, l .inv .1, l .inv .2, t .taken), s .pre .0 .1, near-named (a .n) (a .face) (a .m) (a .count) (a .w .now) (s .pre .0 .2) (s .pre .0 .3) (l .w) (l .c) (l .j) (l .inv .0) (side-at′ .result) (l .inv .1) (s .pre .1) (omega (arith, t .taken)) .0, near-named (a .n) (a .face) (a .m) (a .count) (a .w .now) (s .pre .0 .2) (s .pre .0 .3) (l .w) (l .c) (l .j) (l .inv .0) (side-at′ .result) (l .inv .1) (s .pre .1) (omega (arith, t .taken)) .1)
+    let side-at′ = c .before .before .before .before .before .before .side-at in (
+      omega (arith, s .pre .0, l .inv .0 .sum, l .inv .0 .within, l .inv .0 .pushed .kept .long, l .inv .1, l .inv .2, t .taken),
+      s .pre .0 .1,
+      near-named (a .n) (a .face) (a .m)
+          (a .count) (a .w .now) (s .pre .0 .2) (s .pre .0 .3) (l .w) (l .c) (l .j) (l .inv .0) (side-at′ .result) (l .inv .1) (s .pre .1) (omega (arith, t .taken)) .0,
+      near-named
+          (a .n) (a .face) (a .m) (a .count) (a .w .now) (s .pre .0 .2) (s .pre .0 .3) (l .w) (l .c) (l .j) (l .inv .0) (side-at′ .result) (l .inv .1) (s .pre .1)
+          (omega (arith, t .taken)) .1,
+    )
 
 add-c : tie.Need-add-c Inv-loop μ-loop
 add-c c =
     let s = c .before .before .before .before .before .before .before .before .before .before .before in
     let l = c .before .before .before .before .before .before .before .loop in
-    omega (arith, s .pre .0, l .inv .0 .sum, l .inv .0 .within, l .inv .0 .pushed .kept .long, l .inv .1, l .inv .2, c .before .before .before .before .before .before .loop-test .taken)
+    omega (
+      arith,
+      s .pre .0,
+      l .inv .0 .sum,
+      l .inv .0 .within,
+      l .inv .0 .pushed .kept .long,
+      l .inv .1,
+      l .inv .2,
+      c .before .before .before .before .before .before .loop-test
+          .taken,
+    )
 
 add-j : tie.Need-add-j Inv-loop μ-loop
 add-j c =
     let s = c .before .before .before .before .before .before .before .before .before .before .before in
     let l = c .before .before .before .before .before .before .before .loop in
-    omega (arith, s .pre .0, l .inv .0 .sum, l .inv .0 .within, l .inv .0 .pushed .kept .long, l .inv .1, l .inv .2, c .before .before .before .before .before .before .loop-test .taken)
+    omega (
+      arith,
+      s .pre .0,
+      l .inv .0 .sum,
+      l .inv .0 .within,
+      l .inv .0 .pushed .kept .long,
+      l .inv .1,
+      l .inv .2,
+      c .before .before .before .before .before .before .loop-test
+          .taken,
+    )
 
 loop-less : tie.Need-loop-less Inv-loop μ-loop
 loop-less c = omega (arith, c .before .before .before .before .before .before .loop-test .taken)
@@ -117,8 +189,14 @@ loop-again c =
     let s = c .before .before .before .before .before .before .before .before .before .before .before in
     let a = s .args in
     let l = c .before .before .before .before .before .before .before .loop in
-    let put-pair′ = c .before .before .put-pair in
-    (nearing-named (a .n) (a .face) (a .m) (a .count) (a .w .now) (s .pre .0 .2) (s .pre .0 .3) (l .w) (l .c) (l .j) (l .inv .0) (c .before .before .before .before .before .before .before .before .before .side-at .result) (c .before .before .before .before .before .before .before .before .pairs-at .result) (put-pair′ .last .0) (l .inv .1) (l .inv .2) (c .before .before .before .before .before .before .loop-test .taken) (put-pair′ .ensures), l .inv .1, l .inv .2)
+    let put-pair′ = c .before .before .put-pair in (
+      nearing-named (a .n) (a .face) (a .m) (a .count) (a .w .now) (s .pre .0 .2) (s .pre .0 .3) (l .w) (l .c) (l .j) (l .inv .0)
+          (c .before .before .before .before .before .before .before .before .before .side-at .result)
+          (c .before .before .before .before .before .before .before .before .pairs-at .result) (put-pair′ .last .0) (l .inv .1) (l .inv .2)
+          (c .before .before .before .before .before .before .loop-test .taken) (put-pair′ .ensures),
+      l .inv .1,
+      l .inv .2,
+    )
 
 same-length : tie.Need-same-length Inv-loop μ-loop
 same-length c = c .before .loop .inv .0 .pushed .kept .long
@@ -127,7 +205,8 @@ returns : tie.Need-returns Inv-loop μ-loop
 returns c =
     let s = c .before .before .before .before .before in
     let a = s .args in
-    nearing-end (a .n) (a .face) (a .m) (a .count) (a .w .now) (s .pre .0 .2) (s .pre .0 .3) (c .before .loop .w) (c .before .loop .c) (c .before .loop .j) (c .before .loop .inv .0) (c .loop-test .left)
+    nearing-end (a .n) (a .face) (a .m) (a .count) (a .w .now) (s .pre .0 .2) (s .pre .0 .3) (c .before .loop .w) (c .before .loop .c) (c .before .loop .j)
+    (c .before .loop .inv .0) (c .loop-test .left)
 
 pub push-neighbours-spec : {M : Type 1} → statement M
 push-neighbours-spec =

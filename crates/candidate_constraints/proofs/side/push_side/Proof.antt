@@ -53,8 +53,41 @@ push-neighbours-requires c κs =
     let a = s .args in
     let collect-side′ = c .before .before .before .before .before .before .before .before .collect-side in
     let side-at′ = c .before .before .before .before .before .side-at in
-    let sort-records′ = c .before .before .before .sort-records in
-    ((s .pre .1 .0, s .pre .1 .1, omega (arith, side-long (a .eps) (a .n) (a .face) (a .side) (a .count) (collect-side′ .result) (a .w .now) (collect-side′ .last .0) (putMid (side-at′ .result) ((side-at′ .result) + 4 * (collect-side′ .result) - (side-at′ .result)) (collect-side′ .last .0) (sort-records′ .last .0)) (s .pre .0) (s .pre .1 .1) (s .pre .1 .0) (s .pre .1 .2) (s .pre .1 .3) (collect-side′ .ensures) (side-at′ .result) (side-at′ .ensures) (sorted-part (collect-side′ .last .0) (sort-records′ .last .0) (side-at′ .result) (collect-side′ .result) (omega (arith, s .pre .1, side-at′ .ensures, collect-side′ .ensures .few, collect-side′ .ensures .kept .long, s .pre .0 .lengths (a .face) (s .pre .1 .1))) (sort-records′ .ensures)), side-few (a .eps) (a .n) (a .face) (a .side) (a .count) (collect-side′ .result) (a .w .now) (collect-side′ .last .0) (putMid (side-at′ .result) ((side-at′ .result) + 4 * (collect-side′ .result) - (side-at′ .result)) (collect-side′ .last .0) (sort-records′ .last .0)) (s .pre .0) (s .pre .1 .1) (s .pre .1 .0) (s .pre .1 .2) (s .pre .1 .3) (collect-side′ .ensures) (side-at′ .result) (side-at′ .ensures) (sorted-part (collect-side′ .last .0) (sort-records′ .last .0) (side-at′ .result) (collect-side′ .result) (omega (arith, s .pre .1, side-at′ .ensures, collect-side′ .ensures .few, collect-side′ .ensures .kept .long, s .pre .0 .lengths (a .face) (s .pre .1 .1))) (sort-records′ .ensures)), s .pre .1), side-few (a .eps) (a .n) (a .face) (a .side) (a .count) (collect-side′ .result) (a .w .now) (collect-side′ .last .0) (putMid (side-at′ .result) ((side-at′ .result) + 4 * (collect-side′ .result) - (side-at′ .result)) (collect-side′ .last .0) (sort-records′ .last .0)) (s .pre .0) (s .pre .1 .1) (s .pre .1 .0) (s .pre .1 .2) (s .pre .1 .3) (collect-side′ .ensures) (side-at′ .result) (side-at′ .ensures) (sorted-part (collect-side′ .last .0) (sort-records′ .last .0) (side-at′ .result) (collect-side′ .result) (omega (arith, s .pre .1, side-at′ .ensures, collect-side′ .ensures .few, collect-side′ .ensures .kept .long, s .pre .0 .lengths (a .face) (s .pre .1 .1))) (sort-records′ .ensures)), omega (arith, s .pre .1)), side-low (a .eps) (a .n) (a .face) (a .side) (a .count) (collect-side′ .result) (a .w .now) (collect-side′ .last .0) (putMid (side-at′ .result) ((side-at′ .result) + 4 * (collect-side′ .result) - (side-at′ .result)) (collect-side′ .last .0) (sort-records′ .last .0)) (s .pre .0) (s .pre .1 .1) (s .pre .1 .0) (s .pre .1 .2) (s .pre .1 .3) (collect-side′ .ensures) (side-at′ .result) (side-at′ .ensures) (sorted-part (collect-side′ .last .0) (sort-records′ .last .0) (side-at′ .result) (collect-side′ .result) (omega (arith, s .pre .1, side-at′ .ensures, collect-side′ .ensures .few, collect-side′ .ensures .kept .long, s .pre .0 .lengths (a .face) (s .pre .1 .1))) (sort-records′ .ensures)))
+    let sort-records′ = c .before .before .before .sort-records in (
+      (
+        s .pre .1 .0,
+        s .pre .1 .1,
+        omega (
+          arith,
+          side-long (a .eps) (a .n) (a .face) (a .side) (a .count) (collect-side′ .result) (a .w .now) (collect-side′ .last .0)
+              (putMid (side-at′ .result) ((side-at′ .result) + 4 * (collect-side′ .result) - (side-at′ .result)) (collect-side′ .last .0) (sort-records′ .last .0)) (s .pre .0)
+              (s .pre .1 .1) (s .pre .1 .0) (s .pre .1 .2) (s .pre .1 .3) (collect-side′ .ensures) (side-at′ .result) (side-at′ .ensures)
+              (sorted-part (collect-side′ .last .0) (sort-records′ .last .0) (side-at′ .result) (collect-side′ .result)
+              (omega (arith, s .pre .1, side-at′ .ensures, collect-side′ .ensures .few, collect-side′ .ensures .kept .long, s .pre .0 .lengths (a .face) (s .pre .1 .1)))
+              (sort-records′ .ensures)),
+          side-few (a .eps) (a .n) (a .face) (a .side) (a .count) (collect-side′ .result) (a .w .now) (collect-side′ .last .0)
+              (putMid (side-at′ .result) ((side-at′ .result) + 4 * (collect-side′ .result) - (side-at′ .result)) (collect-side′ .last .0) (sort-records′ .last .0)) (s .pre .0)
+              (s .pre .1 .1) (s .pre .1 .0) (s .pre .1 .2) (s .pre .1 .3) (collect-side′ .ensures) (side-at′ .result) (side-at′ .ensures)
+              (sorted-part (collect-side′ .last .0) (sort-records′ .last .0) (side-at′ .result) (collect-side′ .result)
+              (omega (arith, s .pre .1, side-at′ .ensures, collect-side′ .ensures .few, collect-side′ .ensures .kept .long, s .pre .0 .lengths (a .face) (s .pre .1 .1)))
+              (sort-records′ .ensures)),
+          s .pre .1,
+        ),
+        side-few (a .eps) (a .n) (a .face) (a .side) (a .count) (collect-side′ .result) (a .w .now) (collect-side′ .last .0)
+            (putMid (side-at′ .result) ((side-at′ .result) + 4 * (collect-side′ .result) - (side-at′ .result)) (collect-side′ .last .0) (sort-records′ .last .0)) (s .pre .0)
+            (s .pre .1 .1) (s .pre .1 .0) (s .pre .1 .2) (s .pre .1 .3) (collect-side′ .ensures) (side-at′ .result) (side-at′ .ensures)
+            (sorted-part (collect-side′ .last .0) (sort-records′ .last .0) (side-at′ .result) (collect-side′ .result)
+            (omega (arith, s .pre .1, side-at′ .ensures, collect-side′ .ensures .few, collect-side′ .ensures .kept .long, s .pre .0 .lengths (a .face) (s .pre .1 .1)))
+            (sort-records′ .ensures)),
+        omega (arith, s .pre .1),
+      ),
+      side-low (a .eps) (a .n) (a .face) (a .side) (a .count) (collect-side′ .result) (a .w .now) (collect-side′ .last .0)
+          (putMid (side-at′ .result) ((side-at′ .result) + 4 * (collect-side′ .result) - (side-at′ .result)) (collect-side′ .last .0) (sort-records′ .last .0)) (s .pre .0)
+          (s .pre .1 .1) (s .pre .1 .0) (s .pre .1 .2) (s .pre .1 .3) (collect-side′ .ensures) (side-at′ .result) (side-at′ .ensures)
+          (sorted-part (collect-side′ .last .0) (sort-records′ .last .0) (side-at′ .result) (collect-side′ .result)
+          (omega (arith, s .pre .1, side-at′ .ensures, collect-side′ .ensures .few, collect-side′ .ensures .kept .long, s .pre .0 .lengths (a .face) (s .pre .1 .1)))
+          (sort-records′ .ensures)),
+    )
 
 same-length : tie.Need-same-length
 same-length c = search needs
@@ -67,7 +100,12 @@ returns c =
     let side-at′ = c .before .before .before .before .before .before .before .before .side-at in
     let sort-records′ = c .before .before .before .before .before .before .sort-records in
     let push-neighbours′ = c .before .before .push-neighbours in
-    side-pushed (a .eps) (a .n) (a .face) (a .side) (a .count) (collect-side′ .result) (a .w .now) (collect-side′ .last .0) (putMid (side-at′ .result) ((side-at′ .result) + 4 * (collect-side′ .result) - (side-at′ .result)) (collect-side′ .last .0) (sort-records′ .last .0)) (s .pre .0) (s .pre .1 .1) (s .pre .1 .0) (s .pre .1 .2) (s .pre .1 .3) (collect-side′ .ensures) (side-at′ .result) (side-at′ .ensures) (sorted-part (collect-side′ .last .0) (sort-records′ .last .0) (side-at′ .result) (collect-side′ .result) (omega (arith, s .pre .1, side-at′ .ensures, collect-side′ .ensures .few, collect-side′ .ensures .kept .long, s .pre .0 .lengths (a .face) (s .pre .1 .1))) (sort-records′ .ensures)) (push-neighbours′ .last .0) (push-neighbours′ .result) (push-neighbours′ .ensures)
+    side-pushed (a .eps) (a .n) (a .face) (a .side) (a .count) (collect-side′ .result) (a .w .now) (collect-side′ .last .0)
+    (putMid (side-at′ .result) ((side-at′ .result) + 4 * (collect-side′ .result) - (side-at′ .result)) (collect-side′ .last .0) (sort-records′ .last .0)) (s .pre .0)
+    (s .pre .1 .1) (s .pre .1 .0) (s .pre .1 .2) (s .pre .1 .3) (collect-side′ .ensures) (side-at′ .result) (side-at′ .ensures)
+    (sorted-part (collect-side′ .last .0) (sort-records′ .last .0) (side-at′ .result) (collect-side′ .result)
+    (omega (arith, s .pre .1, side-at′ .ensures, collect-side′ .ensures .few, collect-side′ .ensures .kept .long, s .pre .0 .lengths (a .face) (s .pre .1 .1)))
+    (sort-records′ .ensures)) (push-neighbours′ .last .0) (push-neighbours′ .result) (push-neighbours′ .ensures)
 
 pub push-side-spec : {M : Type 1} → statement M
 push-side-spec =

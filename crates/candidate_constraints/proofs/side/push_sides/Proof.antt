@@ -24,8 +24,15 @@ push-side-requires : tie.Need-push-side-requires Inv-loop μ-loop
 push-side-requires c κs =
     let s = c .before .before .before .before .before in
     let a = s .args in
-    let l = c .before .before .before .loop in
-    (siding-shown (a .extents) (a .eps) (a .n) (a .face) (a .w .now) (s .pre .0) (l .w) (l .c) (l .k) (l .inv), (s .pre .1 .0, s .pre .1 .1, siding-few (a .extents) (a .eps) (a .n) (a .face) (a .w .now) (s .pre .0) (l .w) (l .c) (l .k) (l .inv) (c .before .before .loop-test .taken), omega (arith, s .pre .1 .2, l .inv .pushed .kept .long)))
+    let l = c .before .before .before .loop in (
+      siding-shown (a .extents) (a .eps) (a .n) (a .face) (a .w .now) (s .pre .0) (l .w) (l .c) (l .k) (l .inv),
+      (
+        s .pre .1 .0,
+        s .pre .1 .1,
+        siding-few (a .extents) (a .eps) (a .n) (a .face) (a .w .now) (s .pre .0) (l .w) (l .c) (l .k) (l .inv) (c .before .before .loop-test .taken),
+        omega (arith, s .pre .1 .2, l .inv .pushed .kept .long),
+      ),
+    )
 
 add-k : tie.Need-add-k Inv-loop μ-loop
 add-k c = omega (arith, c .before .before .before .before .before .loop-test .taken)
@@ -40,7 +47,9 @@ loop-again c =
     let l = c .before .before .before .before .before .before .loop in
     let face-boundary-side′ = c .before .before .before .before .face-boundary-side in
     let push-side′ = c .before .before .push-side in
-    siding-turn (a .extents) (a .eps) (a .n) (a .face) (a .w .now) (s .pre .0) (l .w) (l .c) (l .k) (l .inv) (sideFrom (uv zeroF zeroF) (uv zeroF zeroF)) (face-boundary-side′ .result) (push-side′ .result) (push-side′ .last .0) (c .before .before .before .before .before .loop-test .taken) (face-boundary-side′ .ensures) (push-side′ .ensures)
+    siding-turn (a .extents) (a .eps) (a .n) (a .face) (a .w .now) (s .pre .0) (l .w) (l .c) (l .k) (l .inv) (sideFrom (uv zeroF zeroF) (uv zeroF zeroF))
+    (face-boundary-side′ .result) (push-side′ .result) (push-side′ .last .0) (c .before .before .before .before .before .loop-test .taken) (face-boundary-side′ .ensures)
+    (push-side′ .ensures)
 
 same-length : tie.Need-same-length Inv-loop μ-loop
 same-length c = c .before .loop .inv .pushed .kept .long
@@ -49,7 +58,8 @@ returns : tie.Need-returns Inv-loop μ-loop
 returns c =
     let s = c .before .before .before in
     let a = s .args in
-    siding-end (a .extents) (a .eps) (a .n) (a .face) (a .w .now) (s .pre .0) (c .before .loop .w) (c .before .loop .c) (c .before .loop .k) (c .before .loop .inv) (c .loop-test .left)
+    siding-end (a .extents) (a .eps) (a .n) (a .face) (a .w .now) (s .pre .0) (c .before .loop .w) (c .before .loop .c) (c .before .loop .k) (c .before .loop .inv)
+    (c .loop-test .left)
 
 pub push-sides-spec : {M : Type 1} → statement M
 push-sides-spec =

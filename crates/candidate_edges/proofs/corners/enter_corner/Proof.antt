@@ -36,7 +36,8 @@ returns c =
     let p = c .before .before .before .before .before .before .before .vertex-point in
     let m = c .before .before .before .before .before .before .aabb-face-mask in
     let v = c .before .before .enter-vertex in
-    corner-in (a .vertices .now) (a .extents) (a .eps) (a .n) (a .v .0) (m .result) (p .result) (a .w .now) (s .pre .0) (p .ensures) (m .ensures) (v .result .0) (v .last .0) (omega (arith, c .before .before .before .before .if1 .taken, c .before .before .before .before .before .count-faces .ensures)) (v .ensures)
+    corner-in (a .vertices .now) (a .extents) (a .eps) (a .n) (a .v .0) (m .result) (p .result) (a .w .now) (s .pre .0) (p .ensures) (m .ensures) (v .result .0) (v .last .0)
+    (omega (arith, c .before .before .before .before .if1 .taken, c .before .before .before .before .before .count-faces .ensures)) (v .ensures)
 
 returns-2 : tie.Need-returns-2
 returns-2 c =
@@ -44,7 +45,8 @@ returns-2 c =
     let a = s .args in
     let p = c .before .before .before .vertex-point in
     let m = c .before .before .aabb-face-mask in
-    corner-out (a .vertices .now) (a .extents) (a .eps) (a .n) (a .v .0) (m .result) (p .result) (a .w .now) (s .pre .0) (p .ensures) (m .ensures) (omega (arith, c .if1 .left, c .before .count-faces .ensures))
+    corner-out (a .vertices .now) (a .extents) (a .eps) (a .n) (a .v .0) (m .result) (p .result) (a .w .now) (s .pre .0) (p .ensures) (m .ensures)
+    (omega (arith, c .if1 .left, c .before .count-faces .ensures))
 
 pub enter-corner-spec : {M : Type 1} → statement M
 enter-corner-spec =

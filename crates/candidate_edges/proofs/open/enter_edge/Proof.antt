@@ -37,15 +37,24 @@ side-mask-requires c κs =
     let s = c .before .before .before .before .before in
     let a = s .args in
     let t = c .before .edge-table-at in
-    let f = s .pre .0 .fits in
-    ((f .threes, side-low (a .facets .now) (a .w .now) (edgeTableAt (a .n) (length (a .facets .now) / 3)) (t .result) (length (openEdges (threes (a .facets .now)))) (a .i) (s .pre .0 .table) (t .ensures) (s .pre .1)), f .numbers)
+    let f = s .pre .0 .fits in (
+      (
+        f .threes,
+        side-low (a .facets .now) (a .w .now) (edgeTableAt (a .n) (length (a .facets .now) / 3)) (t .result) (length (openEdges (threes (a .facets .now)))) (a .i)
+            (s .pre .0 .table) (t .ensures) (s .pre .1),
+      ),
+      f .numbers,
+    )
 
 edge-from-requires : tie.Need-edge-from-requires
 edge-from-requires c κs =
     let s = c .before .before .before .before .before .before in
     let a = s .args in
-    let t = c .before .before .edge-table-at in
-    (s .pre .0 .fits .threes, side-low (a .facets .now) (a .w .now) (edgeTableAt (a .n) (length (a .facets .now) / 3)) (t .result) (length (openEdges (threes (a .facets .now)))) (a .i) (s .pre .0 .table) (t .ensures) (s .pre .1))
+    let t = c .before .before .edge-table-at in (
+      s .pre .0 .fits .threes,
+      side-low (a .facets .now) (a .w .now) (edgeTableAt (a .n) (length (a .facets .now) / 3)) (t .result) (length (openEdges (threes (a .facets .now))))
+          (a .i) (s .pre .0 .table) (t .ensures) (s .pre .1),
+    )
 
 cast-put-edge : tie.Need-cast-put-edge
 cast-put-edge c = search needs
@@ -54,8 +63,11 @@ edge-to-requires : tie.Need-edge-to-requires
 edge-to-requires c κs =
     let s = c .before .before .before .before .before .before .before in
     let a = s .args in
-    let t = c .before .before .before .edge-table-at in
-    (s .pre .0 .fits .threes, side-low (a .facets .now) (a .w .now) (edgeTableAt (a .n) (length (a .facets .now) / 3)) (t .result) (length (openEdges (threes (a .facets .now)))) (a .i) (s .pre .0 .table) (t .ensures) (s .pre .1))
+    let t = c .before .before .before .edge-table-at in (
+      s .pre .0 .fits .threes,
+      side-low (a .facets .now) (a .w .now) (edgeTableAt (a .n) (length (a .facets .now) / 3)) (t .result) (length (openEdges (threes (a .facets .now))))
+          (a .i) (s .pre .0 .table) (t .ensures) (s .pre .1),
+    )
 
 cast-put-edge-2 : tie.Need-cast-put-edge-2
 cast-put-edge-2 c = search needs
@@ -68,11 +80,13 @@ enter-vertex-requires c κs =
     let m = c .before .before .before .side-mask in
     let f = s .pre .0 .fits in
     let j = getD (a .w .now) (t .result + 2 * a .i + 1) 0 in
-    let named = side-low (a .facets .now) (a .w .now) (edgeTableAt (a .n) (length (a .facets .now) / 3)) (t .result) (length (openEdges (threes (a .facets .now)))) (a .i) (s .pre .0 .table) (t .ensures) (s .pre .1) in
+    let named = side-low (a .facets .now) (a .w .now) (edgeTableAt (a .n) (length (a .facets .now) / 3)) (t .result) (length (openEdges (threes (a .facets .now)))) (a .i)
+    (s .pre .0 .table) (t .ensures) (s .pre .1) in
     let e = getD (sides (threes (a .facets .now))) j (0, 0) in
     let from = from-low (a .facets .now) (length (a .vertices .now) / 3) j (f .threes) (f .numbers) named in
     let to = to-low (a .facets .now) (length (a .vertices .now) / 3) j (f .threes) (f .numbers) named in
-    let small = subst (λ (x : ℕ). x < 64) (sym (m .ensures)) (mask-small (a .extents) (a .eps) (vertex (pointsOf (a .vertices .now)) (e .0)) (vertex (pointsOf (a .vertices .now)) (e .1))) in
+    let small = subst (λ (x : ℕ). x < 64) (sym (m .ensures)) (mask-small (a .extents) (a .eps) (vertex (pointsOf (a .vertices .now)) (e .0))
+    (vertex (pointsOf (a .vertices .now)) (e .1))) in
     (s .pre .0 .ready, (omega (arith, c .before .before .edge-from .ensures, c .before .edge-to .ensures), small))
 
 enter-vertex-requires-2 : tie.Need-enter-vertex-requires-2
@@ -83,12 +97,16 @@ enter-vertex-requires-2 c κs =
     let m = c .before .before .before .before .before .before .before .side-mask in
     let f = s .pre .0 .fits in
     let j = getD (a .w .now) (t .result + 2 * a .i + 1) 0 in
-    let named = side-low (a .facets .now) (a .w .now) (edgeTableAt (a .n) (length (a .facets .now) / 3)) (t .result) (length (openEdges (threes (a .facets .now)))) (a .i) (s .pre .0 .table) (t .ensures) (s .pre .1) in
+    let named = side-low (a .facets .now) (a .w .now) (edgeTableAt (a .n) (length (a .facets .now) / 3)) (t .result) (length (openEdges (threes (a .facets .now)))) (a .i)
+    (s .pre .0 .table) (t .ensures) (s .pre .1) in
     let e = getD (sides (threes (a .facets .now))) j (0, 0) in
     let from = from-low (a .facets .now) (length (a .vertices .now) / 3) j (f .threes) (f .numbers) named in
     let to = to-low (a .facets .now) (length (a .vertices .now) / 3) j (f .threes) (f .numbers) named in
-    let small = subst (λ (x : ℕ). x < 64) (sym (m .ensures)) (mask-small (a .extents) (a .eps) (vertex (pointsOf (a .vertices .now)) (e .0)) (vertex (pointsOf (a .vertices .now)) (e .1))) in
-    (ready-next _ _ _ _ _ _ _ _ (s .pre .0 .ready) (c .before .before .before .enter-vertex .ensures), (omega (arith, c .before .before .before .before .before .before .edge-from .ensures, c .before .before .before .before .before .edge-to .ensures), small))
+    let small = subst (λ (x : ℕ). x < 64) (sym (m .ensures)) (mask-small (a .extents) (a .eps) (vertex (pointsOf (a .vertices .now)) (e .0))
+    (vertex (pointsOf (a .vertices .now)) (e .1))) in (
+      ready-next _ _ _ _ _ _ _ _ (s .pre .0 .ready) (c .before .before .before .enter-vertex .ensures),
+      (omega (arith, c .before .before .before .before .before .before .edge-from .ensures, c .before .before .before .before .before .edge-to .ensures), small),
+    )
 
 open-edges-at-requires : tie.Need-open-edges-at-requires
 open-edges-at-requires c κs =
@@ -98,30 +116,40 @@ open-edges-at-requires c κs =
 mul-put-edge : tie.Need-mul-put-edge
 mul-put-edge c =
     let f = c .before .before .before .before .before .before .before .before .before .before .before .before .before .before .before .before .before .before .pre .0 .fits in
-    let k = c .before .before .before .before .before .before .before .before .before .before .before .before .before .before .before .before .before .before .pre .0 .table .within in
+    let k = c .before .before .before .before .before .before .before .before .before .before .before .before .before .before .before .before .before .before .pre .0 .table .within
+    in
     let h = c .before .before .before .before .before .before .before .before .before .before .before .before .before .before .before .before .before .before .pre .1 in
     omega arith
 
 add-put-edge : tie.Need-add-put-edge
 add-put-edge c =
     let f = c .before .before .before .before .before .before .before .before .before .before .before .before .before .before .before .before .before .before .pre .0 .fits in
-    let k = c .before .before .before .before .before .before .before .before .before .before .before .before .before .before .before .before .before .before .pre .0 .table .within in
+    let k = c .before .before .before .before .before .before .before .before .before .before .before .before .before .before .before .before .before .before .pre .0 .table .within
+    in
     let h = c .before .before .before .before .before .before .before .before .before .before .before .before .before .before .before .before .before .before .pre .1 in
     omega (arith, c .open-edges-at .ensures)
 
 put-edge-requires : tie.Need-put-edge-requires
 put-edge-requires c κs =
     let f = c .before .before .before .before .before .before .before .before .before .before .before .before .before .before .before .before .before .before .pre .0 .fits in
-    let k = c .before .before .before .before .before .before .before .before .before .before .before .before .before .before .before .before .before .before .pre .0 .table .within in
+    let k = c .before .before .before .before .before .before .before .before .before .before .before .before .before .before .before .before .before .before .pre .0 .table .within
+    in
     let h = c .before .before .before .before .before .before .before .before .before .before .before .before .before .before .before .before .before .before .pre .1 in
-    omega (arith, c .open-edges-at .ensures, c .before .before .before .before .before .before .before .before .enter-vertex .ensures .inserted .long, c .before .before .before .before .enter-vertex2 .ensures .inserted .long)
+    omega (
+      arith,
+      c .open-edges-at .ensures,
+      c .before .before .before .before .before .before .before .before .enter-vertex .ensures .inserted .long,
+      c .before .before .before
+          .before .enter-vertex2 .ensures .inserted .long,
+    )
 
 same-length : tie.Need-same-length
 same-length c = search needs
 
 returns : tie.Need-returns
 returns c =
-    let s = c .before .before .before .before .before .before .before .before .before .before .before .before .before .before .before .before .before .before .before .before .before in
+    let s = c .before .before .before .before .before .before .before .before .before .before .before .before .before .before .before .before .before .before .before .before
+    .before in
     let a = s .args in
     let t = c .before .before .before .before .before .before .before .before .before .before .before .before .before .before .before .before .before .edge-table-at in
     let m = c .before .before .before .before .before .before .before .before .before .before .before .before .before .before .before .side-mask in
@@ -131,9 +159,11 @@ returns c =
     let u = c .before .before .before .before .before .before .before .enter-vertex2 in
     let e = c .before .before .before .open-edges-at in
     let p = c .before .before .put-edge in
-    edge-done (a .vertices .now) (a .facets .now) (a .extents) (a .eps) (a .n) (a .i) (getD (a .w .now) (t .result + 2 * a .i + 1) 0) (e .result) (from .result) (to .result) (m .result) (v .result .0) (u .result .0) (p .result)
+    edge-done (a .vertices .now) (a .facets .now) (a .extents) (a .eps) (a .n) (a .i) (getD (a .w .now) (t .result + 2 * a .i + 1) 0) (e .result) (from .result) (to .result)
+    (m .result) (v .result .0) (u .result .0) (p .result)
     (a .w .now) (v .last .0) (u .last .0) (p .last .0) (s .pre .0) (s .pre .1)
-    (side-is (a .facets .now) (a .w .now) (edgeTableAt (a .n) (length (a .facets .now) / 3)) (t .result) (length (openEdges (threes (a .facets .now)))) (a .i) (s .pre .0 .table) (t .ensures) (s .pre .1))
+    (side-is (a .facets .now) (a .w .now) (edgeTableAt (a .n) (length (a .facets .now) / 3)) (t .result) (length (openEdges (threes (a .facets .now)))) (a .i) (s .pre .0 .table)
+    (t .ensures) (s .pre .1))
     (e .ensures) (m .ensures) (from .ensures) (to .ensures) (v .ensures) (u .ensures) (p .ensures)
 
 pub enter-edge-spec : {M : Type 1} → statement M

@@ -45,7 +45,8 @@ loop-again c =
     let a = s .args in
     let l = c .before .before .before .before .before .loop in
     let e = c .before .before .enter-edge in
-    edges-turn (a .vertices .now) (a .facets .now) (a .extents) (a .eps) (a .n) (l .i) (l .listed) (e .result) (a .w .now) (l .w) (e .last .0) (omega (arith, c .before .before .before .before .loop-test .taken, s .pre .1 .0 .count)) (l .inv) (e .ensures)
+    edges-turn (a .vertices .now) (a .facets .now) (a .extents) (a .eps) (a .n) (l .i) (l .listed) (e .result) (a .w .now) (l .w) (e .last .0)
+    (omega (arith, c .before .before .before .before .loop-test .taken, s .pre .1 .0 .count)) (l .inv) (e .ensures)
 
 same-length : tie.Need-same-length Inv-loop μ-loop
 same-length c = c .before .loop .inv .long
@@ -55,7 +56,8 @@ returns c =
     let s = c .before .before .before .before .before in
     let a = s .args in
     let l = c .before .loop in
-    edges-end (a .vertices .now) (a .facets .now) (a .extents) (a .eps) (a .n) (l .i) (a .k) (l .listed) (a .w .now) (l .w) (s .pre .1 .0 .count) (omega (arith, c .loop-test .left)) (l .inv)
+    edges-end (a .vertices .now) (a .facets .now) (a .extents) (a .eps) (a .n) (l .i) (a .k) (l .listed) (a .w .now) (l .w) (s .pre .1 .0 .count)
+    (omega (arith, c .loop-test .left)) (l .inv)
 
 pub enter-edges-spec : {M : Type 1} → statement M
 enter-edges-spec =

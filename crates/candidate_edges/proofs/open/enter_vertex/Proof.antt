@@ -15,8 +15,14 @@ insert-candidate-requires c κs =
     let s = c .before .before .before .before in
     let a = s .args in
     let v = c .vertex-point in
-    let small : a .v .0 < a .n = omega (arith, s .pre .0 .vertices, s .pre .1 .0) in
-    (s .pre .0 .holds, ((vertex-in (a .vertices .now) (a .eps) (a .n) (a .w .now) (a .v .0) (v .result) (s .pre .0) (s .pre .1 .0) (v .ensures), s .pre .1 .1, small), vertex-room (a .vertices .now) (a .eps) (a .n) (a .w .now) (a .v .0) (v .result) (s .pre .0) (s .pre .1 .0) (v .ensures) (facesIn (a .mask))))
+    let small : a .v .0 < a .n = omega (arith, s .pre .0 .vertices, s .pre .1 .0) in (
+      s .pre .0 .holds,
+      (
+        (vertex-in (a .vertices .now) (a .eps) (a .n) (a .w .now) (a .v .0) (v .result) (s .pre .0) (s .pre .1 .0) (v .ensures), s .pre .1 .1, small),
+        vertex-room
+            (a .vertices .now) (a .eps) (a .n) (a .w .now) (a .v .0) (v .result) (s .pre .0) (s .pre .1 .0) (v .ensures) (facesIn (a .mask)),
+      ),
+    )
 
 same-length : tie.Need-same-length
 same-length c = search needs
@@ -27,7 +33,8 @@ returns c =
     let a = s .args in
     let v = c .before .before .before .vertex-point in
     let i = c .before .before .insert-candidate in
-    vertex-entered (a .vertices .now) (a .eps) (a .n) (a .w .now) (a .v .0) (v .result) (s .pre .0) (s .pre .1 .0) (v .ensures) (a .mask) (i .result .0) (i .last .0) (i .ensures .0) (i .ensures .1)
+    vertex-entered (a .vertices .now) (a .eps) (a .n) (a .w .now) (a .v .0) (v .result) (s .pre .0) (s .pre .1 .0) (v .ensures) (a .mask) (i .result .0) (i .last .0)
+    (i .ensures .0) (i .ensures .1)
 
 pub enter-vertex-spec : {M : Type 1} → statement M
 enter-vertex-spec =

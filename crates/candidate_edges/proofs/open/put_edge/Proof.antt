@@ -63,8 +63,11 @@ returns-2 : tie.Need-returns-2
 returns-2 c =
     let s = c .before .before .before .before .before in
     let a = s .args in
-    let e = sym (ne-eqb (a .a .0) (a .b .0) (c .before .if1 .left)) in
-    (ap (λ (t : Bool). set (set (set (a .w .now) (a .at) (a .a .0)) (a .at + 1) (a .b .0)) (a .at + 2) (cond t 0 (a .mask))) e, c .count-faces .ensures ∙ ap (λ (t : Bool). cond t 0 (bitCount (a .mask))) e)
+    let e = sym (ne-eqb (a .a .0) (a .b .0) (c .before .if1 .left)) in (
+      ap (λ (t : Bool). set (set (set (a .w .now) (a .at) (a .a .0)) (a .at + 1) (a .b .0)) (a .at + 2) (cond t 0 (a .mask))) e,
+      c .count-faces .ensures ∙ ap
+          (λ (t : Bool). cond t 0 (bitCount (a .mask))) e,
+    )
 
 pub put-edge-spec : {M : Type 1} → statement M
 put-edge-spec =

@@ -19,7 +19,8 @@ vertex-point-requires : tie.Need-vertex-point-requires
 vertex-point-requires c κs =
     let s = c .before .before .before in
     let a = s .args in
-    subst (λ (v : ℕ). v < length (a .vertices .now) / 3) (sym (c .edge-from .ensures)) (from-low (a .facets .now) (length (a .vertices .now) / 3) (a .side) (s .pre .0 .0) (s .pre .1) (s .pre .0 .1))
+    subst (λ (v : ℕ). v < length (a .vertices .now) / 3) (sym (c .edge-from .ensures))
+    (from-low (a .facets .now) (length (a .vertices .now) / 3) (a .side) (s .pre .0 .0) (s .pre .1) (s .pre .0 .1))
 
 edge-to-requires : tie.Need-edge-to-requires
 edge-to-requires c κs = search needs
@@ -31,7 +32,8 @@ vertex-point-requires-2 : tie.Need-vertex-point-requires-2
 vertex-point-requires-2 c κs =
     let s = c .before .before .before .before .before in
     let a = s .args in
-    subst (λ (v : ℕ). v < length (a .vertices .now) / 3) (sym (c .edge-to .ensures)) (to-low (a .facets .now) (length (a .vertices .now) / 3) (a .side) (s .pre .0 .0) (s .pre .1) (s .pre .0 .1))
+    subst (λ (v : ℕ). v < length (a .vertices .now) / 3) (sym (c .edge-to .ensures))
+    (to-low (a .facets .now) (length (a .vertices .now) / 3) (a .side) (s .pre .0 .0) (s .pre .1) (s .pre .0 .1))
 
 aabb-face-mask-requires : tie.Need-aabb-face-mask-requires
 aabb-face-mask-requires c κs = search needs

@@ -15,7 +15,8 @@ use Rattle.candidate_edges.proofs.open.stray_edge.Tie as tie
 use Rattle.candidate_pool.specs.Offsets.{edgeTableAt}
 
 abbrev Inv-loop : tie.InvT-loop
-Inv-loop w vertices facets n k extents eps table i₀ i = (i ≤ k) × (place (stray vertices facets extents eps) (openEdges (threes facets)) ≡ i + place (stray vertices facets extents eps) (drop i (openEdges (threes facets))))
+Inv-loop w vertices facets n k extents eps table i₀ i =
+    (i ≤ k) × (place (stray vertices facets extents eps) (openEdges (threes facets)) ≡ i + place (stray vertices facets extents eps) (drop i (openEdges (threes facets))))
 
 abbrev μ-loop : tie.MeasureT-loop
 μ-loop w vertices facets n k extents eps table i₀ i = k - i
@@ -66,8 +67,14 @@ side-mask-requires c κs =
     let s = c .before .before .before .before .before .before .before in
     let a = s .args in
     let t = c .before .before .before .edge-table-at in
-    let l = c .before .before .loop in
-    ((s .pre .0 .threes, side-low (a .facets .now) (a .w .now) (edgeTableAt (a .n) (length (a .facets .now) / 3)) (t .result) (a .k) (l .i) (s .pre .1) (t .ensures) (c .before .loop-test .taken)), s .pre .0 .numbers)
+    let l = c .before .before .loop in (
+      (
+        s .pre .0 .threes,
+        side-low (a .facets .now) (a .w .now) (edgeTableAt (a .n) (length (a .facets .now) / 3)) (t .result) (a .k) (l .i) (s .pre .1) (t .ensures)
+            (c .before .loop-test .taken),
+      ),
+      s .pre .0 .numbers,
+    )
 
 returns : tie.Need-returns Inv-loop μ-loop
 returns c =
@@ -77,8 +84,11 @@ returns c =
     let l = c .before .before .before .before .loop in
     let m = c .before .side-mask in
     let side = getD (sides (threes (a .facets .now))) (getD (a .w .now) (t .result + 2 * l .i + 1) 0) (0, 0) in
-    let tested = stray-test (a .vertices .now) (a .facets .now) (a .extents) (a .eps) (m .result) (getD (openEdges (threes (a .facets .now))) (l .i) (0, 0)) side (side-is (a .facets .now) (a .w .now) (edgeTableAt (a .n) (length (a .facets .now) / 3)) (t .result) (a .k) (l .i) (s .pre .1) (t .ensures) (c .before .before .before .loop-test .taken)) (m .ensures) in
-    place-stop (stray (a .vertices .now) (a .facets .now) (a .extents) (a .eps)) (openEdges (threes (a .facets .now))) (l .i) (l .inv .1) (0, 0) (omega (arith, s .pre .1 .count, c .before .before .before .loop-test .taken)) (tested ∙ eq-eqb (m .result) 0 (c .if1 .taken))
+    let tested = stray-test (a .vertices .now) (a .facets .now) (a .extents) (a .eps) (m .result) (getD (openEdges (threes (a .facets .now))) (l .i) (0, 0)) side
+    (side-is (a .facets .now) (a .w .now) (edgeTableAt (a .n) (length (a .facets .now) / 3)) (t .result) (a .k) (l .i) (s .pre .1) (t .ensures)
+    (c .before .before .before .loop-test .taken)) (m .ensures) in
+    place-stop (stray (a .vertices .now) (a .facets .now) (a .extents) (a .eps)) (openEdges (threes (a .facets .now))) (l .i) (l .inv .1) (0, 0)
+    (omega (arith, s .pre .1 .count, c .before .before .before .loop-test .taken)) (tested ∙ eq-eqb (m .result) 0 (c .if1 .taken))
 
 add-i : tie.Need-add-i Inv-loop μ-loop
 add-i c =
@@ -98,8 +108,13 @@ loop-again c =
     let l = c .before .before .before .before .loop in
     let m = c .before .side-mask in
     let side = getD (sides (threes (a .facets .now))) (getD (a .w .now) (t .result + 2 * l .i + 1) 0) (0, 0) in
-    let tested = stray-test (a .vertices .now) (a .facets .now) (a .extents) (a .eps) (m .result) (getD (openEdges (threes (a .facets .now))) (l .i) (0, 0)) side (side-is (a .facets .now) (a .w .now) (edgeTableAt (a .n) (length (a .facets .now) / 3)) (t .result) (a .k) (l .i) (s .pre .1) (t .ensures) (c .before .before .before .loop-test .taken)) (m .ensures) in
-    (omega (arith, c .before .before .before .loop-test .taken), place-more (stray (a .vertices .now) (a .facets .now) (a .extents) (a .eps)) (openEdges (threes (a .facets .now))) (l .i) (l .inv .1) (0, 0) (omega (arith, s .pre .1 .count, c .before .before .before .loop-test .taken)) (tested ∙ ne-eqb (m .result) 0 (c .if1 .left)))
+    let tested = stray-test (a .vertices .now) (a .facets .now) (a .extents) (a .eps) (m .result) (getD (openEdges (threes (a .facets .now))) (l .i) (0, 0)) side
+    (side-is (a .facets .now) (a .w .now) (edgeTableAt (a .n) (length (a .facets .now) / 3)) (t .result) (a .k) (l .i) (s .pre .1) (t .ensures)
+    (c .before .before .before .loop-test .taken)) (m .ensures) in (
+      omega (arith, c .before .before .before .loop-test .taken),
+      place-more (stray (a .vertices .now) (a .facets .now) (a .extents) (a .eps)) (openEdges (threes (a .facets .now)))
+          (l .i) (l .inv .1) (0, 0) (omega (arith, s .pre .1 .count, c .before .before .before .loop-test .taken)) (tested ∙ ne-eqb (m .result) 0 (c .if1 .left)),
+    )
 
 returns-2 : tie.Need-returns-2 Inv-loop μ-loop
 returns-2 c =

@@ -49,28 +49,37 @@ segs c a = segments (start c .args .extents) (start c .args .eps) (byAxis (start
 
 last-is : (c : Known) → last c ≡ segs c (uAxis (start c .args .face))
 last-is c =
-    parts-is _ _ (start c .args .resolution) _ _ (c .before .before .before .before .before .before .before .before .before .before .u-axis .ensures .0) (start c .pre .coarse) (c .before .before .before .before .before .before .before .before .before .segments-of .ensures)
+    parts-is _ _ (start c .args .resolution) _ _ (c .before .before .before .before .before .before .before .before .before .before .u-axis .ensures .0) (start c .pre .coarse)
+    (c .before .before .before .before .before .before .before .before .before .segments-of .ensures)
     ∙ ap (segs c) (c .before .before .before .before .before .before .before .before .before .before .u-axis .ensures .1)
 
 last-v-is : (c : Known) → last-v c ≡ segs c (vAxis (start c .args .face))
 last-v-is c =
-    parts-is _ _ (start c .args .resolution) _ _ (c .before .before .before .before .before .before .before .before .v-axis .ensures .0) (start c .pre .coarse) (c .before .before .before .before .before .before .before .segments-of2 .ensures)
+    parts-is _ _ (start c .args .resolution) _ _ (c .before .before .before .before .before .before .before .before .v-axis .ensures .0) (start c .pre .coarse)
+    (c .before .before .before .before .before .before .before .segments-of2 .ensures)
     ∙ ap (segs c) (c .before .before .before .before .before .before .before .before .v-axis .ensures .1)
 
 last-in : (c : Known) → (1 ≤ last c) × (last c ≤ 256)
-last-in c = parts-in _ _ (start c .args .resolution) _ _ (c .before .before .before .before .before .before .before .before .before .before .u-axis .ensures .0) (start c .pre .coarse) (c .before .before .before .before .before .before .before .before .before .segments-of .ensures)
+last-in c =
+    parts-in _ _ (start c .args .resolution) _ _ (c .before .before .before .before .before .before .before .before .before .before .u-axis .ensures .0) (start c .pre .coarse)
+    (c .before .before .before .before .before .before .before .before .before .segments-of .ensures)
 
 last-v-in : (c : Known) → (1 ≤ last-v c) × (last-v c ≤ 256)
-last-v-in c = parts-in _ _ (start c .args .resolution) _ _ (c .before .before .before .before .before .before .before .before .v-axis .ensures .0) (start c .pre .coarse) (c .before .before .before .before .before .before .before .segments-of2 .ensures)
+last-v-in c =
+    parts-in _ _ (start c .args .resolution) _ _ (c .before .before .before .before .before .before .before .before .v-axis .ensures .0) (start c .pre .coarse)
+    (c .before .before .before .before .before .before .before .segments-of2 .ensures)
 
 at-in : (c : Known) → Within (2 ^ 48) (c .before .before .before .before .before .face-line .result)
 at-in c =
-    let few = parts-in _ _ (start c .args .resolution) _ _ (across _ (start c .pre .face-in)) (start c .pre .coarse) (c .before .before .before .before .before .before .segments-of3 .ensures) in
-    subst (λ (x : Float). Within (2 ^ 48) x) (sym (c .before .before .before .before .before .face-line .ensures)) (face-line-in _ _ _ (start c .pre .box-in) (start c .pre .face-in) (few .0) (few .1))
+    let few = parts-in _ _ (start c .args .resolution) _ _ (across _ (start c .pre .face-in)) (start c .pre .coarse)
+    (c .before .before .before .before .before .before .segments-of3 .ensures) in
+    subst (λ (x : Float). Within (2 ^ 48) x) (sym (c .before .before .before .before .before .face-line .ensures))
+    (face-line-in _ _ _ (start c .pre .box-in) (start c .pre .face-in) (few .0) (few .1))
 
 room : (c : Known) → countAt (c .before .before .before .gather-segments .last .0) + (last c + 1) * (last-v c + 1) ≤ start c .args .n
 room c =
-    face-room _ _ (start c .args .resolution) (start c .args .n) (start c .args .face) (last c) (last-v c) (start c .args .w .now) (c .before .before .before .gather-segments .last .0)
+    face-room _ _ (start c .args .resolution) (start c .args .n) (start c .args .face) (last c) (last-v c) (start c .args .w .now)
+    (c .before .before .before .gather-segments .last .0)
     (last-is c) (last-v-is c)
     (gathered-count _ _ _ _ _ _ _ _ (start c .pre .holds) _ (c .before .before .before .gather-segments .ensures)) (start c .pre .few)
 
@@ -78,10 +87,12 @@ room c =
 
 along-u : (c : tie.After-grid-line Inv-loop μ-loop) → c .grid-line .result
     ≡ lineAt (low (start (c .before .before .before) .args .extents) (uAxis (start (c .before .before .before) .args .face)))
-    (high (start (c .before .before .before) .args .extents) (uAxis (start (c .before .before .before) .args .face))) (last (c .before .before .before)) (c .before .before .loop .i)
+    (high (start (c .before .before .before) .args .extents) (uAxis (start (c .before .before .before) .args .face))) (last (c .before .before .before))
+    (c .before .before .loop .i)
 along-u c =
     let k = c .before .before .before in
-    c .grid-line .ensures ∙ ap (λ (a : ℕ). lineAt (low (start k .args .extents) a) (high (start k .args .extents) a) (last k) (c .before .before .loop .i)) (k .before .before .before .before .before .before .before .before .before .before .u-axis .ensures .1)
+    c .grid-line .ensures ∙ ap (λ (a : ℕ). lineAt (low (start k .args .extents) a) (high (start k .args .extents) a) (last k) (c .before .before .loop .i))
+    (k .before .before .before .before .before .before .before .before .before .before .u-axis .ensures .1)
 
 -- ---- the needs
 
@@ -137,8 +148,10 @@ enter-grid-row-requires : tie.Need-enter-grid-row-requires Inv-loop μ-loop
 enter-grid-row-requires c κs =
     let k = c .before .before .before .before .before in
     let p = start k .pre in
-    row-ready _ _ _ _ _ _ _ _ _ _ (near-ready _ _ _ _ _ _ _ _ _ _ (k .before .before .before .gather-segments .ensures) (k .segments-at .ensures) (p .edges) (p .size)) _ (c .before .before .before .before .loop .inv .1) _ _
-    (p .face-in) (p .box-in) (c .before .before .before .loop-test .taken) (last-in k .1) (last-in k .0) (last-v-in k .1) (last-v-in k .0) (room k) (at-in k) (along-u (c .before .before))
+    row-ready _ _ _ _ _ _ _ _ _ _ (near-ready _ _ _ _ _ _ _ _ _ _ (k .before .before .before .gather-segments .ensures) (k .segments-at .ensures) (p .edges) (p .size)) _
+    (c .before .before .before .before .loop .inv .1) _ _
+    (p .face-in) (p .box-in) (c .before .before .before .loop-test .taken) (last-in k .1) (last-in k .0) (last-v-in k .1) (last-v-in k .0) (room k) (at-in k)
+    (along-u (c .before .before))
 
 add-i : tie.Need-add-i Inv-loop μ-loop
 add-i c =
@@ -157,7 +170,8 @@ loop-again c =
     let l = c .before .before .before .before .before .before .loop-test .taken in (
       omega arith,
       entered-more _ _ _ _ _ _ _ _ _ _ _ (i .1)
-          (row-is _ _ _ _ _ _ _ _ _ _ (near-ready _ _ _ _ _ _ _ _ _ _ (k .before .before .before .gather-segments .ensures) (k .segments-at .ensures) (p .edges) (p .size)) _ (i .1) _ _
+          (row-is _ _ _ _ _ _ _ _ _ _ (near-ready _ _ _ _ _ _ _ _ _ _ (k .before .before .before .gather-segments .ensures) (k .segments-at .ensures) (p .edges) (p .size)) _ (i .1)
+          _ _
           (along-u (c .before .before .before .before .before)) (c .before .before .before .before .is-interior .ensures))
           (c .before .before .enter-grid-row .ensures) (turn-size _ _),
     )
@@ -172,7 +186,8 @@ returns c =
     let a = c .before .loop .inv .0 in
     let b = c .loop-test .left in
     face-end _ _ _ _ _ _ _ _ _ _ _ p _ (k .before .before .before .gather-segments .ensures) _ _ _ _ _ (c .before .loop .i) (k .segments-at .ensures) (last-is k) (last-v-is k)
-    (parts-is _ _ (start k .args .resolution) _ _ (across _ (p .face-in)) (p .coarse) (k .before .before .before .before .before .before .segments-of3 .ensures)) (k .before .before .before .before .before .face-line .ensures) (omega arith) (c .before .loop .inv .1)
+    (parts-is _ _ (start k .args .resolution) _ _ (across _ (p .face-in)) (p .coarse) (k .before .before .before .before .before .before .segments-of3 .ensures))
+    (k .before .before .before .before .before .face-line .ensures) (omega arith) (c .before .loop .inv .1)
 
 pub enter-face-grid-spec : {M : Type 1} → statement M
 enter-face-grid-spec =

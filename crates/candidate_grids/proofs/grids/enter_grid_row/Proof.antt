@@ -27,10 +27,12 @@ v-low : (c : tie.In-loop Inv-loop μ-loop) → vAxis (start c .args .face) < 3
 v-low c = subst (λ (a : ℕ). a < 3) (c .before .before .v-axis .ensures .1) (c .before .before .v-axis .ensures .0)
 
 along-v : (c : tie.After-grid-line Inv-loop μ-loop) → c .grid-line .result
-    ≡ lineAt (low (start (c .before) .args .extents) (vAxis (start (c .before) .args .face))) (high (start (c .before) .args .extents) (vAxis (start (c .before) .args .face))) (start (c .before) .args .last) (c .before .before .loop .j)
+    ≡ lineAt (low (start (c .before) .args .extents) (vAxis (start (c .before) .args .face))) (high (start (c .before) .args .extents) (vAxis (start (c .before) .args .face)))
+    (start (c .before) .args .last) (c .before .before .loop .j)
 along-v c =
     let s = start (c .before) in
-    c .grid-line .ensures ∙ ap (λ (a : ℕ). lineAt (low (s .args .extents) a) (high (s .args .extents) a) (s .args .last) (c .before .before .loop .j)) (c .before .before .before .v-axis .ensures .1)
+    c .grid-line .ensures ∙ ap (λ (a : ℕ). lineAt (low (s .args .extents) a) (high (s .args .extents) a) (s .args .last) (c .before .before .loop .j))
+    (c .before .before .before .v-axis .ensures .1)
 
 v-axis-requires : tie.Need-v-axis-requires Inv-loop μ-loop
 v-axis-requires c κs = tt
@@ -77,7 +79,8 @@ loop-again c =
     let l = t .loop-test .taken in (
       omega arith,
       entered-more _ _ _ _ _ _ _ _ _ _ _ (t .before .loop .inv .1)
-          (row-cell _ _ _ _ _ _ _ _ _ (start t .pre) _ (t .before .loop .inv .1) l _ _ _ (along-v (c .before .before .before .before .before .before)) (c .before .before .before .before .before .point-on-face .ensures)
+          (row-cell _ _ _ _ _ _ _ _ _ (start t .pre) _ (t .before .loop .inv .1) l _ _ _ (along-v (c .before .before .before .before .before .before))
+          (c .before .before .before .before .before .point-on-face .ensures)
           (c .before .before .before .is-inner .ensures))
           (c .before .before .enter-grid-point .ensures) refl,
     )
@@ -91,7 +94,9 @@ returns c =
     let a = c .before .loop .inv .0 in
     let b = c .loop-test .left in
     let e : c .before .loop .j ≡ s .args .last + 1 = omega arith in
-    subst (λ (x : ℕ). Entered (s .args .eps) (s .args .n) (flatMap (rowCell (skipsNear (s .args .w .now) (s .args .near)) (s .args .extents) (s .args .face) (s .args .row) (s .args .last)) (upTo x)) x (s .args .w .now) (c .before .loop .w))
+    subst (λ (x : ℕ). Entered (s .args .eps) (s .args .n) (flatMap
+    (rowCell (skipsNear (s .args .w .now) (s .args .near)) (s .args .extents) (s .args .face) (s .args .row) (s .args .last)) (upTo x)) x (s .args .w .now)
+    (c .before .loop .w))
     e (c .before .loop .inv .1)
 
 pub enter-grid-row-spec : {M : Type 1} → statement M

@@ -23,7 +23,9 @@ loop-less : tie.Need-loop-less Inv-loop μ-loop
 loop-less c = let l = c .before .before .before .before .loop-test .taken in omega arith
 
 loop-again : tie.Need-loop-again Inv-loop μ-loop
-loop-again c = gridding-turn _ _ _ _ _ _ _ _ (c .before .before .before .before .before .before .before .pre) _ _ (c .before .before .before .before .before .loop .inv) (c .before .before .before .before .loop-test .taken) _ (c .before .before .enter-face-grid .ensures)
+loop-again c =
+    gridding-turn _ _ _ _ _ _ _ _ (c .before .before .before .before .before .before .before .pre) _ _ (c .before .before .before .before .before .loop .inv)
+    (c .before .before .before .before .loop-test .taken) _ (c .before .before .enter-face-grid .ensures)
 
 same-length : tie.Need-same-length Inv-loop μ-loop
 same-length c = c .before .loop .inv .long

@@ -61,7 +61,8 @@ returns c =
     let A = first-in t in
     let B = second-in t in
     let e = c .before .before .before .before .segment-bound .ensures in
-    gathered _ _ _ _ _ _ _ _ _ _ _ (t .before .before .before .before .point-of .ensures) (t .before .point-of2 .ensures) (t .before .before .before .project .ensures) (t .project2 .ensures) e
+    gathered _ _ _ _ _ _ _ _ _ _ _ (t .before .before .before .before .point-of .ensures) (t .before .point-of2 .ensures) (t .before .before .before .project .ensures)
+    (t .project2 .ensures) e
     (segment-in _ _ _ A B (bound-in _ _ A B _ _ e (start t .pre .tolerance-in))) (c .before .before .put-segment .ensures)
 
 pub gather-segment-spec : {M : Type 1} → statement M

@@ -24,7 +24,8 @@ add-is-on-segment : tie.Need-add-is-on-segment Inv-loop μ-loop
 add-is-on-segment c = omega arith
 
 is-on-segment-requires : tie.Need-is-on-segment-requires Inv-loop μ-loop
-is-on-segment-requires c κs = (let s = c .before .before .before .before .before .pre .size in omega arith, c .before .before .before .before .before .pre .segments _ (c .before .if1 .taken))
+is-on-segment-requires c κs =
+    (let s = c .before .before .before .before .before .pre .size in omega arith, c .before .before .before .before .before .pre .segments _ (c .before .if1 .taken))
 
 returns : tie.Need-returns Inv-loop μ-loop
 unfolding skipsAt

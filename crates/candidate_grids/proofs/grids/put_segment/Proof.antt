@@ -69,7 +69,9 @@ same-length : tie.Need-same-length
 same-length c = search needs
 
 returns : tie.Need-returns
-returns c = segment-put _ _ _ _ _ (c .before .before .before .before .pre .0) (c .before .before .before .struct-known .given .0) (c .before .before .before .struct-known .given .1 .0) (c .struct-known4 .given .0) (c .struct-known4 .given .1 .0) (subst T (sym (c .before .before .before .before .good .1 .1 .1 .1 .0 .1)) tt)
+returns c =
+    segment-put _ _ _ _ _ (c .before .before .before .before .pre .0) (c .before .before .before .struct-known .given .0) (c .before .before .before .struct-known .given .1 .0)
+    (c .struct-known4 .given .0) (c .struct-known4 .given .1 .0) (subst T (sym (c .before .before .before .before .good .1 .1 .1 .1 .0 .1)) tt)
 
 pub put-segment-spec : {M : Type 1} → statement M
 put-segment-spec =

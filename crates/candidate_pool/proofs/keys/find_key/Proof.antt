@@ -17,34 +17,100 @@ first-requires : tie.Need-first-requires Inv-loop μ-loop
 first-requires c κs = omega (arith, c .before .before .pre .0 .room, c .before .before .pre .1 .1)
 
 loop-holds : tie.Need-loop-holds Inv-loop μ-loop
-loop-holds c = rw (c .first .ensures) (rw (c .before .chain-at .ensures) (walk-start (c .before .before .before .args .w .now) (chainAt (c .before .before .before .args .n)) (c .before .before .before .args .n) (c .before .before .before .args .count) (c .before .before .before .args .b) (keyIs (c .before .before .before .args .w .now) (c .before .before .before .args .n) (c .before .before .before .args .key)) (key-filed (c .before .before .before .args .w .now) (c .before .before .before .args .n) (c .before .before .before .args .count) (c .before .before .before .args .key) (c .before .before .before .args .b) (c .before .before .before .pre .0) (c .before .before .before .pre .1 .0)) (c .before .before .before .pre .1 .1)))
+loop-holds c =
+    rw (c .first .ensures) (rw (c .before .chain-at .ensures) (walk-start (c .before .before .before .args .w .now) (chainAt (c .before .before .before .args .n))
+    (c .before .before .before .args .n) (c .before .before .before .args .count) (c .before .before .before .args .b)
+    (keyIs (c .before .before .before .args .w .now) (c .before .before .before .args .n) (c .before .before .before .args .key))
+    (key-filed (c .before .before .before .args .w .now) (c .before .before .before .args .n) (c .before .before .before .args .count) (c .before .before .before .args .key)
+    (c .before .before .before .args .b) (c .before .before .before .pre .0) (c .before .before .before .pre .1 .0)) (c .before .before .before .pre .1 .1)))
 
 sub-i : tie.Need-sub-i Inv-loop μ-loop
 sub-i c = omega arith
 
 mul-is-key-at : tie.Need-mul-is-key-at Inv-loop μ-loop
-mul-is-key-at c = let h = walk-low (c .before .before .before .before .before .before .args .w .now) (chainAt (c .before .before .before .before .before .before .args .n)) (c .before .before .before .before .before .before .args .n) (c .before .before .before .before .before .before .args .count) (c .before .before .before .before .before .before .args .b) (keyIs (c .before .before .before .before .before .before .args .w .now) (c .before .before .before .before .before .before .args .n) (c .before .before .before .before .before .before .args .key)) (c .before .before .loop .link) (c .before .before .loop .inv) (c .before .loop-test .taken) in omega (arith, h, c .before .before .before .before .before .before .pre .0 .small, c .before .before .before .before .before .before .pre .0 .few)
+mul-is-key-at c =
+    let h = walk-low (c .before .before .before .before .before .before .args .w .now) (chainAt (c .before .before .before .before .before .before .args .n))
+    (c .before .before .before .before .before .before .args .n) (c .before .before .before .before .before .before .args .count)
+    (c .before .before .before .before .before .before .args .b) (keyIs (c .before .before .before .before .before .before .args .w .now)
+    (c .before .before .before .before .before .before .args .n) (c .before .before .before .before .before .before .args .key)) (c .before .before .loop .link)
+    (c .before .before .loop .inv) (c .before .loop-test .taken) in
+    omega (arith, h, c .before .before .before .before .before .before .pre .0 .small, c .before .before .before .before .before .before .pre .0 .few)
 
 add-is-key-at : tie.Need-add-is-key-at Inv-loop μ-loop
-add-is-key-at c = let h = walk-low (c .before .before .before .before .before .before .args .w .now) (chainAt (c .before .before .before .before .before .before .args .n)) (c .before .before .before .before .before .before .args .n) (c .before .before .before .before .before .before .args .count) (c .before .before .before .before .before .before .args .b) (keyIs (c .before .before .before .before .before .before .args .w .now) (c .before .before .before .before .before .before .args .n) (c .before .before .before .before .before .before .args .key)) (c .before .before .loop .link) (c .before .before .loop .inv) (c .before .loop-test .taken) in omega (arith, h, c .before .before .before .before .before .before .pre .0 .small, c .before .before .before .before .before .before .pre .0 .few, c .keys-at .ensures)
+add-is-key-at c =
+    let h = walk-low (c .before .before .before .before .before .before .args .w .now) (chainAt (c .before .before .before .before .before .before .args .n))
+    (c .before .before .before .before .before .before .args .n) (c .before .before .before .before .before .before .args .count)
+    (c .before .before .before .before .before .before .args .b) (keyIs (c .before .before .before .before .before .before .args .w .now)
+    (c .before .before .before .before .before .before .args .n) (c .before .before .before .before .before .before .args .key)) (c .before .before .loop .link)
+    (c .before .before .loop .inv) (c .before .loop-test .taken) in
+    omega (arith, h, c .before .before .before .before .before .before .pre .0 .small, c .before .before .before .before .before .before .pre .0 .few, c .keys-at .ensures)
 
 is-key-at-requires : tie.Need-is-key-at-requires Inv-loop μ-loop
-is-key-at-requires c κs = let h = walk-low (c .before .before .before .before .before .before .args .w .now) (chainAt (c .before .before .before .before .before .before .args .n)) (c .before .before .before .before .before .before .args .n) (c .before .before .before .before .before .before .args .count) (c .before .before .before .before .before .before .args .b) (keyIs (c .before .before .before .before .before .before .args .w .now) (c .before .before .before .before .before .before .args .n) (c .before .before .before .before .before .before .args .key)) (c .before .before .loop .link) (c .before .before .loop .inv) (c .before .loop-test .taken) in omega (arith, h, c .before .before .before .before .before .before .pre .0 .room, c .before .before .before .before .before .before .pre .0 .few, c .keys-at .ensures)
+is-key-at-requires c κs =
+    let h = walk-low (c .before .before .before .before .before .before .args .w .now) (chainAt (c .before .before .before .before .before .before .args .n))
+    (c .before .before .before .before .before .before .args .n) (c .before .before .before .before .before .before .args .count)
+    (c .before .before .before .before .before .before .args .b) (keyIs (c .before .before .before .before .before .before .args .w .now)
+    (c .before .before .before .before .before .before .args .n) (c .before .before .before .before .before .before .args .key)) (c .before .before .loop .link)
+    (c .before .before .loop .inv) (c .before .loop-test .taken) in
+    omega (arith, h, c .before .before .before .before .before .before .pre .0 .room, c .before .before .before .before .before .before .pre .0 .few, c .keys-at .ensures)
 
 returns : tie.Need-returns Inv-loop μ-loop
-returns c = walk-found (c .before .before .before .before .before .before .before .before .args .w .now) (chainAt (c .before .before .before .before .before .before .before .before .args .n)) (c .before .before .before .before .before .before .before .before .args .n) (c .before .before .before .before .before .before .before .before .args .count) (c .before .before .before .before .before .before .before .before .args .b) (keyIs (c .before .before .before .before .before .before .before .before .args .w .now) (c .before .before .before .before .before .before .before .before .args .n) (c .before .before .before .before .before .before .before .before .args .key)) (c .before .before .before .before .loop .link) (c .before .before .before .before .loop .inv) (c .before .before .before .loop-test .taken) (key-told (c .before .before .before .before .before .before .before .before .args .w .now) (c .before .before .before .before .before .before .before .before .args .n) (c .before .before .before .before .before .before .before .before .args .key) (c .before .before .before .before .loop .link - 1) (c .before .before .keys-at .result) (c .before .is-key-at .result) (c .before .before .keys-at .ensures) (c .before .is-key-at .ensures) ∙ c .if1 .taken)
+returns c =
+    walk-found (c .before .before .before .before .before .before .before .before .args .w .now)
+    (chainAt (c .before .before .before .before .before .before .before .before .args .n)) (c .before .before .before .before .before .before .before .before .args .n)
+    (c .before .before .before .before .before .before .before .before .args .count) (c .before .before .before .before .before .before .before .before .args .b)
+    (keyIs (c .before .before .before .before .before .before .before .before .args .w .now) (c .before .before .before .before .before .before .before .before .args .n)
+    (c .before .before .before .before .before .before .before .before .args .key)) (c .before .before .before .before .loop .link) (c .before .before .before .before .loop .inv)
+    (c .before .before .before .loop-test .taken) (key-told (c .before .before .before .before .before .before .before .before .args .w .now)
+    (c .before .before .before .before .before .before .before .before .args .n) (c .before .before .before .before .before .before .before .before .args .key)
+    (c .before .before .before .before .loop .link - 1) (c .before .before .keys-at .result) (c .before .is-key-at .result) (c .before .before .keys-at .ensures)
+    (c .before .is-key-at .ensures) ∙ c .if1 .taken)
 
 next-requires : tie.Need-next-requires Inv-loop μ-loop
-next-requires c κs = rw (c .chain-at2 .ensures) (walk-room (c .before .before .before .before .before .before .before .before .before .args .w .now) (chainAt (c .before .before .before .before .before .before .before .before .before .args .n)) (c .before .before .before .before .before .before .before .before .before .args .n) (c .before .before .before .before .before .before .before .before .before .args .count) (c .before .before .before .before .before .before .before .before .before .args .b) (keyIs (c .before .before .before .before .before .before .before .before .before .args .w .now) (c .before .before .before .before .before .before .before .before .before .args .n) (c .before .before .before .before .before .before .before .before .before .args .key)) (c .before .before .before .before .before .loop .link) (c .before .before .before .before .before .loop .inv) (c .before .before .before .before .loop-test .taken))
+next-requires c κs =
+    rw (c .chain-at2 .ensures) (walk-room (c .before .before .before .before .before .before .before .before .before .args .w .now)
+    (chainAt (c .before .before .before .before .before .before .before .before .before .args .n))
+    (c .before .before .before .before .before .before .before .before .before .args .n) (c .before .before .before .before .before .before .before .before .before .args .count)
+    (c .before .before .before .before .before .before .before .before .before .args .b)
+    (keyIs (c .before .before .before .before .before .before .before .before .before .args .w .now)
+    (c .before .before .before .before .before .before .before .before .before .args .n) (c .before .before .before .before .before .before .before .before .before .args .key))
+    (c .before .before .before .before .before .loop .link) (c .before .before .before .before .before .loop .inv) (c .before .before .before .before .loop-test .taken))
 
 loop-less : tie.Need-loop-less Inv-loop μ-loop
-loop-less c = rw (c .next .ensures) (rw (c .before .chain-at2 .ensures) (walk-less (c .before .before .before .before .before .before .before .before .before .before .args .w .now) (chainAt (c .before .before .before .before .before .before .before .before .before .before .args .n)) (c .before .before .before .before .before .before .before .before .before .before .args .n) (c .before .before .before .before .before .before .before .before .before .before .args .count) (c .before .before .before .before .before .before .before .before .before .before .args .b) (keyIs (c .before .before .before .before .before .before .before .before .before .before .args .w .now) (c .before .before .before .before .before .before .before .before .before .before .args .n) (c .before .before .before .before .before .before .before .before .before .before .args .key)) (c .before .before .before .before .before .before .loop .link) (c .before .before .before .before .before .before .loop .inv) (c .before .before .before .before .before .loop-test .taken)))
+loop-less c =
+    rw (c .next .ensures) (rw (c .before .chain-at2 .ensures) (walk-less (c .before .before .before .before .before .before .before .before .before .before .args .w .now)
+    (chainAt (c .before .before .before .before .before .before .before .before .before .before .args .n))
+    (c .before .before .before .before .before .before .before .before .before .before .args .n)
+    (c .before .before .before .before .before .before .before .before .before .before .args .count)
+    (c .before .before .before .before .before .before .before .before .before .before .args .b)
+    (keyIs (c .before .before .before .before .before .before .before .before .before .before .args .w .now)
+    (c .before .before .before .before .before .before .before .before .before .before .args .n)
+    (c .before .before .before .before .before .before .before .before .before .before .args .key)) (c .before .before .before .before .before .before .loop .link)
+    (c .before .before .before .before .before .before .loop .inv) (c .before .before .before .before .before .loop-test .taken)))
 
 loop-again : tie.Need-loop-again Inv-loop μ-loop
-loop-again c = rw (c .next .ensures) (rw (c .before .chain-at2 .ensures) (walk-turn (c .before .before .before .before .before .before .before .before .before .before .args .w .now) (chainAt (c .before .before .before .before .before .before .before .before .before .before .args .n)) (c .before .before .before .before .before .before .before .before .before .before .args .n) (c .before .before .before .before .before .before .before .before .before .before .args .count) (c .before .before .before .before .before .before .before .before .before .before .args .b) (keyIs (c .before .before .before .before .before .before .before .before .before .before .args .w .now) (c .before .before .before .before .before .before .before .before .before .before .args .n) (c .before .before .before .before .before .before .before .before .before .before .args .key)) (c .before .before .before .before .before .before .loop .link) (c .before .before .before .before .before .before .loop .inv) (c .before .before .before .before .before .loop-test .taken) (key-told (c .before .before .before .before .before .before .before .before .before .before .args .w .now) (c .before .before .before .before .before .before .before .before .before .before .args .n) (c .before .before .before .before .before .before .before .before .before .before .args .key) (c .before .before .before .before .before .before .loop .link - 1) (c .before .before .before .before .keys-at .result) (c .before .before .before .is-key-at .result) (c .before .before .before .before .keys-at .ensures) (c .before .before .before .is-key-at .ensures) ∙ c .before .before .if1 .left)))
+loop-again c =
+    rw (c .next .ensures) (rw (c .before .chain-at2 .ensures) (walk-turn (c .before .before .before .before .before .before .before .before .before .before .args .w .now)
+    (chainAt (c .before .before .before .before .before .before .before .before .before .before .args .n))
+    (c .before .before .before .before .before .before .before .before .before .before .args .n)
+    (c .before .before .before .before .before .before .before .before .before .before .args .count)
+    (c .before .before .before .before .before .before .before .before .before .before .args .b)
+    (keyIs (c .before .before .before .before .before .before .before .before .before .before .args .w .now)
+    (c .before .before .before .before .before .before .before .before .before .before .args .n)
+    (c .before .before .before .before .before .before .before .before .before .before .args .key)) (c .before .before .before .before .before .before .loop .link)
+    (c .before .before .before .before .before .before .loop .inv) (c .before .before .before .before .before .loop-test .taken)
+    (key-told (c .before .before .before .before .before .before .before .before .before .before .args .w .now)
+    (c .before .before .before .before .before .before .before .before .before .before .args .n)
+    (c .before .before .before .before .before .before .before .before .before .before .args .key) (c .before .before .before .before .before .before .loop .link - 1)
+    (c .before .before .before .before .keys-at .result) (c .before .before .before .is-key-at .result) (c .before .before .before .before .keys-at .ensures)
+    (c .before .before .before .is-key-at .ensures) ∙ c .before .before .if1 .left)))
 
 returns-2 : tie.Need-returns-2 Inv-loop μ-loop
-returns-2 c = walk-end (c .before .before .before .before .before .args .w .now) (chainAt (c .before .before .before .before .before .args .n)) (c .before .before .before .before .before .args .n) (c .before .before .before .before .before .args .count) (c .before .before .before .before .before .args .b) (keyIs (c .before .before .before .before .before .args .w .now) (c .before .before .before .before .before .args .n) (c .before .before .before .before .before .args .key)) (c .before .loop .link) (c .before .loop .inv) (c .loop-test .left)
+returns-2 c =
+    walk-end (c .before .before .before .before .before .args .w .now) (chainAt (c .before .before .before .before .before .args .n))
+    (c .before .before .before .before .before .args .n) (c .before .before .before .before .before .args .count) (c .before .before .before .before .before .args .b)
+    (keyIs (c .before .before .before .before .before .args .w .now) (c .before .before .before .before .before .args .n) (c .before .before .before .before .before .args .key))
+    (c .before .loop .link) (c .before .loop .inv) (c .loop-test .left)
 
 chain-at-requires : tie.Need-chain-at-requires Inv-loop μ-loop
 chain-at-requires c κs = c .before .pre .0 .small

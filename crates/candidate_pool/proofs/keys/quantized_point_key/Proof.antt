@@ -28,7 +28,14 @@ key-word-requires-3 c κs = search needs
 
 returns : tie.Need-returns
 unfolding keyOf
-returns c = key-words-are (c .before .before .before .before .key-word .ensures ∙ ap keyWord (toZ-ofZ w64 (c .before .before .before .before .before .quantized-key .result) (record { sfits = c .before .before .before .before .before .quantized-key .ok })) ∙ ap keyWord (c .before .before .before .before .before .quantized-key .ensures)) (c .before .before .key-word2 .ensures ∙ ap keyWord (toZ-ofZ w64 (c .before .before .before .quantized-key2 .result) (record { sfits = c .before .before .before .quantized-key2 .ok })) ∙ ap keyWord (c .before .before .before .quantized-key2 .ensures)) (c .key-word3 .ensures ∙ ap keyWord (toZ-ofZ w64 (c .before .quantized-key3 .result) (record { sfits = c .before .quantized-key3 .ok })) ∙ ap keyWord (c .before .quantized-key3 .ensures))
+returns c =
+    key-words-are (c .before .before .before .before .key-word .ensures ∙ ap keyWord
+    (toZ-ofZ w64 (c .before .before .before .before .before .quantized-key .result) (record { sfits = c .before .before .before .before .before .quantized-key .ok })) ∙ ap keyWord
+    (c .before .before .before .before .before .quantized-key .ensures))
+    (c .before .before .key-word2 .ensures ∙ ap keyWord (toZ-ofZ w64 (c .before .before .before .quantized-key2 .result)
+    (record { sfits = c .before .before .before .quantized-key2 .ok })) ∙ ap keyWord (c .before .before .before .quantized-key2 .ensures))
+    (c .key-word3 .ensures ∙ ap keyWord (toZ-ofZ w64 (c .before .quantized-key3 .result) (record { sfits = c .before .quantized-key3 .ok })) ∙ ap keyWord
+    (c .before .quantized-key3 .ensures))
 
 pub quantized-point-key-spec : {M : Type 1} → statement M
 quantized-point-key-spec =

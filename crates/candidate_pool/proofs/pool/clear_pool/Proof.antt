@@ -19,7 +19,18 @@ same-length : tie.Need-same-length
 same-length c = search needs
 
 returns : tie.Need-returns
-returns c = cleared (c .before .before .before .before .before .before .before .before .before .before .before .before .before .before .before .args .eps) (c .before .before .before .before .before .before .before .before .before .before .before .before .before .before .before .args .n) (c .before .before .before .before .before .before .before .before .before .before .before .before .before .before .before .args .w .now) (c .before .before .before .before .before .before .before .before .before .before .before .before .zero-part .last .0) (c .before .before .before .before .before .before .before .zero-part2 .last .0) (c .before .before .zero-part3 .last .0) (c .before .before .before .before .before .before .before .before .chain-at .result) (c .before .before .before .joined-at .result) (c .before .before .before .before .before .before .before .before .chain-at .ensures) (c .before .before .before .joined-at .ensures) (c .before .before .before .before .before .before .before .before .before .before .before .before .before .before .before .pre .0) (c .before .before .before .before .before .before .before .before .before .before .before .before .before .before .before .pre .1) (c .before .before .before .before .before .before .before .before .before .before .before .before .zero-part .ensures) (c .before .before .before .before .before .before .before .zero-part2 .ensures) (c .before .before .zero-part3 .ensures)
+returns c =
+    cleared (c .before .before .before .before .before .before .before .before .before .before .before .before .before .before .before .args .eps)
+    (c .before .before .before .before .before .before .before .before .before .before .before .before .before .before .before .args .n)
+    (c .before .before .before .before .before .before .before .before .before .before .before .before .before .before .before .args .w .now)
+    (c .before .before .before .before .before .before .before .before .before .before .before .before .zero-part .last .0)
+    (c .before .before .before .before .before .before .before .zero-part2 .last .0) (c .before .before .zero-part3 .last .0)
+    (c .before .before .before .before .before .before .before .before .chain-at .result) (c .before .before .before .joined-at .result)
+    (c .before .before .before .before .before .before .before .before .chain-at .ensures) (c .before .before .before .joined-at .ensures)
+    (c .before .before .before .before .before .before .before .before .before .before .before .before .before .before .before .pre .0)
+    (c .before .before .before .before .before .before .before .before .before .before .before .before .before .before .before .pre .1)
+    (c .before .before .before .before .before .before .before .before .before .before .before .before .zero-part .ensures)
+    (c .before .before .before .before .before .before .before .zero-part2 .ensures) (c .before .before .zero-part3 .ensures)
 
 joined-at-requires : tie.Need-joined-at-requires
 joined-at-requires c κs = search needs

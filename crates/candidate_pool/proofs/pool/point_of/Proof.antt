@@ -19,7 +19,14 @@ shared-slice-read-t6 : tie.Need-shared-slice-read-t6
 shared-slice-read-t6 c = search needs
 
 float-from-bits-t7 : tie.Need-float-from-bits-t7
-float-from-bits-t7 c = search (bits-number (getD (c .before .before .args .w .now) (entryAt (c .before .before .args .id .0)) 0) (c .before .before .pre .0 .within .x .is-finite), bits-number (getD (c .before .before .args .w .now) (entryAt (c .before .before .args .id .0) + 1) 0) (c .before .before .pre .0 .within .y .is-finite), bits-number (getD (c .before .before .args .w .now) (entryAt (c .before .before .args .id .0) + 2) 0) (c .before .before .pre .0 .within .z .is-finite))
+float-from-bits-t7 c =
+    search (
+      bits-number (getD (c .before .before .args .w .now) (entryAt (c .before .before .args .id .0)) 0) (c .before .before .pre .0 .within .x .is-finite),
+      bits-number
+          (getD (c .before .before .args .w .now) (entryAt (c .before .before .args .id .0) + 1) 0) (c .before .before .pre .0 .within .y .is-finite),
+      bits-number
+          (getD (c .before .before .args .w .now) (entryAt (c .before .before .args .id .0) + 2) 0) (c .before .before .pre .0 .within .z .is-finite),
+    )
 
 add-t8 : tie.Need-add-t8
 add-t8 c = search needs
@@ -31,7 +38,15 @@ shared-slice-read-t11 : tie.Need-shared-slice-read-t11
 shared-slice-read-t11 c = search needs
 
 float-from-bits-t12 : tie.Need-float-from-bits-t12
-float-from-bits-t12 c = search (bits-number (getD (c .before .before .before .args .w .now) (entryAt (c .before .before .before .args .id .0)) 0) (c .before .before .before .pre .0 .within .x .is-finite), bits-number (getD (c .before .before .before .args .w .now) (entryAt (c .before .before .before .args .id .0) + 1) 0) (c .before .before .before .pre .0 .within .y .is-finite), bits-number (getD (c .before .before .before .args .w .now) (entryAt (c .before .before .before .args .id .0) + 2) 0) (c .before .before .before .pre .0 .within .z .is-finite))
+float-from-bits-t12 c =
+    search (
+      bits-number (getD (c .before .before .before .args .w .now) (entryAt (c .before .before .before .args .id .0)) 0)
+          (c .before .before .before .pre .0 .within .x .is-finite),
+      bits-number (getD (c .before .before .before .args .w .now) (entryAt (c .before .before .before .args .id .0) + 1) 0)
+          (c .before .before .before .pre .0 .within .y .is-finite),
+      bits-number (getD (c .before .before .before .args .w .now) (entryAt (c .before .before .before .args .id .0) + 2) 0)
+          (c .before .before .before .pre .0 .within .z .is-finite),
+    )
 
 add-t13 : tie.Need-add-t13
 add-t13 c = search needs
@@ -43,7 +58,17 @@ shared-slice-read-t16 : tie.Need-shared-slice-read-t16
 shared-slice-read-t16 c = search needs
 
 float-from-bits-t17 : tie.Need-float-from-bits-t17
-float-from-bits-t17 c = search (bits-number (getD (c .before .before .before .before .args .w .now) (entryAt (c .before .before .before .before .args .id .0)) 0) (c .before .before .before .before .pre .0 .within .x .is-finite), bits-number (getD (c .before .before .before .before .args .w .now) (entryAt (c .before .before .before .before .args .id .0) + 1) 0) (c .before .before .before .before .pre .0 .within .y .is-finite), bits-number (getD (c .before .before .before .before .args .w .now) (entryAt (c .before .before .before .before .args .id .0) + 2) 0) (c .before .before .before .before .pre .0 .within .z .is-finite))
+float-from-bits-t17 c =
+    search (
+      bits-number (getD (c .before .before .before .before .args .w .now) (entryAt (c .before .before .before .before .args .id .0)) 0)
+          (c .before .before .before .before .pre .0 .within .x .is-finite),
+      bits-number
+          (getD (c .before .before .before .before .args .w .now) (entryAt (c .before .before .before .before .args .id .0) + 1) 0)
+          (c .before .before .before .before .pre .0 .within .y .is-finite),
+      bits-number
+          (getD (c .before .before .before .before .args .w .now) (entryAt (c .before .before .before .before .args .id .0) + 2) 0)
+          (c .before .before .before .before .pre .0 .within .z .is-finite),
+    )
 
 returns : tie.Need-returns
 returns c = search needs

@@ -29,13 +29,24 @@ has-face-requires : tie.Need-has-face-requires
 has-face-requires c κs = search needs
 
 returns : tie.Need-returns
-returns c = face-there (c .before .before .before .before .args .eps) (c .before .before .before .before .args .n) (c .before .before .before .before .args .w .now) (c .before .before .before .before .pre .0) (c .before .before .before .before .args .id) (c .before .before .before .before .args .face) (c .before .before .before .before .pre .1 .0) (c .before .before .before .before .pre .1 .1) (sym (c .before .has-face .ensures) ∙ c .if1 .taken)
+returns c =
+    face-there (c .before .before .before .before .args .eps) (c .before .before .before .before .args .n) (c .before .before .before .before .args .w .now)
+    (c .before .before .before .before .pre .0) (c .before .before .before .before .args .id) (c .before .before .before .before .args .face)
+    (c .before .before .before .before .pre .1 .0) (c .before .before .before .before .pre .1 .1) (sym (c .before .has-face .ensures) ∙ c .if1 .taken)
 
 shl-w : tie.Need-shl-w
 shl-w c = search needs
 
 add-w : tie.Need-add-w
-add-w c = omega (arith, shifted (c .before .before .before .before .args .face) (c .before .before .before .before .pre .1 .1), mask-low (getD (c .before .before .before .before .args .w .now) (entryAt (c .before .before .before .before .args .id) + 4) 0) (c .before .before .before .before .args .face) (c .before .before .before .before .pre .0 .masks (c .before .before .before .before .args .id) (c .before .before .before .before .pre .1 .0)) (c .before .before .before .before .pre .1 .1) (sym (c .before .has-face .ensures) ∙ c .if1 .left))
+add-w c =
+    omega (
+      arith,
+      shifted (c .before .before .before .before .args .face) (c .before .before .before .before .pre .1 .1),
+      mask-low
+          (getD (c .before .before .before .before .args .w .now) (entryAt (c .before .before .before .before .args .id) + 4) 0) (c .before .before .before .before .args .face)
+          (c .before .before .before .before .pre .0 .masks (c .before .before .before .before .args .id) (c .before .before .before .before .pre .1 .0))
+          (c .before .before .before .before .pre .1 .1) (sym (c .before .has-face .ensures) ∙ c .if1 .left),
+    )
 
 mul-w : tie.Need-mul-w
 mul-w c = search needs
@@ -53,16 +64,75 @@ list-at-requires : tie.Need-list-at-requires
 list-at-requires c κs = search needs
 
 add-w-2 : tie.Need-add-w-2
-add-w-2 c = simp (count-marked (c .before .before .before .before .before .before .args .w .now) (c .before .before .before .before .before .before .args .id) (c .before .before .before .before .before .before .args .face) (c .before .before .before .before .before .before .pre .1 .1)) (omega (arith, list-room (c .before .before .before .before .before .before .args .eps) (c .before .before .before .before .before .before .args .n) (c .before .before .before .before .before .before .args .w .now) (c .before .before .before .before .before .before .pre .0) (c .before .before .before .before .before .before .args .id) (c .before .before .before .before .before .before .args .face) (c .before .before .before .before .before .before .pre .1 .0) (c .before .before .before .before .before .before .pre .1 .1) (sym (c .before .before .before .has-face .ensures) ∙ c .before .before .if1 .left), list-in (c .before .before .before .before .before .before .args .n) (c .before .before .before .before .before .before .args .face) (c .before .before .before .before .before .before .pre .1 .1), c .list-at .ensures, c .before .before .before .before .before .before .pre .0 .table .small))
+add-w-2 c =
+    simp (count-marked (c .before .before .before .before .before .before .args .w .now) (c .before .before .before .before .before .before .args .id)
+    (c .before .before .before .before .before .before .args .face) (c .before .before .before .before .before .before .pre .1 .1))
+    (omega (
+      arith,
+      list-room (c .before .before .before .before .before .before .args .eps) (c .before .before .before .before .before .before .args .n)
+          (c .before .before .before .before .before .before .args .w .now) (c .before .before .before .before .before .before .pre .0)
+          (c .before .before .before .before .before .before .args .id) (c .before .before .before .before .before .before .args .face)
+          (c .before .before .before .before .before .before .pre .1 .0) (c .before .before .before .before .before .before .pre .1 .1)
+          (sym (c .before .before .before .has-face .ensures) ∙ c .before .before .if1 .left),
+      list-in (c .before .before .before .before .before .before .args .n)
+          (c .before .before .before .before .before .before .args .face) (c .before .before .before .before .before .before .pre .1 .1),
+      c .list-at .ensures,
+      c .before .before .before
+          .before .before .before .pre .0 .table .small,
+    ))
 
 mul-w-2 : tie.Need-mul-w-2
-mul-w-2 c = simp (count-marked (c .before .before .before .before .before .before .args .w .now) (c .before .before .before .before .before .before .args .id) (c .before .before .before .before .before .before .args .face) (c .before .before .before .before .before .before .pre .1 .1)) (omega (arith, list-room (c .before .before .before .before .before .before .args .eps) (c .before .before .before .before .before .before .args .n) (c .before .before .before .before .before .before .args .w .now) (c .before .before .before .before .before .before .pre .0) (c .before .before .before .before .before .before .args .id) (c .before .before .before .before .before .before .args .face) (c .before .before .before .before .before .before .pre .1 .0) (c .before .before .before .before .before .before .pre .1 .1) (sym (c .before .before .before .has-face .ensures) ∙ c .before .before .if1 .left), list-in (c .before .before .before .before .before .before .args .n) (c .before .before .before .before .before .before .args .face) (c .before .before .before .before .before .before .pre .1 .1), c .list-at .ensures, c .before .before .before .before .before .before .pre .0 .table .small))
+mul-w-2 c =
+    simp (count-marked (c .before .before .before .before .before .before .args .w .now) (c .before .before .before .before .before .before .args .id)
+    (c .before .before .before .before .before .before .args .face) (c .before .before .before .before .before .before .pre .1 .1))
+    (omega (
+      arith,
+      list-room (c .before .before .before .before .before .before .args .eps) (c .before .before .before .before .before .before .args .n)
+          (c .before .before .before .before .before .before .args .w .now) (c .before .before .before .before .before .before .pre .0)
+          (c .before .before .before .before .before .before .args .id) (c .before .before .before .before .before .before .args .face)
+          (c .before .before .before .before .before .before .pre .1 .0) (c .before .before .before .before .before .before .pre .1 .1)
+          (sym (c .before .before .before .has-face .ensures) ∙ c .before .before .if1 .left),
+      list-in (c .before .before .before .before .before .before .args .n)
+          (c .before .before .before .before .before .before .args .face) (c .before .before .before .before .before .before .pre .1 .1),
+      c .list-at .ensures,
+      c .before .before .before
+          .before .before .before .pre .0 .table .small,
+    ))
 
 slice-write-w-2 : tie.Need-slice-write-w-2
-slice-write-w-2 c = simp (length-set, count-marked (c .before .before .before .before .before .before .args .w .now) (c .before .before .before .before .before .before .args .id) (c .before .before .before .before .before .before .args .face) (c .before .before .before .before .before .before .pre .1 .1)) (omega (arith, list-room (c .before .before .before .before .before .before .args .eps) (c .before .before .before .before .before .before .args .n) (c .before .before .before .before .before .before .args .w .now) (c .before .before .before .before .before .before .pre .0) (c .before .before .before .before .before .before .args .id) (c .before .before .before .before .before .before .args .face) (c .before .before .before .before .before .before .pre .1 .0) (c .before .before .before .before .before .before .pre .1 .1) (sym (c .before .before .before .has-face .ensures) ∙ c .before .before .if1 .left), list-in (c .before .before .before .before .before .before .args .n) (c .before .before .before .before .before .before .args .face) (c .before .before .before .before .before .before .pre .1 .1), c .list-at .ensures, c .before .before .before .before .before .before .pre .0 .size))
+slice-write-w-2 c =
+    simp (
+      length-set,
+      count-marked (c .before .before .before .before .before .before .args .w .now) (c .before .before .before .before .before .before .args .id)
+          (c .before .before .before .before .before .before .args .face) (c .before .before .before .before .before .before .pre .1 .1),
+    )
+    (omega (
+      arith,
+      list-room (c .before .before .before .before .before .before .args .eps) (c .before .before .before .before .before .before .args .n)
+          (c .before .before .before .before .before .before .args .w .now) (c .before .before .before .before .before .before .pre .0)
+          (c .before .before .before .before .before .before .args .id) (c .before .before .before .before .before .before .args .face)
+          (c .before .before .before .before .before .before .pre .1 .0) (c .before .before .before .before .before .before .pre .1 .1)
+          (sym (c .before .before .before .has-face .ensures) ∙ c .before .before .if1 .left),
+      list-in (c .before .before .before .before .before .before .args .n)
+          (c .before .before .before .before .before .before .args .face) (c .before .before .before .before .before .before .pre .1 .1),
+      c .list-at .ensures,
+      c .before .before .before
+          .before .before .before .pre .0 .size,
+    ))
 
 add-w-3 : tie.Need-add-w-3
-add-w-3 c = simp (count-marked (c .before .before .before .before .before .before .args .w .now) (c .before .before .before .before .before .before .args .id) (c .before .before .before .before .before .before .args .face) (c .before .before .before .before .before .before .pre .1 .1)) (omega (arith, list-room (c .before .before .before .before .before .before .args .eps) (c .before .before .before .before .before .before .args .n) (c .before .before .before .before .before .before .args .w .now) (c .before .before .before .before .before .before .pre .0) (c .before .before .before .before .before .before .args .id) (c .before .before .before .before .before .before .args .face) (c .before .before .before .before .before .before .pre .1 .0) (c .before .before .before .before .before .before .pre .1 .1) (sym (c .before .before .before .has-face .ensures) ∙ c .before .before .if1 .left), c .before .before .before .before .before .before .pre .0 .table .small))
+add-w-3 c =
+    simp (count-marked (c .before .before .before .before .before .before .args .w .now) (c .before .before .before .before .before .before .args .id)
+    (c .before .before .before .before .before .before .args .face) (c .before .before .before .before .before .before .pre .1 .1))
+    (omega (
+      arith,
+      list-room (c .before .before .before .before .before .before .args .eps) (c .before .before .before .before .before .before .args .n)
+          (c .before .before .before .before .before .before .args .w .now) (c .before .before .before .before .before .before .pre .0)
+          (c .before .before .before .before .before .before .args .id) (c .before .before .before .before .before .before .args .face)
+          (c .before .before .before .before .before .before .pre .1 .0) (c .before .before .before .before .before .before .pre .1 .1)
+          (sym (c .before .before .before .has-face .ensures) ∙ c .before .before .if1 .left),
+      c .before .before .before .before .before .before .pre .0 .table .small,
+    ))
 
 mul-w-3 : tie.Need-mul-w-3
 mul-w-3 c = search needs
@@ -74,7 +144,14 @@ same-length : tie.Need-same-length
 same-length c = search needs
 
 returns-2 : tie.Need-returns-2
-returns-2 c = face-added (c .before .before .before .before .before .before .args .eps) (c .before .before .before .before .before .before .args .n) (c .before .before .before .before .before .before .args .w .now) (c .before .before .before .before .before .before .pre .0) (c .before .before .before .before .before .before .args .id) (c .before .before .before .before .before .before .args .face) (c .before .before .before .before .before .before .pre .1 .0) (c .before .before .before .before .before .before .pre .1 .1) (sym (c .before .before .before .has-face .ensures) ∙ c .before .before .if1 .left) (1 * 2 ^ c .before .before .before .before .before .before .args .face % 18446744073709551616) (c .list-at .result) (shifted (c .before .before .before .before .before .before .args .face) (c .before .before .before .before .before .before .pre .1 .1)) (c .list-at .ensures)
+returns-2 c =
+    face-added (c .before .before .before .before .before .before .args .eps) (c .before .before .before .before .before .before .args .n)
+    (c .before .before .before .before .before .before .args .w .now) (c .before .before .before .before .before .before .pre .0)
+    (c .before .before .before .before .before .before .args .id) (c .before .before .before .before .before .before .args .face)
+    (c .before .before .before .before .before .before .pre .1 .0) (c .before .before .before .before .before .before .pre .1 .1)
+    (sym (c .before .before .before .has-face .ensures) ∙ c .before .before .if1 .left)
+    (1 * 2 ^ c .before .before .before .before .before .before .args .face % 18446744073709551616) (c .list-at .result)
+    (shifted (c .before .before .before .before .before .before .args .face) (c .before .before .before .before .before .before .pre .1 .1)) (c .list-at .ensures)
 
 pub push-face-spec : {M : Type 1} → statement M
 push-face-spec =

@@ -49,8 +49,10 @@ is-large-requires c κs =
     let N = c .before .before .before .materialize-triangle .ensures .1 in
     let t = candidatesOf (c .before .before .before .before .before .turned-cap .result) in
     let r = meshVerticesOf (c .before .before .before .materialize-triangle .result) in
-    let w₁ = c .before .before .before .materialize-triangle .last .0 in
-    ((R .0, append-below (a .vertices .now) b (a .n) (a .nc) (a .left) t r (a .w .now) w₁ (R .2) low e N), (e .entering, shaped-kept (a .n) (a .nf) (a .nc) (a .w .now) w₁ (record { long = e .long; below = e .below }) (a .vertices .now) (E .count) H))
+    let w₁ = c .before .before .before .materialize-triangle .last .0 in (
+      (R .0, append-below (a .vertices .now) b (a .n) (a .nc) (a .left) t r (a .w .now) w₁ (R .2) low e N),
+      (e .entering, shaped-kept (a .n) (a .nf) (a .nc) (a .w .now) w₁ (record { long = e .long; below = e .below }) (a .vertices .now) (E .count) H),
+    )
 
 put-left-requires : tie.Need-put-left-requires
 put-left-requires c κs =
@@ -82,13 +84,18 @@ returns c =
     let E = s .pre .1 .0 in
     let K = s .pre .1 .1 .1 in
     let R = s .pre .0 in
-    let low = subst (Below (countAt (a .w .now))) (sym (c .before .before .before .before .before .before .before .before .before .before .before .turned-cap .ensures)) (K .corners (a .i) (R .1)) in
+    let low = subst (Below (countAt (a .w .now))) (sym (c .before .before .before .before .before .before .before .before .before .before .before .turned-cap .ensures))
+    (K .corners (a .i) (R .1)) in
     let e = c .before .before .before .before .before .before .before .before .before .materialize-triangle .ensures .0 in
     let N = c .before .before .before .before .before .before .before .before .before .materialize-triangle .ensures .1 in
     let t = candidatesOf (c .before .before .before .before .before .before .before .before .before .before .before .turned-cap .result) in
     let r = meshVerticesOf (c .before .before .before .before .before .before .before .before .before .materialize-triangle .result) in
     let w₁ = c .before .before .before .before .before .before .before .before .before .materialize-triangle .last .0 in
-    subst (Appended (a .vertices .now) b (a .n) (a .nc) (capAtRoom (a .n) (a .nf) (a .nc) (a .w .now) (a .i)) (a .left) 1 (a .w .now)) (sym (c .before .before .put-left .ensures)) (subst (λ (u : Triangle ℕ). Appended (a .vertices .now) b (a .n) (a .nc) u (a .left) 1 (a .w .now) (putLeft b (a .n) (a .nc) (a .left) r w₁)) (c .before .before .before .before .before .before .before .before .before .before .before .turned-cap .ensures) (appended-large (a .vertices .now) b (a .n) (a .nc) (a .left) t r (a .w .now) w₁ (R .2) low e N (sym (c .before .before .before .before .before .is-large .ensures) ∙ c .before .before .before .before .if1 .taken)))
+    subst (Appended (a .vertices .now) b (a .n) (a .nc) (capAtRoom (a .n) (a .nf) (a .nc) (a .w .now) (a .i)) (a .left) 1 (a .w .now)) (sym (c .before .before .put-left .ensures))
+    (subst (λ (u : Triangle ℕ). Appended (a .vertices .now) b (a .n) (a .nc) u (a .left) 1 (a .w .now) (putLeft b (a .n) (a .nc) (a .left) r w₁))
+    (c .before .before .before .before .before .before .before .before .before .before .before .turned-cap .ensures)
+    (appended-large (a .vertices .now) b (a .n) (a .nc) (a .left) t r (a .w .now) w₁ (R .2) low e N
+    (sym (c .before .before .before .before .before .is-large .ensures) ∙ c .before .before .before .before .if1 .taken)))
 
 same-length-2 : tie.Need-same-length-2
 same-length-2 c = search needs
@@ -107,7 +114,9 @@ returns-2 c =
     let t = candidatesOf (c .before .before .before .before .before .before .before .turned-cap .result) in
     let r = meshVerticesOf (c .before .before .before .before .before .materialize-triangle .result) in
     let w₁ = c .before .before .before .before .before .materialize-triangle .last .0 in
-    subst (λ (u : Triangle ℕ). Appended (a .vertices .now) b (a .n) (a .nc) u (a .left) 0 (a .w .now) w₁) (c .before .before .before .before .before .before .before .turned-cap .ensures) (appended-small (a .vertices .now) b (a .n) (a .nc) (a .left) t r (a .w .now) w₁ (R .2) low e N (sym (c .before .is-large .ensures) ∙ c .if1 .left))
+    subst (λ (u : Triangle ℕ). Appended (a .vertices .now) b (a .n) (a .nc) u (a .left) 0 (a .w .now) w₁)
+    (c .before .before .before .before .before .before .before .turned-cap .ensures)
+    (appended-small (a .vertices .now) b (a .n) (a .nc) (a .left) t r (a .w .now) w₁ (R .2) low e N (sym (c .before .is-large .ensures) ∙ c .if1 .left))
 
 pub append-cap-spec : {M : Type 1} → statement M
 append-cap-spec =

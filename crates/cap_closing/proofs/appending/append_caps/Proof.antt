@@ -31,8 +31,17 @@ append-if-taken-requires c κs =
     let K = s .pre .1 .1 .1 in
     let P = c .before .before .loop .inv .0 in
     let h = c .before .loop-test .taken in
-    let f = P .few in
-    ((s .pre .0, h, omega arith), (P .entering, (shaped-kept (a .n) (a .nf) (a .nc) (a .w .now) (c .before .before .loop .w) (P .above) (a .vertices .now) (E .count) H, taking-kept (a .n) (a .nf) (a .nc) (a .w .now) (c .before .before .loop .w) (P .above) K)))
+    let f = P .few in (
+      (s .pre .0, h, omega arith),
+      (
+        P .entering,
+        (
+          shaped-kept (a .n) (a .nf) (a .nc) (a .w .now) (c .before .before .loop .w) (P .above) (a .vertices .now) (E .count) H,
+          taking-kept
+              (a .n) (a .nf) (a .nc) (a .w .now) (c .before .before .loop .w) (P .above) K,
+        ),
+      ),
+    )
 
 add-left : tie.Need-add-left Inv-loop μ-loop
 add-left c =
@@ -63,8 +72,13 @@ loop-again c =
     let s = c .before .before .before .before .before .before .before .before in
     let a = s .args in
     let E = s .pre .1 .0 in
-    let K = s .pre .1 .1 .1 in
-    (appending-turn (a .vertices .now) (a .n) (a .nf) (a .nc) (a .positive) (a .w .now) E K (c .before .before .before .before .before .loop .i) (c .before .before .before .before .before .loop .left) (c .before .before .before .before .before .loop .w) (c .before .before .before .before .loop-test .taken) (c .before .before .before .before .before .loop .inv .0) (c .before .before .append-if-taken .result) (c .before .before .append-if-taken .last .0) (c .before .before .append-if-taken .ensures), omega (arith, c .before .before .before .before .loop-test .taken))
+    let K = s .pre .1 .1 .1 in (
+      appending-turn (a .vertices .now) (a .n) (a .nf) (a .nc) (a .positive) (a .w .now) E K (c .before .before .before .before .before .loop .i)
+          (c .before .before .before .before .before .loop .left) (c .before .before .before .before .before .loop .w) (c .before .before .before .before .loop-test .taken)
+          (c .before .before .before .before .before .loop .inv .0) (c .before .before .append-if-taken .result) (c .before .before .append-if-taken .last .0)
+          (c .before .before .append-if-taken .ensures),
+      omega (arith, c .before .before .before .before .loop-test .taken),
+    )
 
 same-length : tie.Need-same-length Inv-loop μ-loop
 same-length c = c .before .loop .inv .0 .above .long

@@ -29,7 +29,10 @@ area2-requires c κs =
     let b = closingAt (a .n) (a .nf) (a .nc) in
     let E = s .pre .1 .0 in
     let H = s .pre .1 .1 in
-    has-root (c .before .before .entered-point .result) (c .before .entered-point2 .result) (c .entered-point3 .result) (subst PointIn (sym (c .before .before .entered-point .ensures)) (vertex-in (a .vertices .now) b (a .n) (a .nc) (a .w .now) E H (a .t .a .0) (s .pre .0 .1 .a))) (subst PointIn (sym (c .before .entered-point2 .ensures)) (vertex-in (a .vertices .now) b (a .n) (a .nc) (a .w .now) E H (a .t .b .0) (s .pre .0 .1 .b))) (subst PointIn (sym (c .entered-point3 .ensures)) (vertex-in (a .vertices .now) b (a .n) (a .nc) (a .w .now) E H (a .t .c .0) (s .pre .0 .1 .c)))
+    has-root (c .before .before .entered-point .result) (c .before .entered-point2 .result) (c .entered-point3 .result)
+    (subst PointIn (sym (c .before .before .entered-point .ensures)) (vertex-in (a .vertices .now) b (a .n) (a .nc) (a .w .now) E H (a .t .a .0) (s .pre .0 .1 .a)))
+    (subst PointIn (sym (c .before .entered-point2 .ensures)) (vertex-in (a .vertices .now) b (a .n) (a .nc) (a .w .now) E H (a .t .b .0) (s .pre .0 .1 .b)))
+    (subst PointIn (sym (c .entered-point3 .ensures)) (vertex-in (a .vertices .now) b (a .n) (a .nc) (a .w .now) E H (a .t .c .0) (s .pre .0 .1 .c)))
 
 returns : tie.Need-returns
 unfolding isLarge
@@ -37,7 +40,8 @@ returns c =
     let s = c .before .before .before .before .before .before in
     let a = s .args in
     let E = s .pre .1 .0 in
-    ap (λ (x : Float). not (le x 1e-12)) (c .area2 .ensures ∙ (λ i. area2 (tri (c .before .before .before .entered-point .ensures i) (c .before .before .entered-point2 .ensures i) (c .before .entered-point3 .ensures i))))
+    ap (λ (x : Float). not (le x 1e-12)) (c .area2 .ensures ∙ (λ i. area2
+    (tri (c .before .before .before .entered-point .ensures i) (c .before .before .entered-point2 .ensures i) (c .before .entered-point3 .ensures i))))
 
 pub is-large-spec : {M : Type 1} → statement M
 is-large-spec =

@@ -101,7 +101,9 @@ returns : tie.Need-returns
 returns c =
     let s = c .before .before .before .before in
     let a = s .args in
-    λ i. set (set (set (set (set (a .w .now) (c .before .before .left-at .ensures i + 3 * a .left) (a .t .a .0)) (c .before .before .left-at .ensures i + 3 * a .left + 1) (a .t .b .0)) (c .before .before .left-at .ensures i + 3 * a .left + 2) (a .t .c .0)) (c .before .threes-at .ensures i + 2 * a .left) (c .corners-key .ensures i)) (c .before .threes-at .ensures i + 2 * a .left + 1) (a .left)
+    λ i. set (set (set (set (set (a .w .now) (c .before .before .left-at .ensures i + 3 * a .left) (a .t .a .0)) (c .before .before .left-at .ensures i + 3 * a .left + 1)
+    (a .t .b .0)) (c .before .before .left-at .ensures i + 3 * a .left + 2) (a .t .c .0)) (c .before .threes-at .ensures i + 2 * a .left) (c .corners-key .ensures i))
+    (c .before .threes-at .ensures i + 2 * a .left + 1) (a .left)
 
 pub put-left-spec : {M : Type 1} → statement M
 put-left-spec =

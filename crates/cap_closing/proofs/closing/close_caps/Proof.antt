@@ -39,8 +39,18 @@ append-caps-requires c κs =
     let k = P .pooled .few in
     let S = c .before .before .before .start-entering .ensures in
     let w₁ = c .before .before .before .start-entering .last .0 in
-    let E = entering-first b (a .n) nc nv (a .w .now) w₁ (omega arith) k (omega arith) x z (s .pre .1 .0 .1) (s .pre .1 .0 .2) S in
-    (y, (E, (shaped-kept (a .n) (a .nf) nc (a .w .now) w₁ (S .above) (a .vertices .now) k (shaped-first (a .n) (a .nf) (a .cap-list .now) (a .w .now) D (a .vertices .now) (s .pre .1 .0 .0)), taking-kept (a .n) (a .nf) nc (a .w .now) w₁ (S .above) (taking-first (a .n) (a .nf) (a .cap-list .now) (a .w .now) D (s .pre .1 .1)))))
+    let E = entering-first b (a .n) nc nv (a .w .now) w₁ (omega arith) k (omega arith) x z (s .pre .1 .0 .1) (s .pre .1 .0 .2) S in (
+      y,
+      (
+        E,
+        (
+          shaped-kept (a .n) (a .nf) nc (a .w .now) w₁ (S .above) (a .vertices .now) k
+              (shaped-first (a .n) (a .nf) (a .cap-list .now) (a .w .now) D (a .vertices .now) (s .pre .1 .0 .0)),
+          taking-kept (a .n) (a .nf) nc (a .w .now) w₁ (S .above)
+              (taking-first (a .n) (a .nf) (a .cap-list .now) (a .w .now) D (s .pre .1 .1)),
+        ),
+      ),
+    )
 
 find-firsts-requires : tie.Need-find-firsts-requires
 find-firsts-requires c κs =
@@ -72,7 +82,12 @@ returns c =
     let z = P .caps in
     let q = P .size in
     let k = P .pooled .few in
-    closed (a .n) (a .nf) (a .cap-list .now) (a .w .now) D (a .vertices .now) (s .pre .1 .0 .1) (s .pre .1 .0 .2) (s .pre .1 .1) (a .positive) (c .before .before .before .before .before .before .append-caps .result) (c .before .before .find-firsts .result) (c .before .before .before .before .before .before .before .before .before .before .start-entering .last .0) (c .before .before .before .before .before .before .append-caps .last .0) (c .before .before .find-firsts .last .0) (c .before .before .before .before .before .before .before .before .before .before .start-entering .ensures) (c .before .before .before .before .before .before .append-caps .ensures) (c .before .before .find-firsts .ensures)
+    closed (a .n) (a .nf) (a .cap-list .now) (a .w .now) D (a .vertices .now) (s .pre .1 .0 .1) (s .pre .1 .0 .2) (s .pre .1 .1) (a .positive)
+    (c .before .before .before .before .before .before .append-caps .result) (c .before .before .find-firsts .result)
+    (c .before .before .before .before .before .before .before .before .before .before .start-entering .last .0)
+    (c .before .before .before .before .before .before .append-caps .last .0) (c .before .before .find-firsts .last .0)
+    (c .before .before .before .before .before .before .before .before .before .before .start-entering .ensures)
+    (c .before .before .before .before .before .before .append-caps .ensures) (c .before .before .find-firsts .ensures)
 
 pub close-caps-spec : {M : Type 1} → statement M
 close-caps-spec =

@@ -29,7 +29,8 @@ returns c =
     let s = c .before .before .before .before .before in
     let a = s .args in
     let b = closingAt (a .n) (a .nf) (a .nc) in
-    old-at b (a .n) (a .nc) (a .nv) (a .w .now) (s .pre .1) (a .id .0) (s .pre .0 .1) (c .before .before .before .given-at .result) (c .before .before .before .given-at .ensures) (c .if1 .taken)
+    old-at b (a .n) (a .nc) (a .nv) (a .w .now) (s .pre .1) (a .id .0) (s .pre .0 .1) (c .before .before .before .given-at .result) (c .before .before .before .given-at .ensures)
+    (c .if1 .taken)
 
 vertices-at-requires : tie.Need-vertices-at-requires
 vertices-at-requires c κs = search needs
@@ -45,7 +46,9 @@ add-w c =
     let s = c .before .before .before .before .before .before .before in
     let a = s .args in
     let b = closingAt (a .n) (a .nf) (a .nc) in
-    let t = top-room b (a .n) (a .nc) (a .nv) (a .w .now) (s .pre .1) (a .id .0) (s .pre .0 .1) (c .before .before .before .before .before .given-at .result) (c .before .before .before .before .before .given-at .ensures) (b + a .n) (c .before .vertices-at .result) refl (c .before .vertices-at .ensures) (c .before .before .if1 .left) in
+    let t = top-room b (a .n) (a .nc) (a .nv) (a .w .now) (s .pre .1) (a .id .0) (s .pre .0 .1) (c .before .before .before .before .before .given-at .result)
+    (c .before .before .before .before .before .given-at .ensures) (b + a .n) (c .before .vertices-at .result) refl (c .before .vertices-at .ensures)
+    (c .before .before .if1 .left) in
     omega (arith, t .1 .1)
 
 mul-w : tie.Need-mul-w
@@ -62,7 +65,9 @@ sub-w c =
     let s = c .before .before .before .before .before .before .before .before in
     let a = s .args in
     let b = closingAt (a .n) (a .nf) (a .nc) in
-    let t = top-room b (a .n) (a .nc) (a .nv) (a .w .now) (s .pre .1) (a .id .0) (s .pre .0 .1) (c .before .before .before .before .before .before .given-at .result) (c .before .before .before .before .before .before .given-at .ensures) (c .fresh-at .result) (c .before .before .vertices-at .result) (c .fresh-at .ensures) (c .before .before .vertices-at .ensures) (c .before .before .before .if1 .left) in
+    let t = top-room b (a .n) (a .nc) (a .nv) (a .w .now) (s .pre .1) (a .id .0) (s .pre .0 .1) (c .before .before .before .before .before .before .given-at .result)
+    (c .before .before .before .before .before .before .given-at .ensures) (c .fresh-at .result) (c .before .before .vertices-at .result) (c .fresh-at .ensures)
+    (c .before .before .vertices-at .ensures) (c .before .before .before .if1 .left) in
     let E = s .pre .1 in
     let z = E .size in
     let x = t .0 in
@@ -77,7 +82,9 @@ add-w-2 c =
     let s = c .before .before .before .before .before .before .before .before in
     let a = s .args in
     let b = closingAt (a .n) (a .nf) (a .nc) in
-    let t = top-room b (a .n) (a .nc) (a .nv) (a .w .now) (s .pre .1) (a .id .0) (s .pre .0 .1) (c .before .before .before .before .before .before .given-at .result) (c .before .before .before .before .before .before .given-at .ensures) (c .fresh-at .result) (c .before .before .vertices-at .result) (c .fresh-at .ensures) (c .before .before .vertices-at .ensures) (c .before .before .before .if1 .left) in
+    let t = top-room b (a .n) (a .nc) (a .nv) (a .w .now) (s .pre .1) (a .id .0) (s .pre .0 .1) (c .before .before .before .before .before .before .given-at .result)
+    (c .before .before .before .before .before .before .given-at .ensures) (c .fresh-at .result) (c .before .before .vertices-at .result) (c .fresh-at .ensures)
+    (c .before .before .vertices-at .ensures) (c .before .before .before .if1 .left) in
     let E = s .pre .1 in
     let z = E .size in
     let x = t .0 in
@@ -92,7 +99,9 @@ mul-w-2 c =
     let s = c .before .before .before .before .before .before .before .before in
     let a = s .args in
     let b = closingAt (a .n) (a .nf) (a .nc) in
-    let t = top-room b (a .n) (a .nc) (a .nv) (a .w .now) (s .pre .1) (a .id .0) (s .pre .0 .1) (c .before .before .before .before .before .before .given-at .result) (c .before .before .before .before .before .before .given-at .ensures) (c .fresh-at .result) (c .before .before .vertices-at .result) (c .fresh-at .ensures) (c .before .before .vertices-at .ensures) (c .before .before .before .if1 .left) in
+    let t = top-room b (a .n) (a .nc) (a .nv) (a .w .now) (s .pre .1) (a .id .0) (s .pre .0 .1) (c .before .before .before .before .before .before .given-at .result)
+    (c .before .before .before .before .before .before .given-at .ensures) (c .fresh-at .result) (c .before .before .vertices-at .result) (c .fresh-at .ensures)
+    (c .before .before .vertices-at .ensures) (c .before .before .before .if1 .left) in
     let E = s .pre .1 in
     let z = E .size in
     let x = t .0 in
@@ -107,7 +116,9 @@ slice-write-w-2 c =
     let s = c .before .before .before .before .before .before .before .before in
     let a = s .args in
     let b = closingAt (a .n) (a .nf) (a .nc) in
-    let t = top-room b (a .n) (a .nc) (a .nv) (a .w .now) (s .pre .1) (a .id .0) (s .pre .0 .1) (c .before .before .before .before .before .before .given-at .result) (c .before .before .before .before .before .before .given-at .ensures) (c .fresh-at .result) (c .before .before .vertices-at .result) (c .fresh-at .ensures) (c .before .before .vertices-at .ensures) (c .before .before .before .if1 .left) in
+    let t = top-room b (a .n) (a .nc) (a .nv) (a .w .now) (s .pre .1) (a .id .0) (s .pre .0 .1) (c .before .before .before .before .before .before .given-at .result)
+    (c .before .before .before .before .before .before .given-at .ensures) (c .fresh-at .result) (c .before .before .vertices-at .result) (c .fresh-at .ensures)
+    (c .before .before .vertices-at .ensures) (c .before .before .before .if1 .left) in
     let E = s .pre .1 in
     let z = E .size in
     let y = t .1 .0 in
@@ -119,7 +130,9 @@ add-w-3 c =
     let s = c .before .before .before .before .before .before .before .before in
     let a = s .args in
     let b = closingAt (a .n) (a .nf) (a .nc) in
-    let t = top-room b (a .n) (a .nc) (a .nv) (a .w .now) (s .pre .1) (a .id .0) (s .pre .0 .1) (c .before .before .before .before .before .before .given-at .result) (c .before .before .before .before .before .before .given-at .ensures) (c .fresh-at .result) (c .before .before .vertices-at .result) (c .fresh-at .ensures) (c .before .before .vertices-at .ensures) (c .before .before .before .if1 .left) in
+    let t = top-room b (a .n) (a .nc) (a .nv) (a .w .now) (s .pre .1) (a .id .0) (s .pre .0 .1) (c .before .before .before .before .before .before .given-at .result)
+    (c .before .before .before .before .before .before .given-at .ensures) (c .fresh-at .result) (c .before .before .vertices-at .result) (c .fresh-at .ensures)
+    (c .before .before .vertices-at .ensures) (c .before .before .before .if1 .left) in
     let E = s .pre .1 in
     let z = E .size in
     let x = t .0 in
@@ -149,7 +162,9 @@ returns-2 c =
     let s = c .before .before .before .before .before .before .before .before in
     let a = s .args in
     let b = closingAt (a .n) (a .nf) (a .nc) in
-    new-at b (a .n) (a .nc) (a .nv) (a .w .now) (s .pre .1) (a .id .0) (s .pre .0 .1) (c .before .before .before .before .before .before .given-at .result) (c .before .before .before .before .before .before .given-at .ensures) (c .fresh-at .result) (c .before .before .vertices-at .result) (c .fresh-at .ensures) (c .before .before .vertices-at .ensures) (c .before .before .before .if1 .left)
+    new-at b (a .n) (a .nc) (a .nv) (a .w .now) (s .pre .1) (a .id .0) (s .pre .0 .1) (c .before .before .before .before .before .before .given-at .result)
+    (c .before .before .before .before .before .before .given-at .ensures) (c .fresh-at .result) (c .before .before .vertices-at .result) (c .fresh-at .ensures)
+    (c .before .before .vertices-at .ensures) (c .before .before .before .if1 .left)
 
 pub materialize-candidate-spec : {M : Type 1} → statement M
 materialize-candidate-spec =

@@ -158,8 +158,12 @@ loop-again c =
     let R = s .pre in
     let k = length-set (a .w .now) (c .before .before .before .vertices-at .result) (a .nv) in
     let q = R .3 in
-    let z = R .4 in
-    (copy-more b (a .n) (set (a .w .now) (c .before .before .before .vertices-at .result) (a .nv)) (omega arith) (c .before .before .loop .w) (c .before .before .loop .c) (omega arith) (omega arith) (c .before .before .loop .inv .0) (c .before .before .before .before .before .given-at .result) (c .before .before .before .before .before .given-at .ensures), omega arith)
+    let z = R .4 in (
+      copy-more b (a .n) (set (a .w .now) (c .before .before .before .vertices-at .result) (a .nv)) (omega arith) (c .before .before .loop .w) (c .before .before .loop .c)
+          (omega arith) (omega arith) (c .before .before .loop .inv .0) (c .before .before .before .before .before .given-at .result)
+          (c .before .before .before .before .before .given-at .ensures),
+      omega arith,
+    )
 
 same-length : tie.Need-same-length Inv-loop μ-loop
 same-length c =
@@ -174,7 +178,8 @@ returns c =
     let a = s .args in
     let b = closingAt (a .n) (a .nf) (a .nc) in
     let R = s .pre in
-    started b (a .n) (a .nc) (a .nv) (a .w .now) (omega arith) (R .3) (R .4) (c .before .before .vertices-at .result) (c .before .before .vertices-at .ensures) (c .before .loop .w) (c .before .loop .c) (c .loop-test .left) (c .before .loop .inv .1) (c .before .loop .inv .0)
+    started b (a .n) (a .nc) (a .nv) (a .w .now) (omega arith) (R .3) (R .4) (c .before .before .vertices-at .result) (c .before .before .vertices-at .ensures) (c .before .loop .w)
+    (c .before .loop .c) (c .loop-test .left) (c .before .loop .inv .1) (c .before .loop .inv .0)
 
 pub start-entering-spec : {M : Type 1} → statement M
 start-entering-spec =

@@ -50,8 +50,10 @@ mark-firsts-requires c κs =
     let S = sorted-part (a .w .now) (c .before .before .before .before .sort-records .last .0) m (a .left) room (c .before .before .before .before .sort-records .ensures) in
     let w₁ = putMid m (m + 4 * a .left - m) (a .w .now) (c .before .before .before .before .sort-records .last .0) in
     let whole = subst (λ (k : ℕ). (j : ℕ) → j < a .left → placeIn (a .w .now) k j ≡ j) (sym t) (s .pre .1) in
-    let f = c .firsts-at .ensures in
-    ((let x = R .3 in omega arith, let x = R .3 in let y = R .4 in let l = S .same in omega arith), (places-low (a .w .now) w₁ m (a .left) room S whole, places-once (a .w .now) w₁ m (a .left) room S whole))
+    let f = c .firsts-at .ensures in (
+      (let x = R .3 in omega arith, let x = R .3 in let y = R .4 in let l = S .same in omega arith),
+      (places-low (a .w .now) w₁ m (a .left) room S whole, places-once (a .w .now) w₁ m (a .left) room S whole),
+    )
 
 same-length : tie.Need-same-length
 same-length c = search needs
@@ -65,10 +67,15 @@ returns c =
     let m = c .before .before .before .before .before .before .before .before .before .threes-at .result in
     let t = c .before .before .before .before .before .before .before .before .before .threes-at .ensures in
     let room : m + 4 * a .left ≤ length (a .w .now) = (let x = R .3 in let y = R .4 in omega arith) in
-    let S = sorted-part (a .w .now) (c .before .before .before .before .before .before .before .sort-records .last .0) m (a .left) room (c .before .before .before .before .before .before .before .sort-records .ensures) in
+    let S = sorted-part (a .w .now) (c .before .before .before .before .before .before .before .sort-records .last .0) m (a .left) room
+    (c .before .before .before .before .before .before .before .sort-records .ensures) in
     let w₁ = putMid m (m + 4 * a .left - m) (a .w .now) (c .before .before .before .before .before .before .before .sort-records .last .0) in
     let whole = subst (λ (k : ℕ). (j : ℕ) → j < a .left → placeIn (a .w .now) k j ≡ j) (sym t) (s .pre .1) in
-    subst (λ (k : ℕ). Found k (b + 2 * a .n + 7 * a .nc) (a .left) (c .before .before .mark-firsts .result) (a .w .now) (c .before .before .mark-firsts .last .0)) t (subst (λ (k : ℕ). Found m k (a .left) (c .before .before .mark-firsts .result) (a .w .now) (c .before .before .mark-firsts .last .0)) (c .before .before .before .firsts-at .ensures) (found (a .w .now) w₁ m (a .left) room S whole (c .before .before .before .firsts-at .result) (c .before .before .mark-firsts .result) (c .before .before .mark-firsts .last .0) (let f = c .before .before .before .firsts-at .ensures in let x = R .3 in omega arith) (c .before .before .mark-firsts .ensures)))
+    subst (λ (k : ℕ). Found k (b + 2 * a .n + 7 * a .nc) (a .left) (c .before .before .mark-firsts .result) (a .w .now) (c .before .before .mark-firsts .last .0)) t
+    (subst (λ (k : ℕ). Found m k (a .left) (c .before .before .mark-firsts .result) (a .w .now) (c .before .before .mark-firsts .last .0))
+    (c .before .before .before .firsts-at .ensures) (found (a .w .now) w₁ m (a .left) room S whole (c .before .before .before .firsts-at .result)
+    (c .before .before .mark-firsts .result) (c .before .before .mark-firsts .last .0) (let f = c .before .before .before .firsts-at .ensures in let x = R .3 in omega arith)
+    (c .before .before .mark-firsts .ensures)))
 
 pub find-firsts-spec : {M : Type 1} → statement M
 find-firsts-spec =

@@ -15,7 +15,8 @@ unfolding isStart
 returns c =
     let s = c .before in
     let a = s .args in
-    sym (ap (λ (x : Bool). cond x true (not (eqb (getD (a .w .now) (a .records + 2 * a .i) 0) (getD (a .w .now) (a .records + 2 * (a .i - 1)) 0)))) (eq-eqb (a .i) 0 (c .if1 .taken)))
+    sym (ap (λ (x : Bool). cond x true (not (eqb (getD (a .w .now) (a .records + 2 * a .i) 0) (getD (a .w .now) (a .records + 2 * (a .i - 1)) 0))))
+    (eq-eqb (a .i) 0 (c .if1 .taken)))
 
 mul-result : tie.Need-mul-result
 mul-result c = search needs
@@ -49,7 +50,8 @@ unfolding isStart
 returns-2 c =
     let s = c .before .before .before in
     let a = s .args in
-    sym (ap (λ (x : Bool). cond x true (not (eqb (getD (a .w .now) (a .records + 2 * a .i) 0) (getD (a .w .now) (a .records + 2 * (a .i - 1)) 0)))) (ne-eqb (a .i) 0 (c .before .before .if1 .left)))
+    sym (ap (λ (x : Bool). cond x true (not (eqb (getD (a .w .now) (a .records + 2 * a .i) 0) (getD (a .w .now) (a .records + 2 * (a .i - 1)) 0))))
+    (ne-eqb (a .i) 0 (c .before .before .if1 .left)))
 
 pub is-start-spec : {M : Type 1} → statement M
 is-start-spec =

@@ -115,7 +115,8 @@ add-w c =
     let l = M .long in
     let h = c .before .before .before .loop-test .taken in
     let k = c .before .before .before .before .before .slice-known .given in
-    let q = place-same (a .w .now) (a .records) (a .firsts) (a .left) (R .0) (R .1) (s .pre .1 .0) (s .pre .1 .1) (c .before .before .before .before .loop .i) (c .before .before .before .before .loop .count) (c .before .before .before .before .loop .w) h M in
+    let q = place-same (a .w .now) (a .records) (a .firsts) (a .left) (R .0) (R .1) (s .pre .1 .0) (s .pre .1 .1) (c .before .before .before .before .loop .i)
+    (c .before .before .before .before .loop .count) (c .before .before .before .before .loop .w) h M in
     let m = s .pre .1 .0 (c .before .before .before .before .loop .i) h in
     omega arith
 
@@ -130,7 +131,8 @@ mul-w c =
     let l = M .long in
     let h = c .before .before .before .loop-test .taken in
     let k = c .before .before .before .before .before .slice-known .given in
-    let q = place-same (a .w .now) (a .records) (a .firsts) (a .left) (R .0) (R .1) (s .pre .1 .0) (s .pre .1 .1) (c .before .before .before .before .loop .i) (c .before .before .before .before .loop .count) (c .before .before .before .before .loop .w) h M in
+    let q = place-same (a .w .now) (a .records) (a .firsts) (a .left) (R .0) (R .1) (s .pre .1 .0) (s .pre .1 .1) (c .before .before .before .before .loop .i)
+    (c .before .before .before .before .loop .count) (c .before .before .before .before .loop .w) h M in
     let m = s .pre .1 .0 (c .before .before .before .before .loop .i) h in
     omega arith
 
@@ -145,7 +147,8 @@ slice-write-w c =
     let l = M .long in
     let h = c .before .before .before .loop-test .taken in
     let k = c .before .before .before .before .before .slice-known .given in
-    let q = place-same (a .w .now) (a .records) (a .firsts) (a .left) (R .0) (R .1) (s .pre .1 .0) (s .pre .1 .1) (c .before .before .before .before .loop .i) (c .before .before .before .before .loop .count) (c .before .before .before .before .loop .w) h M in
+    let q = place-same (a .w .now) (a .records) (a .firsts) (a .left) (R .0) (R .1) (s .pre .1 .0) (s .pre .1 .1) (c .before .before .before .before .loop .i)
+    (c .before .before .before .before .loop .count) (c .before .before .before .before .loop .w) h M in
     let m = s .pre .1 .0 (c .before .before .before .before .loop .i) h in
     omega arith
 
@@ -163,7 +166,8 @@ add-count c =
     let l = M .long in
     let h = c .before .before .before .loop-test .taken in
     let k = c .before .before .before .before .before .slice-known .given in
-    let f = marked-few (a .w .now) (a .records) (a .firsts) (a .left) (R .0) (R .1) (s .pre .1 .0) (s .pre .1 .1) (c .before .before .before .before .loop .i) (c .before .before .before .before .loop .count) (c .before .before .before .before .loop .w) M (c .before .is-start .result) in
+    let f = marked-few (a .w .now) (a .records) (a .firsts) (a .left) (R .0) (R .1) (s .pre .1 .0) (s .pre .1 .1) (c .before .before .before .before .loop .i)
+    (c .before .before .before .before .loop .count) (c .before .before .before .before .loop .w) M (c .before .is-start .result) in
     omega arith
 
 add-i : tie.Need-add-i Inv-loop μ-loop
@@ -203,8 +207,14 @@ loop-again c =
     let l = M .long in
     let h = c .before .before .before .loop-test .taken in
     let k = c .before .before .before .before .before .slice-known .given in
-    let e = bit-is (c .before .is-start .result) in
-    (subst (λ (v : ℕ). Marked (a .records) (a .firsts) (a .left) (c .before .before .before .before .loop .i + 1) (c .before .before .before .before .loop .count + v) (a .w .now) (set (c .before .before .before .before .loop .w) (a .firsts + placeIn (c .before .before .before .before .loop .w) (a .records) (c .before .before .before .before .loop .i)) v)) (sym e) (marked-more (a .w .now) (a .records) (a .firsts) (a .left) (R .0) (R .1) (s .pre .1 .0) (s .pre .1 .1) (c .before .before .before .before .loop .i) (c .before .before .before .before .loop .count) (c .before .before .before .before .loop .w) h M (c .before .is-start .result) (c .before .is-start .ensures)), omega arith)
+    let e = bit-is (c .before .is-start .result) in (
+      subst (λ (v : ℕ). Marked (a .records) (a .firsts) (a .left) (c .before .before .before .before .loop .i + 1) (c .before .before .before .before .loop .count + v) (a .w .now)
+          (set (c .before .before .before .before .loop .w) (a .firsts + placeIn (c .before .before .before .before .loop .w) (a .records)
+          (c .before .before .before .before .loop .i)) v)) (sym e) (marked-more (a .w .now) (a .records) (a .firsts) (a .left) (R .0) (R .1) (s .pre .1 .0) (s .pre .1 .1)
+          (c .before .before .before .before .loop .i) (c .before .before .before .before .loop .count) (c .before .before .before .before .loop .w) h M (c .before .is-start .result)
+          (c .before .is-start .ensures)),
+      omega arith,
+    )
 
 same-length : tie.Need-same-length Inv-loop μ-loop
 same-length c = c .before .loop .inv .0 .long

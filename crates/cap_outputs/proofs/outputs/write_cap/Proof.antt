@@ -14,7 +14,11 @@ shared-slice-read-if1 : tie.Need-shared-slice-read-if1
 shared-slice-read-if1 c = search needs
 
 returns : tie.Need-returns
-returns c = let a = c .before .before .before .before .args in let b = cap-left (a .w .now) (a .facet) (a .first) (c .if1 .taken) in let q = ap length b in (omega (arith, q), ap (sets (a .out .now) (a .at)) (sym b))
+returns c =
+    let a = c .before .before .before .before .args in
+    let b = cap-left (a .w .now) (a .facet) (a .first) (c .if1 .taken) in
+    let q = ap length b in
+    (omega (arith, q), ap (sets (a .out .now) (a .at)) (sym b))
 
 mul-write-three : tie.Need-mul-write-three
 mul-write-three c = search needs
@@ -50,16 +54,28 @@ cast-write-three-3 : tie.Need-cast-write-three-3
 cast-write-three-3 c = search needs
 
 write-three-requires : tie.Need-write-three-requires
-write-three-requires c κs = let a = c .before .before .before .before .before .before .before .before .args in let b = cap-taken (a .w .now) (a .facet) (a .first) (c .before .before .before .before .if1 .left) in let q = ap length b in omega (arith, q, c .before .before .before .before .before .before .before .before .pre .1 .1)
+write-three-requires c κs =
+    let a = c .before .before .before .before .before .before .before .before .args in
+    let b = cap-taken (a .w .now) (a .facet) (a .first) (c .before .before .before .before .if1 .left) in
+    let q = ap length b in
+    omega (arith, q, c .before .before .before .before .before .before .before .before .pre .1 .1)
 
 add-result : tie.Need-add-result
-add-result c = let a = c .before .before .before .before .before .before .before .before .before .before .before .args in let b = cap-taken (a .w .now) (a .facet) (a .first) (c .before .before .before .before .before .before .before .if1 .left) in let q = ap length b in omega (arith, q, c .before .before .before .before .before .before .before .before .before .before .before .pre .1 .1)
+add-result c =
+    let a = c .before .before .before .before .before .before .before .before .before .before .before .args in
+    let b = cap-taken (a .w .now) (a .facet) (a .first) (c .before .before .before .before .before .before .before .if1 .left) in
+    let q = ap length b in
+    omega (arith, q, c .before .before .before .before .before .before .before .before .before .before .before .pre .1 .1)
 
 same-length : tie.Need-same-length
 same-length c = search needs
 
 returns-2 : tie.Need-returns-2
-returns-2 c = let a = c .before .before .before .before .before .before .before .before .before .before .before .args in let b = cap-taken (a .w .now) (a .facet) (a .first) (c .before .before .before .before .before .before .before .if1 .left) in let q = ap length b in (omega (arith, q), c .before .before .write-three .ensures ∙ ap (sets (a .out .now) (a .at)) (sym b))
+returns-2 c =
+    let a = c .before .before .before .before .before .before .before .before .before .before .before .args in
+    let b = cap-taken (a .w .now) (a .facet) (a .first) (c .before .before .before .before .before .before .before .if1 .left) in
+    let q = ap length b in
+    (omega (arith, q), c .before .before .write-three .ensures ∙ ap (sets (a .out .now) (a .at)) (sym b))
 
 pub write-cap-spec : {M : Type 1} → statement M
 write-cap-spec =

@@ -29,7 +29,18 @@ add-write-cap-2 : tie.Need-add-write-cap-2 Inv-loop μ-loop
 add-write-cap-2 c = omega arith
 
 write-cap-requires : tie.Need-write-cap-requires Inv-loop μ-loop
-write-cap-requires c κs = let a = c .before .before .before .before .before .args in let r = run-room (capBlock (a .w .now) (a .facets) (a .firsts)) (a .out .now) (c .before .before .loop .out) (a .at) (c .before .before .loop .i) (c .before .before .loop .o) (c .before .before .loop .inv .1) (a .left) (c .before .loop-test .taken) (c .before .before .before .before .before .pre .1 .1) in let x = c .before .before .before .before .before .pre .1 .0 (3 * c .before .before .loop .i) (omega arith) in let y = c .before .before .before .before .before .pre .1 .0 (3 * c .before .before .loop .i + 1) (omega arith) in let z = c .before .before .before .before .before .pre .1 .0 (3 * c .before .before .loop .i + 2) (omega arith) in let p : a .facets + 3 * c .before .before .loop .i + 1 ≡ a .facets + (3 * c .before .before .loop .i + 1) = omega arith in let q : a .facets + 3 * c .before .before .loop .i + 2 ≡ a .facets + (3 * c .before .before .loop .i + 2) = omega arith in let y' = ap (λ (k : ℕ). getD (a .w .now) k 0) p in let z' = ap (λ (k : ℕ). getD (a .w .now) k 0) q in ((omega arith, omega arith), ((x, omega (arith, y, y'), omega (arith, z, z')), r))
+write-cap-requires c κs =
+    let a = c .before .before .before .before .before .args in
+    let r = run-room (capBlock (a .w .now) (a .facets) (a .firsts)) (a .out .now) (c .before .before .loop .out) (a .at) (c .before .before .loop .i) (c .before .before .loop .o)
+    (c .before .before .loop .inv .1) (a .left) (c .before .loop-test .taken) (c .before .before .before .before .before .pre .1 .1) in
+    let x = c .before .before .before .before .before .pre .1 .0 (3 * c .before .before .loop .i) (omega arith) in
+    let y = c .before .before .before .before .before .pre .1 .0 (3 * c .before .before .loop .i + 1) (omega arith) in
+    let z = c .before .before .before .before .before .pre .1 .0 (3 * c .before .before .loop .i + 2) (omega arith) in
+    let p : a .facets + 3 * c .before .before .loop .i + 1 ≡ a .facets + (3 * c .before .before .loop .i + 1) = omega arith in
+    let q : a .facets + 3 * c .before .before .loop .i + 2 ≡ a .facets + (3 * c .before .before .loop .i + 2) = omega arith in
+    let y' = ap (λ (k : ℕ). getD (a .w .now) k 0) p in
+    let z' = ap (λ (k : ℕ). getD (a .w .now) k 0) q in
+    ((omega arith, omega arith), ((x, omega (arith, y, y'), omega (arith, z, z')), r))
 
 add-i : tie.Need-add-i Inv-loop μ-loop
 add-i c = omega arith
@@ -38,13 +49,24 @@ loop-less : tie.Need-loop-less Inv-loop μ-loop
 loop-less c = omega arith
 
 loop-again : tie.Need-loop-again Inv-loop μ-loop
-loop-again c = let a = c .before .before .before .before .before .before .before .before .args in (omega arith, run-turn (capBlock (a .w .now) (a .facets) (a .firsts)) (a .out .now) (c .before .before .before .before .before .loop .out) (a .at) (c .before .before .before .before .before .loop .i) (c .before .before .before .before .before .loop .o) (c .before .before .before .before .before .loop .inv .1) _ _ (c .before .before .write-cap .ensures .1) (c .before .before .write-cap .ensures .0))
+loop-again c =
+    let a = c .before .before .before .before .before .before .before .before .args in (
+      omega arith,
+      run-turn (capBlock (a .w .now) (a .facets) (a .firsts)) (a .out .now) (c .before .before .before .before .before .loop .out) (a .at)
+          (c .before .before .before .before .before .loop .i) (c .before .before .before .before .before .loop .o) (c .before .before .before .before .before .loop .inv .1) _ _
+          (c .before .before .write-cap .ensures .1) (c .before .before .write-cap .ensures .0),
+    )
 
 same-length : tie.Need-same-length Inv-loop μ-loop
-same-length c = let a = c .before .before .before .before .args in run-long (capBlock (a .w .now) (a .facets) (a .firsts)) (a .out .now) (c .before .loop .out) (a .at) (c .before .loop .i) (c .before .loop .o) (c .before .loop .inv .1)
+same-length c =
+    let a = c .before .before .before .before .args in
+    run-long (capBlock (a .w .now) (a .facets) (a .firsts)) (a .out .now) (c .before .loop .out) (a .at) (c .before .loop .i) (c .before .loop .o) (c .before .loop .inv .1)
 
 returns : tie.Need-returns Inv-loop μ-loop
-returns c = let a = c .before .before .before .before .args in run-end (capBlock (a .w .now) (a .facets) (a .firsts)) (a .out .now) (c .before .loop .out) (a .at) (c .before .loop .i) (c .before .loop .o) (c .before .loop .inv .1) (a .left) (c .before .loop .inv .0) (c .loop-test .left) _ refl
+returns c =
+    let a = c .before .before .before .before .args in
+    run-end (capBlock (a .w .now) (a .facets) (a .firsts)) (a .out .now) (c .before .loop .out) (a .at) (c .before .loop .i) (c .before .loop .o) (c .before .loop .inv .1)
+    (a .left) (c .before .loop .inv .0) (c .loop-test .left) _ refl
 
 pub write-caps-spec : {M : Type 1} → statement M
 write-caps-spec =

@@ -37,7 +37,14 @@ point-of-requires : tie.Need-point-of-requires Inv-loop μ-loop
 point-of-requires c κs = c .before .before .before .before .before .before .pre .1 (c .before .before .before .loop .i) (c .before .before .loop-test .taken)
 
 write-point-requires : tie.Need-write-point-requires Inv-loop μ-loop
-write-point-requires c κs = let a = c .before .before .before .before .before .before .before .args in let l = ap length (fresh-are (a .w .now) (a .fresh) (a .count) (c .before .before .before .before .before .before .before .pre .0 .0)) in let m = fresh-long (a .w .now) (a .fresh) (a .count) (c .before .before .before .before .before .before .before .pre .0 .0) in let r = run-room (freshBlock (a .w .now) (a .fresh)) (a .out .now) (c .before .before .before .before .loop .out) (a .at) (c .before .before .before .before .loop .i) (a .at + 3 * c .before .before .before .before .loop .i) (c .before .before .before .before .loop .inv .1) (a .count) (c .before .before .before .loop-test .taken) (omega (arith, l, m, c .before .before .before .before .before .before .before .pre .0 .1)) in omega (arith, r)
+write-point-requires c κs =
+    let a = c .before .before .before .before .before .before .before .args in
+    let l = ap length (fresh-are (a .w .now) (a .fresh) (a .count) (c .before .before .before .before .before .before .before .pre .0 .0)) in
+    let m = fresh-long (a .w .now) (a .fresh) (a .count) (c .before .before .before .before .before .before .before .pre .0 .0) in
+    let r = run-room (freshBlock (a .w .now) (a .fresh)) (a .out .now) (c .before .before .before .before .loop .out) (a .at) (c .before .before .before .before .loop .i)
+    (a .at + 3 * c .before .before .before .before .loop .i) (c .before .before .before .before .loop .inv .1) (a .count) (c .before .before .before .loop-test .taken)
+    (omega (arith, l, m, c .before .before .before .before .before .before .before .pre .0 .1)) in
+    omega (arith, r)
 
 add-i : tie.Need-add-i Inv-loop μ-loop
 add-i c = omega arith
@@ -46,13 +53,26 @@ loop-less : tie.Need-loop-less Inv-loop μ-loop
 loop-less c = omega arith
 
 loop-again : tie.Need-loop-again Inv-loop μ-loop
-loop-again c = let a = c .before .before .before .before .before .before .before .before .before .before .args in (omega arith, run-turn (freshBlock (a .w .now) (a .fresh)) (a .out .now) (c .before .before .before .before .before .before .before .loop .out) (a .at) (c .before .before .before .before .before .before .before .loop .i) (a .at + 3 * c .before .before .before .before .before .before .before .loop .i) (c .before .before .before .before .before .before .before .loop .inv .1) _ _ (c .before .before .write-point .ensures ∙ ap (λ (p : Point). sets (c .before .before .before .before .before .before .before .loop .out) (a .at + 3 * c .before .before .before .before .before .before .before .loop .i) (three p)) (c .before .before .before .point-of .ensures)) (omega arith))
+loop-again c =
+    let a = c .before .before .before .before .before .before .before .before .before .before .args in (
+      omega arith,
+      run-turn (freshBlock (a .w .now) (a .fresh)) (a .out .now) (c .before .before .before .before .before .before .before .loop .out) (a .at)
+          (c .before .before .before .before .before .before .before .loop .i) (a .at + 3 * c .before .before .before .before .before .before .before .loop .i)
+          (c .before .before .before .before .before .before .before .loop .inv .1) _ _
+          (c .before .before .write-point .ensures ∙ ap (λ (p : Point). sets (c .before .before .before .before .before .before .before .loop .out)
+          (a .at + 3 * c .before .before .before .before .before .before .before .loop .i) (three p)) (c .before .before .before .point-of .ensures)) (omega arith),
+    )
 
 same-length : tie.Need-same-length Inv-loop μ-loop
-same-length c = let a = c .before .before .before .before .args in run-long (freshBlock (a .w .now) (a .fresh)) (a .out .now) (c .before .loop .out) (a .at) (c .before .loop .i) (a .at + 3 * c .before .loop .i) (c .before .loop .inv .1)
+same-length c =
+    let a = c .before .before .before .before .args in
+    run-long (freshBlock (a .w .now) (a .fresh)) (a .out .now) (c .before .loop .out) (a .at) (c .before .loop .i) (a .at + 3 * c .before .loop .i) (c .before .loop .inv .1)
 
 returns : tie.Need-returns Inv-loop μ-loop
-returns c = let a = c .before .before .before .before .args in run-end (freshBlock (a .w .now) (a .fresh)) (a .out .now) (c .before .loop .out) (a .at) (c .before .loop .i) (a .at + 3 * c .before .loop .i) (c .before .loop .inv .1) (a .count) (c .before .loop .inv .0) (c .loop-test .left) _ (fresh-are (a .w .now) (a .fresh) (a .count) (c .before .before .before .before .pre .0 .0))
+returns c =
+    let a = c .before .before .before .before .args in
+    run-end (freshBlock (a .w .now) (a .fresh)) (a .out .now) (c .before .loop .out) (a .at) (c .before .loop .i) (a .at + 3 * c .before .loop .i) (c .before .loop .inv .1)
+    (a .count) (c .before .loop .inv .0) (c .loop-test .left) _ (fresh-are (a .w .now) (a .fresh) (a .count) (c .before .before .before .before .pre .0 .0))
 
 pub write-fresh-spec : {M : Type 1} → statement M
 write-fresh-spec =

@@ -18,13 +18,20 @@ same-length : tie.Need-same-length
 same-length c = search needs
 
 returns : tie.Need-returns
-returns c = let a = c .before .before .before .before .before .before .before .args in c .before .before .copy-numbers .ensures ∙ sym (sets-overlay (a .facets .now) (a .out .now) (c .before .before .before .before .before .before .before .pre .1)) ∙ ap (sets (a .out .now) 0) (own-positive (a .facets .now) (c .before .before .before .before .before .before .before .pre .0) (a .positive) (c .before .before .before .before .if1 .taken))
+returns c =
+    let a = c .before .before .before .before .before .before .before .args in
+    c .before .before .copy-numbers .ensures ∙ sym (sets-overlay (a .facets .now) (a .out .now) (c .before .before .before .before .before .before .before .pre .1)) ∙ ap
+    (sets (a .out .now) 0) (own-positive (a .facets .now) (c .before .before .before .before .before .before .before .pre .0) (a .positive)
+    (c .before .before .before .before .if1 .taken))
 
 same-length-2 : tie.Need-same-length-2
 same-length-2 c = search needs
 
 returns-2 : tie.Need-returns-2
-returns-2 c = let a = c .before .before .before .before .before .before .before .args in c .before .before .write-reversed .ensures ∙ ap (sets (a .out .now) 0) (own-negative (a .facets .now) (c .before .before .before .before .before .before .before .pre .0) (a .positive) (c .before .before .before .before .if1 .left))
+returns-2 c =
+    let a = c .before .before .before .before .before .before .before .args in
+    c .before .before .write-reversed .ensures ∙ ap (sets (a .out .now) 0)
+    (own-negative (a .facets .now) (c .before .before .before .before .before .before .before .pre .0) (a .positive) (c .before .before .before .before .if1 .left))
 
 pub write-own-spec : {M : Type 1} → statement M
 write-own-spec =

@@ -52,7 +52,11 @@ shared-slice-read-write-three-3 : tie.Need-shared-slice-read-write-three-3 Inv-l
 shared-slice-read-write-three-3 c = omega arith
 
 write-three-requires : tie.Need-write-three-requires Inv-loop μ-loop
-write-three-requires c κs = let a = c .before .before .before .before .before .before .before .before .args in let l = run-long (reversedBlock (a .facets .now)) (a .out .now) (c .before .before .before .before .before .loop .out) 0 (c .before .before .before .before .before .loop .i) (3 * c .before .before .before .before .before .loop .i) (c .before .before .before .before .before .loop .inv .1) in omega (arith, l, c .before .before .before .before .before .before .before .before .pre .1)
+write-three-requires c κs =
+    let a = c .before .before .before .before .before .before .before .before .args in
+    let l = run-long (reversedBlock (a .facets .now)) (a .out .now) (c .before .before .before .before .before .loop .out) 0 (c .before .before .before .before .before .loop .i)
+    (3 * c .before .before .before .before .before .loop .i) (c .before .before .before .before .before .loop .inv .1) in
+    omega (arith, l, c .before .before .before .before .before .before .before .before .pre .1)
 
 add-i : tie.Need-add-i Inv-loop μ-loop
 add-i c = omega arith
@@ -61,13 +65,24 @@ loop-less : tie.Need-loop-less Inv-loop μ-loop
 loop-less c = omega arith
 
 loop-again : tie.Need-loop-again Inv-loop μ-loop
-loop-again c = let a = c .before .before .before .before .before .before .before .before .before .before .before .args in (omega arith, run-turn (reversedBlock (a .facets .now)) (a .out .now) (c .before .before .before .before .before .before .before .before .loop .out) 0 (c .before .before .before .before .before .before .before .before .loop .i) (3 * c .before .before .before .before .before .before .before .before .loop .i) (c .before .before .before .before .before .before .before .before .loop .inv .1) _ _ (c .before .before .write-three .ensures) (omega arith))
+loop-again c =
+    let a = c .before .before .before .before .before .before .before .before .before .before .before .args in (
+      omega arith,
+      run-turn (reversedBlock (a .facets .now)) (a .out .now) (c .before .before .before .before .before .before .before .before .loop .out) 0
+          (c .before .before .before .before .before .before .before .before .loop .i) (3 * c .before .before .before .before .before .before .before .before .loop .i)
+          (c .before .before .before .before .before .before .before .before .loop .inv .1) _ _ (c .before .before .write-three .ensures) (omega arith),
+    )
 
 same-length : tie.Need-same-length Inv-loop μ-loop
-same-length c = let a = c .before .before .before .before .args in run-long (reversedBlock (a .facets .now)) (a .out .now) (c .before .loop .out) 0 (c .before .loop .i) (3 * c .before .loop .i) (c .before .loop .inv .1)
+same-length c =
+    let a = c .before .before .before .before .args in
+    run-long (reversedBlock (a .facets .now)) (a .out .now) (c .before .loop .out) 0 (c .before .loop .i) (3 * c .before .loop .i) (c .before .loop .inv .1)
 
 returns : tie.Need-returns Inv-loop μ-loop
-returns c = let a = c .before .before .before .before .args in run-end (reversedBlock (a .facets .now)) (a .out .now) (c .before .loop .out) 0 (c .before .loop .i) (3 * c .before .loop .i) (c .before .loop .inv .1) (length (a .facets .now) / 3) (c .before .loop .inv .0) (c .loop-test .left) _ (reversed-are (a .facets .now))
+returns c =
+    let a = c .before .before .before .before .args in
+    run-end (reversedBlock (a .facets .now)) (a .out .now) (c .before .loop .out) 0 (c .before .loop .i) (3 * c .before .loop .i) (c .before .loop .inv .1)
+    (length (a .facets .now) / 3) (c .before .loop .inv .0) (c .loop-test .left) _ (reversed-are (a .facets .now))
 
 pub write-reversed-spec : {M : Type 1} → statement M
 write-reversed-spec =

@@ -31,7 +31,8 @@ returns c =
     let branch = c .before .before .if1 in
     let is-missing′ = c .before .is-missing in
     let if2′ = c .if2 in
-    walk-stop (missingFace (a .w .now) (a .held)) (a .mask) (l .count) (l .face) (l .inv) (omega arith) (sym (has-face′ .ensures) ∙ branch .taken) (sym (is-missing′ .ensures) ∙ if2′ .taken)
+    walk-stop (missingFace (a .w .now) (a .held)) (a .mask) (l .count) (l .face) (l .inv) (omega arith) (sym (has-face′ .ensures) ∙ branch .taken)
+    (sym (is-missing′ .ensures) ∙ if2′ .taken)
 
 add-count : tie.Need-add-count Inv-loop μ-loop
 add-count c = omega arith
@@ -48,7 +49,10 @@ loop-again c =
     let l = c .before .before .before .loop in
     let has-face′ = c .before .has-face in
     let branch = c .if1 in
-    ⊎-elim (λ t. subst (λ (x : ℕ). FaceWalk (missingFace (a .w .now) (a .held)) (a .mask) x (l .face + 1)) (sym (t .3)) (walk-pass (missingFace (a .w .now) (a .held)) (a .mask) (l .count) (l .face) (l .inv) (omega arith) (sym (has-face′ .ensures) ∙ t .0 .taken) (sym (t .1 .ensures) ∙ t .2 .left))) (λ t. subst (λ (x : ℕ). FaceWalk (missingFace (a .w .now) (a .held)) (a .mask) x (l .face + 1)) (sym (t .1)) (walk-skip (missingFace (a .w .now) (a .held)) (a .mask) (l .count) (l .face) (l .inv) (omega arith) (sym (has-face′ .ensures) ∙ t .0 .left))) (branch .came)
+    ⊎-elim (λ t. subst (λ (x : ℕ). FaceWalk (missingFace (a .w .now) (a .held)) (a .mask) x (l .face + 1)) (sym (t .3))
+    (walk-pass (missingFace (a .w .now) (a .held)) (a .mask) (l .count) (l .face) (l .inv) (omega arith) (sym (has-face′ .ensures) ∙ t .0 .taken)
+    (sym (t .1 .ensures) ∙ t .2 .left))) (λ t. subst (λ (x : ℕ). FaceWalk (missingFace (a .w .now) (a .held)) (a .mask) x (l .face + 1)) (sym (t .1))
+    (walk-skip (missingFace (a .w .now) (a .held)) (a .mask) (l .count) (l .face) (l .inv) (omega arith) (sym (has-face′ .ensures) ∙ t .0 .left))) (branch .came)
 
 returns-2 : tie.Need-returns-2 Inv-loop μ-loop
 returns-2 c =

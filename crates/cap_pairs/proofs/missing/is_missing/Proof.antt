@@ -29,7 +29,8 @@ returns-2 : tie.Need-returns-2
 returns-2 c =
     let a = c .before .before .before .before .args in
     let has-face′ = c .has-face in
-    ap not (has-face′ .ensures) ∙ sym (and-next (leb 3 (getD (a .w .now) (a .face) 0)) (not (hasBit (a .held) (a .face))) (not (hasBit (a .held) (a .face))) (le-leb 3 (getD (a .w .now) (a .face) 0) (omega arith)) refl)
+    ap not (has-face′ .ensures) ∙ sym (and-next (leb 3 (getD (a .w .now) (a .face) 0)) (not (hasBit (a .held) (a .face))) (not (hasBit (a .held) (a .face)))
+    (le-leb 3 (getD (a .w .now) (a .face) 0) (omega arith)) refl)
 
 pub is-missing-spec : {M : Type 1} → statement M
 is-missing-spec =

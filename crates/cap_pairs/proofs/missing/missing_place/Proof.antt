@@ -41,7 +41,11 @@ mul-mask c =
     let numbers-at′ = c .before .before .before .numbers-at in
     let l = c .before .loop in
     let loop-test′ = c .loop-test in
-    record { fits = three-fits (a .n) (a .nf) (length (a .cap-list .now) / 4) (a .k) (a .w .now) (a .w .now) (tables-for (a .n) (a .nf) (a .k) (a .cap-list .now) (a .w .now) (s .pre .0)) refl (open-edges-at′ .result) (numbers-at′ .result) (l .i) (open-edges-at′ .ensures) (numbers-at′ .ensures) (loop-test′ .taken) }
+    record {
+      fits = three-fits (a .n) (a .nf) (length (a .cap-list .now) / 4) (a .k) (a .w .now) (a .w .now)
+          (tables-for (a .n) (a .nf) (a .k) (a .cap-list .now) (a .w .now) (s .pre .0)) refl (open-edges-at′ .result) (numbers-at′ .result) (l .i) (open-edges-at′ .ensures)
+          (numbers-at′ .ensures) (loop-test′ .taken);
+    }
 
 add-mask : tie.Need-add-mask Inv-loop μ-loop
 add-mask c =
@@ -51,7 +55,11 @@ add-mask c =
     let numbers-at′ = c .before .before .before .numbers-at in
     let l = c .before .loop in
     let loop-test′ = c .loop-test in
-    record { fits = edge-fits (a .n) (a .nf) (length (a .cap-list .now) / 4) (a .k) (a .w .now) (a .w .now) (tables-for (a .n) (a .nf) (a .k) (a .cap-list .now) (a .w .now) (s .pre .0)) refl (open-edges-at′ .result) (numbers-at′ .result) (l .i) (open-edges-at′ .ensures) (numbers-at′ .ensures) (loop-test′ .taken) }
+    record {
+      fits = edge-fits (a .n) (a .nf) (length (a .cap-list .now) / 4) (a .k) (a .w .now) (a .w .now)
+          (tables-for (a .n) (a .nf) (a .k) (a .cap-list .now) (a .w .now) (s .pre .0)) refl (open-edges-at′ .result) (numbers-at′ .result) (l .i) (open-edges-at′ .ensures)
+          (numbers-at′ .ensures) (loop-test′ .taken);
+    }
 
 add-mask-2 : tie.Need-add-mask-2 Inv-loop μ-loop
 add-mask-2 c =
@@ -61,7 +69,11 @@ add-mask-2 c =
     let numbers-at′ = c .before .before .before .numbers-at in
     let l = c .before .loop in
     let loop-test′ = c .loop-test in
-    record { fits = small-fits _ (mask-fits (a .n) (a .nf) (length (a .cap-list .now) / 4) (a .k) (a .w .now) (a .w .now) (tables-for (a .n) (a .nf) (a .k) (a .cap-list .now) (a .w .now) (s .pre .0)) refl (open-edges-at′ .result) (numbers-at′ .result) (l .i) (open-edges-at′ .ensures) (numbers-at′ .ensures) (loop-test′ .taken)) }
+    record {
+      fits = small-fits _ (mask-fits (a .n) (a .nf) (length (a .cap-list .now) / 4) (a .k) (a .w .now) (a .w .now)
+          (tables-for (a .n) (a .nf) (a .k) (a .cap-list .now) (a .w .now) (s .pre .0)) refl (open-edges-at′ .result) (numbers-at′ .result) (l .i) (open-edges-at′ .ensures)
+          (numbers-at′ .ensures) (loop-test′ .taken));
+    }
 
 mul-mask-2 : tie.Need-mul-mask-2 Inv-loop μ-loop
 mul-mask-2 c =
@@ -71,7 +83,11 @@ mul-mask-2 c =
     let numbers-at′ = c .before .before .before .numbers-at in
     let l = c .before .loop in
     let loop-test′ = c .loop-test in
-    record { fits = mask-fits (a .n) (a .nf) (length (a .cap-list .now) / 4) (a .k) (a .w .now) (a .w .now) (tables-for (a .n) (a .nf) (a .k) (a .cap-list .now) (a .w .now) (s .pre .0)) refl (open-edges-at′ .result) (numbers-at′ .result) (l .i) (open-edges-at′ .ensures) (numbers-at′ .ensures) (loop-test′ .taken) }
+    record {
+      fits = mask-fits (a .n) (a .nf) (length (a .cap-list .now) / 4) (a .k) (a .w .now) (a .w .now)
+          (tables-for (a .n) (a .nf) (a .k) (a .cap-list .now) (a .w .now) (s .pre .0)) refl (open-edges-at′ .result) (numbers-at′ .result) (l .i) (open-edges-at′ .ensures)
+          (numbers-at′ .ensures) (loop-test′ .taken);
+    }
 
 shared-slice-read-mask : tie.Need-shared-slice-read-mask Inv-loop μ-loop
 shared-slice-read-mask c =
@@ -81,7 +97,8 @@ shared-slice-read-mask c =
     let numbers-at′ = c .before .before .before .before .numbers-at in
     let l = c .before .before .loop in
     let loop-test′ = c .before .loop-test in
-    edge-in (a .n) (a .nf) (length (a .cap-list .now) / 4) (a .k) (a .w .now) (a .w .now) (tables-for (a .n) (a .nf) (a .k) (a .cap-list .now) (a .w .now) (s .pre .0)) refl (open-edges-at′ .result) (numbers-at′ .result) (l .i) (open-edges-at′ .ensures) (numbers-at′ .ensures) (loop-test′ .taken)
+    edge-in (a .n) (a .nf) (length (a .cap-list .now) / 4) (a .k) (a .w .now) (a .w .now) (tables-for (a .n) (a .nf) (a .k) (a .cap-list .now) (a .w .now) (s .pre .0)) refl
+    (open-edges-at′ .result) (numbers-at′ .result) (l .i) (open-edges-at′ .ensures) (numbers-at′ .ensures) (loop-test′ .taken)
 
 add-pair : tie.Need-add-pair Inv-loop μ-loop
 add-pair c =
@@ -91,7 +108,11 @@ add-pair c =
     let numbers-at′ = c .before .before .before .before .numbers-at in
     let l = c .before .before .loop in
     let loop-test′ = c .before .loop-test in
-    record { fits = small-fits _ (number-fits (a .n) (a .nf) (length (a .cap-list .now) / 4) (a .k) (a .w .now) (a .w .now) (tables-for (a .n) (a .nf) (a .k) (a .cap-list .now) (a .w .now) (s .pre .0)) refl (open-edges-at′ .result) (numbers-at′ .result) (l .i) (open-edges-at′ .ensures) (numbers-at′ .ensures) (loop-test′ .taken)) }
+    record {
+      fits = small-fits _ (number-fits (a .n) (a .nf) (length (a .cap-list .now) / 4) (a .k) (a .w .now) (a .w .now)
+          (tables-for (a .n) (a .nf) (a .k) (a .cap-list .now) (a .w .now) (s .pre .0)) refl (open-edges-at′ .result) (numbers-at′ .result) (l .i) (open-edges-at′ .ensures)
+          (numbers-at′ .ensures) (loop-test′ .taken));
+    }
 
 mul-pair : tie.Need-mul-pair Inv-loop μ-loop
 mul-pair c =
@@ -101,7 +122,11 @@ mul-pair c =
     let numbers-at′ = c .before .before .before .before .numbers-at in
     let l = c .before .before .loop in
     let loop-test′ = c .before .loop-test in
-    record { fits = number-fits (a .n) (a .nf) (length (a .cap-list .now) / 4) (a .k) (a .w .now) (a .w .now) (tables-for (a .n) (a .nf) (a .k) (a .cap-list .now) (a .w .now) (s .pre .0)) refl (open-edges-at′ .result) (numbers-at′ .result) (l .i) (open-edges-at′ .ensures) (numbers-at′ .ensures) (loop-test′ .taken) }
+    record {
+      fits = number-fits (a .n) (a .nf) (length (a .cap-list .now) / 4) (a .k) (a .w .now) (a .w .now)
+          (tables-for (a .n) (a .nf) (a .k) (a .cap-list .now) (a .w .now) (s .pre .0)) refl (open-edges-at′ .result) (numbers-at′ .result) (l .i) (open-edges-at′ .ensures)
+          (numbers-at′ .ensures) (loop-test′ .taken);
+    }
 
 shared-slice-read-pair : tie.Need-shared-slice-read-pair Inv-loop μ-loop
 shared-slice-read-pair c =
@@ -111,7 +136,8 @@ shared-slice-read-pair c =
     let numbers-at′ = c .before .before .before .before .before .numbers-at in
     let l = c .before .before .before .loop in
     let loop-test′ = c .before .before .loop-test in
-    number-in (a .n) (a .nf) (length (a .cap-list .now) / 4) (a .k) (a .w .now) (a .w .now) (tables-for (a .n) (a .nf) (a .k) (a .cap-list .now) (a .w .now) (s .pre .0)) refl (open-edges-at′ .result) (numbers-at′ .result) (l .i) (open-edges-at′ .ensures) (numbers-at′ .ensures) (loop-test′ .taken)
+    number-in (a .n) (a .nf) (length (a .cap-list .now) / 4) (a .k) (a .w .now) (a .w .now) (tables-for (a .n) (a .nf) (a .k) (a .cap-list .now) (a .w .now) (s .pre .0)) refl
+    (open-edges-at′ .result) (numbers-at′ .result) (l .i) (open-edges-at′ .ensures) (numbers-at′ .ensures) (loop-test′ .taken)
 
 add-held-before : tie.Need-add-held-before Inv-loop μ-loop
 add-held-before c =
@@ -121,7 +147,10 @@ add-held-before c =
     let held-at′ = c .before .before .before .before .held-at in
     let l = c .before .before .before .loop in
     let loop-test′ = c .before .before .loop-test in
-    record { fits = small-fits _ (held-fits (a .n) (a .nf) (a .k) (a .cap-list .now) (a .w .now) (s .pre .0) (s .pre .1) (l .i) (held-at′ .result) (numbers-at′ .result) (loop-test′ .taken) (held-at′ .ensures) (numbers-at′ .ensures)) }
+    record {
+      fits = small-fits _ (held-fits (a .n) (a .nf) (a .k) (a .cap-list .now) (a .w .now) (s .pre .0) (s .pre .1) (l .i) (held-at′ .result) (numbers-at′ .result)
+          (loop-test′ .taken) (held-at′ .ensures) (numbers-at′ .ensures));
+    }
 
 mul-held-before : tie.Need-mul-held-before Inv-loop μ-loop
 mul-held-before c =
@@ -131,7 +160,10 @@ mul-held-before c =
     let held-at′ = c .before .before .before .before .held-at in
     let l = c .before .before .before .loop in
     let loop-test′ = c .before .before .loop-test in
-    record { fits = held-fits (a .n) (a .nf) (a .k) (a .cap-list .now) (a .w .now) (s .pre .0) (s .pre .1) (l .i) (held-at′ .result) (numbers-at′ .result) (loop-test′ .taken) (held-at′ .ensures) (numbers-at′ .ensures) }
+    record {
+      fits = held-fits (a .n) (a .nf) (a .k) (a .cap-list .now) (a .w .now) (s .pre .0) (s .pre .1) (l .i) (held-at′ .result) (numbers-at′ .result) (loop-test′ .taken)
+          (held-at′ .ensures) (numbers-at′ .ensures);
+    }
 
 shared-slice-read-held-before : tie.Need-shared-slice-read-held-before Inv-loop μ-loop
 shared-slice-read-held-before c =
@@ -141,7 +173,8 @@ shared-slice-read-held-before c =
     let held-at′ = c .before .before .before .before .before .held-at in
     let l = c .before .before .before .before .loop in
     let loop-test′ = c .before .before .before .loop-test in
-    held-in (a .n) (a .nf) (a .k) (a .cap-list .now) (a .w .now) (s .pre .0) (s .pre .1) (l .i) (held-at′ .result) (numbers-at′ .result) (loop-test′ .taken) (held-at′ .ensures) (numbers-at′ .ensures)
+    held-in (a .n) (a .nf) (a .k) (a .cap-list .now) (a .w .now) (s .pre .0) (s .pre .1) (l .i) (held-at′ .result) (numbers-at′ .result) (loop-test′ .taken) (held-at′ .ensures)
+    (numbers-at′ .ensures)
 
 held-before-requires : tie.Need-held-before-requires Inv-loop μ-loop
 held-before-requires c κs = omega (arith, c .before .before .before .before .before .before .before .before .before .before .pre .0 .ready .supplied .size)
@@ -156,7 +189,11 @@ add-place c =
     let l = c .before .before .before .before .before .loop in
     let loop-test′ = c .before .before .before .before .loop-test in
     let held-before′ = c .held-before in
-    record { fits = row-fits (a .n) (a .nf) (a .k) (a .cap-list .now) (a .w .now) (s .pre .0) (s .pre .1) (l .place) (l .i) (l .inv) (loop-test′ .taken) (open-edges-at′ .result) (numbers-at′ .result) (held-at′ .result) (open-edges-at′ .ensures) (numbers-at′ .ensures) (held-at′ .ensures) (held-before′ .result) (bitCount (getD (a .w .now) (open-edges-at′ .result + 3 * l .i + 2) 0)) (held-before′ .ensures) refl }
+    record {
+      fits = row-fits (a .n) (a .nf) (a .k) (a .cap-list .now) (a .w .now) (s .pre .0) (s .pre .1) (l .place) (l .i) (l .inv) (loop-test′ .taken) (open-edges-at′ .result)
+          (numbers-at′ .result) (held-at′ .result) (open-edges-at′ .ensures) (numbers-at′ .ensures) (held-at′ .ensures) (held-before′ .result)
+          (bitCount (getD (a .w .now) (open-edges-at′ .result + 3 * l .i + 2) 0)) (held-before′ .ensures) refl;
+    }
 
 count-faces-requires : tie.Need-count-faces-requires Inv-loop μ-loop
 count-faces-requires c κs = omega arith
@@ -173,7 +210,9 @@ returns c =
     let held-before′ = c .before .before .held-before in
     let count-faces′ = c .before .count-faces in
     let branch = c .if1 in
-    row-stop (a .n) (a .nf) (a .k) (a .cap-list .now) (a .w .now) (s .pre .0) (s .pre .1) (l .place) (l .i) (l .inv) (loop-test′ .taken) (open-edges-at′ .result) (numbers-at′ .result) (held-at′ .result) (open-edges-at′ .ensures) (numbers-at′ .ensures) (held-at′ .ensures) (held-before′ .result) (count-faces′ .result) (held-before′ .ensures) (count-faces′ .ensures) (branch .taken)
+    row-stop (a .n) (a .nf) (a .k) (a .cap-list .now) (a .w .now) (s .pre .0) (s .pre .1) (l .place) (l .i) (l .inv) (loop-test′ .taken) (open-edges-at′ .result)
+    (numbers-at′ .result) (held-at′ .result) (open-edges-at′ .ensures) (numbers-at′ .ensures) (held-at′ .ensures) (held-before′ .result) (count-faces′ .result)
+    (held-before′ .ensures) (count-faces′ .ensures) (branch .taken)
 
 add-i : tie.Need-add-i Inv-loop μ-loop
 add-i c = omega arith
@@ -192,7 +231,9 @@ loop-again c =
     let loop-test′ = c .before .before .before .before .before .before .loop-test in
     let held-before′ = c .before .before .held-before in
     let count-faces′ = c .before .count-faces in
-    row-more (a .n) (a .nf) (a .k) (a .cap-list .now) (a .w .now) (s .pre .0) (s .pre .1) (l .place) (l .i) (l .inv) (loop-test′ .taken) (open-edges-at′ .result) (numbers-at′ .result) (held-at′ .result) (open-edges-at′ .ensures) (numbers-at′ .ensures) (held-at′ .ensures) (held-before′ .result) (count-faces′ .result) (held-before′ .ensures) (count-faces′ .ensures) (omega arith)
+    row-more (a .n) (a .nf) (a .k) (a .cap-list .now) (a .w .now) (s .pre .0) (s .pre .1) (l .place) (l .i) (l .inv) (loop-test′ .taken) (open-edges-at′ .result)
+    (numbers-at′ .result) (held-at′ .result) (open-edges-at′ .ensures) (numbers-at′ .ensures) (held-at′ .ensures) (held-before′ .result) (count-faces′ .result)
+    (held-before′ .ensures) (count-faces′ .ensures) (omega arith)
 
 returns-2 : tie.Need-returns-2 Inv-loop μ-loop
 returns-2 c =

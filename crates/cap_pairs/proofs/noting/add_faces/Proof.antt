@@ -40,8 +40,13 @@ loop-again c =
     let a = c .before .before .before .before .before .args in
     let l = c .before .before .before .loop in
     let has-face′ = c .before .has-face in
-    let branch = c .if1 in
-    (⊎-elim (λ t. subst (λ (u : List ℕ). Added (a .w .now) u (a .at) (Below (a .mask) (l .face + 1))) (sym (t .5)) (adding-turn (a .w .now) (a .at) (a .mask) (l .w) (l .face) (l .inv .0) (t .2 .last .0) (sym (has-face′ .ensures) ∙ t .0 .taken) (t .2 .ensures))) (λ t. subst (λ (u : List ℕ). Added (a .w .now) u (a .at) (Below (a .mask) (l .face + 1))) (sym (t .1)) (adding-skip (a .w .now) (a .at) (a .mask) (l .w) (l .face) (l .inv .0) (sym (has-face′ .ensures) ∙ t .0 .left))) (branch .came), omega arith)
+    let branch = c .if1 in (
+      ⊎-elim (λ t. subst (λ (u : List ℕ). Added (a .w .now) u (a .at) (Below (a .mask) (l .face + 1))) (sym (t .5))
+          (adding-turn (a .w .now) (a .at) (a .mask) (l .w) (l .face) (l .inv .0) (t .2 .last .0) (sym (has-face′ .ensures) ∙ t .0 .taken) (t .2 .ensures)))
+          (λ t. subst (λ (u : List ℕ). Added (a .w .now) u (a .at) (Below (a .mask) (l .face + 1))) (sym (t .1))
+          (adding-skip (a .w .now) (a .at) (a .mask) (l .w) (l .face) (l .inv .0) (sym (has-face′ .ensures) ∙ t .0 .left))) (branch .came),
+      omega arith,
+    )
 
 same-length : tie.Need-same-length Inv-loop μ-loop
 same-length c = c .before .loop .inv .0 .long

@@ -37,13 +37,15 @@ returns : tie.Need-returns
 returns c =
     let a = c .before .before .before .args in
     let branch = c .if1 in
-    sym (cond-true (eqb (getD (a .w .now) (a .at) 0) (getD (a .w .now) (a .at + 1) 0)) 0 (getD (a .w .now) (a .at + 2) 0) 0 (eq-eqb (getD (a .w .now) (a .at) 0) (getD (a .w .now) (a .at + 1) 0) (branch .taken)) refl)
+    sym (cond-true (eqb (getD (a .w .now) (a .at) 0) (getD (a .w .now) (a .at + 1) 0)) 0 (getD (a .w .now) (a .at + 2) 0) 0
+    (eq-eqb (getD (a .w .now) (a .at) 0) (getD (a .w .now) (a .at + 1) 0) (branch .taken)) refl)
 
 returns-2 : tie.Need-returns-2
 returns-2 c =
     let a = c .before .before .before .before .args in
     let branch = c .before .if1 in
-    sym (cond-false (eqb (getD (a .w .now) (a .at) 0) (getD (a .w .now) (a .at + 1) 0)) 0 (getD (a .w .now) (a .at + 2) 0) (getD (a .w .now) (a .at + 2) 0) (ne-eqb (getD (a .w .now) (a .at) 0) (getD (a .w .now) (a .at + 1) 0) (branch .left)) refl)
+    sym (cond-false (eqb (getD (a .w .now) (a .at) 0) (getD (a .w .now) (a .at + 1) 0)) 0 (getD (a .w .now) (a .at + 2) 0) (getD (a .w .now) (a .at + 2) 0)
+    (ne-eqb (getD (a .w .now) (a .at) 0) (getD (a .w .now) (a .at + 1) 0) (branch .left)) refl)
 
 pub edge-faces-spec : {M : Type 1} → statement M
 edge-faces-spec =

@@ -41,7 +41,10 @@ mul-way-at c =
     let open-edges-at′ = c .before .before .before .before .before .before .open-edges-at in
     let numbers-at′ = c .before .before .before .before .before .numbers-at in
     let l = c .before .before .loop in
-    record { fits = three-fits (a .n) (a .nf) (a .nc) (a .k) (a .w .now) (l .w) (s .pre .0) (l .inv .0 .long) (open-edges-at′ .result) (numbers-at′ .result) (l .i) (open-edges-at′ .ensures) (numbers-at′ .ensures) (omega arith) }
+    record {
+      fits = three-fits (a .n) (a .nf) (a .nc) (a .k) (a .w .now) (l .w) (s .pre .0) (l .inv .0 .long) (open-edges-at′ .result) (numbers-at′ .result) (l .i)
+          (open-edges-at′ .ensures) (numbers-at′ .ensures) (omega arith);
+    }
 
 add-way-at : tie.Need-add-way-at Inv-loop μ-loop
 add-way-at c =
@@ -50,7 +53,10 @@ add-way-at c =
     let open-edges-at′ = c .before .before .before .before .before .before .open-edges-at in
     let numbers-at′ = c .before .before .before .before .before .numbers-at in
     let l = c .before .before .loop in
-    record { fits = edge-fits (a .n) (a .nf) (a .nc) (a .k) (a .w .now) (l .w) (s .pre .0) (l .inv .0 .long) (open-edges-at′ .result) (numbers-at′ .result) (l .i) (open-edges-at′ .ensures) (numbers-at′ .ensures) (omega arith) }
+    record {
+      fits = edge-fits (a .n) (a .nf) (a .nc) (a .k) (a .w .now) (l .w) (s .pre .0) (l .inv .0 .long) (open-edges-at′ .result) (numbers-at′ .result) (l .i)
+          (open-edges-at′ .ensures) (numbers-at′ .ensures) (omega arith);
+    }
 
 way-at-requires : tie.Need-way-at-requires Inv-loop μ-loop
 way-at-requires c κs =
@@ -59,7 +65,8 @@ way-at-requires c κs =
     let open-edges-at′ = c .before .before .before .before .before .before .open-edges-at in
     let numbers-at′ = c .before .before .before .before .before .numbers-at in
     let l = c .before .before .loop in
-    edge-in-1 (a .n) (a .nf) (a .nc) (a .k) (a .w .now) (l .w) (s .pre .0) (l .inv .0 .long) (open-edges-at′ .result) (numbers-at′ .result) (l .i) (open-edges-at′ .ensures) (numbers-at′ .ensures) (omega arith)
+    edge-in-1 (a .n) (a .nf) (a .nc) (a .k) (a .w .now) (l .w) (s .pre .0) (l .inv .0 .long) (open-edges-at′ .result) (numbers-at′ .result) (l .i) (open-edges-at′ .ensures)
+    (numbers-at′ .ensures) (omega arith)
 
 add-pair : tie.Need-add-pair Inv-loop μ-loop
 add-pair c = omega arith
@@ -71,7 +78,10 @@ mul-pair c =
     let open-edges-at′ = c .before .before .before .before .before .before .before .open-edges-at in
     let numbers-at′ = c .before .before .before .before .before .before .numbers-at in
     let l = c .before .before .before .loop in
-    record { fits = number-fits (a .n) (a .nf) (a .nc) (a .k) (a .w .now) (l .w) (s .pre .0) (l .inv .0 .long) (open-edges-at′ .result) (numbers-at′ .result) (l .i) (open-edges-at′ .ensures) (numbers-at′ .ensures) (omega arith) }
+    record {
+      fits = number-fits (a .n) (a .nf) (a .nc) (a .k) (a .w .now) (l .w) (s .pre .0) (l .inv .0 .long) (open-edges-at′ .result) (numbers-at′ .result) (l .i)
+          (open-edges-at′ .ensures) (numbers-at′ .ensures) (omega arith);
+    }
 
 slice-read-pair : tie.Need-slice-read-pair Inv-loop μ-loop
 slice-read-pair c =
@@ -80,7 +90,8 @@ slice-read-pair c =
     let open-edges-at′ = c .before .before .before .before .before .before .before .before .open-edges-at in
     let numbers-at′ = c .before .before .before .before .before .before .before .numbers-at in
     let l = c .before .before .before .before .loop in
-    number-in (a .n) (a .nf) (a .nc) (a .k) (a .w .now) (l .w) (s .pre .0) (l .inv .0 .long) (open-edges-at′ .result) (numbers-at′ .result) (l .i) (open-edges-at′ .ensures) (numbers-at′ .ensures) (omega arith)
+    number-in (a .n) (a .nf) (a .nc) (a .k) (a .w .now) (l .w) (s .pre .0) (l .inv .0 .long) (open-edges-at′ .result) (numbers-at′ .result) (l .i) (open-edges-at′ .ensures)
+    (numbers-at′ .ensures) (omega arith)
 
 mul-edge-faces : tie.Need-mul-edge-faces Inv-loop μ-loop
 mul-edge-faces c =
@@ -89,7 +100,10 @@ mul-edge-faces c =
     let open-edges-at′ = c .before .before .before .before .before .before .before .before .before .open-edges-at in
     let numbers-at′ = c .before .before .before .before .before .before .before .before .numbers-at in
     let l = c .before .before .before .before .before .loop in
-    record { fits = three-fits (a .n) (a .nf) (a .nc) (a .k) (a .w .now) (l .w) (s .pre .0) (l .inv .0 .long) (open-edges-at′ .result) (numbers-at′ .result) (l .i) (open-edges-at′ .ensures) (numbers-at′ .ensures) (omega arith) }
+    record {
+      fits = three-fits (a .n) (a .nf) (a .nc) (a .k) (a .w .now) (l .w) (s .pre .0) (l .inv .0 .long) (open-edges-at′ .result) (numbers-at′ .result) (l .i)
+          (open-edges-at′ .ensures) (numbers-at′ .ensures) (omega arith);
+    }
 
 add-edge-faces : tie.Need-add-edge-faces Inv-loop μ-loop
 add-edge-faces c =
@@ -98,7 +112,10 @@ add-edge-faces c =
     let open-edges-at′ = c .before .before .before .before .before .before .before .before .before .open-edges-at in
     let numbers-at′ = c .before .before .before .before .before .before .before .before .numbers-at in
     let l = c .before .before .before .before .before .loop in
-    record { fits = edge-fits (a .n) (a .nf) (a .nc) (a .k) (a .w .now) (l .w) (s .pre .0) (l .inv .0 .long) (open-edges-at′ .result) (numbers-at′ .result) (l .i) (open-edges-at′ .ensures) (numbers-at′ .ensures) (omega arith) }
+    record {
+      fits = edge-fits (a .n) (a .nf) (a .nc) (a .k) (a .w .now) (l .w) (s .pre .0) (l .inv .0 .long) (open-edges-at′ .result) (numbers-at′ .result) (l .i)
+          (open-edges-at′ .ensures) (numbers-at′ .ensures) (omega arith);
+    }
 
 edge-faces-requires : tie.Need-edge-faces-requires Inv-loop μ-loop
 edge-faces-requires c κs =
@@ -107,7 +124,8 @@ edge-faces-requires c κs =
     let open-edges-at′ = c .before .before .before .before .before .before .before .before .before .open-edges-at in
     let numbers-at′ = c .before .before .before .before .before .before .before .before .numbers-at in
     let l = c .before .before .before .before .before .loop in
-    edge-in (a .n) (a .nf) (a .nc) (a .k) (a .w .now) (l .w) (s .pre .0) (l .inv .0 .long) (open-edges-at′ .result) (numbers-at′ .result) (l .i) (open-edges-at′ .ensures) (numbers-at′ .ensures) (omega arith)
+    edge-in (a .n) (a .nf) (a .nc) (a .k) (a .w .now) (l .w) (s .pre .0) (l .inv .0 .long) (open-edges-at′ .result) (numbers-at′ .result) (l .i) (open-edges-at′ .ensures)
+    (numbers-at′ .ensures) (omega arith)
 
 add-add-faces : tie.Need-add-add-faces Inv-loop μ-loop
 add-add-faces c =
@@ -119,7 +137,12 @@ add-add-faces c =
     let down-at′ = c .before .before .before .before .before .before .before .before .down-at in
     let l = c .before .before .before .before .before .before .before .loop in
     let way-at′ = c .before .before .before .before .way-at in
-    omega (arith, note-edge-asks (a .n) (a .nf) (a .nc) (a .k) (a .w .now) (s .pre .0) (s .pre .1 .0) (s .pre .1 .1) (l .w) (l .i) (l .inv .0) (open-edges-at′ .result) (numbers-at′ .result) (up-at′ .result) (down-at′ .result) (open-edges-at′ .ensures) (numbers-at′ .ensures) (up-at′ .ensures) (down-at′ .ensures) (omega arith) (way-at′ .result) (getD (l .w) (numbers-at′ .result + l .i) 0) (way-at′ .ensures) refl .0)
+    omega (
+      arith,
+      note-edge-asks (a .n) (a .nf) (a .nc) (a .k) (a .w .now) (s .pre .0) (s .pre .1 .0) (s .pre .1 .1) (l .w) (l .i) (l .inv .0) (open-edges-at′ .result)
+          (numbers-at′ .result) (up-at′ .result) (down-at′ .result) (open-edges-at′ .ensures) (numbers-at′ .ensures) (up-at′ .ensures) (down-at′ .ensures) (omega arith)
+          (way-at′ .result) (getD (l .w) (numbers-at′ .result + l .i) 0) (way-at′ .ensures) refl .0,
+    )
 
 add-faces-requires : tie.Need-add-faces-requires Inv-loop μ-loop
 add-faces-requires c κs =
@@ -131,7 +154,9 @@ add-faces-requires c κs =
     let down-at′ = c .before .before .before .before .before .before .before .before .down-at in
     let l = c .before .before .before .before .before .before .before .loop in
     let way-at′ = c .before .before .before .before .way-at in
-    note-edge-asks (a .n) (a .nf) (a .nc) (a .k) (a .w .now) (s .pre .0) (s .pre .1 .0) (s .pre .1 .1) (l .w) (l .i) (l .inv .0) (open-edges-at′ .result) (numbers-at′ .result) (up-at′ .result) (down-at′ .result) (open-edges-at′ .ensures) (numbers-at′ .ensures) (up-at′ .ensures) (down-at′ .ensures) (omega arith) (way-at′ .result) (getD (l .w) (numbers-at′ .result + l .i) 0) (way-at′ .ensures) refl
+    note-edge-asks (a .n) (a .nf) (a .nc) (a .k) (a .w .now) (s .pre .0) (s .pre .1 .0) (s .pre .1 .1) (l .w) (l .i) (l .inv .0) (open-edges-at′ .result) (numbers-at′ .result)
+    (up-at′ .result) (down-at′ .result) (open-edges-at′ .ensures) (numbers-at′ .ensures) (up-at′ .ensures) (down-at′ .ensures) (omega arith) (way-at′ .result)
+    (getD (l .w) (numbers-at′ .result + l .i) 0) (way-at′ .ensures) refl
 
 add-i : tie.Need-add-i Inv-loop μ-loop
 add-i c = omega arith
@@ -150,8 +175,12 @@ loop-again c =
     let l = c .before .before .before .before .before .before .before .before .before .before .loop in
     let way-at′ = c .before .before .before .before .before .before .before .way-at in
     let edge-faces′ = c .before .before .before .before .edge-faces in
-    let add-faces′ = c .before .before .add-faces in
-    (note-edge-turn (a .n) (a .nf) (a .nc) (a .k) (a .w .now) (s .pre .0) (s .pre .1 .0) (s .pre .1 .1) (l .w) (l .i) (l .inv .0) (open-edges-at′ .result) (numbers-at′ .result) (up-at′ .result) (down-at′ .result) (open-edges-at′ .ensures) (numbers-at′ .ensures) (up-at′ .ensures) (down-at′ .ensures) (omega arith) (way-at′ .result) (getD (l .w) (numbers-at′ .result + l .i) 0) (way-at′ .ensures) refl (edge-faces′ .result) (add-faces′ .last .0) (edge-faces′ .ensures) (add-faces′ .ensures), omega arith)
+    let add-faces′ = c .before .before .add-faces in (
+      note-edge-turn (a .n) (a .nf) (a .nc) (a .k) (a .w .now) (s .pre .0) (s .pre .1 .0) (s .pre .1 .1) (l .w) (l .i) (l .inv .0) (open-edges-at′ .result) (numbers-at′ .result)
+          (up-at′ .result) (down-at′ .result) (open-edges-at′ .ensures) (numbers-at′ .ensures) (up-at′ .ensures) (down-at′ .ensures) (omega arith) (way-at′ .result)
+          (getD (l .w) (numbers-at′ .result + l .i) 0) (way-at′ .ensures) refl (edge-faces′ .result) (add-faces′ .last .0) (edge-faces′ .ensures) (add-faces′ .ensures),
+      omega arith,
+    )
 
 same-length : tie.Need-same-length Inv-loop μ-loop
 same-length c = c .before .loop .inv .0 .long
@@ -160,7 +189,8 @@ returns : tie.Need-returns Inv-loop μ-loop
 returns c =
     let a = c .before .before .before .before .before .before .before .args in
     let l = c .before .loop in
-    subst (λ (x : ℕ). Noted (edgeTarget (a .n) (a .nf) (a .nc) (a .w .now)) (λ j. hasBit (edgeMask (a .n) (a .nf) (a .nc) (a .w .now) j)) (a .w .now) (l .w) x) (omega arith) (l .inv .0)
+    subst (λ (x : ℕ). Noted (edgeTarget (a .n) (a .nf) (a .nc) (a .w .now)) (λ j. hasBit (edgeMask (a .n) (a .nf) (a .nc) (a .w .now) j)) (a .w .now) (l .w) x) (omega arith)
+    (l .inv .0)
 
 pub note-edges-spec : {M : Type 1} → statement M
 note-edges-spec =

@@ -55,7 +55,8 @@ zero-part-requires-3 c κs =
     let zero-part′ = c .before .before .before .before .before .before .before .before .before .zero-part in
     let zero-part2′ = c .before .before .before .before .zero-part2 in
     let held-at′ = c .held-at in
-    held-room (a .n) (a .nf) (a .k) (a .cap-list .now) (a .w .now) (s .pre .0) (zero-part2′ .last .0) (zero-part2′ .ensures .long ∙ zero-part′ .ensures .long) (held-at′ .result) (held-at′ .ensures)
+    held-room (a .n) (a .nf) (a .k) (a .cap-list .now) (a .w .now) (s .pre .0) (zero-part2′ .last .0) (zero-part2′ .ensures .long ∙ zero-part′ .ensures .long) (held-at′ .result)
+    (held-at′ .ensures)
 
 note-edges-requires : tie.Need-note-edges-requires
 note-edges-requires c κs =
@@ -66,12 +67,24 @@ note-edges-requires c κs =
     let down-at′ = c .before .before .before .before .before .before .before .before .before .down-at in
     let zero-part2′ = c .before .before .before .before .before .before .before .before .zero-part2 in
     let held-at′ = c .before .before .before .before .held-at in
-    let zero-part3′ = c .before .before .before .zero-part3 in
-    (tables-cleared (a .n) (a .nf) (a .k) (a .cap-list .now) (a .w .now) (s .pre .0) (s .pre .1) (zero-part′ .last .0) (zero-part2′ .last .0) (zero-part3′ .last .0) (up-at′ .result) (down-at′ .result) (held-at′ .result) (up-at′ .ensures) (down-at′ .ensures) (held-at′ .ensures) (zero-part′ .ensures) (zero-part2′ .ensures) (zero-part3′ .ensures), (numbers-cleared (a .n) (a .nf) (a .k) (a .cap-list .now) (a .w .now) (s .pre .0) (s .pre .1) (zero-part′ .last .0) (zero-part2′ .last .0) (zero-part3′ .last .0) (up-at′ .result) (down-at′ .result) (held-at′ .result) (up-at′ .ensures) (down-at′ .ensures) (held-at′ .ensures) (zero-part′ .ensures) (zero-part2′ .ensures) (zero-part3′ .ensures), zeros-cleared (a .n) (a .nf) (a .k) (a .cap-list .now) (a .w .now) (s .pre .0) (s .pre .1) (zero-part′ .last .0) (zero-part2′ .last .0) (zero-part3′ .last .0) (up-at′ .result) (down-at′ .result) (held-at′ .result) (up-at′ .ensures) (down-at′ .ensures) (held-at′ .ensures) (zero-part′ .ensures) (zero-part2′ .ensures) (zero-part3′ .ensures)))
+    let zero-part3′ = c .before .before .before .zero-part3 in (
+      tables-cleared (a .n) (a .nf) (a .k) (a .cap-list .now) (a .w .now) (s .pre .0) (s .pre .1) (zero-part′ .last .0) (zero-part2′ .last .0) (zero-part3′ .last .0)
+          (up-at′ .result) (down-at′ .result) (held-at′ .result) (up-at′ .ensures) (down-at′ .ensures) (held-at′ .ensures) (zero-part′ .ensures) (zero-part2′ .ensures)
+          (zero-part3′ .ensures),
+      (
+        numbers-cleared (a .n) (a .nf) (a .k) (a .cap-list .now) (a .w .now) (s .pre .0) (s .pre .1) (zero-part′ .last .0) (zero-part2′ .last .0)
+            (zero-part3′ .last .0) (up-at′ .result) (down-at′ .result) (held-at′ .result) (up-at′ .ensures) (down-at′ .ensures) (held-at′ .ensures) (zero-part′ .ensures)
+            (zero-part2′ .ensures) (zero-part3′ .ensures),
+        zeros-cleared (a .n) (a .nf) (a .k) (a .cap-list .now) (a .w .now) (s .pre .0) (s .pre .1) (zero-part′ .last .0)
+            (zero-part2′ .last .0) (zero-part3′ .last .0) (up-at′ .result) (down-at′ .result) (held-at′ .result) (up-at′ .ensures) (down-at′ .ensures) (held-at′ .ensures)
+            (zero-part′ .ensures) (zero-part2′ .ensures) (zero-part3′ .ensures),
+      ),
+    )
 
 note-sides-requires : tie.Need-note-sides-requires
 note-sides-requires c κs =
-    let s = c .before .before .before .before .before .before .before .before .before .before .before .before .before .before .before .before .before .before .before .before .before .before in
+    let s = c .before .before .before .before .before .before .before .before .before .before .before .before .before .before .before .before .before .before .before .before
+    .before .before in
     let a = s .args in
     let up-at′ = c .before .before .before .before .before .before .before .before .before .before .before .before .before .before .before .before .before .before .up-at in
     let zero-part′ = c .before .before .before .before .before .before .before .before .before .before .before .before .before .before .before .before .before .zero-part in
@@ -79,25 +92,51 @@ note-sides-requires c κs =
     let zero-part2′ = c .before .before .before .before .before .before .before .before .before .before .before .before .zero-part2 in
     let held-at′ = c .before .before .before .before .before .before .before .before .held-at in
     let zero-part3′ = c .before .before .before .before .before .before .before .zero-part3 in
-    let note-edges′ = c .before .before .before .note-edges in
-    (tables-noted (a .n) (a .nf) (a .k) (a .cap-list .now) (a .w .now) (s .pre .0) (s .pre .1) (zero-part′ .last .0) (zero-part2′ .last .0) (zero-part3′ .last .0) (up-at′ .result) (down-at′ .result) (held-at′ .result) (up-at′ .ensures) (down-at′ .ensures) (held-at′ .ensures) (zero-part′ .ensures) (zero-part2′ .ensures) (zero-part3′ .ensures) (note-edges′ .last .0) (note-edges′ .ensures), (numbers-noted (a .n) (a .nf) (a .k) (a .cap-list .now) (a .w .now) (s .pre .0) (s .pre .1) (zero-part′ .last .0) (zero-part2′ .last .0) (zero-part3′ .last .0) (up-at′ .result) (down-at′ .result) (held-at′ .result) (up-at′ .ensures) (down-at′ .ensures) (held-at′ .ensures) (zero-part′ .ensures) (zero-part2′ .ensures) (zero-part3′ .ensures) (note-edges′ .last .0) (note-edges′ .ensures), (zeros-noted (a .n) (a .nf) (a .k) (a .cap-list .now) (a .w .now) (s .pre .0) (s .pre .1) (zero-part′ .last .0) (zero-part2′ .last .0) (zero-part3′ .last .0) (up-at′ .result) (down-at′ .result) (held-at′ .result) (up-at′ .ensures) (down-at′ .ensures) (held-at′ .ensures) (zero-part′ .ensures) (zero-part2′ .ensures) (zero-part3′ .ensures) (note-edges′ .last .0) (note-edges′ .ensures), sides-faces (a .n) (a .nf) (a .k) (a .cap-list .now) (a .w .now) (s .pre .0) (s .pre .1) (zero-part′ .last .0) (zero-part2′ .last .0) (zero-part3′ .last .0) (up-at′ .result) (down-at′ .result) (held-at′ .result) (up-at′ .ensures) (down-at′ .ensures) (held-at′ .ensures) (zero-part′ .ensures) (zero-part2′ .ensures) (zero-part3′ .ensures) (note-edges′ .last .0) (note-edges′ .ensures))))
+    let note-edges′ = c .before .before .before .note-edges in (
+      tables-noted (a .n) (a .nf) (a .k) (a .cap-list .now) (a .w .now) (s .pre .0) (s .pre .1) (zero-part′ .last .0) (zero-part2′ .last .0) (zero-part3′ .last .0) (up-at′ .result)
+          (down-at′ .result) (held-at′ .result) (up-at′ .ensures) (down-at′ .ensures) (held-at′ .ensures) (zero-part′ .ensures) (zero-part2′ .ensures) (zero-part3′ .ensures)
+          (note-edges′ .last .0) (note-edges′ .ensures),
+      (
+        numbers-noted (a .n) (a .nf) (a .k) (a .cap-list .now) (a .w .now) (s .pre .0) (s .pre .1) (zero-part′ .last .0)
+            (zero-part2′ .last .0) (zero-part3′ .last .0) (up-at′ .result) (down-at′ .result) (held-at′ .result) (up-at′ .ensures) (down-at′ .ensures) (held-at′ .ensures)
+            (zero-part′ .ensures) (zero-part2′ .ensures) (zero-part3′ .ensures) (note-edges′ .last .0) (note-edges′ .ensures),
+        (
+          zeros-noted (a .n) (a .nf) (a .k) (a .cap-list .now) (a .w .now) (s .pre .0) (s .pre .1) (zero-part′ .last .0) (zero-part2′ .last .0) (zero-part3′ .last .0)
+              (up-at′ .result) (down-at′ .result) (held-at′ .result) (up-at′ .ensures) (down-at′ .ensures) (held-at′ .ensures) (zero-part′ .ensures) (zero-part2′ .ensures)
+              (zero-part3′ .ensures) (note-edges′ .last .0) (note-edges′ .ensures),
+          sides-faces (a .n) (a .nf) (a .k) (a .cap-list .now) (a .w .now) (s .pre .0) (s .pre .1)
+              (zero-part′ .last .0) (zero-part2′ .last .0) (zero-part3′ .last .0) (up-at′ .result) (down-at′ .result) (held-at′ .result) (up-at′ .ensures) (down-at′ .ensures)
+              (held-at′ .ensures) (zero-part′ .ensures) (zero-part2′ .ensures) (zero-part3′ .ensures) (note-edges′ .last .0) (note-edges′ .ensures),
+        ),
+      ),
+    )
 
 same-length : tie.Need-same-length
 same-length c = search needs
 
 returns : tie.Need-returns
 returns c =
-    let s = c .before .before .before .before .before .before .before .before .before .before .before .before .before .before .before .before .before .before .before .before .before .before .before .before .before in
+    let s = c .before .before .before .before .before .before .before .before .before .before .before .before .before .before .before .before .before .before .before .before
+    .before .before .before .before .before in
     let a = s .args in
-    let up-at′ = c .before .before .before .before .before .before .before .before .before .before .before .before .before .before .before .before .before .before .before .before .before .up-at in
-    let zero-part′ = c .before .before .before .before .before .before .before .before .before .before .before .before .before .before .before .before .before .before .before .before .zero-part in
+    let up-at′ = c .before .before .before .before .before .before .before .before .before .before .before .before .before .before .before .before .before .before .before .before
+    .before .up-at in
+    let zero-part′ = c .before .before .before .before .before .before .before .before .before .before .before .before .before .before .before .before .before .before .before
+    .before .zero-part in
     let down-at′ = c .before .before .before .before .before .before .before .before .before .before .before .before .before .before .before .before .down-at in
     let zero-part2′ = c .before .before .before .before .before .before .before .before .before .before .before .before .before .before .before .zero-part2 in
     let held-at′ = c .before .before .before .before .before .before .before .before .before .before .before .held-at in
     let zero-part3′ = c .before .before .before .before .before .before .before .before .before .before .zero-part3 in
     let note-edges′ = c .before .before .before .before .before .before .note-edges in
-    let note-sides′ = c .before .before .note-sides in
-    (above-all (a .n) (a .nf) (a .k) (a .cap-list .now) (a .w .now) (s .pre .0) (s .pre .1) (zero-part′ .last .0) (zero-part2′ .last .0) (zero-part3′ .last .0) (up-at′ .result) (down-at′ .result) (held-at′ .result) (up-at′ .ensures) (down-at′ .ensures) (held-at′ .ensures) (zero-part′ .ensures) (zero-part2′ .ensures) (zero-part3′ .ensures) (note-edges′ .last .0) (note-edges′ .ensures) (note-sides′ .last .0) (note-sides′ .ensures), known (a .n) (a .nf) (a .k) (a .cap-list .now) (a .w .now) (s .pre .0) (s .pre .1) (zero-part′ .last .0) (zero-part2′ .last .0) (zero-part3′ .last .0) (up-at′ .result) (down-at′ .result) (held-at′ .result) (up-at′ .ensures) (down-at′ .ensures) (held-at′ .ensures) (zero-part′ .ensures) (zero-part2′ .ensures) (zero-part3′ .ensures) (note-edges′ .last .0) (note-edges′ .ensures) (note-sides′ .last .0) (note-sides′ .ensures))
+    let note-sides′ = c .before .before .note-sides in (
+      above-all (a .n) (a .nf) (a .k) (a .cap-list .now) (a .w .now) (s .pre .0) (s .pre .1) (zero-part′ .last .0) (zero-part2′ .last .0) (zero-part3′ .last .0) (up-at′ .result)
+          (down-at′ .result) (held-at′ .result) (up-at′ .ensures) (down-at′ .ensures) (held-at′ .ensures) (zero-part′ .ensures) (zero-part2′ .ensures) (zero-part3′ .ensures)
+          (note-edges′ .last .0) (note-edges′ .ensures) (note-sides′ .last .0) (note-sides′ .ensures),
+      known (a .n) (a .nf) (a .k) (a .cap-list .now) (a .w .now) (s .pre .0)
+          (s .pre .1) (zero-part′ .last .0) (zero-part2′ .last .0) (zero-part3′ .last .0) (up-at′ .result) (down-at′ .result) (held-at′ .result) (up-at′ .ensures) (down-at′ .ensures)
+          (held-at′ .ensures) (zero-part′ .ensures) (zero-part2′ .ensures) (zero-part3′ .ensures) (note-edges′ .last .0) (note-edges′ .ensures) (note-sides′ .last .0)
+          (note-sides′ .ensures),
+    )
 
 pub note-faces-spec : {M : Type 1} → statement M
 note-faces-spec =

@@ -58,7 +58,11 @@ add-add-face c =
     let numbers-at′ = c .before .before .before .before .before .before .numbers-at in
     let held-at′ = c .before .before .before .before .before .held-at in
     let l = c .before .before .before .before .loop in
-    omega (arith, note-side-low (a .n) (a .nf) (a .k) (a .cap-list .now) (a .w .now) (s .pre .0) (s .pre .1 .0) (s .pre .1 .1 .0) (l .w) (l .s) (l .inv .0) (numbers-at′ .result + a .k) (held-at′ .result) (omega arith) (held-at′ .ensures) (omega arith) (getD (l .w) (numbers-at′ .result + a .k + l .s) 0) refl)
+    omega (
+      arith,
+      note-side-low (a .n) (a .nf) (a .k) (a .cap-list .now) (a .w .now) (s .pre .0) (s .pre .1 .0) (s .pre .1 .1 .0) (l .w) (l .s) (l .inv .0)
+          (numbers-at′ .result + a .k) (held-at′ .result) (omega arith) (held-at′ .ensures) (omega arith) (getD (l .w) (numbers-at′ .result + a .k + l .s) 0) refl,
+    )
 
 add-face-requires : tie.Need-add-face-requires Inv-loop μ-loop
 add-face-requires c κs =
@@ -67,7 +71,8 @@ add-face-requires c κs =
     let numbers-at′ = c .before .before .before .before .before .before .numbers-at in
     let held-at′ = c .before .before .before .before .before .held-at in
     let l = c .before .before .before .before .loop in
-    note-side-asks (a .n) (a .nf) (a .k) (a .cap-list .now) (a .w .now) (s .pre .0) (s .pre .1 .0) (s .pre .1 .1 .0) (l .w) (l .s) (l .inv .0) (numbers-at′ .result + a .k) (held-at′ .result) (omega arith) (held-at′ .ensures) (omega arith) (getD (l .w) (numbers-at′ .result + a .k + l .s) 0) refl (s .pre .1 .1 .1)
+    note-side-asks (a .n) (a .nf) (a .k) (a .cap-list .now) (a .w .now) (s .pre .0) (s .pre .1 .0) (s .pre .1 .1 .0) (l .w) (l .s) (l .inv .0) (numbers-at′ .result + a .k)
+    (held-at′ .result) (omega arith) (held-at′ .ensures) (omega arith) (getD (l .w) (numbers-at′ .result + a .k + l .s) 0) refl (s .pre .1 .1 .1)
 
 add-s : tie.Need-add-s Inv-loop μ-loop
 add-s c = omega arith
@@ -82,8 +87,12 @@ loop-again c =
     let numbers-at′ = c .before .before .before .before .before .before .before .before .before .numbers-at in
     let held-at′ = c .before .before .before .before .before .before .before .before .held-at in
     let l = c .before .before .before .before .before .before .before .loop in
-    let add-face′ = c .before .before .add-face in
-    (note-side-turn (a .n) (a .nf) (a .k) (a .cap-list .now) (a .w .now) (s .pre .0) (s .pre .1 .0) (s .pre .1 .1 .0) (l .w) (l .s) (l .inv .0) (numbers-at′ .result + a .k) (held-at′ .result) (omega arith) (held-at′ .ensures) (omega arith) (getD (l .w) (numbers-at′ .result + a .k + l .s) 0) refl (add-face′ .last .0) (add-face′ .ensures), omega arith)
+    let add-face′ = c .before .before .add-face in (
+      note-side-turn (a .n) (a .nf) (a .k) (a .cap-list .now) (a .w .now) (s .pre .0) (s .pre .1 .0) (s .pre .1 .1 .0) (l .w) (l .s) (l .inv .0) (numbers-at′ .result + a .k)
+          (held-at′ .result) (omega arith) (held-at′ .ensures) (omega arith) (getD (l .w) (numbers-at′ .result + a .k + l .s) 0) refl (add-face′ .last .0) (add-face′ .ensures),
+      omega
+          arith,
+    )
 
 same-length : tie.Need-same-length Inv-loop μ-loop
 same-length c = c .before .loop .inv .0 .long
@@ -92,7 +101,8 @@ returns : tie.Need-returns Inv-loop μ-loop
 returns c =
     let a = c .before .before .before .before .before .before .args in
     let l = c .before .loop in
-    subst (λ (x : ℕ). Noted (sideTarget (a .n) (a .nf) (length (a .cap-list .now) / 4) (a .w .now) (a .k)) (λ s. eqb (sideFace (a .cap-list .now) s)) (a .w .now) (l .w) x) (omega arith) (l .inv .0)
+    subst (λ (x : ℕ). Noted (sideTarget (a .n) (a .nf) (length (a .cap-list .now) / 4) (a .w .now) (a .k)) (λ s. eqb (sideFace (a .cap-list .now) s)) (a .w .now) (l .w) x)
+    (omega arith) (l .inv .0)
 
 pub note-sides-spec : {M : Type 1} → statement M
 note-sides-spec =

@@ -29,12 +29,14 @@ returns : tie.Need-returns
 returns c =
     let a = c .before .before .before .args in
     let branch = c .if1 in
-    sym (cond-true (ltb (getD (a .w .now) (a .at) 0) (getD (a .w .now) (a .at + 1) 0)) (a .up) (a .down) (a .up) (lt-ltb (getD (a .w .now) (a .at) 0) (getD (a .w .now) (a .at + 1) 0) (branch .taken)) refl)
+    sym (cond-true (ltb (getD (a .w .now) (a .at) 0) (getD (a .w .now) (a .at + 1) 0)) (a .up) (a .down) (a .up)
+    (lt-ltb (getD (a .w .now) (a .at) 0) (getD (a .w .now) (a .at + 1) 0) (branch .taken)) refl)
 
 returns-2 : tie.Need-returns-2
 returns-2 c =
     let a = c .before .before .before .args in
-    sym (cond-false (ltb (getD (a .w .now) (a .at) 0) (getD (a .w .now) (a .at + 1) 0)) (a .up) (a .down) (a .down) (le-ltb (getD (a .w .now) (a .at) 0) (getD (a .w .now) (a .at + 1) 0) (omega arith)) refl)
+    sym (cond-false (ltb (getD (a .w .now) (a .at) 0) (getD (a .w .now) (a .at + 1) 0)) (a .up) (a .down) (a .down)
+    (le-ltb (getD (a .w .now) (a .at) 0) (getD (a .w .now) (a .at + 1) 0) (omega arith)) refl)
 
 pub way-at-spec : {M : Type 1} → statement M
 way-at-spec =

@@ -23,7 +23,8 @@ returns : tie.Need-returns
 returns c =
     let a = c .before .before .before .args in
     let branch = c .if1 in
-    sym (ap keyOf (cond-true (eqb (getD (a .w .now) (a .at + 2) 0) 0) (0, 0) (getD (a .w .now) (a .at) 0, getD (a .w .now) (a .at + 1) 0) (0, 0) (eq-eqb (getD (a .w .now) (a .at + 2) 0) 0 (branch .taken)) refl))
+    sym (ap keyOf (cond-true (eqb (getD (a .w .now) (a .at + 2) 0) 0) (0, 0) (getD (a .w .now) (a .at) 0, getD (a .w .now) (a .at + 1) 0) (0, 0)
+    (eq-eqb (getD (a .w .now) (a .at + 2) 0) 0 (branch .taken)) refl))
 
 mul-pack-edge : tie.Need-mul-pack-edge
 mul-pack-edge c = search needs
@@ -48,7 +49,8 @@ returns-2 c =
     let a = c .before .before .before .before .before .before .args in
     let branch = c .before .before .before .if1 in
     let pack-edge′ = c .pack-edge in
-    pack-edge′ .ensures ∙ sym (ap keyOf (cond-false (eqb (getD (a .w .now) (a .at + 2) 0) 0) (0, 0) (getD (a .w .now) (a .at) 0, getD (a .w .now) (a .at + 1) 0) (getD (a .w .now) (a .at) 0, getD (a .w .now) (a .at + 1) 0) (ne-eqb (getD (a .w .now) (a .at + 2) 0) 0 (branch .left)) refl))
+    pack-edge′ .ensures ∙ sym (ap keyOf (cond-false (eqb (getD (a .w .now) (a .at + 2) 0) 0) (0, 0) (getD (a .w .now) (a .at) 0, getD (a .w .now) (a .at + 1) 0)
+    (getD (a .w .now) (a .at) 0, getD (a .w .now) (a .at + 1) 0) (ne-eqb (getD (a .w .now) (a .at + 2) 0) 0 (branch .left)) refl))
 
 pub edge-word-spec : {M : Type 1} → statement M
 edge-word-spec =

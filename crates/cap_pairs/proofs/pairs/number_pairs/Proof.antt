@@ -20,8 +20,11 @@ put-sides-requires : tie.Need-put-sides-requires
 put-sides-requires c κs =
     let s = c .before .before .before .before .before .before .before in
     let a = s .args in
-    let put-edges′ = c .before .before .before .put-edges in
-    (tables-then (a .n) (a .nf) (a .k) (a .cap-list .now) (a .w .now) (put-edges′ .last .0) (s .pre) (put-edges′ .ensures), words-then (a .n) (a .nf) (a .k) (a .cap-list .now) (a .w .now) (put-edges′ .last .0) (s .pre) (put-edges′ .ensures))
+    let put-edges′ = c .before .before .before .put-edges in (
+      tables-then (a .n) (a .nf) (a .k) (a .cap-list .now) (a .w .now) (put-edges′ .last .0) (s .pre) (put-edges′ .ensures),
+      words-then (a .n) (a .nf) (a .k) (a .cap-list .now)
+          (a .w .now) (put-edges′ .last .0) (s .pre) (put-edges′ .ensures),
+    )
 
 records-at-requires : tie.Need-records-at-requires
 records-at-requires c κs = search needs
@@ -54,7 +57,11 @@ part-sort-records-end c =
     let put-edges′ = c .before .before .before .before .before .before .before .put-edges in
     let put-sides′ = c .before .before .before .put-sides in
     let records-at′ = c .records-at in
-    omega (arith, sort-room (a .n) (a .nf) (a .k) (a .cap-list .now) (a .w .now) (put-edges′ .last .0) (s .pre) (put-edges′ .ensures) (put-sides′ .last .0) (put-sides′ .ensures) (records-at′ .result) (records-at′ .ensures))
+    omega (
+      arith,
+      sort-room (a .n) (a .nf) (a .k) (a .cap-list .now) (a .w .now) (put-edges′ .last .0) (s .pre) (put-edges′ .ensures) (put-sides′ .last .0) (put-sides′ .ensures)
+          (records-at′ .result) (records-at′ .ensures),
+    )
 
 sort-records-requires : tie.Need-sort-records-requires
 sort-records-requires c κs = search needs
@@ -70,8 +77,18 @@ number-records-requires c κs =
     let put-sides′ = c .before .before .before .before .before .before .before .before .before .put-sides in
     let records-at′ = c .before .before .before .before .before .before .records-at in
     let sort-records′ = c .before .before .before .before .sort-records in
-    let numbers-at′ = c .numbers-at in
-    (numbers-room (a .n) (a .nf) (a .k) (a .cap-list .now) (a .w .now) (put-edges′ .last .0) (s .pre) (put-edges′ .ensures) (put-sides′ .last .0) (put-sides′ .ensures) (records-at′ .result) (records-at′ .ensures) (putMid (records-at′ .result) (records-at′ .result + 4 * (a .k + 3 * (length (a .cap-list .now) / 4)) - records-at′ .result) (put-sides′ .last .0) (sort-records′ .last .0)) (sorted-part (put-sides′ .last .0) (sort-records′ .last .0) (records-at′ .result) (a .k + 3 * (length (a .cap-list .now) / 4)) (sort-room (a .n) (a .nf) (a .k) (a .cap-list .now) (a .w .now) (put-edges′ .last .0) (s .pre) (put-edges′ .ensures) (put-sides′ .last .0) (put-sides′ .ensures) (records-at′ .result) (records-at′ .ensures)) (sort-records′ .ensures)) (numbers-at′ .result) (numbers-at′ .ensures), sorted-there (a .n) (a .nf) (a .k) (a .cap-list .now) (a .w .now) (put-edges′ .last .0) (s .pre) (put-edges′ .ensures) (put-sides′ .last .0) (put-sides′ .ensures) (records-at′ .result) (records-at′ .ensures) (putMid (records-at′ .result) (records-at′ .result + 4 * (a .k + 3 * (length (a .cap-list .now) / 4)) - records-at′ .result) (put-sides′ .last .0) (sort-records′ .last .0)) (sorted-part (put-sides′ .last .0) (sort-records′ .last .0) (records-at′ .result) (a .k + 3 * (length (a .cap-list .now) / 4)) (sort-room (a .n) (a .nf) (a .k) (a .cap-list .now) (a .w .now) (put-edges′ .last .0) (s .pre) (put-edges′ .ensures) (put-sides′ .last .0) (put-sides′ .ensures) (records-at′ .result) (records-at′ .ensures)) (sort-records′ .ensures)))
+    let numbers-at′ = c .numbers-at in (
+      numbers-room (a .n) (a .nf) (a .k) (a .cap-list .now) (a .w .now) (put-edges′ .last .0) (s .pre) (put-edges′ .ensures) (put-sides′ .last .0) (put-sides′ .ensures)
+          (records-at′ .result) (records-at′ .ensures) (putMid (records-at′ .result) (records-at′ .result + 4 * (a .k + 3 * (length (a .cap-list .now) / 4)) - records-at′ .result)
+          (put-sides′ .last .0) (sort-records′ .last .0)) (sorted-part (put-sides′ .last .0) (sort-records′ .last .0) (records-at′ .result)
+          (a .k + 3 * (length (a .cap-list .now) / 4)) (sort-room (a .n) (a .nf) (a .k) (a .cap-list .now) (a .w .now) (put-edges′ .last .0) (s .pre) (put-edges′ .ensures)
+          (put-sides′ .last .0) (put-sides′ .ensures) (records-at′ .result) (records-at′ .ensures)) (sort-records′ .ensures)) (numbers-at′ .result) (numbers-at′ .ensures),
+      sorted-there (a .n) (a .nf) (a .k) (a .cap-list .now) (a .w .now) (put-edges′ .last .0) (s .pre) (put-edges′ .ensures) (put-sides′ .last .0) (put-sides′ .ensures)
+          (records-at′ .result) (records-at′ .ensures) (putMid (records-at′ .result) (records-at′ .result + 4 * (a .k + 3 * (length (a .cap-list .now) / 4)) - records-at′ .result)
+          (put-sides′ .last .0) (sort-records′ .last .0)) (sorted-part (put-sides′ .last .0) (sort-records′ .last .0) (records-at′ .result)
+          (a .k + 3 * (length (a .cap-list .now) / 4)) (sort-room (a .n) (a .nf) (a .k) (a .cap-list .now) (a .w .now) (put-edges′ .last .0) (s .pre) (put-edges′ .ensures)
+          (put-sides′ .last .0) (put-sides′ .ensures) (records-at′ .result) (records-at′ .ensures)) (sort-records′ .ensures)),
+    )
 
 same-length : tie.Need-same-length
 same-length c = search needs
@@ -86,7 +103,12 @@ returns c =
     let sort-records′ = c .before .before .before .before .before .before .before .sort-records in
     let numbers-at′ = c .before .before .before .numbers-at in
     let number-records′ = c .before .before .number-records in
-    numbered (a .n) (a .nf) (a .k) (a .cap-list .now) (a .w .now) (put-edges′ .last .0) (s .pre) (put-edges′ .ensures) (put-sides′ .last .0) (put-sides′ .ensures) (records-at′ .result) (records-at′ .ensures) (putMid (records-at′ .result) (records-at′ .result + 4 * (a .k + 3 * (length (a .cap-list .now) / 4)) - records-at′ .result) (put-sides′ .last .0) (sort-records′ .last .0)) (sorted-part (put-sides′ .last .0) (sort-records′ .last .0) (records-at′ .result) (a .k + 3 * (length (a .cap-list .now) / 4)) (sort-room (a .n) (a .nf) (a .k) (a .cap-list .now) (a .w .now) (put-edges′ .last .0) (s .pre) (put-edges′ .ensures) (put-sides′ .last .0) (put-sides′ .ensures) (records-at′ .result) (records-at′ .ensures)) (sort-records′ .ensures)) (numbers-at′ .result) (numbers-at′ .ensures) (number-records′ .last .0) (number-records′ .ensures)
+    numbered (a .n) (a .nf) (a .k) (a .cap-list .now) (a .w .now) (put-edges′ .last .0) (s .pre) (put-edges′ .ensures) (put-sides′ .last .0) (put-sides′ .ensures)
+    (records-at′ .result) (records-at′ .ensures) (putMid (records-at′ .result) (records-at′ .result + 4 * (a .k + 3 * (length (a .cap-list .now) / 4)) - records-at′ .result)
+    (put-sides′ .last .0) (sort-records′ .last .0)) (sorted-part (put-sides′ .last .0) (sort-records′ .last .0) (records-at′ .result)
+    (a .k + 3 * (length (a .cap-list .now) / 4)) (sort-room (a .n) (a .nf) (a .k) (a .cap-list .now) (a .w .now) (put-edges′ .last .0) (s .pre) (put-edges′ .ensures)
+    (put-sides′ .last .0) (put-sides′ .ensures) (records-at′ .result) (records-at′ .ensures)) (sort-records′ .ensures)) (numbers-at′ .result) (numbers-at′ .ensures)
+    (number-records′ .last .0) (number-records′ .ensures)
 
 pub number-pairs-spec : {M : Type 1} → statement M
 number-pairs-spec =

@@ -68,7 +68,8 @@ loop-again c =
     let a = s .args in
     let l = c .before .before .before .before .loop in
     let run-start′ = c .before .run-start in
-    numbering-turn (a .w .now) (a .records) (a .numbers) (a .p) (s .pre .1) (s .pre .0 .0) (s .pre .0 .1) (l .w) (l .first) (l .i) (l .inv) (omega arith) (run-start′ .result) (run-start′ .ensures)
+    numbering-turn (a .w .now) (a .records) (a .numbers) (a .p) (s .pre .1) (s .pre .0 .0) (s .pre .0 .1) (l .w) (l .first) (l .i) (l .inv) (omega arith) (run-start′ .result)
+    (run-start′ .ensures)
 
 same-length : tie.Need-same-length Inv-loop μ-loop
 same-length c = omega arith

@@ -41,7 +41,8 @@ edge-word-requires c κs =
     let open-edges-at′ = c .before .before .before .before .open-edges-at in
     let records-at′ = c .before .before .before .records-at in
     let l = c .before .before .loop in
-    edge-asks (a .w .now) (l .w) (a .n) (a .nf) (a .nc) (a .k) (open-edges-at′ .result) (records-at′ .result) (l .i) (s .pre .0) (open-edges-at′ .ensures) (records-at′ .ensures) (l .inv .0) (omega arith) (s .pre .1)
+    edge-asks (a .w .now) (l .w) (a .n) (a .nf) (a .nc) (a .k) (open-edges-at′ .result) (records-at′ .result) (l .i) (s .pre .0) (open-edges-at′ .ensures) (records-at′ .ensures)
+    (l .inv .0) (omega arith) (s .pre .1)
 
 mul-w : tie.Need-mul-w Inv-loop μ-loop
 mul-w c = omega arith
@@ -83,8 +84,11 @@ loop-again c =
     let open-edges-at′ = c .before .before .before .before .before .open-edges-at in
     let records-at′ = c .before .before .before .before .records-at in
     let l = c .before .before .before .loop in
-    let edge-word′ = c .edge-word in
-    (edge-turn (a .w .now) (l .w) (a .n) (a .nf) (a .nc) (a .k) (open-edges-at′ .result) (records-at′ .result) (l .i) (s .pre .0) (open-edges-at′ .ensures) (records-at′ .ensures) (l .inv .0) (omega arith) (edge-word′ .result) (edge-word′ .ensures), omega arith)
+    let edge-word′ = c .edge-word in (
+      edge-turn (a .w .now) (l .w) (a .n) (a .nf) (a .nc) (a .k) (open-edges-at′ .result) (records-at′ .result) (l .i) (s .pre .0) (open-edges-at′ .ensures) (records-at′ .ensures)
+          (l .inv .0) (omega arith) (edge-word′ .result) (edge-word′ .ensures),
+      omega arith,
+    )
 
 same-length : tie.Need-same-length Inv-loop μ-loop
 same-length c = omega arith
@@ -96,7 +100,8 @@ returns c =
     let open-edges-at′ = c .before .before .before .open-edges-at in
     let records-at′ = c .before .before .records-at in
     let l = c .before .loop in
-    edge-end (a .w .now) (l .w) (a .n) (a .nf) (a .nc) (a .k) (open-edges-at′ .result) (records-at′ .result) (l .i) (s .pre .0) (open-edges-at′ .ensures) (records-at′ .ensures) (l .inv .0) (l .inv .1) (omega arith)
+    edge-end (a .w .now) (l .w) (a .n) (a .nf) (a .nc) (a .k) (open-edges-at′ .result) (records-at′ .result) (l .i) (s .pre .0) (open-edges-at′ .ensures) (records-at′ .ensures)
+    (l .inv .0) (l .inv .1) (omega arith)
 
 pub put-edges-spec : {M : Type 1} → statement M
 put-edges-spec =

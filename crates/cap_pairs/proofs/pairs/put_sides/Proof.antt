@@ -57,7 +57,11 @@ add-pack-edge-2 c =
     let records-at′ = c .before .before .before .before .records-at in
     let l = c .before .before .before .loop in
     let next-side′ = c .next-side in
-    omega (arith, side-room (a .w .now) (l .w) (a .n) (a .nf) (a .nc) (a .k) (turned-at′ .result) (records-at′ .result + 2 * a .k) (l .s) (s .pre .0) (turned-at′ .ensures) (omega arith) (l .inv .0) (omega arith) (next-side′ .result) (next-side′ .ensures))
+    omega (
+      arith,
+      side-room (a .w .now) (l .w) (a .n) (a .nf) (a .nc) (a .k) (turned-at′ .result) (records-at′ .result + 2 * a .k) (l .s) (s .pre .0) (turned-at′ .ensures)
+          (omega arith) (l .inv .0) (omega arith) (next-side′ .result) (next-side′ .ensures),
+    )
 
 mul-pack-edge-2 : tie.Need-mul-pack-edge-2 Inv-loop μ-loop
 mul-pack-edge-2 c =
@@ -67,7 +71,11 @@ mul-pack-edge-2 c =
     let records-at′ = c .before .before .before .before .records-at in
     let l = c .before .before .before .loop in
     let next-side′ = c .next-side in
-    omega (arith, side-room (a .w .now) (l .w) (a .n) (a .nf) (a .nc) (a .k) (turned-at′ .result) (records-at′ .result + 2 * a .k) (l .s) (s .pre .0) (turned-at′ .ensures) (omega arith) (l .inv .0) (omega arith) (next-side′ .result) (next-side′ .ensures))
+    omega (
+      arith,
+      side-room (a .w .now) (l .w) (a .n) (a .nf) (a .nc) (a .k) (turned-at′ .result) (records-at′ .result + 2 * a .k) (l .s) (s .pre .0) (turned-at′ .ensures)
+          (omega arith) (l .inv .0) (omega arith) (next-side′ .result) (next-side′ .ensures),
+    )
 
 slice-read-pack-edge-2 : tie.Need-slice-read-pack-edge-2 Inv-loop μ-loop
 slice-read-pack-edge-2 c =
@@ -77,7 +85,11 @@ slice-read-pack-edge-2 c =
     let records-at′ = c .before .before .before .before .before .records-at in
     let l = c .before .before .before .before .loop in
     let next-side′ = c .before .next-side in
-    omega (arith, side-room (a .w .now) (l .w) (a .n) (a .nf) (a .nc) (a .k) (turned-at′ .result) (records-at′ .result + 2 * a .k) (l .s) (s .pre .0) (turned-at′ .ensures) (omega arith) (l .inv .0) (omega arith) (next-side′ .result) (next-side′ .ensures))
+    omega (
+      arith,
+      side-room (a .w .now) (l .w) (a .n) (a .nf) (a .nc) (a .k) (turned-at′ .result) (records-at′ .result + 2 * a .k) (l .s) (s .pre .0) (turned-at′ .ensures)
+          (omega arith) (l .inv .0) (omega arith) (next-side′ .result) (next-side′ .ensures),
+    )
 
 pack-edge-requires : tie.Need-pack-edge-requires Inv-loop μ-loop
 pack-edge-requires c κs =
@@ -87,7 +99,8 @@ pack-edge-requires c κs =
     let records-at′ = c .before .before .before .before .before .records-at in
     let l = c .before .before .before .before .loop in
     let next-side′ = c .before .next-side in
-    side-asks (a .w .now) (l .w) (a .n) (a .nf) (a .nc) (a .k) (turned-at′ .result) (records-at′ .result + 2 * a .k) (l .s) (s .pre .0) (turned-at′ .ensures) (omega arith) (l .inv .0) (omega arith) (next-side′ .result) (next-side′ .ensures) (s .pre .1)
+    side-asks (a .w .now) (l .w) (a .n) (a .nf) (a .nc) (a .k) (turned-at′ .result) (records-at′ .result + 2 * a .k) (l .s) (s .pre .0) (turned-at′ .ensures) (omega arith)
+    (l .inv .0) (omega arith) (next-side′ .result) (next-side′ .ensures) (s .pre .1)
 
 mul-w : tie.Need-mul-w Inv-loop μ-loop
 mul-w c = omega arith
@@ -133,8 +146,11 @@ loop-again c =
     let records-at′ = c .before .before .before .before .before .before .records-at in
     let l = c .before .before .before .before .before .loop in
     let next-side′ = c .before .before .next-side in
-    let pack-edge′ = c .pack-edge in
-    (side-turn (a .w .now) (l .w) (a .n) (a .nf) (a .nc) (a .k) (turned-at′ .result) (records-at′ .result + 2 * a .k) (l .s) (s .pre .0) (turned-at′ .ensures) (omega arith) (l .inv .0) (omega arith) (next-side′ .result) (pack-edge′ .result) (a .k + l .s) (next-side′ .ensures) (pack-edge′ .ensures) refl, omega arith)
+    let pack-edge′ = c .pack-edge in (
+      side-turn (a .w .now) (l .w) (a .n) (a .nf) (a .nc) (a .k) (turned-at′ .result) (records-at′ .result + 2 * a .k) (l .s) (s .pre .0) (turned-at′ .ensures) (omega arith)
+          (l .inv .0) (omega arith) (next-side′ .result) (pack-edge′ .result) (a .k + l .s) (next-side′ .ensures) (pack-edge′ .ensures) refl,
+      omega arith,
+    )
 
 same-length : tie.Need-same-length Inv-loop μ-loop
 same-length c = omega arith
@@ -146,7 +162,8 @@ returns c =
     let turned-at′ = c .before .before .before .turned-at in
     let records-at′ = c .before .before .records-at in
     let l = c .before .loop in
-    side-end (a .w .now) (l .w) (a .n) (a .nf) (a .nc) (a .k) (turned-at′ .result) (records-at′ .result + 2 * a .k) (l .s) (s .pre .0) (turned-at′ .ensures) (omega arith) (l .inv .0) (l .inv .1) (omega arith)
+    side-end (a .w .now) (l .w) (a .n) (a .nf) (a .nc) (a .k) (turned-at′ .result) (records-at′ .result + 2 * a .k) (l .s) (s .pre .0) (turned-at′ .ensures) (omega arith)
+    (l .inv .0) (l .inv .1) (omega arith)
 
 pub put-sides-spec : {M : Type 1} → statement M
 put-sides-spec =

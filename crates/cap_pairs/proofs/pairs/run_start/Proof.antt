@@ -37,13 +37,15 @@ returns : tie.Need-returns
 returns c =
     let a = c .before .before .before .args in
     let branch = c .if1 in
-    sym (cond-true (eqb (getD (a .w .now) (a .records + 2 * a .i) 0) (getD (a .w .now) (a .records + 2 * a .first) 0)) (a .first) (a .i) (a .first) (eq-eqb (getD (a .w .now) (a .records + 2 * a .i) 0) (getD (a .w .now) (a .records + 2 * a .first) 0) (branch .taken)) refl)
+    sym (cond-true (eqb (getD (a .w .now) (a .records + 2 * a .i) 0) (getD (a .w .now) (a .records + 2 * a .first) 0)) (a .first) (a .i) (a .first)
+    (eq-eqb (getD (a .w .now) (a .records + 2 * a .i) 0) (getD (a .w .now) (a .records + 2 * a .first) 0) (branch .taken)) refl)
 
 returns-2 : tie.Need-returns-2
 returns-2 c =
     let a = c .before .before .before .args in
     let branch = c .if1 in
-    sym (cond-false (eqb (getD (a .w .now) (a .records + 2 * a .i) 0) (getD (a .w .now) (a .records + 2 * a .first) 0)) (a .first) (a .i) (a .i) (ne-eqb (getD (a .w .now) (a .records + 2 * a .i) 0) (getD (a .w .now) (a .records + 2 * a .first) 0) (branch .left)) refl)
+    sym (cond-false (eqb (getD (a .w .now) (a .records + 2 * a .i) 0) (getD (a .w .now) (a .records + 2 * a .first) 0)) (a .first) (a .i) (a .i)
+    (ne-eqb (getD (a .w .now) (a .records + 2 * a .i) 0) (getD (a .w .now) (a .records + 2 * a .first) 0) (branch .left)) refl)
 
 pub run-start-spec : {M : Type 1} → statement M
 run-start-spec =

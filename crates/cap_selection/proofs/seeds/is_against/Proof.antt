@@ -134,7 +134,8 @@ returns c =
     let x = c .before .before .before .before .before .next-side in
     let d = c .before .before .down-at in
     let h = c .has-face in
-    against-down (s .n) (s .nf) (s .nc) (s .w .now) (s .k) (s .s) (n .result) (n .ensures) (s .face) (t .result) (x .result) (t .ensures) (x .ensures) (d .result) (h .result) (d .ensures) (c .before .before .before .if1 .taken) (h .ensures)
+    against-down (s .n) (s .nf) (s .nc) (s .w .now) (s .k) (s .s) (n .result) (n .ensures) (s .face) (t .result) (x .result) (t .ensures) (x .ensures) (d .result) (h .result)
+    (d .ensures) (c .before .before .before .if1 .taken) (h .ensures)
 
 returns-2 : tie.Need-returns-2
 returns-2 c =
@@ -144,7 +145,8 @@ returns-2 c =
     let x = c .before .before .before .before .before .next-side in
     let u = c .before .before .up-at in
     let h = c .has-face2 in
-    against-up (s .n) (s .nf) (s .nc) (s .w .now) (s .k) (s .s) (n .result) (n .ensures) (s .face) (t .result) (x .result) (t .ensures) (x .ensures) (u .result) (h .result) (u .ensures) (c .before .before .before .if1 .left) (h .ensures)
+    against-up (s .n) (s .nf) (s .nc) (s .w .now) (s .k) (s .s) (n .result) (n .ensures) (s .face) (t .result) (x .result) (t .ensures) (x .ensures) (u .result) (h .result)
+    (u .ensures) (c .before .before .before .if1 .left) (h .ensures)
 
 pub is-against-spec : {M : Type 1} → statement M
 is-against-spec =

@@ -27,7 +27,8 @@ is-against-requires-2 c κs = search needs
 
 returns-2 : tie.Need-returns-2
 unfolding seedIn
-returns-2 c = sym (or-next _ _ _ (sym (c .before .before .before .is-against .ensures) ∙ c .before .before .if1 .left) (or-stop _ _ (sym (c .before .is-against2 .ensures) ∙ c .if2 .taken)))
+returns-2 c =
+    sym (or-next _ _ _ (sym (c .before .before .before .is-against .ensures) ∙ c .before .before .if1 .left) (or-stop _ _ (sym (c .before .is-against2 .ensures) ∙ c .if2 .taken)))
 
 mul-is-against-3 : tie.Need-mul-is-against-3
 mul-is-against-3 c = search needs
@@ -40,7 +41,9 @@ is-against-requires-3 c κs = search needs
 
 returns-3 : tie.Need-returns-3
 unfolding seedIn
-returns-3 c = c .is-against3 .ensures ∙ sym (or-next _ _ _ (sym (c .before .before .before .before .is-against .ensures) ∙ c .before .before .before .if1 .left) (or-next _ _ _ (sym (c .before .before .is-against2 .ensures) ∙ c .before .if2 .left) refl))
+returns-3 c =
+    c .is-against3 .ensures ∙ sym (or-next _ _ _ (sym (c .before .before .before .before .is-against .ensures) ∙ c .before .before .before .if1 .left)
+    (or-next _ _ _ (sym (c .before .before .is-against2 .ensures) ∙ c .before .if2 .left) refl))
 
 pub is-seed-spec : {M : Type 1} → statement M
 is-seed-spec =

@@ -71,7 +71,8 @@ returns-2 c =
     let g = c .before .before .before .before .is-seed in
     let o = c .before .before .components-at in
     let m = c .seeded-at in
-    seed-marked (s .n) (s .nf) (s .nc) (s .k) (s .w .now) (s .i) (s .face) (g .result) (g .ensures) (o .result) (m .result) (o .ensures) (m .ensures) (c .before .before .before .if1 .left)
+    seed-marked (s .n) (s .nf) (s .nc) (s .k) (s .w .now) (s .i) (s .face) (g .result) (g .ensures) (o .result) (m .result) (o .ensures) (m .ensures)
+    (c .before .before .before .if1 .left)
 
 pub mark-seed-spec : {M : Type 1} → statement M
 mark-seed-spec =

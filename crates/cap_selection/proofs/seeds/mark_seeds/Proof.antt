@@ -31,8 +31,13 @@ mark-seed-requires : tie.Need-mark-seed-requires Inv-loop μ-loop
 mark-seed-requires c κs =
     let z = c .before .before .before .before .before .before in
     let s = z .args in
-    let l = c .before .before .before .loop in
-    (marking-numbered (s .n) (s .nf) (length (s .cap-list .now) / 4) (s .k) (s .cap-list .now) (s .w .now) (z .pre) (l .w) (l .i) (omega arith) (l .inv), omega arith, z .pre .faces (l .i) (omega arith), component-low (s .n) (s .nf) (length (s .cap-list .now) / 4) (s .k) (s .cap-list .now) (s .w .now) (z .pre) (l .w) (l .i) (omega arith) (l .inv))
+    let l = c .before .before .before .loop in (
+      marking-numbered (s .n) (s .nf) (length (s .cap-list .now) / 4) (s .k) (s .cap-list .now) (s .w .now) (z .pre) (l .w) (l .i) (omega arith) (l .inv),
+      omega arith,
+      z .pre .faces
+          (l .i) (omega arith),
+      component-low (s .n) (s .nf) (length (s .cap-list .now) / 4) (s .k) (s .cap-list .now) (s .w .now) (z .pre) (l .w) (l .i) (omega arith) (l .inv),
+    )
 
 add-i : tie.Need-add-i Inv-loop μ-loop
 add-i c = omega arith
@@ -45,7 +50,8 @@ loop-again c =
     let z = c .before .before .before .before .before .before .before .before .before in
     let s = z .args in
     let l = c .before .before .before .before .before .before .loop in
-    mark-turn (s .n) (s .nf) (length (s .cap-list .now) / 4) (s .k) (s .cap-list .now) (s .w .now) (z .pre) (l .w) (l .i) (omega arith) (l .inv) (c .before .before .mark-seed .last .0) (c .before .before .mark-seed .ensures)
+    mark-turn (s .n) (s .nf) (length (s .cap-list .now) / 4) (s .k) (s .cap-list .now) (s .w .now) (z .pre) (l .w) (l .i) (omega arith) (l .inv)
+    (c .before .before .mark-seed .last .0) (c .before .before .mark-seed .ensures)
 
 same-length : tie.Need-same-length Inv-loop μ-loop
 same-length c = c .before .loop .inv .above .long

@@ -39,8 +39,10 @@ returns c =
     let s = z .args in
     let u = c .before .before .before .before .before .before .before .before .before .before .before .join-caps in
     let v = c .before .before .before .before .before .before .zero-part in
-    let e = subst (λ (x : ℕ). Zeroed (u .last .0) (v .last .0) x (length (s .cap-list .now) / 4)) (c .before .before .before .before .before .before .before .seeded-at .ensures) (v .ensures) in
-    chosen (s .n) (s .nf) (s .k) (s .cap-list .now) (s .w .now) (u .last .0) (v .last .0) (z .pre .0) (z .pre .1) (u .ensures) e (c .before .before .mark-seeds .last .0) (c .before .before .mark-seeds .ensures)
+    let e = subst (λ (x : ℕ). Zeroed (u .last .0) (v .last .0) x (length (s .cap-list .now) / 4)) (c .before .before .before .before .before .before .before .seeded-at .ensures)
+    (v .ensures) in
+    chosen (s .n) (s .nf) (s .k) (s .cap-list .now) (s .w .now) (u .last .0) (v .last .0) (z .pre .0) (z .pre .1) (u .ensures) e (c .before .before .mark-seeds .last .0)
+    (c .before .before .mark-seeds .ensures)
 
 pub select-caps-spec : {M : Type 1} → statement M
 select-caps-spec =

@@ -14,10 +14,13 @@ is-listed-requires-3 : tie.Need-is-listed-requires-3
 is-listed-requires-3 c κs = c .before .before .before .before .before .pre
 
 returns : tie.Need-returns
-returns c = c .is-listed3 .ensures ∙ sym (and-next _ _ _ (sym (c .before .before .before .before .is-listed .ensures) ∙ c .before .before .before .if1 .taken) (and-next _ _ _ (sym (c .before .before .is-listed2 .ensures) ∙ c .before .if2 .taken) refl))
+returns c =
+    c .is-listed3 .ensures ∙ sym (and-next _ _ _ (sym (c .before .before .before .before .is-listed .ensures) ∙ c .before .before .before .if1 .taken)
+    (and-next _ _ _ (sym (c .before .before .is-listed2 .ensures) ∙ c .before .if2 .taken) refl))
 
 returns-2 : tie.Need-returns-2
-returns-2 c = sym (and-next _ _ _ (sym (c .before .before .before .is-listed .ensures) ∙ c .before .before .if1 .taken) (and-stop _ _ (sym (c .before .is-listed2 .ensures) ∙ c .if2 .left)))
+returns-2 c =
+    sym (and-next _ _ _ (sym (c .before .before .before .is-listed .ensures) ∙ c .before .before .if1 .taken) (and-stop _ _ (sym (c .before .is-listed2 .ensures) ∙ c .if2 .left)))
 
 returns-3 : tie.Need-returns-3
 returns-3 c = sym (and-stop _ _ (sym (c .before .is-listed .ensures) ∙ c .if1 .left))

@@ -71,7 +71,8 @@ returns c =
     let start = c .before .before .before .before .before .before .before .before .before .before in
     let a = start .args in
     let l = c .before .before .before .before .before .before .before .loop in
-    passed-stop (a .n) (a .w .now) (a .cap-list .now) (l .i) (l .last) (l .inv) (c .before .before .before .before .before .before .loop-test .taken) (start .pre .0) (sym (c .before .is-bad-cap .ensures) ∙ c .if1 .taken)
+    passed-stop (a .n) (a .w .now) (a .cap-list .now) (l .i) (l .last) (l .inv) (c .before .before .before .before .before .before .loop-test .taken) (start .pre .0)
+    (sym (c .before .is-bad-cap .ensures) ∙ c .if1 .taken)
 
 add-i : tie.Need-add-i Inv-loop μ-loop
 add-i c = omega (arith, c .before .before .before .before .before .before .loop-test .taken)
@@ -84,7 +85,8 @@ loop-again c =
     let start = c .before .before .before .before .before .before .before .before .before .before in
     let a = start .args in
     let l = c .before .before .before .before .before .before .before .loop in
-    passed-more (a .n) (a .w .now) (a .cap-list .now) (l .i) (l .last) (l .inv) (c .before .before .before .before .before .before .loop-test .taken) (start .pre .0) (sym (c .before .is-bad-cap .ensures) ∙ c .if1 .left)
+    passed-more (a .n) (a .w .now) (a .cap-list .now) (l .i) (l .last) (l .inv) (c .before .before .before .before .before .before .loop-test .taken) (start .pre .0)
+    (sym (c .before .is-bad-cap .ensures) ∙ c .if1 .left)
 
 returns-2 : tie.Need-returns-2 Inv-loop μ-loop
 returns-2 c =

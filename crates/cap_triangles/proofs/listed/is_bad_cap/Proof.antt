@@ -27,7 +27,8 @@ unfolding badWords
 returns-3 c =
     let start = c .before .before .before .before .before in
     let a = start .args in
-    sym (or-next _ _ _ (le-ltb 5 (a .face) (omega (arith, c .before .before .before .if1 .left))) (or-next _ _ _ (le-ltb (a .face) (a .last) (omega (arith, c .before .before .if2 .left))) (or-stop _ _ (sym (c .before .has-repeat .ensures) ∙ c .if3 .taken))))
+    sym (or-next _ _ _ (le-ltb 5 (a .face) (omega (arith, c .before .before .before .if1 .left)))
+    (or-next _ _ _ (le-ltb (a .face) (a .last) (omega (arith, c .before .before .if2 .left))) (or-stop _ _ (sym (c .before .has-repeat .ensures) ∙ c .if3 .taken))))
 
 all-listed-requires : tie.Need-all-listed-requires
 all-listed-requires c κs = (omega (arith, c .before .before .before .if1 .left), c .before .before .before .before .before .pre)
@@ -37,7 +38,9 @@ unfolding badWords
 returns-4 c =
     let start = c .before .before .before .before .before .before in
     let a = start .args in
-    sym (or-next _ _ _ (le-ltb 5 (a .face) (omega (arith, c .before .before .before .before .if1 .left))) (or-next _ _ _ (le-ltb (a .face) (a .last) (omega (arith, c .before .before .before .if2 .left))) (or-next _ _ _ (sym (c .before .before .has-repeat .ensures) ∙ c .before .if3 .left) (ap not (sym (c .all-listed .ensures))))))
+    sym (or-next _ _ _ (le-ltb 5 (a .face) (omega (arith, c .before .before .before .before .if1 .left)))
+    (or-next _ _ _ (le-ltb (a .face) (a .last) (omega (arith, c .before .before .before .if2 .left)))
+    (or-next _ _ _ (sym (c .before .before .has-repeat .ensures) ∙ c .before .if3 .left) (ap not (sym (c .all-listed .ensures))))))
 
 pub is-bad-cap-spec : {M : Type 1} → statement M
 is-bad-cap-spec =

@@ -42,13 +42,28 @@ returns : tie.Need-returns
 returns c =
     let start = c .before .before .before .before .before .before .before .before .before .before in
     let a = start .args in
-    turned-as (a .w .now) (a .face) (candidatesOf (a .t)) (c .before .before .before .before .before .before .before .before .point-of .result) (c .before .before .before .before .before .before .point-of2 .result) (c .before .before .before .before .point-of3 .result) (c .before .before .before .before .before .before .before .project .result) (c .before .before .before .before .before .project2 .result) (c .before .before .before .project3 .result) (c .before .before .signed-area2 .result) (c .before .ccw-is-outward .result) (c .before .before .before .before .before .before .before .before .point-of .ensures) (c .before .before .before .before .before .before .point-of2 .ensures) (c .before .before .before .before .point-of3 .ensures) (c .before .before .before .before .before .before .before .project .ensures) (c .before .before .before .before .before .project2 .ensures) (c .before .before .before .project3 .ensures) (c .before .before .signed-area2 .ensures) (c .before .ccw-is-outward .ensures) (c .if1 .taken)
+    turned-as (a .w .now) (a .face) (candidatesOf (a .t)) (c .before .before .before .before .before .before .before .before .point-of .result)
+    (c .before .before .before .before .before .before .point-of2 .result) (c .before .before .before .before .point-of3 .result)
+    (c .before .before .before .before .before .before .before .project .result) (c .before .before .before .before .before .project2 .result)
+    (c .before .before .before .project3 .result) (c .before .before .signed-area2 .result) (c .before .ccw-is-outward .result)
+    (c .before .before .before .before .before .before .before .before .point-of .ensures) (c .before .before .before .before .before .before .point-of2 .ensures)
+    (c .before .before .before .before .point-of3 .ensures) (c .before .before .before .before .before .before .before .project .ensures)
+    (c .before .before .before .before .before .project2 .ensures) (c .before .before .before .project3 .ensures) (c .before .before .signed-area2 .ensures)
+    (c .before .ccw-is-outward .ensures) (c .if1 .taken)
 
 returns-2 : tie.Need-returns-2
 returns-2 c =
     let start = c .before .before .before .before .before .before .before .before .before .before .before in
     let a = start .args in
-    reversed-as (a .w .now) (a .face) (candidatesOf (a .t)) (c .before .before .before .before .before .before .before .before .before .point-of .result) (c .before .before .before .before .before .before .before .point-of2 .result) (c .before .before .before .before .before .point-of3 .result) (c .before .before .before .before .before .before .before .before .project .result) (c .before .before .before .before .before .before .project2 .result) (c .before .before .before .before .project3 .result) (c .before .before .before .signed-area2 .result) (c .before .before .ccw-is-outward .result) (c .before .before .before .before .before .before .before .before .before .point-of .ensures) (c .before .before .before .before .before .before .before .point-of2 .ensures) (c .before .before .before .before .before .point-of3 .ensures) (c .before .before .before .before .before .before .before .before .project .ensures) (c .before .before .before .before .before .before .project2 .ensures) (c .before .before .before .before .project3 .ensures) (c .before .before .before .signed-area2 .ensures) (c .before .before .ccw-is-outward .ensures) (c .before .if1 .left) (candidatesOf (c .reversed .result)) (c .reversed .ensures)
+    reversed-as (a .w .now) (a .face) (candidatesOf (a .t)) (c .before .before .before .before .before .before .before .before .before .point-of .result)
+    (c .before .before .before .before .before .before .before .point-of2 .result) (c .before .before .before .before .before .point-of3 .result)
+    (c .before .before .before .before .before .before .before .before .project .result) (c .before .before .before .before .before .before .project2 .result)
+    (c .before .before .before .before .project3 .result) (c .before .before .before .signed-area2 .result) (c .before .before .ccw-is-outward .result)
+    (c .before .before .before .before .before .before .before .before .before .point-of .ensures)
+    (c .before .before .before .before .before .before .before .point-of2 .ensures) (c .before .before .before .before .before .point-of3 .ensures)
+    (c .before .before .before .before .before .before .before .before .project .ensures) (c .before .before .before .before .before .before .project2 .ensures)
+    (c .before .before .before .before .project3 .ensures) (c .before .before .before .signed-area2 .ensures) (c .before .before .ccw-is-outward .ensures)
+    (c .before .if1 .left) (candidatesOf (c .reversed .result)) (c .reversed .ensures)
 
 pub orient-face-triangle-spec : {M : Type 1} → statement M
 orient-face-triangle-spec =

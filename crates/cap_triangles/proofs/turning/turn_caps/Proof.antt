@@ -41,49 +41,204 @@ orient-face-triangle-requires c κs =
     let start = c .before .before .before .before .before .before .before .before in
     let a = start .args in
     let l = c .before .before .before .before .loop in
-    turning-asks (a .n) (a .nf) (a .cap-list .now) (a .w .now) (start .pre .0) (start .pre .1) (l .w) (l .i) (l .inv) (c .before .before .before .loop-test .taken) (candidatesOf (c .supplied .result)) (c .supplied .ensures)
+    turning-asks (a .n) (a .nf) (a .cap-list .now) (a .w .now) (start .pre .0) (start .pre .1) (l .w) (l .i) (l .inv) (c .before .before .before .loop-test .taken)
+    (candidatesOf (c .supplied .result)) (c .supplied .ensures)
 
 mul-w : tie.Need-mul-w Inv-loop μ-loop
-mul-w c = let s = c .before .before .before .before .before .before .before .before .before .pre .0 in omega (arith, c .before .before .before .before .loop-test .taken, c .before .before .before .before .before .before .turned-at .ensures, s .size, s .few, s .small, c .before .before .before .before .before .loop .inv .above .long)
+mul-w c =
+    let s = c .before .before .before .before .before .before .before .before .before .pre .0 in
+    omega (
+      arith,
+      c .before .before .before .before .loop-test .taken,
+      c .before .before .before .before .before .before .turned-at .ensures,
+      s .size,
+      s .few,
+      s .small,
+      c .before
+          .before .before .before .before .loop .inv .above .long,
+    )
 
 add-w : tie.Need-add-w Inv-loop μ-loop
-add-w c = let s = c .before .before .before .before .before .before .before .before .before .pre .0 in omega (arith, c .before .before .before .before .loop-test .taken, c .before .before .before .before .before .before .turned-at .ensures, s .size, s .few, s .small, c .before .before .before .before .before .loop .inv .above .long)
+add-w c =
+    let s = c .before .before .before .before .before .before .before .before .before .pre .0 in
+    omega (
+      arith,
+      c .before .before .before .before .loop-test .taken,
+      c .before .before .before .before .before .before .turned-at .ensures,
+      s .size,
+      s .few,
+      s .small,
+      c .before
+          .before .before .before .before .loop .inv .above .long,
+    )
 
 mul-w-2 : tie.Need-mul-w-2 Inv-loop μ-loop
-mul-w-2 c = let s = c .before .before .before .before .before .before .before .before .before .pre .0 in omega (arith, c .before .before .before .before .loop-test .taken, c .before .before .before .before .before .before .turned-at .ensures, s .size, s .few, s .small, c .before .before .before .before .before .loop .inv .above .long)
+mul-w-2 c =
+    let s = c .before .before .before .before .before .before .before .before .before .pre .0 in
+    omega (
+      arith,
+      c .before .before .before .before .loop-test .taken,
+      c .before .before .before .before .before .before .turned-at .ensures,
+      s .size,
+      s .few,
+      s .small,
+      c .before
+          .before .before .before .before .loop .inv .above .long,
+    )
 
 slice-write-w : tie.Need-slice-write-w Inv-loop μ-loop
-slice-write-w c = let s = c .before .before .before .before .before .before .before .before .before .pre .0 in omega (arith, c .before .before .before .before .loop-test .taken, c .before .before .before .before .before .before .turned-at .ensures, s .size, s .few, s .small, c .before .before .before .before .before .loop .inv .above .long)
+slice-write-w c =
+    let s = c .before .before .before .before .before .before .before .before .before .pre .0 in
+    omega (
+      arith,
+      c .before .before .before .before .loop-test .taken,
+      c .before .before .before .before .before .before .turned-at .ensures,
+      s .size,
+      s .few,
+      s .small,
+      c .before
+          .before .before .before .before .loop .inv .above .long,
+    )
 
 mul-w-3 : tie.Need-mul-w-3 Inv-loop μ-loop
-mul-w-3 c = let s = c .before .before .before .before .before .before .before .before .before .pre .0 in omega (arith, c .before .before .before .before .loop-test .taken, c .before .before .before .before .before .before .turned-at .ensures, s .size, s .few, s .small, c .before .before .before .before .before .loop .inv .above .long)
+mul-w-3 c =
+    let s = c .before .before .before .before .before .before .before .before .before .pre .0 in
+    omega (
+      arith,
+      c .before .before .before .before .loop-test .taken,
+      c .before .before .before .before .before .before .turned-at .ensures,
+      s .size,
+      s .few,
+      s .small,
+      c .before
+          .before .before .before .before .loop .inv .above .long,
+    )
 
 add-w-2 : tie.Need-add-w-2 Inv-loop μ-loop
-add-w-2 c = let s = c .before .before .before .before .before .before .before .before .before .pre .0 in omega (arith, c .before .before .before .before .loop-test .taken, c .before .before .before .before .before .before .turned-at .ensures, s .size, s .few, s .small, c .before .before .before .before .before .loop .inv .above .long)
+add-w-2 c =
+    let s = c .before .before .before .before .before .before .before .before .before .pre .0 in
+    omega (
+      arith,
+      c .before .before .before .before .loop-test .taken,
+      c .before .before .before .before .before .before .turned-at .ensures,
+      s .size,
+      s .few,
+      s .small,
+      c .before
+          .before .before .before .before .loop .inv .above .long,
+    )
 
 add-w-3 : tie.Need-add-w-3 Inv-loop μ-loop
-add-w-3 c = let s = c .before .before .before .before .before .before .before .before .before .pre .0 in omega (arith, c .before .before .before .before .loop-test .taken, c .before .before .before .before .before .before .turned-at .ensures, s .size, s .few, s .small, c .before .before .before .before .before .loop .inv .above .long)
+add-w-3 c =
+    let s = c .before .before .before .before .before .before .before .before .before .pre .0 in
+    omega (
+      arith,
+      c .before .before .before .before .loop-test .taken,
+      c .before .before .before .before .before .before .turned-at .ensures,
+      s .size,
+      s .few,
+      s .small,
+      c .before
+          .before .before .before .before .loop .inv .above .long,
+    )
 
 mul-w-4 : tie.Need-mul-w-4 Inv-loop μ-loop
-mul-w-4 c = let s = c .before .before .before .before .before .before .before .before .before .pre .0 in omega (arith, c .before .before .before .before .loop-test .taken, c .before .before .before .before .before .before .turned-at .ensures, s .size, s .few, s .small, c .before .before .before .before .before .loop .inv .above .long)
+mul-w-4 c =
+    let s = c .before .before .before .before .before .before .before .before .before .pre .0 in
+    omega (
+      arith,
+      c .before .before .before .before .loop-test .taken,
+      c .before .before .before .before .before .before .turned-at .ensures,
+      s .size,
+      s .few,
+      s .small,
+      c .before
+          .before .before .before .before .loop .inv .above .long,
+    )
 
 slice-write-w-2 : tie.Need-slice-write-w-2 Inv-loop μ-loop
-slice-write-w-2 c = let s = c .before .before .before .before .before .before .before .before .before .pre .0 in simp length-set (omega (arith, c .before .before .before .before .loop-test .taken, c .before .before .before .before .before .before .turned-at .ensures, s .size, s .few, s .small, c .before .before .before .before .before .loop .inv .above .long))
+slice-write-w-2 c =
+    let s = c .before .before .before .before .before .before .before .before .before .pre .0 in
+    simp length-set (omega (
+      arith,
+      c .before .before .before .before .loop-test .taken,
+      c .before .before .before .before .before .before .turned-at .ensures,
+      s .size,
+      s .few,
+      s
+          .small,
+      c .before .before .before .before .before .loop .inv .above .long,
+    ))
 
 mul-w-5 : tie.Need-mul-w-5 Inv-loop μ-loop
-mul-w-5 c = let s = c .before .before .before .before .before .before .before .before .before .pre .0 in omega (arith, c .before .before .before .before .loop-test .taken, c .before .before .before .before .before .before .turned-at .ensures, s .size, s .few, s .small, c .before .before .before .before .before .loop .inv .above .long)
+mul-w-5 c =
+    let s = c .before .before .before .before .before .before .before .before .before .pre .0 in
+    omega (
+      arith,
+      c .before .before .before .before .loop-test .taken,
+      c .before .before .before .before .before .before .turned-at .ensures,
+      s .size,
+      s .few,
+      s .small,
+      c .before
+          .before .before .before .before .loop .inv .above .long,
+    )
 
 add-w-4 : tie.Need-add-w-4 Inv-loop μ-loop
-add-w-4 c = let s = c .before .before .before .before .before .before .before .before .before .pre .0 in omega (arith, c .before .before .before .before .loop-test .taken, c .before .before .before .before .before .before .turned-at .ensures, s .size, s .few, s .small, c .before .before .before .before .before .loop .inv .above .long)
+add-w-4 c =
+    let s = c .before .before .before .before .before .before .before .before .before .pre .0 in
+    omega (
+      arith,
+      c .before .before .before .before .loop-test .taken,
+      c .before .before .before .before .before .before .turned-at .ensures,
+      s .size,
+      s .few,
+      s .small,
+      c .before
+          .before .before .before .before .loop .inv .above .long,
+    )
 
 add-w-5 : tie.Need-add-w-5 Inv-loop μ-loop
-add-w-5 c = let s = c .before .before .before .before .before .before .before .before .before .pre .0 in omega (arith, c .before .before .before .before .loop-test .taken, c .before .before .before .before .before .before .turned-at .ensures, s .size, s .few, s .small, c .before .before .before .before .before .loop .inv .above .long)
+add-w-5 c =
+    let s = c .before .before .before .before .before .before .before .before .before .pre .0 in
+    omega (
+      arith,
+      c .before .before .before .before .loop-test .taken,
+      c .before .before .before .before .before .before .turned-at .ensures,
+      s .size,
+      s .few,
+      s .small,
+      c .before
+          .before .before .before .before .loop .inv .above .long,
+    )
 
 mul-w-6 : tie.Need-mul-w-6 Inv-loop μ-loop
-mul-w-6 c = let s = c .before .before .before .before .before .before .before .before .before .pre .0 in omega (arith, c .before .before .before .before .loop-test .taken, c .before .before .before .before .before .before .turned-at .ensures, s .size, s .few, s .small, c .before .before .before .before .before .loop .inv .above .long)
+mul-w-6 c =
+    let s = c .before .before .before .before .before .before .before .before .before .pre .0 in
+    omega (
+      arith,
+      c .before .before .before .before .loop-test .taken,
+      c .before .before .before .before .before .before .turned-at .ensures,
+      s .size,
+      s .few,
+      s .small,
+      c .before
+          .before .before .before .before .loop .inv .above .long,
+    )
 
 slice-write-w-3 : tie.Need-slice-write-w-3 Inv-loop μ-loop
-slice-write-w-3 c = let s = c .before .before .before .before .before .before .before .before .before .pre .0 in simp length-set (omega (arith, c .before .before .before .before .loop-test .taken, c .before .before .before .before .before .before .turned-at .ensures, s .size, s .few, s .small, c .before .before .before .before .before .loop .inv .above .long))
+slice-write-w-3 c =
+    let s = c .before .before .before .before .before .before .before .before .before .pre .0 in
+    simp length-set (omega (
+      arith,
+      c .before .before .before .before .loop-test .taken,
+      c .before .before .before .before .before .before .turned-at .ensures,
+      s .size,
+      s .few,
+      s
+          .small,
+      c .before .before .before .before .before .loop .inv .above .long,
+    ))
 
 add-i : tie.Need-add-i Inv-loop μ-loop
 add-i c = omega (arith, c .before .before .before .before .loop-test .taken)
@@ -96,7 +251,9 @@ loop-again c =
     let start = c .before .before .before .before .before .before .before .before .before in
     let a = start .args in
     let l = c .before .before .before .before .before .loop in
-    turning-more (a .n) (a .nf) (a .cap-list .now) (a .w .now) (start .pre .0) (start .pre .1) (l .w) (l .i) (l .inv) (c .before .before .before .before .loop-test .taken) (candidatesOf (c .before .supplied .result)) (c .before .supplied .ensures) (c .before .before .before .before .before .before .turned-at .result) (c .before .before .before .before .before .before .turned-at .ensures) (candidatesOf (c .orient-face-triangle .result)) (c .orient-face-triangle .ensures)
+    turning-more (a .n) (a .nf) (a .cap-list .now) (a .w .now) (start .pre .0) (start .pre .1) (l .w) (l .i) (l .inv) (c .before .before .before .before .loop-test .taken)
+    (candidatesOf (c .before .supplied .result)) (c .before .supplied .ensures) (c .before .before .before .before .before .before .turned-at .result)
+    (c .before .before .before .before .before .before .turned-at .ensures) (candidatesOf (c .orient-face-triangle .result)) (c .orient-face-triangle .ensures)
 
 same-length : tie.Need-same-length Inv-loop μ-loop
 same-length c = c .before .loop .inv .above .long

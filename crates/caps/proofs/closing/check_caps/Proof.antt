@@ -11,31 +11,111 @@ same-length : tie.Need-same-length
 same-length c = search needs
 
 returns : tie.Need-returns
-returns c = let a = c .before .before .before .before .before .args in bad-refused (a .n) (a .nf) (a .k) (a .cap-list .now) (a .w .now) (c .before .before .before .before .before .pre .0) (c .before .before .before .before .before .pre .1 .0 .0) (c .before .before .before .before .before .pre .1 .0 .1) (a .listed) (c .before .before .before .before .before .pre .1 .1) (c .before .bad-cap-place .result) (c .before .bad-cap-place .ensures) (c .if1 .taken)
+returns c =
+    let a = c .before .before .before .before .before .args in
+    bad-refused (a .n) (a .nf) (a .k) (a .cap-list .now) (a .w .now) (c .before .before .before .before .before .pre .0) (c .before .before .before .before .before .pre .1 .0 .0)
+    (c .before .before .before .before .before .pre .1 .0 .1) (a .listed) (c .before .before .before .before .before .pre .1 .1) (c .before .bad-cap-place .result)
+    (c .before .bad-cap-place .ensures) (c .if1 .taken)
 
 turn-caps-requires : tie.Need-turn-caps-requires
-turn-caps-requires c κs = let a = c .before .before .before .before .before .before .args in (c .before .before .before .before .before .before .pre .0, (good-list (a .n) (a .nf) (a .k) (a .cap-list .now) (a .w .now) (c .before .before .before .before .before .before .pre .0) (c .before .before .before .before .before .before .pre .1 .0 .0) (c .before .before .before .before .before .before .pre .1 .0 .1) (a .listed) (c .before .before .before .before .before .before .pre .1 .1) (c .before .before .bad-cap-place .result) (c .before .before .bad-cap-place .ensures) (c .before .if1 .left)))
+turn-caps-requires c κs =
+    let a = c .before .before .before .before .before .before .args in (
+      c .before .before .before .before .before .before .pre .0,
+      (good-list (a .n) (a .nf) (a .k) (a .cap-list .now) (a .w .now)
+          (c .before .before .before .before .before .before .pre .0) (c .before .before .before .before .before .before .pre .1 .0 .0)
+          (c .before .before .before .before .before .before .pre .1 .0 .1) (a .listed) (c .before .before .before .before .before .before .pre .1 .1)
+          (c .before .before .bad-cap-place .result) (c .before .before .bad-cap-place .ensures) (c .before .if1 .left)),
+    )
 
 number-pairs-requires : tie.Need-number-pairs-requires
-number-pairs-requires c κs = let a = c .before .before .before .before .before .before .before .before .before .before .args in (turned-ready (a .n) (a .nf) (a .k) (a .cap-list .now) (a .w .now) (c .before .before .before .before .before .before .before .before .before .before .pre .0) (c .before .before .before .before .before .before .before .before .before .before .pre .1 .0 .0) (c .before .before .before .before .before .before .before .before .before .before .pre .1 .0 .1) (a .listed) (c .before .before .before .before .before .before .before .before .before .before .pre .1 .1) (c .before .before .before .before .before .before .bad-cap-place .result) (c .before .before .before .before .before .before .bad-cap-place .ensures) (c .before .before .before .before .before .if1 .left) (c .before .before .before .turn-caps .last .0) (c .before .before .before .turn-caps .ensures .0) (c .before .before .before .turn-caps .ensures .1))
+number-pairs-requires c κs =
+    let a = c .before .before .before .before .before .before .before .before .before .before .args in
+    (turned-ready (a .n) (a .nf) (a .k) (a .cap-list .now) (a .w .now) (c .before .before .before .before .before .before .before .before .before .before .pre .0)
+    (c .before .before .before .before .before .before .before .before .before .before .pre .1 .0 .0)
+    (c .before .before .before .before .before .before .before .before .before .before .pre .1 .0 .1) (a .listed)
+    (c .before .before .before .before .before .before .before .before .before .before .pre .1 .1) (c .before .before .before .before .before .before .bad-cap-place .result)
+    (c .before .before .before .before .before .before .bad-cap-place .ensures) (c .before .before .before .before .before .if1 .left)
+    (c .before .before .before .turn-caps .last .0) (c .before .before .before .turn-caps .ensures .0) (c .before .before .before .turn-caps .ensures .1))
 
 note-faces-requires : tie.Need-note-faces-requires
-note-faces-requires c κs = let a = c .before .before .before .before .before .before .before .before .before .before .before .before .before .before .args in (numbered-ready (a .n) (a .nf) (a .k) (a .cap-list .now) (a .w .now) (c .before .before .before .before .before .before .before .before .before .before .before .before .before .before .pre .0) (c .before .before .before .before .before .before .before .before .before .before .before .before .before .before .pre .1 .0 .0) (c .before .before .before .before .before .before .before .before .before .before .before .before .before .before .pre .1 .0 .1) (a .listed) (c .before .before .before .before .before .before .before .before .before .before .before .before .before .before .pre .1 .1) (c .before .before .before .before .before .before .before .before .before .before .bad-cap-place .result) (c .before .before .before .before .before .before .before .before .before .before .bad-cap-place .ensures) (c .before .before .before .before .before .before .before .before .before .if1 .left) (c .before .before .before .before .before .before .before .turn-caps .last .0) (c .before .before .before .before .before .before .before .turn-caps .ensures .0) (c .before .before .before .before .before .before .before .turn-caps .ensures .1) (c .before .before .before .number-pairs .last .0) (c .before .before .before .number-pairs .ensures), (c .before .before .before .number-pairs .ensures .numbers))
+note-faces-requires c κs =
+    let a = c .before .before .before .before .before .before .before .before .before .before .before .before .before .before .args in (
+      numbered-ready (a .n) (a .nf) (a .k) (a .cap-list .now) (a .w .now)
+          (c .before .before .before .before .before .before .before .before .before .before .before .before .before .before .pre .0)
+          (c .before .before .before .before .before .before .before .before .before .before .before .before .before .before .pre .1 .0 .0)
+          (c .before .before .before .before .before .before .before .before .before .before .before .before .before .before .pre .1 .0 .1) (a .listed)
+          (c .before .before .before .before .before .before .before .before .before .before .before .before .before .before .pre .1 .1)
+          (c .before .before .before .before .before .before .before .before .before .before .bad-cap-place .result)
+          (c .before .before .before .before .before .before .before .before .before .before .bad-cap-place .ensures)
+          (c .before .before .before .before .before .before .before .before .before .if1 .left) (c .before .before .before .before .before .before .before .turn-caps .last .0)
+          (c .before .before .before .before .before .before .before .turn-caps .ensures .0) (c .before .before .before .before .before .before .before .turn-caps .ensures .1)
+          (c .before .before .before .number-pairs .last .0) (c .before .before .before .number-pairs .ensures),
+      (c .before .before .before .number-pairs .ensures .numbers),
+    )
 
 missing-place-requires : tie.Need-missing-place-requires
-missing-place-requires c κs = let a = c .before .before .before .before .before .before .before .before .before .before .before .before .before .before .before .before .before .before .args in (noted-ready (a .n) (a .nf) (a .k) (a .cap-list .now) (a .w .now) (c .before .before .before .before .before .before .before .before .before .before .before .before .before .before .before .before .before .before .pre .0) (c .before .before .before .before .before .before .before .before .before .before .before .before .before .before .before .before .before .before .pre .1 .0 .0) (c .before .before .before .before .before .before .before .before .before .before .before .before .before .before .before .before .before .before .pre .1 .0 .1) (a .listed) (c .before .before .before .before .before .before .before .before .before .before .before .before .before .before .before .before .before .before .pre .1 .1) (c .before .before .before .before .before .before .before .before .before .before .before .before .before .before .bad-cap-place .result) (c .before .before .before .before .before .before .before .before .before .before .before .before .before .before .bad-cap-place .ensures) (c .before .before .before .before .before .before .before .before .before .before .before .before .before .if1 .left) (c .before .before .before .before .before .before .before .before .before .before .before .turn-caps .last .0) (c .before .before .before .before .before .before .before .before .before .before .before .turn-caps .ensures .0) (c .before .before .before .before .before .before .before .before .before .before .before .turn-caps .ensures .1) (c .before .before .before .before .before .before .before .number-pairs .last .0) (c .before .before .before .before .before .before .before .number-pairs .ensures) (c .before .before .before .note-faces .last .0) (c .before .before .before .note-faces .ensures .0), (c .before .before .before .note-faces .ensures .1))
+missing-place-requires c κs =
+    let a = c .before .before .before .before .before .before .before .before .before .before .before .before .before .before .before .before .before .before .args in (
+      noted-ready (a .n) (a .nf) (a .k) (a .cap-list .now) (a .w .now)
+          (c .before .before .before .before .before .before .before .before .before .before .before .before .before .before .before .before .before .before .pre .0)
+          (c .before .before .before .before .before .before .before .before .before .before .before .before .before .before .before .before .before .before .pre .1 .0 .0)
+          (c .before .before .before .before .before .before .before .before .before .before .before .before .before .before .before .before .before .before .pre .1 .0 .1) (a .listed)
+          (c .before .before .before .before .before .before .before .before .before .before .before .before .before .before .before .before .before .before .pre .1 .1)
+          (c .before .before .before .before .before .before .before .before .before .before .before .before .before .before .bad-cap-place .result)
+          (c .before .before .before .before .before .before .before .before .before .before .before .before .before .before .bad-cap-place .ensures)
+          (c .before .before .before .before .before .before .before .before .before .before .before .before .before .if1 .left)
+          (c .before .before .before .before .before .before .before .before .before .before .before .turn-caps .last .0)
+          (c .before .before .before .before .before .before .before .before .before .before .before .turn-caps .ensures .0)
+          (c .before .before .before .before .before .before .before .before .before .before .before .turn-caps .ensures .1)
+          (c .before .before .before .before .before .before .before .number-pairs .last .0) (c .before .before .before .before .before .before .before .number-pairs .ensures)
+          (c .before .before .before .note-faces .last .0) (c .before .before .before .note-faces .ensures .0),
+      (c .before .before .before .note-faces .ensures .1),
+    )
 
 same-length-2 : tie.Need-same-length-2
 same-length-2 c = search needs
 
 returns-2 : tie.Need-returns-2
-returns-2 c = let a = c .before .before .before .before .before .before .before .before .before .before .before .before .before .before .before .before .before .before .before .before .args in missing-refused (a .n) (a .nf) (a .k) (a .cap-list .now) (a .w .now) (c .before .before .before .before .before .before .before .before .before .before .before .before .before .before .before .before .before .before .before .before .pre .0) (c .before .before .before .before .before .before .before .before .before .before .before .before .before .before .before .before .before .before .before .before .pre .1 .0 .0) (c .before .before .before .before .before .before .before .before .before .before .before .before .before .before .before .before .before .before .before .before .pre .1 .0 .1) (a .listed) (c .before .before .before .before .before .before .before .before .before .before .before .before .before .before .before .before .before .before .before .before .pre .1 .1) (c .before .before .before .before .before .before .before .before .before .before .before .before .before .before .before .before .bad-cap-place .result) (c .before .before .before .before .before .before .before .before .before .before .before .before .before .before .before .before .bad-cap-place .ensures) (c .before .before .before .before .before .before .before .before .before .before .before .before .before .before .before .if1 .left) (c .before .before .before .before .before .before .before .before .before .before .before .before .before .turn-caps .last .0) (c .before .before .before .before .before .before .before .before .before .before .before .before .before .turn-caps .ensures .0) (c .before .before .before .before .before .before .before .before .before .before .before .before .before .turn-caps .ensures .1) (c .before .before .before .before .before .before .before .before .before .number-pairs .last .0) (c .before .before .before .before .before .before .before .before .before .number-pairs .ensures) (c .before .before .before .before .before .note-faces .last .0) (c .before .before .before .before .before .note-faces .ensures .0) (c .before .missing-place .result) (c .before .missing-place .ensures) (c .if2 .taken)
+returns-2 c =
+    let a = c .before .before .before .before .before .before .before .before .before .before .before .before .before .before .before .before .before .before .before .before .args
+    in
+    missing-refused (a .n) (a .nf) (a .k) (a .cap-list .now) (a .w .now)
+    (c .before .before .before .before .before .before .before .before .before .before .before .before .before .before .before .before .before .before .before .before .pre .0)
+    (c .before .before .before .before .before .before .before .before .before .before .before .before .before .before .before .before .before .before .before .before .pre .1 .0
+    .0) (c .before .before .before .before .before .before .before .before .before .before .before .before .before .before .before .before .before .before .before .before .pre .1
+    .0 .1) (a .listed) (c .before .before .before .before .before .before .before .before .before .before .before .before .before .before .before .before .before .before .before
+    .before .pre .1 .1) (c .before .before .before .before .before .before .before .before .before .before .before .before .before .before .before .before .bad-cap-place .result)
+    (c .before .before .before .before .before .before .before .before .before .before .before .before .before .before .before .before .bad-cap-place .ensures)
+    (c .before .before .before .before .before .before .before .before .before .before .before .before .before .before .before .if1 .left)
+    (c .before .before .before .before .before .before .before .before .before .before .before .before .before .turn-caps .last .0)
+    (c .before .before .before .before .before .before .before .before .before .before .before .before .before .turn-caps .ensures .0)
+    (c .before .before .before .before .before .before .before .before .before .before .before .before .before .turn-caps .ensures .1)
+    (c .before .before .before .before .before .before .before .before .before .number-pairs .last .0)
+    (c .before .before .before .before .before .before .before .before .before .number-pairs .ensures) (c .before .before .before .before .before .note-faces .last .0)
+    (c .before .before .before .before .before .note-faces .ensures .0) (c .before .missing-place .result) (c .before .missing-place .ensures) (c .if2 .taken)
 
 same-length-3 : tie.Need-same-length-3
 same-length-3 c = search needs
 
 returns-3 : tie.Need-returns-3
-returns-3 c = let a = c .before .before .before .before .before .before .before .before .before .before .before .before .before .before .before .before .before .before .before .before .args in all-passed (a .n) (a .nf) (a .k) (a .cap-list .now) (a .w .now) (c .before .before .before .before .before .before .before .before .before .before .before .before .before .before .before .before .before .before .before .before .pre .0) (c .before .before .before .before .before .before .before .before .before .before .before .before .before .before .before .before .before .before .before .before .pre .1 .0 .0) (c .before .before .before .before .before .before .before .before .before .before .before .before .before .before .before .before .before .before .before .before .pre .1 .0 .1) (a .listed) (c .before .before .before .before .before .before .before .before .before .before .before .before .before .before .before .before .before .before .before .before .pre .1 .1) (c .before .before .before .before .before .before .before .before .before .before .before .before .before .before .before .before .bad-cap-place .result) (c .before .before .before .before .before .before .before .before .before .before .before .before .before .before .before .before .bad-cap-place .ensures) (c .before .before .before .before .before .before .before .before .before .before .before .before .before .before .before .if1 .left) (c .before .before .before .before .before .before .before .before .before .before .before .before .before .turn-caps .last .0) (c .before .before .before .before .before .before .before .before .before .before .before .before .before .turn-caps .ensures .0) (c .before .before .before .before .before .before .before .before .before .before .before .before .before .turn-caps .ensures .1) (c .before .before .before .before .before .before .before .before .before .number-pairs .last .0) (c .before .before .before .before .before .before .before .before .before .number-pairs .ensures) (c .before .before .before .before .before .note-faces .last .0) (c .before .before .before .before .before .note-faces .ensures .0) (c .before .missing-place .result) (c .before .missing-place .ensures) (c .if2 .left) (c .before .before .before .before .before .note-faces .ensures .1)
+returns-3 c =
+    let a = c .before .before .before .before .before .before .before .before .before .before .before .before .before .before .before .before .before .before .before .before .args
+    in
+    all-passed (a .n) (a .nf) (a .k) (a .cap-list .now) (a .w .now)
+    (c .before .before .before .before .before .before .before .before .before .before .before .before .before .before .before .before .before .before .before .before .pre .0)
+    (c .before .before .before .before .before .before .before .before .before .before .before .before .before .before .before .before .before .before .before .before .pre .1 .0
+    .0) (c .before .before .before .before .before .before .before .before .before .before .before .before .before .before .before .before .before .before .before .before .pre .1
+    .0 .1) (a .listed) (c .before .before .before .before .before .before .before .before .before .before .before .before .before .before .before .before .before .before .before
+    .before .pre .1 .1) (c .before .before .before .before .before .before .before .before .before .before .before .before .before .before .before .before .bad-cap-place .result)
+    (c .before .before .before .before .before .before .before .before .before .before .before .before .before .before .before .before .bad-cap-place .ensures)
+    (c .before .before .before .before .before .before .before .before .before .before .before .before .before .before .before .if1 .left)
+    (c .before .before .before .before .before .before .before .before .before .before .before .before .before .turn-caps .last .0)
+    (c .before .before .before .before .before .before .before .before .before .before .before .before .before .turn-caps .ensures .0)
+    (c .before .before .before .before .before .before .before .before .before .before .before .before .before .turn-caps .ensures .1)
+    (c .before .before .before .before .before .before .before .before .before .number-pairs .last .0)
+    (c .before .before .before .before .before .before .before .before .before .number-pairs .ensures) (c .before .before .before .before .before .note-faces .last .0)
+    (c .before .before .before .before .before .note-faces .ensures .0) (c .before .missing-place .result) (c .before .missing-place .ensures) (c .if2 .left)
+    (c .before .before .before .before .before .note-faces .ensures .1)
 
 pub check-caps-spec : {M : Type 1} → statement M
 check-caps-spec =

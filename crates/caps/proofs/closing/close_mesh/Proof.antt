@@ -8,10 +8,33 @@ select-caps-requires : tie.Need-select-caps-requires
 select-caps-requires c κs = (c .before .before .before .before .before .before .before .pre .ready, (c .before .before .before .before .before .before .before .pre .known))
 
 close-caps-requires : tie.Need-close-caps-requires
-close-caps-requires c κs = let a = c .before .before .before .before .before .before .before .before .before .before .before .args in (chosen-ready (a .vertices .now) (a .facets .now) (a .cap-list .now) (a .n) (a .k) (a .positive) (a .w .now) (c .before .before .before .before .before .before .before .before .before .before .before .pre) (c .before .before .before .select-caps .last .0) (c .before .before .before .select-caps .ensures), ((c .before .before .before .before .before .before .before .before .before .before .before .pre .within, omega (arith, c .before .before .before .before .before .before .before .before .before .before .before .pre .lists .few-vertices), chosen-words (a .vertices .now) (a .facets .now) (a .cap-list .now) (a .n) (a .k) (a .positive) (a .w .now) (c .before .before .before .before .before .before .before .before .before .before .before .pre) (c .before .before .before .select-caps .last .0) (c .before .before .before .select-caps .ensures)), (c .before .before .before .select-caps .ensures .low)))
+close-caps-requires c κs =
+    let a = c .before .before .before .before .before .before .before .before .before .before .before .args in (
+      chosen-ready (a .vertices .now) (a .facets .now) (a .cap-list .now) (a .n) (a .k) (a .positive) (a .w .now)
+          (c .before .before .before .before .before .before .before .before .before .before .before .pre) (c .before .before .before .select-caps .last .0)
+          (c .before .before .before .select-caps .ensures),
+      (
+        (
+          c .before .before .before .before .before .before .before .before .before .before .before .pre .within,
+          omega
+              (arith, c .before .before .before .before .before .before .before .before .before .before .before .pre .lists .few-vertices),
+          chosen-words (a .vertices .now) (a .facets .now)
+              (a .cap-list .now) (a .n) (a .k) (a .positive) (a .w .now) (c .before .before .before .before .before .before .before .before .before .before .before .pre)
+              (c .before .before .before .select-caps .last .0) (c .before .before .before .select-caps .ensures),
+        ),
+        (c .before .before .before .select-caps .ensures .low),
+      ),
+    )
 
 deliver-closed-requires : tie.Need-deliver-closed-requires
-deliver-closed-requires c κs = let a = c .before .before .before .before .before .before .before .before .before .before .before .before .before .before .before .before .before .args in deliverable (a .vertices .now) (a .facets .now) (a .cap-list .now) (a .n) (a .k) (a .positive) (a .w .now) (c .before .before .before .before .before .before .before .before .before .before .before .before .before .before .before .before .before .pre) (c .before .before .before .before .before .before .before .before .before .select-caps .last .0) (c .before .before .before .before .before .before .before .before .before .select-caps .ensures) (c .before .before .before .before .before .close-caps .result .left) (c .before .before .before .before .before .close-caps .result .caps) (c .before .before .before .before .before .close-caps .last .0) (c .before .before .before .before .before .close-caps .ensures)
+deliver-closed-requires c κs =
+    let a = c .before .before .before .before .before .before .before .before .before .before .before .before .before .before .before .before .before .args in
+    deliverable (a .vertices .now) (a .facets .now) (a .cap-list .now) (a .n) (a .k) (a .positive) (a .w .now)
+    (c .before .before .before .before .before .before .before .before .before .before .before .before .before .before .before .before .before .pre)
+    (c .before .before .before .before .before .before .before .before .before .select-caps .last .0)
+    (c .before .before .before .before .before .before .before .before .before .select-caps .ensures) (c .before .before .before .before .before .close-caps .result .left)
+    (c .before .before .before .before .before .close-caps .result .caps) (c .before .before .before .before .before .close-caps .last .0)
+    (c .before .before .before .before .before .close-caps .ensures)
 
 same-length : tie.Need-same-length
 same-length c = search needs
@@ -23,7 +46,18 @@ same-length-3 : tie.Need-same-length-3
 same-length-3 c = search needs
 
 returns : tie.Need-returns
-returns c = let a = c .before .before .before .before .before .before .before .before .before .before .before .before .before .before .before .before .before .before .before .before .before .before .args in answered (a .vertices .now) (a .facets .now) (a .cap-list .now) (a .n) (a .k) (a .positive) (a .w .now) (c .before .before .before .before .before .before .before .before .before .before .before .before .before .before .before .before .before .before .before .before .before .before .pre) (c .before .before .before .before .before .before .before .before .before .before .before .before .before .before .select-caps .last .0) (c .before .before .before .before .before .before .before .before .before .before .before .before .before .before .select-caps .ensures) (c .before .before .before .before .before .before .before .before .before .before .close-caps .result .left) (c .before .before .before .before .before .before .before .before .before .before .close-caps .result .caps) (c .before .before .before .before .before .before .before .before .before .before .close-caps .last .0) (c .before .before .before .before .before .before .before .before .before .before .close-caps .ensures) (a .out-vertices .now) _ (a .out-facets .now) _ _ (c .before .before .before .before .deliver-closed .ensures)
+returns c =
+    let a = c .before .before .before .before .before .before .before .before .before .before .before .before .before .before .before .before .before .before .before .before
+    .before .before .args in
+    answered (a .vertices .now) (a .facets .now) (a .cap-list .now) (a .n) (a .k) (a .positive) (a .w .now)
+    (c .before .before .before .before .before .before .before .before .before .before .before .before .before .before .before .before .before .before .before .before .before
+    .before .pre) (c .before .before .before .before .before .before .before .before .before .before .before .before .before .before .select-caps .last .0)
+    (c .before .before .before .before .before .before .before .before .before .before .before .before .before .before .select-caps .ensures)
+    (c .before .before .before .before .before .before .before .before .before .before .close-caps .result .left)
+    (c .before .before .before .before .before .before .before .before .before .before .close-caps .result .caps)
+    (c .before .before .before .before .before .before .before .before .before .before .close-caps .last .0)
+    (c .before .before .before .before .before .before .before .before .before .before .close-caps .ensures) (a .out-vertices .now) _ (a .out-facets .now) _ _
+    (c .before .before .before .before .deliver-closed .ensures)
 
 pub close-mesh-spec : {M : Type 1} → statement M
 close-mesh-spec =

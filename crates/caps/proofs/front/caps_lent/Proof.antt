@@ -20,7 +20,11 @@ leaves-open-requires : tie.Need-leaves-open-requires
 leaves-open-requires c κs = search needs
 
 deliver-mesh-requires : tie.Need-deliver-mesh-requires
-deliver-mesh-requires c κs = let a = c .before .before .before .before .before .before .before .before .before .before .before .before .before .args in let s = sound (a .vertices .now) (a .facets .now) (asked (a .extents) (a .eps) (a .resolution)) (length (a .cap-list .now)) (length (a .work .now)) (sym (c .before .before .before .before .before .before .check-closure .ensures) ∙ c .before .before .before .before .enum-told .given .1) in (s .lists .whole-vertices, s .lists .whole-facets)
+deliver-mesh-requires c κs =
+    let a = c .before .before .before .before .before .before .before .before .before .before .before .before .before .args in
+    let s = sound (a .vertices .now) (a .facets .now) (asked (a .extents) (a .eps) (a .resolution)) (length (a .cap-list .now)) (length (a .work .now))
+    (sym (c .before .before .before .before .before .before .check-closure .ensures) ∙ c .before .before .before .before .enum-told .given .1) in
+    (s .lists .whole-vertices, s .lists .whole-facets)
 
 same-length : tie.Need-same-length
 same-length c = search needs
@@ -29,10 +33,21 @@ same-length-2 : tie.Need-same-length-2
 same-length-2 c = search needs
 
 returns : tie.Need-returns
-returns c = let a = c .before .before .before .before .before .before .before .before .before .before .before .before .before .before .before .before .before .before .args in handed-back (a .vertices .now) (a .facets .now) (a .cap-list .now) (asked (a .extents) (a .eps) (a .resolution)) (a .mode) (a .out-vertices .now) _ (a .out-facets .now) _ _ (closureTests (a .vertices .now) (a .facets .now) (asked (a .extents) (a .eps) (a .resolution)) (length (a .cap-list .now)) (length (a .work .now))) (sym (c .before .before .before .before .before .before .before .before .before .before .before .check-closure .ensures) ∙ c .before .before .before .before .before .before .before .before .before .enum-told .given .1) (over-open (a .vertices .now) (a .facets .now) (a .cap-list .now) (asked (a .extents) (a .eps) (a .resolution)) (a .mode) (sym (c .before .before .before .before .before .before .before .before .leaves-open .ensures) ∙ c .before .before .before .before .before .before .before .if1 .taken)) (c .before .before .before .before .deliver-mesh .ensures)
+returns c =
+    let a = c .before .before .before .before .before .before .before .before .before .before .before .before .before .before .before .before .before .before .args in
+    handed-back (a .vertices .now) (a .facets .now) (a .cap-list .now) (asked (a .extents) (a .eps) (a .resolution)) (a .mode) (a .out-vertices .now) _ (a .out-facets .now) _ _
+    (closureTests (a .vertices .now) (a .facets .now) (asked (a .extents) (a .eps) (a .resolution)) (length (a .cap-list .now)) (length (a .work .now)))
+    (sym (c .before .before .before .before .before .before .before .before .before .before .before .check-closure .ensures) ∙ c .before .before .before .before .before .before
+    .before .before .before .enum-told .given .1) (over-open (a .vertices .now) (a .facets .now) (a .cap-list .now) (asked (a .extents) (a .eps) (a .resolution)) (a .mode)
+    (sym (c .before .before .before .before .before .before .before .before .leaves-open .ensures) ∙ c .before .before .before .before .before .before .before .if1 .taken))
+    (c .before .before .before .before .deliver-mesh .ensures)
 
 deliver-mesh-requires-2 : tie.Need-deliver-mesh-requires-2
-deliver-mesh-requires-2 c κs = let a = c .before .before .before .before .before .before .before .before .before .before .before .before .before .before .args in let s = sound (a .vertices .now) (a .facets .now) (asked (a .extents) (a .eps) (a .resolution)) (length (a .cap-list .now)) (length (a .work .now)) (sym (c .before .before .before .before .before .before .before .check-closure .ensures) ∙ c .before .before .before .before .before .enum-told .given .1) in (s .lists .whole-vertices, s .lists .whole-facets)
+deliver-mesh-requires-2 c κs =
+    let a = c .before .before .before .before .before .before .before .before .before .before .before .before .before .before .args in
+    let s = sound (a .vertices .now) (a .facets .now) (asked (a .extents) (a .eps) (a .resolution)) (length (a .cap-list .now)) (length (a .work .now))
+    (sym (c .before .before .before .before .before .before .before .check-closure .ensures) ∙ c .before .before .before .before .before .enum-told .given .1) in
+    (s .lists .whole-vertices, s .lists .whole-facets)
 
 same-length-3 : tie.Need-same-length-3
 same-length-3 c = search needs
@@ -41,10 +56,23 @@ same-length-4 : tie.Need-same-length-4
 same-length-4 c = search needs
 
 returns-2 : tie.Need-returns-2
-returns-2 c = let a = c .before .before .before .before .before .before .before .before .before .before .before .before .before .before .before .before .before .before .before .args in handed-back (a .vertices .now) (a .facets .now) (a .cap-list .now) (asked (a .extents) (a .eps) (a .resolution)) (a .mode) (a .out-vertices .now) _ (a .out-facets .now) _ _ (closureTests (a .vertices .now) (a .facets .now) (asked (a .extents) (a .eps) (a .resolution)) (length (a .cap-list .now)) (length (a .work .now))) (sym (c .before .before .before .before .before .before .before .before .before .before .before .before .check-closure .ensures) ∙ c .before .before .before .before .before .before .before .before .before .before .enum-told .given .1) (over-none (a .vertices .now) (a .facets .now) (a .cap-list .now) (asked (a .extents) (a .eps) (a .resolution)) (a .mode) (sym (c .before .before .before .before .before .before .before .before .before .leaves-open .ensures) ∙ c .before .before .before .before .before .before .before .before .if1 .left) (c .before .before .before .before .before .before .before .if2 .taken)) (c .before .before .before .before .deliver-mesh2 .ensures)
+returns-2 c =
+    let a = c .before .before .before .before .before .before .before .before .before .before .before .before .before .before .before .before .before .before .before .args in
+    handed-back (a .vertices .now) (a .facets .now) (a .cap-list .now) (asked (a .extents) (a .eps) (a .resolution)) (a .mode) (a .out-vertices .now) _ (a .out-facets .now) _ _
+    (closureTests (a .vertices .now) (a .facets .now) (asked (a .extents) (a .eps) (a .resolution)) (length (a .cap-list .now)) (length (a .work .now)))
+    (sym (c .before .before .before .before .before .before .before .before .before .before .before .before .check-closure .ensures) ∙ c .before .before .before .before .before
+    .before .before .before .before .before .enum-told .given .1) (over-none (a .vertices .now) (a .facets .now) (a .cap-list .now) (asked (a .extents) (a .eps) (a .resolution))
+    (a .mode) (sym (c .before .before .before .before .before .before .before .before .before .leaves-open .ensures) ∙ c .before .before .before .before .before .before .before
+    .before .if1 .left) (c .before .before .before .before .before .before .before .if2 .taken)) (c .before .before .before .before .deliver-mesh2 .ensures)
 
 make-caps-requires : tie.Need-make-caps-requires
-make-caps-requires c κs = let a = c .before .before .before .before .before .before .before .before .before .before .before .before .before .before .before .args in (sound (a .vertices .now) (a .facets .now) (asked (a .extents) (a .eps) (a .resolution)) (length (a .cap-list .now)) (length (a .work .now)) (sym (c .before .before .before .before .before .before .before .before .check-closure .ensures) ∙ c .before .before .before .before .before .before .enum-told .given .1), listable (a .vertices .now) (a .facets .now) (a .cap-list .now) (asked (a .extents) (a .eps) (a .resolution)) (a .work .now) (sym (c .before .before .before .before .before .before .before .before .check-closure .ensures) ∙ c .before .before .before .before .before .before .enum-told .given .1))
+make-caps-requires c κs =
+    let a = c .before .before .before .before .before .before .before .before .before .before .before .before .before .before .before .args in (
+      sound (a .vertices .now) (a .facets .now) (asked (a .extents) (a .eps) (a .resolution)) (length (a .cap-list .now)) (length (a .work .now))
+          (sym (c .before .before .before .before .before .before .before .before .check-closure .ensures) ∙ c .before .before .before .before .before .before .enum-told .given .1),
+      listable (a .vertices .now) (a .facets .now) (a .cap-list .now) (asked (a .extents) (a .eps) (a .resolution)) (a .work .now)
+          (sym (c .before .before .before .before .before .before .before .before .check-closure .ensures) ∙ c .before .before .before .before .before .before .enum-told .given .1),
+    )
 
 enum-known-r : tie.Need-enum-known-r
 enum-known-r c = search needs
@@ -59,10 +87,24 @@ same-length-7 : tie.Need-same-length-7
 same-length-7 c = search needs
 
 returns-3 : tie.Need-returns-3
-returns-3 c = let a = c .before .before .before .before .before .before .before .before .before .before .before .before .before .before .before .before .before .before .before .before .before .before .args in gone-on (a .vertices .now) (a .facets .now) (a .cap-list .now) (asked (a .extents) (a .eps) (a .resolution)) (a .mode) (a .out-vertices .now) _ (a .out-facets .now) _ _ (closureTests (a .vertices .now) (a .facets .now) (asked (a .extents) (a .eps) (a .resolution)) (length (a .cap-list .now)) (length (a .work .now))) (sym (c .before .before .before .before .before .before .before .before .before .before .before .before .before .before .before .check-closure .ensures) ∙ c .before .before .before .before .before .before .before .before .before .before .before .before .before .enum-told .given .1) (over-neither (a .vertices .now) (a .facets .now) (a .cap-list .now) (asked (a .extents) (a .eps) (a .resolution)) (a .mode) (sym (c .before .before .before .before .before .before .before .before .before .before .before .before .leaves-open .ensures) ∙ c .before .before .before .before .before .before .before .before .before .before .before .if1 .left) (c .before .before .before .before .before .before .before .before .before .before .if2 .left)) (c .before .before .before .before .before .before .make-caps .ensures)
+returns-3 c =
+    let a = c .before .before .before .before .before .before .before .before .before .before .before .before .before .before .before .before .before .before .before .before
+    .before .before .args in
+    gone-on (a .vertices .now) (a .facets .now) (a .cap-list .now) (asked (a .extents) (a .eps) (a .resolution)) (a .mode) (a .out-vertices .now) _ (a .out-facets .now) _ _
+    (closureTests (a .vertices .now) (a .facets .now) (asked (a .extents) (a .eps) (a .resolution)) (length (a .cap-list .now)) (length (a .work .now)))
+    (sym (c .before .before .before .before .before .before .before .before .before .before .before .before .before .before .before .check-closure .ensures) ∙ c .before .before
+    .before .before .before .before .before .before .before .before .before .before .before .enum-told .given .1)
+    (over-neither (a .vertices .now) (a .facets .now) (a .cap-list .now) (asked (a .extents) (a .eps) (a .resolution)) (a .mode)
+    (sym (c .before .before .before .before .before .before .before .before .before .before .before .before .leaves-open .ensures) ∙ c .before .before .before .before .before
+    .before .before .before .before .before .before .if1 .left) (c .before .before .before .before .before .before .before .before .before .before .if2 .left))
+    (c .before .before .before .before .before .before .make-caps .ensures)
 
 returns-4 : tie.Need-returns-4
-returns-4 c = let a = c .before .before .before .before .before .before .before .before .before .before .args in front-refused (a .vertices .now) (a .facets .now) (a .cap-list .now) (asked (a .extents) (a .eps) (a .resolution)) (a .mode) (a .out-vertices .now) (a .out-facets .now) _ (closureTests (a .vertices .now) (a .facets .now) (asked (a .extents) (a .eps) (a .resolution)) (length (a .cap-list .now)) (length (a .work .now))) (sym (c .before .before .before .check-closure .ensures) ∙ c .before .r .given .1)
+returns-4 c =
+    let a = c .before .before .before .before .before .before .before .before .before .before .args in
+    front-refused (a .vertices .now) (a .facets .now) (a .cap-list .now) (asked (a .extents) (a .eps) (a .resolution)) (a .mode) (a .out-vertices .now) (a .out-facets .now) _
+    (closureTests (a .vertices .now) (a .facets .now) (asked (a .extents) (a .eps) (a .resolution)) (length (a .cap-list .now)) (length (a .work .now)))
+    (sym (c .before .before .before .check-closure .ensures) ∙ c .before .r .given .1)
 
 pub caps-lent-spec : {M : Type 1} → statement M
 caps-lent-spec =

@@ -17,7 +17,9 @@ use Rattle.cases.proofs.bits.begins_with.Lts as lts
 use Rattle.cases.proofs.bits.bits.Reads as bits-reads
 
 abbrev Inv-loop : tie.InvT-loop
-Inv-loop list front i₀ i = (i ≤ length front) × (every (λ (k : ℕ). sameBits (getD list k nan) (getD front k nan)) (upTo (length front)) ≡ every (λ (k : ℕ). sameBits (getD list k nan) (getD front k nan)) (drop i (upTo (length front))))
+Inv-loop list front i₀ i =
+    (i ≤ length front) × (every (λ (k : ℕ). sameBits (getD list k nan) (getD front k nan)) (upTo (length front)) ≡ every (λ (k : ℕ). sameBits (getD list k nan) (getD front k nan))
+    (drop i (upTo (length front))))
 
 abbrev μ-loop : tie.MeasureT-loop
 μ-loop list front i₀ i = length front - i
@@ -47,7 +49,10 @@ bits-requires-2 : tie.Need-bits-requires-2 Inv-loop μ-loop
 bits-requires-2 c κs = search needs
 
 returns-2 : tie.Need-returns-2 Inv-loop μ-loop
-returns-2 c = sym (and-next _ _ _ (le-leb _ _ (c .before .before .before .before .before .before .before .if1 .left)) (row-stop _ _ _ (c .before .before .before .before .before .before .loop .inv .1) (c .before .before .before .before .before .loop-test .taken) (ne-eqb _ _ (λ e. c .if2 .taken (c .before .before .before .bits .ensures ∙ e ∙ sym (c .before .bits2 .ensures))))))
+returns-2 c =
+    sym (and-next _ _ _ (le-leb _ _ (c .before .before .before .before .before .before .before .if1 .left))
+    (row-stop _ _ _ (c .before .before .before .before .before .before .loop .inv .1) (c .before .before .before .before .before .loop-test .taken)
+    (ne-eqb _ _ (λ e. c .if2 .taken (c .before .before .before .bits .ensures ∙ e ∙ sym (c .before .bits2 .ensures))))))
 
 add-i : tie.Need-add-i Inv-loop μ-loop
 add-i c = search needs
@@ -56,7 +61,11 @@ loop-less : tie.Need-loop-less Inv-loop μ-loop
 loop-less c = search needs
 
 loop-again : tie.Need-loop-again Inv-loop μ-loop
-loop-again c = (search needs, row-more _ _ _ (c .before .before .before .before .before .before .loop .inv .1) (c .before .before .before .before .before .loop-test .taken) (eq-eqb _ _ (sym (c .before .before .before .bits .ensures) ∙ c .if2 .left ∙ c .before .bits2 .ensures)))
+loop-again c = (
+  search needs,
+  row-more _ _ _ (c .before .before .before .before .before .before .loop .inv .1) (c .before .before .before .before .before .loop-test .taken)
+      (eq-eqb _ _ (sym (c .before .before .before .bits .ensures) ∙ c .if2 .left ∙ c .before .bits2 .ensures)),
+)
 
 returns-3 : tie.Need-returns-3 Inv-loop μ-loop
 returns-3 c = sym (and-next _ _ _ (le-leb _ _ (c .before .before .if1 .left)) (row-end _ _ _ (c .before .loop .inv .1) (c .loop-test .left)))

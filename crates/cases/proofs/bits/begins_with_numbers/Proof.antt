@@ -16,7 +16,9 @@ use Rattle.cases.proofs.bits.begins_with_numbers.Reads as reads
 use Rattle.cases.proofs.bits.begins_with_numbers.Lts as lts
 
 abbrev Inv-loop : tie.InvT-loop
-Inv-loop list front i₀ i = (i ≤ length front) × (every (λ (k : ℕ). eqb (getD list k 0) (getD front k 0)) (upTo (length front)) ≡ every (λ (k : ℕ). eqb (getD list k 0) (getD front k 0)) (drop i (upTo (length front))))
+Inv-loop list front i₀ i =
+    (i ≤ length front) × (every (λ (k : ℕ). eqb (getD list k 0) (getD front k 0)) (upTo (length front)) ≡ every (λ (k : ℕ). eqb (getD list k 0) (getD front k 0))
+    (drop i (upTo (length front))))
 
 abbrev μ-loop : tie.MeasureT-loop
 μ-loop list front i₀ i = length front - i
@@ -40,7 +42,9 @@ shared-slice-read-if2-2 : tie.Need-shared-slice-read-if2-2 Inv-loop μ-loop
 shared-slice-read-if2-2 c = search needs
 
 returns-2 : tie.Need-returns-2 Inv-loop μ-loop
-returns-2 c = sym (and-next _ _ _ (le-leb _ _ (c .before .before .before .before .before .if1 .left)) (row-stop _ _ _ (c .before .before .before .before .loop .inv .1) (c .before .before .before .loop-test .taken) (ne-eqb _ _ (c .if2 .taken))))
+returns-2 c =
+    sym (and-next _ _ _ (le-leb _ _ (c .before .before .before .before .before .if1 .left))
+    (row-stop _ _ _ (c .before .before .before .before .loop .inv .1) (c .before .before .before .loop-test .taken) (ne-eqb _ _ (c .if2 .taken))))
 
 add-i : tie.Need-add-i Inv-loop μ-loop
 add-i c = search needs

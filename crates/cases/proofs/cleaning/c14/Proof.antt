@@ -37,7 +37,8 @@ has-far-key-requires : tie.Need-has-far-key-requires
 has-far-key-requires c κs = search needs
 
 returns-2 : tie.Need-returns-2
-returns-2 c = sym (and-next _ _ _ (sym (c .before .before .before .before .cleans-to .ensures) ∙ not-false _ (c .before .before .before .if1 .left)) (sym (c .has-far-key .ensures)))
+returns-2 c =
+    sym (and-next _ _ _ (sym (c .before .before .before .before .cleans-to .ensures) ∙ not-false _ (c .before .before .before .if1 .left)) (sym (c .has-far-key .ensures)))
 
 pub c14-spec : {M : Type 1} → statement M
 c14-spec =

@@ -21,7 +21,9 @@ reply-to-facet-requires : tie.Need-reply-to-facet-requires
 reply-to-facet-requires c κs = search needs
 
 returns : tie.Need-returns
-returns c = ap (λ (n : ℕ). eqb n 0) (facet-number _ _ _ _ _ _ _ _ (c .before .before .before .before .box-to .ensures) (length-replicate {A = ℕ} 8192 0) (c .before .reply-to-facet .ensures))
+returns c =
+    ap (λ (n : ℕ). eqb n 0) (facet-number _ _ _ _ _ _ _ _ (c .before .before .before .before .box-to .ensures) (length-replicate {A = ℕ} 8192 0)
+    (c .before .reply-to-facet .ensures))
 
 pub c10-spec : {M : Type 1} → statement M
 c10-spec =

@@ -26,7 +26,9 @@ segments-of-requires : tie.Need-segments-of-requires
 segments-of-requires c κs = search needs
 
 returns : tie.Need-returns
-returns c = sym (and-stop _ _ (ne-eqb _ _ (λ e. c .if1 .taken ((c .before .segments-of .ensures ∙ ap (λ (x : AABB). min (segments x zeroF (byAxis (oneF ∷ oneF ∷ oneF ∷ [])) 0) 257) (c .before .before .box-to .ensures)) ∙ e))))
+returns c =
+    sym (and-stop _ _ (ne-eqb _ _ (λ e. c .if1 .taken ((c .before .segments-of .ensures ∙ ap (λ (x : AABB). min (segments x zeroF (byAxis (oneF ∷ oneF ∷ oneF ∷ [])) 0) 257)
+    (c .before .before .box-to .ensures)) ∙ e))))
 
 box-to-requires-2 : tie.Need-box-to-requires-2
 box-to-requires-2 c κs = search needs
@@ -38,13 +40,25 @@ reply-to-facet-requires : tie.Need-reply-to-facet-requires
 reply-to-facet-requires c κs = search needs
 
 returns-2 : tie.Need-returns-2
-returns-2 c = sym (and-next _ _ _ (eq-eqb _ _ (sym (c .before .before .before .before .before .before .before .segments-of .ensures ∙ ap (λ (x : AABB). min (segments x zeroF (byAxis (oneF ∷ oneF ∷ oneF ∷ [])) 0) 257) (c .before .before .before .before .before .before .before .before .box-to .ensures)) ∙ c .before .before .before .before .before .before .if1 .left)) (and-stop _ _ (ne-eqb _ _ (λ e. c .if2 .taken ((facet-number _ _ _ _ _ _ _ _ (c .before .before .before .before .before .box-to2 .ensures) (length-replicate {A = ℕ} 265728 0) (c .before .before .reply-to-facet .ensures)) ∙ e)))))
+returns-2 c =
+    sym (and-next _ _ _ (eq-eqb _ _ (sym (c .before .before .before .before .before .before .before .segments-of .ensures ∙ ap
+    (λ (x : AABB). min (segments x zeroF (byAxis (oneF ∷ oneF ∷ oneF ∷ [])) 0) 257) (c .before .before .before .before .before .before .before .before .box-to .ensures)) ∙ c
+    .before .before .before .before .before .before .if1 .left)) (and-stop _ _
+    (ne-eqb _ _ (λ e. c .if2 .taken ((facet-number _ _ _ _ _ _ _ _ (c .before .before .before .before .before .box-to2 .ensures) (length-replicate {A = ℕ} 265728 0)
+    (c .before .before .reply-to-facet .ensures)) ∙ e)))))
 
 array-read-if3 : tie.Need-array-read-if3
 array-read-if3 c = search needs
 
 returns-3 : tie.Need-returns-3
-returns-3 c = sym (and-next _ _ _ (eq-eqb _ _ (sym (c .before .before .before .before .before .before .before .before .segments-of .ensures ∙ ap (λ (x : AABB). min (segments x zeroF (byAxis (oneF ∷ oneF ∷ oneF ∷ [])) 0) 257) (c .before .before .before .before .before .before .before .before .before .box-to .ensures)) ∙ c .before .before .before .before .before .before .before .if1 .left)) (and-next _ _ _ (eq-eqb _ _ (sym (facet-number _ _ _ _ _ _ _ _ (c .before .before .before .before .before .before .box-to2 .ensures) (length-replicate {A = ℕ} 265728 0) (c .before .before .before .reply-to-facet .ensures)) ∙ c .before .if2 .left)) (and-stop _ _ (ne-eqb _ _ (λ e. c .if3 .taken ((facet-value _ _ _ _ _ _ _ _ (c .before .before .before .before .before .before .box-to2 .ensures) (length-replicate {A = ℕ} 265728 0) (c .before .before .before .reply-to-facet .ensures)) ∙ e))))))
+returns-3 c =
+    sym (and-next _ _ _ (eq-eqb _ _ (sym (c .before .before .before .before .before .before .before .before .segments-of .ensures ∙ ap
+    (λ (x : AABB). min (segments x zeroF (byAxis (oneF ∷ oneF ∷ oneF ∷ [])) 0) 257) (c .before .before .before .before .before .before .before .before .before .box-to .ensures)) ∙
+    c .before .before .before .before .before .before .before .if1 .left))
+    (and-next _ _ _ (eq-eqb _ _ (sym (facet-number _ _ _ _ _ _ _ _ (c .before .before .before .before .before .before .box-to2 .ensures) (length-replicate {A = ℕ} 265728 0)
+    (c .before .before .before .reply-to-facet .ensures)) ∙ c .before .if2 .left))
+    (and-stop _ _ (ne-eqb _ _ (λ e. c .if3 .taken ((facet-value _ _ _ _ _ _ _ _ (c .before .before .before .before .before .before .box-to2 .ensures)
+    (length-replicate {A = ℕ} 265728 0) (c .before .before .before .reply-to-facet .ensures)) ∙ e))))))
 
 box-to-requires-3 : tie.Need-box-to-requires-3
 box-to-requires-3 c κs = search needs
@@ -56,7 +70,18 @@ reply-to-facet-requires-2 : tie.Need-reply-to-facet-requires-2
 reply-to-facet-requires-2 c κs = search needs
 
 returns-4 : tie.Need-returns-4
-returns-4 c = sym (and-next _ _ _ (eq-eqb _ _ (sym (c .before .before .before .before .before .before .before .before .before .before .before .before .before .segments-of .ensures ∙ ap (λ (x : AABB). min (segments x zeroF (byAxis (oneF ∷ oneF ∷ oneF ∷ [])) 0) 257) (c .before .before .before .before .before .before .before .before .before .before .before .before .before .before .box-to .ensures)) ∙ c .before .before .before .before .before .before .before .before .before .before .before .before .if1 .left)) (and-next _ _ _ (eq-eqb _ _ (sym (facet-number _ _ _ _ _ _ _ _ (c .before .before .before .before .before .before .before .before .before .before .before .box-to2 .ensures) (length-replicate {A = ℕ} 265728 0) (c .before .before .before .before .before .before .before .before .reply-to-facet .ensures)) ∙ c .before .before .before .before .before .before .if2 .left)) (and-next _ _ _ (eq-eqb _ _ (sym (facet-value _ _ _ _ _ _ _ _ (c .before .before .before .before .before .before .before .before .before .before .before .box-to2 .ensures) (length-replicate {A = ℕ} 265728 0) (c .before .before .before .before .before .before .before .before .reply-to-facet .ensures)) ∙ c .before .before .before .before .before .if3 .left)) (sym (ap (λ (n : ℕ). eqb n 6) (facet-number _ _ _ _ _ _ _ _ (c .before .before .before .before .box-to3 .ensures) (length-replicate {A = ℕ} 1024 0) (c .before .reply-to-facet2 .ensures)))))))
+returns-4 c =
+    sym (and-next _ _ _ (eq-eqb _ _ (sym (c .before .before .before .before .before .before .before .before .before .before .before .before .before .segments-of .ensures ∙ ap
+    (λ (x : AABB). min (segments x zeroF (byAxis (oneF ∷ oneF ∷ oneF ∷ [])) 0) 257)
+    (c .before .before .before .before .before .before .before .before .before .before .before .before .before .before .box-to .ensures)) ∙ c .before .before .before .before
+    .before .before .before .before .before .before .before .before .if1 .left))
+    (and-next _ _ _ (eq-eqb _ _ (sym (facet-number _ _ _ _ _ _ _ _ (c .before .before .before .before .before .before .before .before .before .before .before .box-to2 .ensures)
+    (length-replicate {A = ℕ} 265728 0) (c .before .before .before .before .before .before .before .before .reply-to-facet .ensures)) ∙ c .before .before .before .before .before
+    .before .if2 .left)) (and-next _ _ _ (eq-eqb _ _ (sym (facet-value _ _ _ _ _ _ _ _
+    (c .before .before .before .before .before .before .before .before .before .before .before .box-to2 .ensures) (length-replicate {A = ℕ} 265728 0)
+    (c .before .before .before .before .before .before .before .before .reply-to-facet .ensures)) ∙ c .before .before .before .before .before .if3 .left))
+    (sym (ap (λ (n : ℕ). eqb n 6) (facet-number _ _ _ _ _ _ _ _ (c .before .before .before .before .box-to3 .ensures) (length-replicate {A = ℕ} 1024 0)
+    (c .before .reply-to-facet2 .ensures)))))))
 
 pub c13-spec : {M : Type 1} → statement M
 c13-spec =

@@ -33,7 +33,9 @@ list-candidates-requires : tie.Need-list-candidates-requires
 list-candidates-requires c κs = search needs
 
 returns : tie.Need-returns
-returns c = sym (and-stop _ _ (ne-eqb _ _ (λ e. c .if1 .taken (listed-number _ _ _ _ 8192 8192 _ _ _ _ _ _ (c .before .before .before .before .before .before .before .box-to .ensures) (length-replicate {A = ℕ} 8192 0) (c .before .before .before .list-candidates .ensures) ∙ e))))
+returns c =
+    sym (and-stop _ _ (ne-eqb _ _ (λ e. c .if1 .taken (listed-number _ _ _ _ 8192 8192 _ _ _ _ _ _ (c .before .before .before .before .before .before .before .box-to .ensures)
+    (length-replicate {A = ℕ} 8192 0) (c .before .before .before .list-candidates .ensures) ∙ e))))
 
 slice-aggregate-is-later-point : tie.Need-slice-aggregate-is-later-point
 slice-aggregate-is-later-point c = search needs
@@ -42,7 +44,11 @@ is-later-point-requires : tie.Need-is-later-point-requires
 is-later-point-requires c κs = search needs
 
 returns-2 : tie.Need-returns-2
-returns-2 c = c .is-later-point .ensures ∙ ap isLater (listed-words _ _ _ _ 8192 8192 _ _ _ _ _ _ (c .before .before .before .before .before .before .before .before .before .box-to .ensures) (length-replicate {A = ℕ} 8192 0) (c .before .before .before .before .before .list-candidates .ensures)) ∙ sym (and-next _ _ _ (eq-eqb _ _ (sym (listed-number _ _ _ _ 8192 8192 _ _ _ _ _ _ (c .before .before .before .before .before .before .before .before .before .box-to .ensures) (length-replicate {A = ℕ} 8192 0) (c .before .before .before .before .before .list-candidates .ensures)) ∙ c .before .before .if1 .left)) refl)
+returns-2 c =
+    c .is-later-point .ensures ∙ ap isLater (listed-words _ _ _ _ 8192 8192 _ _ _ _ _ _ (c .before .before .before .before .before .before .before .before .before .box-to .ensures)
+    (length-replicate {A = ℕ} 8192 0) (c .before .before .before .before .before .list-candidates .ensures)) ∙ sym
+    (and-next _ _ _ (eq-eqb _ _ (sym (listed-number _ _ _ _ 8192 8192 _ _ _ _ _ _ (c .before .before .before .before .before .before .before .before .before .box-to .ensures)
+    (length-replicate {A = ℕ} 8192 0) (c .before .before .before .before .before .list-candidates .ensures)) ∙ c .before .before .if1 .left)) refl)
 
 pub c3b-spec : {M : Type 1} → statement M
 c3b-spec =

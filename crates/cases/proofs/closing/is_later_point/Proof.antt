@@ -32,10 +32,14 @@ is-alone-requires : tie.Need-is-alone-requires
 is-alone-requires c κs = search needs
 
 returns-2 : tie.Need-returns-2
-returns-2 c = later-alone _ _ (c .before .before .before .before .before .before .place-of .ensures) _ (c .before .before .before .before .place-of2 .ensures) (c .before .before .before .before .before .if1 .left) _ (c .before .before .before .if2 .taken) (c .before .if3 .taken) (c .is-alone .ensures)
+returns-2 c =
+    later-alone _ _ (c .before .before .before .before .before .before .place-of .ensures) _ (c .before .before .before .before .place-of2 .ensures)
+    (c .before .before .before .before .before .if1 .left) _ (c .before .before .before .if2 .taken) (c .before .if3 .taken) (c .is-alone .ensures)
 
 returns-3 : tie.Need-returns-3
-returns-3 c = later-other _ _ (c .before .before .before .before .before .place-of .ensures) _ (c .before .before .before .place-of2 .ensures) (c .before .before .before .before .if1 .left) (c .before .before .if2 .taken) (c .if3 .left)
+returns-3 c =
+    later-other _ _ (c .before .before .before .before .before .place-of .ensures) _ (c .before .before .before .place-of2 .ensures) (c .before .before .before .before .if1 .left)
+    (c .before .before .if2 .taken) (c .if3 .left)
 
 returns-4 : tie.Need-returns-4
 returns-4 c = later-none _ _ (c .before .before .before .place-of .ensures) _ (c .before .place-of2 .ensures) (c .before .before .if1 .left) (c .if2 .left)

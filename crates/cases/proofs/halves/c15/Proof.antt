@@ -33,13 +33,19 @@ list-candidates-requires : tie.Need-list-candidates-requires
 list-candidates-requires c κs = search needs
 
 returns : tie.Need-returns
-returns c = sym (and-stop _ _ (ne-eqb _ _ (λ e. c .if1 .taken (listed-number _ _ _ _ 8192 60 _ _ _ _ _ _ (c .before .before .before .before .before .before .before .cube .ensures) (length-replicate {A = ℕ} 8192 0) (c .before .before .before .list-candidates .ensures) ∙ e))))
+returns c =
+    sym (and-stop _ _ (ne-eqb _ _ (λ e. c .if1 .taken (listed-number _ _ _ _ 8192 60 _ _ _ _ _ _ (c .before .before .before .before .before .before .before .cube .ensures)
+    (length-replicate {A = ℕ} 8192 0) (c .before .before .before .list-candidates .ensures) ∙ e))))
 
 array-read-if2 : tie.Need-array-read-if2
 array-read-if2 c = search needs
 
 returns-2 : tie.Need-returns-2
-returns-2 c = sym (and-next _ _ _ (eq-eqb _ _ (sym (listed-number _ _ _ _ 8192 60 _ _ _ _ _ _ (c .before .before .before .before .before .before .before .before .cube .ensures) (length-replicate {A = ℕ} 8192 0) (c .before .before .before .before .list-candidates .ensures)) ∙ c .before .if1 .left)) (and-stop _ _ (ne-eqb _ _ (λ e. c .if2 .taken (listed-value _ _ _ _ 8192 60 _ _ _ _ _ _ (c .before .before .before .before .before .before .before .before .cube .ensures) (length-replicate {A = ℕ} 8192 0) (c .before .before .before .before .list-candidates .ensures) ∙ e)))))
+returns-2 c =
+    sym (and-next _ _ _ (eq-eqb _ _ (sym (listed-number _ _ _ _ 8192 60 _ _ _ _ _ _ (c .before .before .before .before .before .before .before .before .cube .ensures)
+    (length-replicate {A = ℕ} 8192 0) (c .before .before .before .before .list-candidates .ensures)) ∙ c .before .if1 .left))
+    (and-stop _ _ (ne-eqb _ _ (λ e. c .if2 .taken (listed-value _ _ _ _ 8192 60 _ _ _ _ _ _ (c .before .before .before .before .before .before .before .before .cube .ensures)
+    (length-replicate {A = ℕ} 8192 0) (c .before .before .before .before .list-candidates .ensures) ∙ e)))))
 
 slice-aggregate-closes-both : tie.Need-slice-aggregate-closes-both
 slice-aggregate-closes-both c = search needs
@@ -48,7 +54,14 @@ closes-both-requires : tie.Need-closes-both-requires
 closes-both-requires c κs = search needs
 
 returns-3 : tie.Need-returns-3
-returns-3 c = c .closes-both .ensures ∙ ap closesBoth (listed-words _ _ _ _ 8192 60 _ _ _ _ _ _ (c .before .before .before .before .before .before .before .before .before .before .cube .ensures) (length-replicate {A = ℕ} 8192 0) (c .before .before .before .before .before .before .list-candidates .ensures)) ∙ sym (and-next _ _ _ (eq-eqb _ _ (sym (listed-number _ _ _ _ 8192 60 _ _ _ _ _ _ (c .before .before .before .before .before .before .before .before .before .before .cube .ensures) (length-replicate {A = ℕ} 8192 0) (c .before .before .before .before .before .before .list-candidates .ensures)) ∙ c .before .before .before .if1 .left)) (and-next _ _ _ (eq-eqb _ _ (sym (listed-value _ _ _ _ 8192 60 _ _ _ _ _ _ (c .before .before .before .before .before .before .before .before .before .before .cube .ensures) (length-replicate {A = ℕ} 8192 0) (c .before .before .before .before .before .before .list-candidates .ensures)) ∙ c .before .before .if2 .left)) refl))
+returns-3 c =
+    c .closes-both .ensures ∙ ap closesBoth (listed-words _ _ _ _ 8192 60 _ _ _ _ _ _
+    (c .before .before .before .before .before .before .before .before .before .before .cube .ensures) (length-replicate {A = ℕ} 8192 0)
+    (c .before .before .before .before .before .before .list-candidates .ensures)) ∙ sym
+    (and-next _ _ _ (eq-eqb _ _ (sym (listed-number _ _ _ _ 8192 60 _ _ _ _ _ _ (c .before .before .before .before .before .before .before .before .before .before .cube .ensures)
+    (length-replicate {A = ℕ} 8192 0) (c .before .before .before .before .before .before .list-candidates .ensures)) ∙ c .before .before .before .if1 .left))
+    (and-next _ _ _ (eq-eqb _ _ (sym (listed-value _ _ _ _ 8192 60 _ _ _ _ _ _ (c .before .before .before .before .before .before .before .before .before .before .cube .ensures)
+    (length-replicate {A = ℕ} 8192 0) (c .before .before .before .before .before .before .list-candidates .ensures)) ∙ c .before .before .if2 .left)) refl))
 
 pub c15-spec : {M : Type 1} → statement M
 c15-spec =

@@ -33,7 +33,9 @@ place-of-requires : tie.Need-place-of-requires
 place-of-requires c κs = search needs
 
 returns : tie.Need-returns
-returns c = placed _ _ _ _ _ _ _ (c .before .before .before .before .point .ensures) (c .before .before .before .bits .ensures) (c .before .before .bits2 .ensures) (c .before .bits3 .ensures) (c .place-of .ensures)
+returns c =
+    placed _ _ _ _ _ _ _ (c .before .before .before .before .point .ensures) (c .before .before .before .bits .ensures) (c .before .before .bits2 .ensures)
+    (c .before .bits3 .ensures) (c .place-of .ensures)
 
 pub candidate-at-spec : {M : Type 1} → statement M
 candidate-at-spec =

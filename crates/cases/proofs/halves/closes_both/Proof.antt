@@ -21,14 +21,19 @@ closes-to-requires c κs = search needs
 
 returns : tie.Need-returns
 unfolding closesBoth
-returns c = sym (and-stop _ _ (sym (c .before .closes-to .ensures ∙ ap (λ (l : List ℕ). closesTo ClosePositive l lowerHalf) (c .before .before .before .before .list-triangles .ensures)) ∙ not-true _ (c .if1 .taken)))
+returns c =
+    sym (and-stop _ _ (sym (c .before .closes-to .ensures ∙ ap (λ (l : List ℕ). closesTo ClosePositive l lowerHalf) (c .before .before .before .before .list-triangles .ensures)) ∙
+    not-true _ (c .if1 .taken)))
 
 closes-to-requires-2 : tie.Need-closes-to-requires-2
 closes-to-requires-2 c κs = search needs
 
 returns-2 : tie.Need-returns-2
 unfolding closesBoth
-returns-2 c = (c .closes-to2 .ensures ∙ ap (λ (l : List ℕ). closesTo CloseNegative l upperHalf) (c .before .before .before .before .before .before .before .list-triangles .ensures)) ∙ sym (and-next _ _ _ (sym (c .before .before .before .before .closes-to .ensures ∙ ap (λ (l : List ℕ). closesTo ClosePositive l lowerHalf) (c .before .before .before .before .before .before .before .list-triangles .ensures)) ∙ not-false _ (c .before .before .before .if1 .left)) refl)
+returns-2 c =
+    (c .closes-to2 .ensures ∙ ap (λ (l : List ℕ). closesTo CloseNegative l upperHalf) (c .before .before .before .before .before .before .before .list-triangles .ensures)) ∙ sym
+    (and-next _ _ _ (sym (c .before .before .before .before .closes-to .ensures ∙ ap (λ (l : List ℕ). closesTo ClosePositive l lowerHalf)
+    (c .before .before .before .before .before .before .before .list-triangles .ensures)) ∙ not-false _ (c .before .before .before .if1 .left)) refl)
 
 pub closes-both-spec : {M : Type 1} → statement M
 closes-both-spec =

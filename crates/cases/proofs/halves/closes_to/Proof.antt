@@ -39,7 +39,9 @@ is-half-requires : tie.Need-is-half-requires
 is-half-requires c κs = search needs
 
 returns : tie.Need-returns
-returns c = c .is-half .ensures ∙ capped-to _ _ _ _ _ _ _ _ (c .before .before .before .before .before .before .before .before .before .before .cube .ensures) (length-replicate {A = ℕ} 8192 0) (c .before .before .before .before .before .before .cap-mesh-to-aabb .ensures) _
+returns c =
+    c .is-half .ensures ∙ capped-to _ _ _ _ _ _ _ _ (c .before .before .before .before .before .before .before .before .before .before .cube .ensures)
+    (length-replicate {A = ℕ} 8192 0) (c .before .before .before .before .before .before .cap-mesh-to-aabb .ensures) _
 
 pub closes-to-spec : {M : Type 1} → statement M
 closes-to-spec =

@@ -38,7 +38,9 @@ is-point-requires : tie.Need-is-point-requires Inv-loop μ-loop
 is-point-requires c κs = search needs
 
 returns : tie.Need-returns Inv-loop μ-loop
-returns c = sym (corner-stop _ _ _ _ (c .before .before .before .before .before .loop .inv .1) (c .before .before .before .before .loop-test .taken) (sym (c .before .is-point .ensures) ∙ not-true _ (c .if1 .taken)))
+returns c =
+    sym (corner-stop _ _ _ _ (c .before .before .before .before .before .loop .inv .1) (c .before .before .before .before .loop-test .taken)
+    (sym (c .before .is-point .ensures) ∙ not-true _ (c .if1 .taken)))
 
 add-i : tie.Need-add-i Inv-loop μ-loop
 add-i c = search needs
@@ -47,7 +49,11 @@ loop-less : tie.Need-loop-less Inv-loop μ-loop
 loop-less c = search needs
 
 loop-again : tie.Need-loop-again Inv-loop μ-loop
-loop-again c = (search needs, corner-more _ _ _ _ (c .before .before .before .before .before .loop .inv .1) (c .before .before .before .before .loop-test .taken) (sym (c .before .is-point .ensures) ∙ not-false _ (c .if1 .left)))
+loop-again c = (
+  search needs,
+  corner-more _ _ _ _ (c .before .before .before .before .before .loop .inv .1) (c .before .before .before .before .loop-test .taken)
+      (sym (c .before .is-point .ensures) ∙ not-false _ (c .if1 .left)),
+)
 
 returns-2 : tie.Need-returns-2 Inv-loop μ-loop
 returns-2 c = sym (corner-end _ _ _ _ (c .before .loop .inv .1) (c .loop-test .left))

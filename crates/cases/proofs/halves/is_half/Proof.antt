@@ -25,21 +25,30 @@ array-read-if2 c = search needs
 
 returns-2 : tie.Need-returns-2
 unfolding isHalf
-returns-2 c = sym (and-next _ _ _ (eq-eqb _ _ (sym (c .before .before .report-reply .ensures .number) ∙ c .before .if1 .left)) (and-stop _ _ (ne-eqb _ _ (λ e. c .if2 .taken ((ap (λ (l : List ℕ). getD l 0 0) (c .before .before .report-reply .ensures .words)) ∙ e)))))
+returns-2 c =
+    sym (and-next _ _ _ (eq-eqb _ _ (sym (c .before .before .report-reply .ensures .number) ∙ c .before .if1 .left))
+    (and-stop _ _ (ne-eqb _ _ (λ e. c .if2 .taken ((ap (λ (l : List ℕ). getD l 0 0) (c .before .before .report-reply .ensures .words)) ∙ e)))))
 
 array-read-if3 : tie.Need-array-read-if3
 array-read-if3 c = search needs
 
 returns-3 : tie.Need-returns-3
 unfolding isHalf
-returns-3 c = sym (and-next _ _ _ (eq-eqb _ _ (sym (c .before .before .before .report-reply .ensures .number) ∙ c .before .before .if1 .left)) (and-next _ _ _ (eq-eqb _ _ (sym (ap (λ (l : List ℕ). getD l 0 0) (c .before .before .before .report-reply .ensures .words)) ∙ c .before .if2 .left)) (and-stop _ _ (ne-eqb _ _ (λ e. c .if3 .taken ((ap (λ (l : List ℕ). getD l 1 0) (c .before .before .before .report-reply .ensures .words)) ∙ e))))))
+returns-3 c =
+    sym (and-next _ _ _ (eq-eqb _ _ (sym (c .before .before .before .report-reply .ensures .number) ∙ c .before .before .if1 .left))
+    (and-next _ _ _ (eq-eqb _ _ (sym (ap (λ (l : List ℕ). getD l 0 0) (c .before .before .before .report-reply .ensures .words)) ∙ c .before .if2 .left))
+    (and-stop _ _ (ne-eqb _ _ (λ e. c .if3 .taken ((ap (λ (l : List ℕ). getD l 1 0) (c .before .before .before .report-reply .ensures .words)) ∙ e))))))
 
 has-facets-requires : tie.Need-has-facets-requires
 has-facets-requires c κs = search needs
 
 returns-4 : tie.Need-returns-4
 unfolding isHalf
-returns-4 c = sym (and-next _ _ _ (eq-eqb _ _ (sym (c .before .before .before .before .report-reply .ensures .number) ∙ c .before .before .before .if1 .left)) (and-next _ _ _ (eq-eqb _ _ (sym (ap (λ (l : List ℕ). getD l 0 0) (c .before .before .before .before .report-reply .ensures .words)) ∙ c .before .before .if2 .left)) (and-next _ _ _ (eq-eqb _ _ (sym (ap (λ (l : List ℕ). getD l 1 0) (c .before .before .before .before .report-reply .ensures .words)) ∙ c .before .if3 .left)) (sym (c .has-facets .ensures)))))
+returns-4 c =
+    sym (and-next _ _ _ (eq-eqb _ _ (sym (c .before .before .before .before .report-reply .ensures .number) ∙ c .before .before .before .if1 .left))
+    (and-next _ _ _ (eq-eqb _ _ (sym (ap (λ (l : List ℕ). getD l 0 0) (c .before .before .before .before .report-reply .ensures .words)) ∙ c .before .before .if2 .left))
+    (and-next _ _ _ (eq-eqb _ _ (sym (ap (λ (l : List ℕ). getD l 1 0) (c .before .before .before .before .report-reply .ensures .words)) ∙ c .before .if3 .left))
+    (sym (c .has-facets .ensures)))))
 
 pub is-half-spec : {M : Type 1} → statement M
 is-half-spec =

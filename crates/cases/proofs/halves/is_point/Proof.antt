@@ -41,7 +41,9 @@ begins-with-requires : tie.Need-begins-with-requires
 begins-with-requires c κs = search needs
 
 returns-2 : tie.Need-returns-2
-returns-2 c = point-goes (now (c .before .before .before .before .before .before .args .vertices)) _ _ _ _ (c .begins-with .ensures) (c .before .before .before .point .ensures) (c .before .before .before .before .if1 .left)
+returns-2 c =
+    point-goes (now (c .before .before .before .before .before .before .args .vertices)) _ _ _ _ (c .begins-with .ensures) (c .before .before .before .point .ensures)
+    (c .before .before .before .before .if1 .left)
 
 pub is-point-spec : {M : Type 1} → statement M
 is-point-spec =

@@ -37,7 +37,13 @@ loop-less : tie.Need-loop-less Inv-loop μ-loop
 loop-less c = search needs
 
 loop-again : tie.Need-loop-again Inv-loop μ-loop
-loop-again c = (search needs, length-set {A = ℕ} (c .before .before .loop .list) (c .before .before .loop .i) (c .cap-word .result) ∙ c .before .before .loop .inv .1, turned-more _ (c .before .before .loop .list) (c .before .before .loop .i) (c .before .before .loop .inv .1) (c .before .before .loop .inv .2) (c .cap-word .result) (c .before .loop-test .taken) (c .cap-word .ensures))
+loop-again c = (
+  search needs,
+  length-set {A = ℕ} (c .before .before .loop .list) (c .before .before .loop .i) (c .cap-word .result) ∙ c .before .before .loop .inv .1,
+  turned-more _
+      (c .before .before .loop .list) (c .before .before .loop .i) (c .before .before .loop .inv .1) (c .before .before .loop .inv .2) (c .cap-word .result)
+      (c .before .loop-test .taken) (c .cap-word .ensures),
+)
 
 returns : tie.Need-returns Inv-loop μ-loop
 returns c = turned-all _ _ _ (c .before .loop .inv .1) (c .before .loop .inv .2) (c .loop-test .left)

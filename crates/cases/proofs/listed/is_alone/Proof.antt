@@ -38,7 +38,9 @@ is-free-requires : tie.Need-is-free-requires Inv-loop μ-loop
 is-free-requires c κs = search needs
 
 returns : tie.Need-returns Inv-loop μ-loop
-returns c = sym (row-stop _ _ _ (c .before .before .before .before .loop .inv .1) (c .before .before .before .loop-test .taken) (sym (c .before .is-free .ensures) ∙ not-true _ (c .if1 .taken)))
+returns c =
+    sym (row-stop _ _ _ (c .before .before .before .before .loop .inv .1) (c .before .before .before .loop-test .taken)
+    (sym (c .before .is-free .ensures) ∙ not-true _ (c .if1 .taken)))
 
 add-i : tie.Need-add-i Inv-loop μ-loop
 add-i c = search needs
@@ -47,7 +49,11 @@ loop-less : tie.Need-loop-less Inv-loop μ-loop
 loop-less c = search needs
 
 loop-again : tie.Need-loop-again Inv-loop μ-loop
-loop-again c = (search needs, row-more _ _ _ (c .before .before .before .before .loop .inv .1) (c .before .before .before .loop-test .taken) (sym (c .before .is-free .ensures) ∙ not-false _ (c .if1 .left)))
+loop-again c = (
+  search needs,
+  row-more _ _ _ (c .before .before .before .before .loop .inv .1) (c .before .before .before .loop-test .taken)
+      (sym (c .before .is-free .ensures) ∙ not-false _ (c .if1 .left)),
+)
 
 returns-2 : tie.Need-returns-2 Inv-loop μ-loop
 returns-2 c = sym (row-end _ _ _ (c .before .loop .inv .1) (c .loop-test .left))

@@ -32,7 +32,8 @@ loop-holds c =
     let t = sought (s .keys .now) (s .key) in
     let b = c .before .bucket .ensures in
     rw (c .first .ensures)
-    (walk-start (s .m .now) (s .at) (s .nb) (length (s .keys .now)) _ t (word-filed (s .keys .now) (s .m .now) (s .at) (s .nb) (s .key) _ (c .before .before .before .before .pre .1 .1) (b .is)) (b .low))
+    (walk-start (s .m .now) (s .at) (s .nb) (length (s .keys .now)) _ t
+    (word-filed (s .keys .now) (s .m .now) (s .at) (s .nb) (s .key) _ (c .before .before .before .before .pre .1 .1) (b .is)) (b .low))
 
 sub-i : tie.Need-sub-i Inv-loop μ-loop
 sub-i c = omega arith
@@ -81,7 +82,8 @@ loop-again c =
     let s = c .before .before .before .before .before .before .before .before .before .args in
     let t = sought (s .keys .now) (s .key) in
     rw (c .next .ensures)
-    (walk-turn (s .m .now) (s .at) (s .nb) (length (s .keys .now)) _ t (l .p) (l .inv) (c .before .before .before .loop-test .taken) (ne-eqb (s .key) _ (λ e. c .before .if1 .left (sym e))))
+    (walk-turn (s .m .now) (s .at) (s .nb) (length (s .keys .now)) _ t (l .p) (l .inv) (c .before .before .before .loop-test .taken)
+    (ne-eqb (s .key) _ (λ e. c .before .if1 .left (sym e))))
 
 returns-2 : tie.Need-returns-2 Inv-loop μ-loop
 returns-2 c =

@@ -42,8 +42,14 @@ bucket-requires c κs = omega arith
 enter-requires : tie.Need-enter-requires Inv-loop μ-loop
 enter-requires c κs =
     let l = c .before .before .before .before .loop in
-    let s = c .before .before .before .before .before .before .before .before .before .before .before .args in
-    (c .before .bucket .ensures .low, (omega arith, words-tail (s .keys .now) (s .at) (s .nb) _ (l .m) (l .i) (omega arith) (l .inv) (omega arith) _ (c .before .bucket .ensures .low)))
+    let s = c .before .before .before .before .before .before .before .before .before .before .before .args in (
+      c .before .bucket .ensures .low,
+      (
+        omega arith,
+        words-tail (s .keys .now) (s .at) (s .nb) _ (l .m) (l .i) (omega arith) (l .inv) (omega arith) _
+            (c .before .bucket .ensures .low),
+      ),
+    )
 
 add-i : tie.Need-add-i Inv-loop μ-loop
 add-i c = omega arith

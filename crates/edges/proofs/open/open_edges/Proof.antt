@@ -36,7 +36,8 @@ returns c =
     let table = c .before .before .before .before .before .before .before .before .before .before .sort-sides in
     let kept = c .before .before .before .before .before .before .keep-open in
     let cleared = c .before .before .zero-part in
-    opens (s .args .facets .now) (s .args .w .now) (table .last .1 .0) (kept .last .0) (cleared .last .0) (kept .result) (s .pre .0) (s .pre .1) (λ i. omega (arith, corners .given i)) (table .ensures) (kept .ensures) (cleared .ensures)
+    opens (s .args .facets .now) (s .args .w .now) (table .last .1 .0) (kept .last .0) (cleared .last .0) (kept .result) (s .pre .0) (s .pre .1)
+    (λ i. omega (arith, corners .given i)) (table .ensures) (kept .ensures) (cleared .ensures)
 
 pub open-edges-spec : {M : Type 1} → statement M
 open-edges-spec =

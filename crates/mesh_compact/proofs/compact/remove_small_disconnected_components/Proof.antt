@@ -20,7 +20,14 @@ components-requires : tie.Need-components-requires
 components-requires c κs =
     let s = c .before .before .before .before in
     let a = s .args in
-    record { some = omega arith; room = omega (arith, s .pre .all-in); fits = omega (arith, s .pre .facets-in, s .pre .all-in); apart = apart (a .kept) (a .n) (a .facets) (a .k) (a .at) (a .least) (a .m .now) (s .pre); below = labels-low (a .kept) (a .n) (a .facets) (a .k) (a .at) (a .least) (a .m .now) (s .pre) }
+    record {
+      some = omega arith;
+      room = omega (arith, s .pre .all-in);
+      fits = omega (arith, s .pre .facets-in, s .pre .all-in);
+      apart = apart (a .kept) (a .n) (a .facets) (a .k)
+          (a .at) (a .least) (a .m .now) (s .pre);
+      below = labels-low (a .kept) (a .n) (a .facets) (a .k) (a .at) (a .least) (a .m .now) (s .pre);
+    }
 
 mul-table : tie.Need-mul-table
 mul-table c = search needs
@@ -32,7 +39,11 @@ add-table-2 : tie.Need-add-table-2
 add-table-2 c = search needs
 
 renumber-requires : tie.Need-renumber-requires
-renumber-requires c κs = let s = c .before .before .before .before .before .before .before .before in let a = s .args in room (a .kept) (a .n) (a .facets) (a .k) (a .at) (a .least) (a .m .now) (s .pre) (c .before .before .before .components .last .0) (c .before .before .before .components .ensures)
+renumber-requires c κs =
+    let s = c .before .before .before .before .before .before .before .before in
+    let a = s .args in
+    room (a .kept) (a .n) (a .facets) (a .k) (a .at) (a .least) (a .m .now) (s .pre) (c .before .before .before .components .last .0)
+    (c .before .before .before .components .ensures)
 
 add-t18 : tie.Need-add-t18
 add-t18 c = search needs
@@ -50,7 +61,13 @@ same-length : tie.Need-same-length
 same-length c = search needs
 
 returns-3 : tie.Need-returns-3
-returns-3 c = let s = c .before .before .before .before .before .before .before .before .before .before .before in let a = s .args in compacted-is (a .kept) (a .n) (a .facets) (a .k) (a .at) (a .least) (a .m .now) (s .pre) (c .before .before .before .before .before .before .components .last .0) (c .before .before .before .before .before .before .components .ensures) (c .before .before .before .before .before .before .before .before .before .if1 .left) (omega (arith, c .before .before .before .before .before .before .before .before .if2 .left)) (c .before .before .renumber .result) (c .before .before .renumber .last .0) (c .before .before .renumber .kept .0) (c .before .before .renumber .ensures)
+returns-3 c =
+    let s = c .before .before .before .before .before .before .before .before .before .before .before in
+    let a = s .args in
+    compacted-is (a .kept) (a .n) (a .facets) (a .k) (a .at) (a .least) (a .m .now) (s .pre) (c .before .before .before .before .before .before .components .last .0)
+    (c .before .before .before .before .before .before .components .ensures) (c .before .before .before .before .before .before .before .before .before .if1 .left)
+    (omega (arith, c .before .before .before .before .before .before .before .before .if2 .left)) (c .before .before .renumber .result) (c .before .before .renumber .last .0)
+    (c .before .before .renumber .kept .0) (c .before .before .renumber .ensures)
 
 pub remove-small-disconnected-components-spec : {M : Type 1} → statement M
 remove-small-disconnected-components-spec =

@@ -16,7 +16,12 @@ slice-read-m : tie.Need-slice-read-m
 slice-read-m c = search needs
 
 sub-m : tie.Need-sub-m
-sub-m c = let s = c .before .before .before .before .before .before .before in let a = s .args in has-number (a .kept) (a .at) (a .n) (a .k) (a .v .0) (a .w) (a .m .now) (c .before .before .before .before .number-vertex .last .0) (c .before .before .before .before .number-vertex .result) (c .before .before .before .before .number-vertex .ensures) (s .pre .0 .0) (s .pre .0 .1) (s .pre .1 .0) (s .pre .1 .1 .0) (s .pre .1 .1 .1)
+sub-m c =
+    let s = c .before .before .before .before .before .before .before in
+    let a = s .args in
+    has-number (a .kept) (a .at) (a .n) (a .k) (a .v .0) (a .w) (a .m .now) (c .before .before .before .before .number-vertex .last .0)
+    (c .before .before .before .before .number-vertex .result) (c .before .before .before .before .number-vertex .ensures) (s .pre .0 .0) (s .pre .0 .1) (s .pre .1 .0)
+    (s .pre .1 .1 .0) (s .pre .1 .1 .1)
 
 add-m-2 : tie.Need-add-m-2
 add-m-2 c = search needs
@@ -43,7 +48,12 @@ same-length : tie.Need-same-length
 same-length c = search needs
 
 returns : tie.Need-returns
-returns c = let s = c .before .before .before .before .before .before .before in let a = s .args in cornered (a .kept) (a .at) (a .n) (a .k) (a .v .0) (a .w) (a .m .now) (c .before .before .before .before .number-vertex .last .0) (c .before .before .before .before .number-vertex .result) (c .before .before .before .before .number-vertex .ensures) (s .pre .0 .0) (s .pre .0 .1) (s .pre .1 .0) (s .pre .1 .1 .0) (s .pre .1 .1 .1)
+returns c =
+    let s = c .before .before .before .before .before .before .before in
+    let a = s .args in
+    cornered (a .kept) (a .at) (a .n) (a .k) (a .v .0) (a .w) (a .m .now) (c .before .before .before .before .number-vertex .last .0)
+    (c .before .before .before .before .number-vertex .result) (c .before .before .before .before .number-vertex .ensures) (s .pre .0 .0) (s .pre .0 .1) (s .pre .1 .0)
+    (s .pre .1 .1 .0) (s .pre .1 .1 .1)
 
 pub number-corner-spec : {M : Type 1} → statement M
 number-corner-spec =

@@ -42,7 +42,17 @@ same-length : tie.Need-same-length
 same-length c = search needs
 
 returns : tie.Need-returns
-returns c = let s = c .before .before .before .before .before .before .before .before .before .before .before .before .before .before .before .before in let a = s .args in let h = s .pre .1 .1 .1 in faceted (a .kept) (a .at) (a .n) (a .k) (getD (a .m .now) (a .facet) 0) (getD (a .m .now) (a .facet + 1) 0) (getD (a .m .now) (a .facet + 2) 0) (a .w) (c .before .before .before .before .before .before .before .before .before .before .number-corner .result) (c .before .before .before .before .before .before .number-corner2 .result) (c .before .before .number-corner3 .result) (a .m .now) (c .before .before .before .before .before .before .before .before .before .before .number-corner .last .0) (c .before .before .before .before .before .before .number-corner2 .last .0) (c .before .before .number-corner3 .last .0) (s .pre .0 .0) (h .0) (h .1 .0) (h .1 .1) (c .before .before .before .before .before .before .before .before .before .before .number-corner .ensures) (c .before .before .before .before .before .before .number-corner2 .ensures) (c .before .before .number-corner3 .ensures)
+returns c =
+    let s = c .before .before .before .before .before .before .before .before .before .before .before .before .before .before .before .before in
+    let a = s .args in
+    let h = s .pre .1 .1 .1 in
+    faceted (a .kept) (a .at) (a .n) (a .k) (getD (a .m .now) (a .facet) 0) (getD (a .m .now) (a .facet + 1) 0) (getD (a .m .now) (a .facet + 2) 0) (a .w)
+    (c .before .before .before .before .before .before .before .before .before .before .number-corner .result)
+    (c .before .before .before .before .before .before .number-corner2 .result) (c .before .before .number-corner3 .result) (a .m .now)
+    (c .before .before .before .before .before .before .before .before .before .before .number-corner .last .0)
+    (c .before .before .before .before .before .before .number-corner2 .last .0) (c .before .before .number-corner3 .last .0) (s .pre .0 .0) (h .0) (h .1 .0) (h .1 .1)
+    (c .before .before .before .before .before .before .before .before .before .before .number-corner .ensures)
+    (c .before .before .before .before .before .before .number-corner2 .ensures) (c .before .before .number-corner3 .ensures)
 
 pub number-facet-spec : {M : Type 1} → statement M
 number-facet-spec =

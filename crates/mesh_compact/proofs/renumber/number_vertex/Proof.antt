@@ -16,7 +16,11 @@ slice-read-if1 : tie.Need-slice-read-if1
 slice-read-if1 c = search needs
 
 returns : tie.Need-returns
-returns c = let s = c .before .before .before in let a = s .args in let e = after-old (a .m .now) (a .kept) (a .at) (a .n) (a .count) (a .v .0) (c .if1 .taken) in record { room = sym (e .0); counted = sym (e .1) }
+returns c =
+    let s = c .before .before .before in
+    let a = s .args in
+    let e = after-old (a .m .now) (a .kept) (a .at) (a .n) (a .count) (a .v .0) (c .if1 .taken) in
+    record { room = sym (e .0); counted = sym (e .1) }
 
 add-m : tie.Need-add-m
 add-m c = search needs
@@ -58,7 +62,11 @@ same-length : tie.Need-same-length
 same-length c = search needs
 
 returns-2 : tie.Need-returns-2
-returns-2 c = let s = c .before .before .before .before .before .before in let a = s .args in let e = after-new (a .m .now) (a .kept) (a .at) (a .n) (a .count) (a .v .0) (c .before .before .before .if1 .left) in record { room = sym (e .0); counted = sym (e .1) }
+returns-2 c =
+    let s = c .before .before .before .before .before .before in
+    let a = s .args in
+    let e = after-new (a .m .now) (a .kept) (a .at) (a .n) (a .count) (a .v .0) (c .before .before .before .if1 .left) in
+    record { room = sym (e .0); counted = sym (e .1) }
 
 pub number-vertex-spec : {M : Type 1} → statement M
 number-vertex-spec =

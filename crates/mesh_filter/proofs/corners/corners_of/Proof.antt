@@ -49,34 +49,81 @@ wide-requires-3 : tie.Need-wide-requires-3
 wide-requires-3 c κs = search needs
 
 add-t8 : tie.Need-add-t8
-add-t8 c = let h = c .before .before .before .before .before .before .before .before .pre .1 (3 * c .before .before .before .before .before .before .before .before .args .f) (omega (arith, c .before .before .before .before .before .before .before .before .pre .0)) in let e = c .before .before .before .before .wide .ensures in omega arith
+add-t8 c =
+    let h = c .before .before .before .before .before .before .before .before .pre .1 (3 * c .before .before .before .before .before .before .before .before .args .f)
+    (omega (arith, c .before .before .before .before .before .before .before .before .pre .0)) in
+    let e = c .before .before .before .before .wide .ensures in
+    omega arith
 
 mul-t9 : tie.Need-mul-t9
-mul-t9 c = let h = c .before .before .before .before .before .before .before .before .pre .1 (3 * c .before .before .before .before .before .before .before .before .args .f) (omega (arith, c .before .before .before .before .before .before .before .before .pre .0)) in let e = c .before .before .before .before .wide .ensures in omega arith
+mul-t9 c =
+    let h = c .before .before .before .before .before .before .before .before .pre .1 (3 * c .before .before .before .before .before .before .before .before .args .f)
+    (omega (arith, c .before .before .before .before .before .before .before .before .pre .0)) in
+    let e = c .before .before .before .before .wide .ensures in
+    omega arith
 
 shared-slice-read-t16 : tie.Need-shared-slice-read-t16
-shared-slice-read-t16 c = let h = c .before .before .before .before .before .before .before .before .before .pre .1 (3 * c .before .before .before .before .before .before .before .before .before .args .f) (omega (arith, c .before .before .before .before .before .before .before .before .before .pre .0)) in let e = c .before .before .before .before .before .wide .ensures in omega arith
+shared-slice-read-t16 c =
+    let h = c .before .before .before .before .before .before .before .before .before .pre .1
+    (3 * c .before .before .before .before .before .before .before .before .before .args .f)
+    (omega (arith, c .before .before .before .before .before .before .before .before .before .pre .0)) in
+    let e = c .before .before .before .before .before .wide .ensures in
+    omega arith
 
 add-t18 : tie.Need-add-t18
-add-t18 c = let h = c .before .before .before .before .before .before .before .before .before .pre .1 (3 * c .before .before .before .before .before .before .before .before .before .args .f + 1) (omega (arith, c .before .before .before .before .before .before .before .before .before .pre .0)) in let e = c .before .before .before .wide2 .ensures in omega arith
+add-t18 c =
+    let h = c .before .before .before .before .before .before .before .before .before .pre .1
+    (3 * c .before .before .before .before .before .before .before .before .before .args .f + 1)
+    (omega (arith, c .before .before .before .before .before .before .before .before .before .pre .0)) in
+    let e = c .before .before .before .wide2 .ensures in
+    omega arith
 
 mul-t19 : tie.Need-mul-t19
-mul-t19 c = let h = c .before .before .before .before .before .before .before .before .before .pre .1 (3 * c .before .before .before .before .before .before .before .before .before .args .f + 1) (omega (arith, c .before .before .before .before .before .before .before .before .before .pre .0)) in let e = c .before .before .before .wide2 .ensures in omega arith
+mul-t19 c =
+    let h = c .before .before .before .before .before .before .before .before .before .pre .1
+    (3 * c .before .before .before .before .before .before .before .before .before .args .f + 1)
+    (omega (arith, c .before .before .before .before .before .before .before .before .before .pre .0)) in
+    let e = c .before .before .before .wide2 .ensures in
+    omega arith
 
 shared-slice-read-t21 : tie.Need-shared-slice-read-t21
-shared-slice-read-t21 c = let h = c .before .before .before .before .before .before .before .before .before .before .pre .1 (3 * c .before .before .before .before .before .before .before .before .before .before .args .f + 1) (omega (arith, c .before .before .before .before .before .before .before .before .before .before .pre .0)) in let e = c .before .before .before .before .wide2 .ensures in omega arith
+shared-slice-read-t21 c =
+    let h = c .before .before .before .before .before .before .before .before .before .before .pre .1
+    (3 * c .before .before .before .before .before .before .before .before .before .before .args .f + 1)
+    (omega (arith, c .before .before .before .before .before .before .before .before .before .before .pre .0)) in
+    let e = c .before .before .before .before .wide2 .ensures in
+    omega arith
 
 add-t24 : tie.Need-add-t24
-add-t24 c = let h = c .before .before .before .before .before .before .before .before .before .before .pre .1 (3 * c .before .before .before .before .before .before .before .before .before .before .args .f + 2) (omega (arith, c .before .before .before .before .before .before .before .before .before .before .pre .0)) in let e = c .before .before .wide3 .ensures in omega arith
+add-t24 c =
+    let h = c .before .before .before .before .before .before .before .before .before .before .pre .1
+    (3 * c .before .before .before .before .before .before .before .before .before .before .args .f + 2)
+    (omega (arith, c .before .before .before .before .before .before .before .before .before .before .pre .0)) in
+    let e = c .before .before .wide3 .ensures in
+    omega arith
 
 mul-t25 : tie.Need-mul-t25
-mul-t25 c = let h = c .before .before .before .before .before .before .before .before .before .before .pre .1 (3 * c .before .before .before .before .before .before .before .before .before .before .args .f + 2) (omega (arith, c .before .before .before .before .before .before .before .before .before .before .pre .0)) in let e = c .before .before .wide3 .ensures in omega arith
+mul-t25 c =
+    let h = c .before .before .before .before .before .before .before .before .before .before .pre .1
+    (3 * c .before .before .before .before .before .before .before .before .before .before .args .f + 2)
+    (omega (arith, c .before .before .before .before .before .before .before .before .before .before .pre .0)) in
+    let e = c .before .before .wide3 .ensures in
+    omega arith
 
 shared-slice-read-t27 : tie.Need-shared-slice-read-t27
-shared-slice-read-t27 c = let h = c .before .before .before .before .before .before .before .before .before .before .before .pre .1 (3 * c .before .before .before .before .before .before .before .before .before .before .before .args .f + 2) (omega (arith, c .before .before .before .before .before .before .before .before .before .before .before .pre .0)) in let e = c .before .before .before .wide3 .ensures in omega arith
+shared-slice-read-t27 c =
+    let h = c .before .before .before .before .before .before .before .before .before .before .before .pre .1
+    (3 * c .before .before .before .before .before .before .before .before .before .before .before .args .f + 2)
+    (omega (arith, c .before .before .before .before .before .before .before .before .before .before .before .pre .0)) in
+    let e = c .before .before .before .wide3 .ensures in
+    omega arith
 
 returns : tie.Need-returns
-returns c = let s = c .before .before .before .before .before .before .before .before .before .before .before in let a = s .args in λ i. tri (getD (a .m .now) (a .numbers + c .before .before .before .before .before .before .before .wide .ensures i) 0) (getD (a .m .now) (a .numbers + c .before .before .before .before .before .wide2 .ensures i) 0) (getD (a .m .now) (a .numbers + c .before .before .before .wide3 .ensures i) 0)
+returns c =
+    let s = c .before .before .before .before .before .before .before .before .before .before .before in
+    let a = s .args in
+    λ i. tri (getD (a .m .now) (a .numbers + c .before .before .before .before .before .before .before .wide .ensures i) 0)
+    (getD (a .m .now) (a .numbers + c .before .before .before .before .before .wide2 .ensures i) 0) (getD (a .m .now) (a .numbers + c .before .before .before .wide3 .ensures i) 0)
 
 pub corners-of-spec : {M : Type 1} → statement M
 corners-of-spec =

@@ -37,10 +37,26 @@ part-find-word-end : tie.Need-part-find-word-end
 part-find-word-end c = search needs
 
 find-word-requires : tie.Need-find-word-requires
-find-word-requires c κs = let s = c .before .before in let a = s .args in let e : a .at + 9 * a .n + a .count - (a .at + 9 * a .n) ≡ a .count = omega arith in (omega (arith, s .pre .0), (omega (arith, s .pre .0), subst (λ (k : ℕ). Linked (wordBucket (take k (drop (a .at + 9 * a .n) (a .m .now))) (4 * a .n)) (a .m .now) (a .at) (4 * a .n) (length (take k (drop (a .at + 9 * a .n) (a .m .now))))) (sym e) (subst (λ (k : ℕ). Linked (wordBucket (view (a .m .now) (a .at + 9 * a .n) (a .count)) (4 * a .n)) (a .m .now) (a .at) (4 * a .n) k) (sym (view-length (a .m .now) (a .at + 9 * a .n) (a .count) (omega (arith, s .pre .0, s .pre .1 .0)))) (s .pre .1 .1))))
+find-word-requires c κs =
+    let s = c .before .before in
+    let a = s .args in
+    let e : a .at + 9 * a .n + a .count - (a .at + 9 * a .n) ≡ a .count = omega arith in (
+      omega (arith, s .pre .0),
+      (
+        omega (arith, s .pre .0),
+        subst (λ (k : ℕ). Linked (wordBucket (take k (drop (a .at + 9 * a .n) (a .m .now))) (4 * a .n)) (a .m .now) (a .at)
+            (4 * a .n) (length (take k (drop (a .at + 9 * a .n) (a .m .now))))) (sym e)
+            (subst (λ (k : ℕ). Linked (wordBucket (view (a .m .now) (a .at + 9 * a .n) (a .count)) (4 * a .n)) (a .m .now) (a .at) (4 * a .n) k)
+            (sym (view-length (a .m .now) (a .at + 9 * a .n) (a .count) (omega (arith, s .pre .0, s .pre .1 .0)))) (s .pre .1 .1)),
+      ),
+    )
 
 returns : tie.Need-returns
-returns c = let s = c .before .before .before in let a = s .args in let e : a .at + 9 * a .n + a .count - (a .at + 9 * a .n) ≡ a .count = omega arith in c .find-word .ensures ∙ ap (λ (k : ℕ). linkTo (eqb (a .key)) (take k (drop (a .at + 9 * a .n) (a .m .now)))) e
+returns c =
+    let s = c .before .before .before in
+    let a = s .args in
+    let e : a .at + 9 * a .n + a .count - (a .at + 9 * a .n) ≡ a .count = omega arith in
+    c .find-word .ensures ∙ ap (λ (k : ℕ). linkTo (eqb (a .key)) (take k (drop (a .at + 9 * a .n) (a .m .now)))) e
 
 pub find-key-spec : {M : Type 1} → statement M
 find-key-spec =

@@ -13,16 +13,30 @@ quantized-key-requires-2 : tie.Need-quantized-key-requires-2
 quantized-key-requires-2 c κs = search needs
 
 word-of-key-requires-2 : tie.Need-word-of-key-requires-2
-word-of-key-requires-2 c κs = asked (c .before .before .before .args .eps) (c .before .before .before .args .p .y) (c .quantized-key2 .result) (c .quantized-key2 .ensures) (c .before .before .before .pre .y)
+word-of-key-requires-2 c κs =
+    asked (c .before .before .before .args .eps) (c .before .before .before .args .p .y) (c .quantized-key2 .result) (c .quantized-key2 .ensures)
+    (c .before .before .before .pre .y)
 
 quantized-key-requires-3 : tie.Need-quantized-key-requires-3
 quantized-key-requires-3 c κs = search needs
 
 word-of-key-requires-3 : tie.Need-word-of-key-requires-3
-word-of-key-requires-3 c κs = asked (c .before .before .before .before .before .args .eps) (c .before .before .before .before .before .args .p .z) (c .quantized-key3 .result) (c .quantized-key3 .ensures) (c .before .before .before .before .before .pre .z)
+word-of-key-requires-3 c κs =
+    asked (c .before .before .before .before .before .args .eps) (c .before .before .before .before .before .args .p .z) (c .quantized-key3 .result) (c .quantized-key3 .ensures)
+    (c .before .before .before .before .before .pre .z)
 
 returns : tie.Need-returns
-returns c = cell-is (c .before .before .before .before .before .before .args .eps) (c .before .before .before .before .before .before .args .p) (c .before .before .before .before .word-of-key .result) (c .before .before .word-of-key2 .result) (c .word-of-key3 .result) (told (c .before .before .before .before .before .before .args .eps) (c .before .before .before .before .before .before .args .p .x) (c .before .before .before .before .before .quantized-key .result) (c .before .before .before .before .before .quantized-key .ensures) (c .before .before .before .before .before .before .pre .x) (c .before .before .before .before .word-of-key .result) (c .before .before .before .before .word-of-key .ensures)) (told (c .before .before .before .before .before .before .args .eps) (c .before .before .before .before .before .before .args .p .y) (c .before .before .before .quantized-key2 .result) (c .before .before .before .quantized-key2 .ensures) (c .before .before .before .before .before .before .pre .y) (c .before .before .word-of-key2 .result) (c .before .before .word-of-key2 .ensures)) (told (c .before .before .before .before .before .before .args .eps) (c .before .before .before .before .before .before .args .p .z) (c .before .quantized-key3 .result) (c .before .quantized-key3 .ensures) (c .before .before .before .before .before .before .pre .z) (c .word-of-key3 .result) (c .word-of-key3 .ensures))
+returns c =
+    cell-is (c .before .before .before .before .before .before .args .eps) (c .before .before .before .before .before .before .args .p)
+    (c .before .before .before .before .word-of-key .result) (c .before .before .word-of-key2 .result) (c .word-of-key3 .result)
+    (told (c .before .before .before .before .before .before .args .eps) (c .before .before .before .before .before .before .args .p .x)
+    (c .before .before .before .before .before .quantized-key .result) (c .before .before .before .before .before .quantized-key .ensures)
+    (c .before .before .before .before .before .before .pre .x) (c .before .before .before .before .word-of-key .result) (c .before .before .before .before .word-of-key .ensures))
+    (told (c .before .before .before .before .before .before .args .eps) (c .before .before .before .before .before .before .args .p .y)
+    (c .before .before .before .quantized-key2 .result) (c .before .before .before .quantized-key2 .ensures) (c .before .before .before .before .before .before .pre .y)
+    (c .before .before .word-of-key2 .result) (c .before .before .word-of-key2 .ensures))
+    (told (c .before .before .before .before .before .before .args .eps) (c .before .before .before .before .before .before .args .p .z) (c .before .quantized-key3 .result)
+    (c .before .quantized-key3 .ensures) (c .before .before .before .before .before .before .pre .z) (c .word-of-key3 .result) (c .word-of-key3 .ensures))
 
 pub cell-of-spec : {M : Type 1} → statement M
 cell-of-spec =

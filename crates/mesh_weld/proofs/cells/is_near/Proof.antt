@@ -15,7 +15,9 @@ norm2-requires c κs = search needs
 
 returns : tie.Need-returns
 unfolding near
-returns c = ap (λ (d : Float). le d (mul binary64 (c .before .before .args .eps) (c .before .before .args .eps))) (c .norm2 .ensures ∙ ap (λ (d : Point). norm2 d) (c .before .sub .ensures))
+returns c =
+    ap (λ (d : Float). le d (mul binary64 (c .before .before .args .eps) (c .before .before .args .eps)))
+    (c .norm2 .ensures ∙ ap (λ (d : Point). norm2 d) (c .before .sub .ensures))
 
 pub is-near-spec : {M : Type 1} → statement M
 is-near-spec = tie.close (tie.spec sub-requires norm2-requires returns)

@@ -29,7 +29,10 @@ shared-slice-read-if1 : tie.Need-shared-slice-read-if1
 shared-slice-read-if1 c = search needs
 
 returns : tie.Need-returns
-returns c = differ-x (cellAt (c .before .before .before .before .before .args .m .now) (11 * c .before .before .before .before .before .args .n + 3 * c .before .before .before .before .before .args .k)) (c .before .before .before .before .before .args .c) (near-of (c .before .before .before .before .before)) (c .if1 .taken)
+returns c =
+    differ-x (cellAt (c .before .before .before .before .before .args .m .now)
+    (11 * c .before .before .before .before .before .args .n + 3 * c .before .before .before .before .before .args .k)) (c .before .before .before .before .before .args .c)
+    (near-of (c .before .before .before .before .before)) (c .if1 .taken)
 
 add-if2 : tie.Need-add-if2
 add-if2 c = search needs
@@ -41,7 +44,11 @@ shared-slice-read-if2 : tie.Need-shared-slice-read-if2
 shared-slice-read-if2 c = search needs
 
 returns-2 : tie.Need-returns-2
-returns-2 c = differ-y (cellAt (c .before .before .before .before .before .before .before .before .args .m .now) (11 * c .before .before .before .before .before .before .before .before .args .n + 3 * c .before .before .before .before .before .before .before .before .args .k)) (c .before .before .before .before .before .before .before .before .args .c) (near-of (c .before .before .before .before .before .before .before .before)) (c .before .before .before .if1 .left) (c .if2 .taken)
+returns-2 c =
+    differ-y (cellAt (c .before .before .before .before .before .before .before .before .args .m .now)
+    (11 * c .before .before .before .before .before .before .before .before .args .n + 3 * c .before .before .before .before .before .before .before .before .args .k))
+    (c .before .before .before .before .before .before .before .before .args .c) (near-of (c .before .before .before .before .before .before .before .before))
+    (c .before .before .before .if1 .left) (c .if2 .taken)
 
 add-if3 : tie.Need-add-if3
 add-if3 c = search needs
@@ -53,7 +60,12 @@ shared-slice-read-if3 : tie.Need-shared-slice-read-if3
 shared-slice-read-if3 c = search needs
 
 returns-3 : tie.Need-returns-3
-returns-3 c = differ-z (cellAt (c .before .before .before .before .before .before .before .before .before .before .before .args .m .now) (11 * c .before .before .before .before .before .before .before .before .before .before .before .args .n + 3 * c .before .before .before .before .before .before .before .before .before .before .before .args .k)) (c .before .before .before .before .before .before .before .before .before .before .before .args .c) (near-of (c .before .before .before .before .before .before .before .before .before .before .before)) (c .before .before .before .before .before .before .if1 .left) (c .before .before .before .if2 .left) (c .if3 .taken)
+returns-3 c =
+    differ-z (cellAt (c .before .before .before .before .before .before .before .before .before .before .before .args .m .now)
+    (11 * c .before .before .before .before .before .before .before .before .before .before .before .args .n + 3 * c .before .before .before .before .before .before .before .before
+    .before .before .before .args .k)) (c .before .before .before .before .before .before .before .before .before .before .before .args .c)
+    (near-of (c .before .before .before .before .before .before .before .before .before .before .before)) (c .before .before .before .before .before .before .if1 .left)
+    (c .before .before .before .if2 .left) (c .if3 .taken)
 
 mul-v : tie.Need-mul-v
 mul-v c = search needs
@@ -74,7 +86,16 @@ is-near-requires : tie.Need-is-near-requires
 is-near-requires c κs = search needs
 
 returns-4 : tie.Need-returns-4
-returns-4 c = c .is-near .ensures ∙ ap (near (c .before .before .before .before .before .before .before .before .before .before .before .before .before .before .args .eps) (c .before .before .before .before .before .before .before .before .before .before .before .before .before .before .args .p)) (c .before .vertex-at .ensures) ∙ differ-no (cellAt (c .before .before .before .before .before .before .before .before .before .before .before .before .before .before .args .m .now) (11 * c .before .before .before .before .before .before .before .before .before .before .before .before .before .before .args .n + 3 * c .before .before .before .before .before .before .before .before .before .before .before .before .before .before .args .k)) (c .before .before .before .before .before .before .before .before .before .before .before .before .before .before .args .c) (near-of (c .before .before .before .before .before .before .before .before .before .before .before .before .before .before)) (c .before .before .before .before .before .before .before .before .before .if1 .left) (c .before .before .before .before .before .before .if2 .left) (c .before .before .before .if3 .left)
+returns-4 c =
+    c .is-near .ensures ∙ ap (near (c .before .before .before .before .before .before .before .before .before .before .before .before .before .before .args .eps)
+    (c .before .before .before .before .before .before .before .before .before .before .before .before .before .before .args .p)) (c .before .vertex-at .ensures) ∙ differ-no
+    (cellAt (c .before .before .before .before .before .before .before .before .before .before .before .before .before .before .args .m .now)
+    (11 * c .before .before .before .before .before .before .before .before .before .before .before .before .before .before .args .n + 3 * c .before .before .before .before .before
+    .before .before .before .before .before .before .before .before .before .args .k))
+    (c .before .before .before .before .before .before .before .before .before .before .before .before .before .before .args .c)
+    (near-of (c .before .before .before .before .before .before .before .before .before .before .before .before .before .before))
+    (c .before .before .before .before .before .before .before .before .before .if1 .left) (c .before .before .before .before .before .before .if2 .left)
+    (c .before .before .before .if3 .left)
 
 pub holds-spec : {M : Type 1} → statement M
 holds-spec =

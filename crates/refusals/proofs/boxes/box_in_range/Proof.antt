@@ -34,7 +34,9 @@ pair-in-range-requires-2 c κs = search needs
 
 returns-2 : tie.Need-returns-2
 unfolding boxInRange every
-returns-2 c = sym (and-next _ _ _ (sym (c .before .before .before .before .before .pair-in-range .ensures) ∙ not-false _ (c .before .before .before .before .if1 .left)) (and-stop _ _ (sym (c .before .pair-in-range2 .ensures) ∙ not-true _ (c .if2 .taken))))
+returns-2 c =
+    sym (and-next _ _ _ (sym (c .before .before .before .before .before .pair-in-range .ensures) ∙ not-false _ (c .before .before .before .before .if1 .left))
+    (and-stop _ _ (sym (c .before .pair-in-range2 .ensures) ∙ not-true _ (c .if2 .taken))))
 
 element-copy-out-pair-in-range-5 : tie.Need-element-copy-out-pair-in-range-5
 element-copy-out-pair-in-range-5 c = search needs
@@ -47,7 +49,11 @@ pair-in-range-requires-3 c κs = search needs
 
 returns-3 : tie.Need-returns-3
 unfolding boxInRange every
-returns-3 c = sym (and-next _ _ _ (sym (c .before .before .before .before .before .before .before .before .pair-in-range .ensures) ∙ not-false _ (c .before .before .before .before .before .before .before .if1 .left)) (and-next _ _ _ (sym (c .before .before .before .before .pair-in-range2 .ensures) ∙ not-false _ (c .before .before .before .if2 .left)) (and-last _ ∙ sym (c .pair-in-range3 .ensures))))
+returns-3 c =
+    sym (and-next _ _ _ (sym (c .before .before .before .before .before .before .before .before .pair-in-range .ensures) ∙ not-false _
+    (c .before .before .before .before .before .before .before .if1 .left))
+    (and-next _ _ _ (sym (c .before .before .before .before .pair-in-range2 .ensures) ∙ not-false _ (c .before .before .before .if2 .left))
+    (and-last _ ∙ sym (c .pair-in-range3 .ensures))))
 
 pub box-in-range-spec : {M : Type 1} → statement M
 box-in-range-spec =

@@ -33,7 +33,9 @@ is-closed-requires-2 c κs = search needs
 
 returns-2 : tie.Need-returns-2
 unfolding badBox some
-returns-2 c = sym (or-next _ _ _ (sym (c .before .before .before .before .before .is-closed .ensures) ∙ c .before .before .before .before .if1 .left) (or-stop _ _ (sym (c .before .is-closed2 .ensures) ∙ c .if2 .taken)))
+returns-2 c =
+    sym (or-next _ _ _ (sym (c .before .before .before .before .before .is-closed .ensures) ∙ c .before .before .before .before .if1 .left)
+    (or-stop _ _ (sym (c .before .is-closed2 .ensures) ∙ c .if2 .taken)))
 
 element-copy-out-is-closed-5 : tie.Need-element-copy-out-is-closed-5
 element-copy-out-is-closed-5 c = search needs
@@ -46,7 +48,9 @@ is-closed-requires-3 c κs = search needs
 
 returns-3 : tie.Need-returns-3
 unfolding badBox some
-returns-3 c = sym (or-next _ _ _ (sym (c .before .before .before .before .before .before .before .before .is-closed .ensures) ∙ c .before .before .before .before .before .before .before .if1 .left) (or-next _ _ _ (sym (c .before .before .before .before .is-closed2 .ensures) ∙ c .before .before .before .if2 .left) (or-last _ ∙ sym (c .is-closed3 .ensures))))
+returns-3 c =
+    sym (or-next _ _ _ (sym (c .before .before .before .before .before .before .before .before .is-closed .ensures) ∙ c .before .before .before .before .before .before .before .if1
+    .left) (or-next _ _ _ (sym (c .before .before .before .before .is-closed2 .ensures) ∙ c .before .before .before .if2 .left) (or-last _ ∙ sym (c .is-closed3 .ensures))))
 
 pub is-bad-box-spec : {M : Type 1} → statement M
 is-bad-box-spec =

@@ -31,7 +31,9 @@ in-range-requires : tie.Need-in-range-requires Inv-loop μ-loop
 in-range-requires c κs = search needs
 
 returns : tie.Need-returns Inv-loop μ-loop
-returns c = sym (every-stop _ _ _ (c .before .before .before .before .loop .inv .1) _ (c .before .before .before .loop-test .taken) (sym (c .before .in-range .ensures) ∙ not-true _ (c .if1 .taken)))
+returns c =
+    sym (every-stop _ _ _ (c .before .before .before .before .loop .inv .1) _ (c .before .before .before .loop-test .taken)
+    (sym (c .before .in-range .ensures) ∙ not-true _ (c .if1 .taken)))
 
 add-i : tie.Need-add-i Inv-loop μ-loop
 add-i c = search needs
@@ -40,7 +42,11 @@ loop-less : tie.Need-loop-less Inv-loop μ-loop
 loop-less c = search needs
 
 loop-again : tie.Need-loop-again Inv-loop μ-loop
-loop-again c = (search needs, every-more _ _ _ (c .before .before .before .before .loop .inv .1) _ (c .before .before .before .loop-test .taken) (sym (c .before .in-range .ensures) ∙ not-false _ (c .if1 .left)))
+loop-again c = (
+  search needs,
+  every-more _ _ _ (c .before .before .before .before .loop .inv .1) _ (c .before .before .before .loop-test .taken)
+      (sym (c .before .in-range .ensures) ∙ not-false _ (c .if1 .left)),
+)
 
 returns-2 : tie.Need-returns-2 Inv-loop μ-loop
 returns-2 c = sym (every-end _ _ _ (c .before .loop .inv .1) (c .loop-test .left))

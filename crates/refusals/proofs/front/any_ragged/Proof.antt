@@ -17,13 +17,16 @@ is-ragged-requires-2 : tie.Need-is-ragged-requires-2
 is-ragged-requires-2 c κs = search needs
 
 returns-2 : tie.Need-returns-2
-returns-2 c = sym (or-next _ _ _ (sym (c .before .before .before .is-ragged .ensures) ∙ c .before .before .if1 .left) (or-stop _ _ (sym (c .before .is-ragged2 .ensures) ∙ c .if2 .taken)))
+returns-2 c =
+    sym (or-next _ _ _ (sym (c .before .before .before .is-ragged .ensures) ∙ c .before .before .if1 .left) (or-stop _ _ (sym (c .before .is-ragged2 .ensures) ∙ c .if2 .taken)))
 
 is-ragged-requires-3 : tie.Need-is-ragged-requires-3
 is-ragged-requires-3 c κs = search needs
 
 returns-3 : tie.Need-returns-3
-returns-3 c = sym (or-next _ _ _ (sym (c .before .before .before .before .is-ragged .ensures) ∙ c .before .before .before .if1 .left) (or-next _ _ _ (sym (c .before .before .is-ragged2 .ensures) ∙ c .before .if2 .left) (sym (c .is-ragged3 .ensures))))
+returns-3 c =
+    sym (or-next _ _ _ (sym (c .before .before .before .before .is-ragged .ensures) ∙ c .before .before .before .if1 .left)
+    (or-next _ _ _ (sym (c .before .before .is-ragged2 .ensures) ∙ c .before .if2 .left) (sym (c .is-ragged3 .ensures))))
 
 pub any-ragged-spec : {M : Type 1} → statement M
 any-ragged-spec =

@@ -17,13 +17,17 @@ is-too-many-requires-2 : tie.Need-is-too-many-requires-2
 is-too-many-requires-2 c κs = search needs
 
 returns-2 : tie.Need-returns-2
-returns-2 c = sym (or-next _ _ _ (sym (c .before .before .before .is-too-many .ensures) ∙ c .before .before .if1 .left) (or-stop _ _ (sym (c .before .is-too-many2 .ensures) ∙ c .if2 .taken)))
+returns-2 c =
+    sym (or-next _ _ _ (sym (c .before .before .before .is-too-many .ensures) ∙ c .before .before .if1 .left)
+    (or-stop _ _ (sym (c .before .is-too-many2 .ensures) ∙ c .if2 .taken)))
 
 is-too-many-requires-3 : tie.Need-is-too-many-requires-3
 is-too-many-requires-3 c κs = search needs
 
 returns-3 : tie.Need-returns-3
-returns-3 c = sym (or-next _ _ _ (sym (c .before .before .before .before .is-too-many .ensures) ∙ c .before .before .before .if1 .left) (or-next _ _ _ (sym (c .before .before .is-too-many2 .ensures) ∙ c .before .if2 .left) (sym (c .is-too-many3 .ensures))))
+returns-3 c =
+    sym (or-next _ _ _ (sym (c .before .before .before .before .is-too-many .ensures) ∙ c .before .before .before .if1 .left)
+    (or-next _ _ _ (sym (c .before .before .is-too-many2 .ensures) ∙ c .before .if2 .left) (sym (c .is-too-many3 .ensures))))
 
 pub any-too-many-spec : {M : Type 1} → statement M
 any-too-many-spec =

@@ -19,16 +19,21 @@ any-too-many-requires : tie.Need-any-too-many-requires
 any-too-many-requires c κs = search needs
 
 returns-2 : tie.Need-returns-2
-returns-2 c = sym (passes _ _ _ (sym (c .before .before .before .any-ragged .ensures) ∙ c .before .before .if1 .left) ∙ holds _ _ _ (sym (c .before .any-too-many .ensures) ∙ c .if2 .taken))
+returns-2 c =
+    sym (passes _ _ _ (sym (c .before .before .before .any-ragged .ensures) ∙ c .before .before .if1 .left) ∙ holds _ _ _ (sym (c .before .any-too-many .ensures) ∙ c .if2 .taken))
 
 has-bad-index-requires : tie.Need-has-bad-index-requires
 has-bad-index-requires c κs = search needs
 
 returns-3 : tie.Need-returns-3
-returns-3 c = sym (passes _ _ _ (sym (c .before .before .before .before .before .any-ragged .ensures) ∙ c .before .before .before .before .if1 .left) ∙ passes _ _ _ (sym (c .before .before .before .any-too-many .ensures) ∙ c .before .before .if2 .left) ∙ holds _ _ _ (sym (c .before .has-bad-index .ensures) ∙ c .if3 .taken))
+returns-3 c =
+    sym (passes _ _ _ (sym (c .before .before .before .before .before .any-ragged .ensures) ∙ c .before .before .before .before .if1 .left) ∙ passes _ _ _
+    (sym (c .before .before .before .any-too-many .ensures) ∙ c .before .before .if2 .left) ∙ holds _ _ _ (sym (c .before .has-bad-index .ensures) ∙ c .if3 .taken))
 
 returns-4 : tie.Need-returns-4
-returns-4 c = sym (passes _ _ _ (sym (c .before .before .before .before .before .any-ragged .ensures) ∙ c .before .before .before .before .if1 .left) ∙ passes _ _ _ (sym (c .before .before .before .any-too-many .ensures) ∙ c .before .before .if2 .left) ∙ passes _ _ _ (sym (c .before .has-bad-index .ensures) ∙ c .if3 .left) ∙ none-left)
+returns-4 c =
+    sym (passes _ _ _ (sym (c .before .before .before .before .before .any-ragged .ensures) ∙ c .before .before .before .before .if1 .left) ∙ passes _ _ _
+    (sym (c .before .before .before .any-too-many .ensures) ∙ c .before .before .if2 .left) ∙ passes _ _ _ (sym (c .before .has-bad-index .ensures) ∙ c .if3 .left) ∙ none-left)
 
 pub check-lists-spec : {M : Type 1} → statement M
 check-lists-spec =

@@ -33,16 +33,38 @@ mul-result-2 : tie.Need-mul-result-2
 mul-result-2 c = omega (arith, small-product (c .before .before .segments-of .result + 1) (c .segments-of3 .result + 1) (omega arith) (omega arith))
 
 add-result : tie.Need-add-result
-add-result c = omega (arith, small-product (c .before .before .segments-of .result + 1) (c .before .segments-of2 .result + 1) (omega arith) (omega arith), small-product (c .before .before .segments-of .result + 1) (c .segments-of3 .result + 1) (omega arith) (omega arith))
+add-result c =
+    omega (
+      arith,
+      small-product (c .before .before .segments-of .result + 1) (c .before .segments-of2 .result + 1) (omega arith) (omega arith),
+      small-product
+          (c .before .before .segments-of .result + 1) (c .segments-of3 .result + 1) (omega arith) (omega arith),
+    )
 
 mul-result-3 : tie.Need-mul-result-3
 mul-result-3 c = omega (arith, small-product (c .before .segments-of2 .result + 1) (c .segments-of3 .result + 1) (omega arith) (omega arith))
 
 add-result-2 : tie.Need-add-result-2
-add-result-2 c = omega (arith, small-product (c .before .before .segments-of .result + 1) (c .before .segments-of2 .result + 1) (omega arith) (omega arith), small-product (c .before .before .segments-of .result + 1) (c .segments-of3 .result + 1) (omega arith) (omega arith), small-product (c .before .segments-of2 .result + 1) (c .segments-of3 .result + 1) (omega arith) (omega arith))
+add-result-2 c =
+    omega (
+      arith,
+      small-product (c .before .before .segments-of .result + 1) (c .before .segments-of2 .result + 1) (omega arith) (omega arith),
+      small-product
+          (c .before .before .segments-of .result + 1) (c .segments-of3 .result + 1) (omega arith) (omega arith),
+      small-product (c .before .segments-of2 .result + 1)
+          (c .segments-of3 .result + 1) (omega arith) (omega arith),
+    )
 
 mul-result-4 : tie.Need-mul-result-4
-mul-result-4 c = omega (arith, small-product (c .before .before .segments-of .result + 1) (c .before .segments-of2 .result + 1) (omega arith) (omega arith), small-product (c .before .before .segments-of .result + 1) (c .segments-of3 .result + 1) (omega arith) (omega arith), small-product (c .before .segments-of2 .result + 1) (c .segments-of3 .result + 1) (omega arith) (omega arith))
+mul-result-4 c =
+    omega (
+      arith,
+      small-product (c .before .before .segments-of .result + 1) (c .before .segments-of2 .result + 1) (omega arith) (omega arith),
+      small-product
+          (c .before .before .segments-of .result + 1) (c .segments-of3 .result + 1) (omega arith) (omega arith),
+      small-product (c .before .segments-of2 .result + 1)
+          (c .segments-of3 .result + 1) (omega arith) (omega arith),
+    )
 
 returns : tie.Need-returns
 returns c = size-is _ _ _ _ _ _ (c .before .before .before .pre) (c .before .before .segments-of .ensures) (c .before .segments-of2 .ensures) (c .segments-of3 .ensures)

@@ -32,7 +32,8 @@ is-far-requires c κs = search needs
 
 returns : tie.Need-returns Inv-loop μ-loop
 unfolding farKeys
-returns c = sym (some-stop _ _ _ (c .before .before .before .before .loop .inv .1) _ (c .before .before .before .loop-test .taken) (sym (c .before .is-far .ensures) ∙ c .if1 .taken))
+returns c =
+    sym (some-stop _ _ _ (c .before .before .before .before .loop .inv .1) _ (c .before .before .before .loop-test .taken) (sym (c .before .is-far .ensures) ∙ c .if1 .taken))
 
 add-i : tie.Need-add-i Inv-loop μ-loop
 add-i c = search needs
@@ -41,7 +42,11 @@ loop-less : tie.Need-loop-less Inv-loop μ-loop
 loop-less c = search needs
 
 loop-again : tie.Need-loop-again Inv-loop μ-loop
-loop-again c = (search needs, some-more _ _ _ (c .before .before .before .before .loop .inv .1) _ (c .before .before .before .loop-test .taken) (sym (c .before .is-far .ensures) ∙ c .if1 .left))
+loop-again c = (
+  search needs,
+  some-more _ _ _ (c .before .before .before .before .loop .inv .1) _ (c .before .before .before .loop-test .taken)
+      (sym (c .before .is-far .ensures) ∙ c .if1 .left),
+)
 
 returns-2 : tie.Need-returns-2 Inv-loop μ-loop
 unfolding farKeys

@@ -18,7 +18,9 @@ key-beyond-requires c κs = search needs
 
 returns : tie.Need-returns
 unfolding farKey
-returns c = c .key-beyond .ensures ∙ ap beyond (toZ-ofZ w64 (c .before .quantized-key .result) (record { sfits = c .before .quantized-key .ok })) ∙ ap beyond (c .before .quantized-key .ensures)
+returns c =
+    c .key-beyond .ensures ∙ ap beyond (toZ-ofZ w64 (c .before .quantized-key .result) (record { sfits = c .before .quantized-key .ok })) ∙ ap beyond
+    (c .before .quantized-key .ensures)
 
 pub is-far-spec : {M : Type 1} → statement M
 is-far-spec = tie.close (tie.spec quantized-key-requires key-beyond-requires returns)

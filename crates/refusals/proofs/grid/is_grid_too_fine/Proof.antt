@@ -23,14 +23,18 @@ segments-of-requires-2 c κs = search needs
 
 returns-2 : tie.Need-returns-2
 unfolding gridTooFine some
-returns-2 c = sym (or-next _ _ _ (sym (cut-over _ _ (c .before .before .before .segments-of .ensures)) ∙ le-ltb _ _ (c .before .before .if1 .left)) (or-stop _ _ (sym (cut-over _ _ (c .before .segments-of2 .ensures)) ∙ lt-ltb _ _ (c .if2 .taken))))
+returns-2 c =
+    sym (or-next _ _ _ (sym (cut-over _ _ (c .before .before .before .segments-of .ensures)) ∙ le-ltb _ _ (c .before .before .if1 .left))
+    (or-stop _ _ (sym (cut-over _ _ (c .before .segments-of2 .ensures)) ∙ lt-ltb _ _ (c .if2 .taken))))
 
 segments-of-requires-3 : tie.Need-segments-of-requires-3
 segments-of-requires-3 c κs = search needs
 
 returns-3 : tie.Need-returns-3
 unfolding gridTooFine some
-returns-3 c = cut-over _ _ (c .segments-of3 .ensures) ∙ sym (or-next _ _ _ (sym (cut-over _ _ (c .before .before .before .before .segments-of .ensures)) ∙ le-ltb _ _ (c .before .before .before .if1 .left)) (or-next _ _ _ (sym (cut-over _ _ (c .before .before .segments-of2 .ensures)) ∙ le-ltb _ _ (c .before .if2 .left)) (or-last _)))
+returns-3 c =
+    cut-over _ _ (c .segments-of3 .ensures) ∙ sym (or-next _ _ _ (sym (cut-over _ _ (c .before .before .before .before .segments-of .ensures)) ∙ le-ltb _ _
+    (c .before .before .before .if1 .left)) (or-next _ _ _ (sym (cut-over _ _ (c .before .before .segments-of2 .ensures)) ∙ le-ltb _ _ (c .before .if2 .left)) (or-last _)))
 
 pub is-grid-too-fine-spec : {M : Type 1} → statement M
 is-grid-too-fine-spec =

@@ -20,7 +20,9 @@ tolerance-agrees-requires : tie.Need-tolerance-agrees-requires
 tolerance-agrees-requires c κs = search needs
 
 returns-2 : tie.Need-returns-2
-returns-2 c = ends _ (c .tolerance-agrees .ensures) (λ t. tolerance (c .before .if2 .taken) t) (λ a. as-tolerance (now (c .before .before .before .before .before .args .stored)) (c .before .if2 .taken) a)
+returns-2 c =
+    ends _ (c .tolerance-agrees .ensures) (λ t. tolerance (c .before .if2 .taken) t)
+    (λ a. as-tolerance (now (c .before .before .before .before .before .args .stored)) (c .before .if2 .taken) a)
 
 lists-agree-requires : tie.Need-lists-agree-requires
 lists-agree-requires c κs = search needs

@@ -64,7 +64,17 @@ same-reply-requires : tie.Need-same-reply-requires
 same-reply-requires c κs = search needs
 
 returns-3 : tie.Need-returns-3
-returns-3 c = tolerance-decides (now (c .before .before .before .before .before .before .before .before .before .before .before .before .before .before .before .before .before .before .before .before .args .stored)) _ _ _ _ (c .before .before .before .before .before .before .before .before .before .before .before .before .before .before .before .before .before .before .if1 .left) (passes (c .before .before .before .before .before .before .before .before .before .before .before .before .before .before .before .before .before .are-numbers .ensures) (c .before .before .before .before .before .before .before .before .before .before .before .before .before .before .before .before .if2 .left)) (same-box (now (c .before .before .before .before .before .before .before .before .before .before .before .before .before .before .before .before .before .before .before .before .args .stored)) (c .before .before .before .before .before .before .before .before .before .before .before .before .before .before .double .ensures) (c .before .before .before .before .before .before .before .before .before .before .before .before .double2 .ensures) (c .before .before .before .before .before .before .before .before .before .before .double3 .ensures) (c .before .before .before .before .before .before .before .before .double4 .ensures) (c .before .before .before .before .before .before .double5 .ensures) (c .before .before .before .before .double6 .ensures)) (c .before .before .yongpham-tolerance .ensures) (c .same-reply .ensures)
+returns-3 c =
+    tolerance-decides (now (c .before .before .before .before .before .before .before .before .before .before .before .before .before .before .before .before .before .before
+    .before .before .args .stored)) _ _ _ _ (c .before .before .before .before .before .before .before .before .before .before .before .before .before .before .before .before
+    .before .before .if1 .left) (passes (c .before .before .before .before .before .before .before .before .before .before .before .before .before .before .before .before .before
+    .are-numbers .ensures) (c .before .before .before .before .before .before .before .before .before .before .before .before .before .before .before .before .if2 .left))
+    (same-box (now (c .before .before .before .before .before .before .before .before .before .before .before .before .before .before .before .before .before .before .before
+    .before .args .stored)) (c .before .before .before .before .before .before .before .before .before .before .before .before .before .before .double .ensures)
+    (c .before .before .before .before .before .before .before .before .before .before .before .before .double2 .ensures)
+    (c .before .before .before .before .before .before .before .before .before .before .double3 .ensures)
+    (c .before .before .before .before .before .before .before .before .double4 .ensures) (c .before .before .before .before .before .before .double5 .ensures)
+    (c .before .before .before .before .double6 .ensures)) (c .before .before .yongpham-tolerance .ensures) (c .same-reply .ensures)
 
 pub tolerance-agrees-spec : {M : Type 1} → statement M
 tolerance-agrees-spec =

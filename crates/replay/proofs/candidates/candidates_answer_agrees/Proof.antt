@@ -45,34 +45,94 @@ array-borrow-prefix-work : tie.Need-array-borrow-prefix-work
 array-borrow-prefix-work c = search needs
 
 slice-aggregate-run-candidates : tie.Need-slice-aggregate-run-candidates
-slice-aggregate-run-candidates c = sym (front-length _ _ (c .before .before .before .before .before .before .before .before .before .before .room-for-work .result) (c .before .before .before .before .before .before .before .before .before .before .room-for-work .ensures) (c .before .before .before .before .before .before .before .before .before .before .before .before .before .before .pre .work))
+slice-aggregate-run-candidates c =
+    sym (front-length _ _ (c .before .before .before .before .before .before .before .before .before .before .room-for-work .result)
+    (c .before .before .before .before .before .before .before .before .before .before .room-for-work .ensures)
+    (c .before .before .before .before .before .before .before .before .before .before .before .before .before .before .pre .work))
 
 array-borrow-prefix-candidates : tie.Need-array-borrow-prefix-candidates
-array-borrow-prefix-candidates c = omega (arith, c .before .before .before .before .before .before .before .before .before .room-for-words .ensures, c .before .before .before .before .before .before .before .before .before .before .before .before .before .before .pre .outputs 0 (lit< tt))
+array-borrow-prefix-candidates c =
+    omega (
+      arith,
+      c .before .before .before .before .before .before .before .before .before .room-for-words .ensures,
+      c .before .before .before .before .before .before .before
+          .before .before .before .before .before .before .before .pre .outputs 0 (lit< tt),
+    )
 
 slice-aggregate-run-candidates-2 : tie.Need-slice-aggregate-run-candidates-2
-slice-aggregate-run-candidates-2 c = sym (front-length _ _ (c .before .before .before .before .before .before .before .before .before .before .room-for-words .result) (c .before .before .before .before .before .before .before .before .before .before .room-for-words .ensures) (c .before .before .before .before .before .before .before .before .before .before .before .before .before .before .before .pre .outputs 0 (lit< tt)))
+slice-aggregate-run-candidates-2 c =
+    sym (front-length _ _ (c .before .before .before .before .before .before .before .before .before .before .room-for-words .result)
+    (c .before .before .before .before .before .before .before .before .before .before .room-for-words .ensures)
+    (c .before .before .before .before .before .before .before .before .before .before .before .before .before .before .before .pre .outputs 0 (lit< tt)))
 
 array-borrow-prefix-face-lists : tie.Need-array-borrow-prefix-face-lists
-array-borrow-prefix-face-lists c = omega (arith, c .before .before .before .before .before .before .before .before .before .room-for-words2 .ensures, c .before .before .before .before .before .before .before .before .before .before .before .before .before .before .before .pre .outputs 1 (lit< tt))
+array-borrow-prefix-face-lists c =
+    omega (
+      arith,
+      c .before .before .before .before .before .before .before .before .before .room-for-words2 .ensures,
+      c .before .before .before .before .before .before .before
+          .before .before .before .before .before .before .before .before .pre .outputs 1 (lit< tt),
+    )
 
 slice-aggregate-run-candidates-3 : tie.Need-slice-aggregate-run-candidates-3
-slice-aggregate-run-candidates-3 c = sym (front-length _ _ (c .before .before .before .before .before .before .before .before .before .before .room-for-words2 .result) (c .before .before .before .before .before .before .before .before .before .before .room-for-words2 .ensures) (c .before .before .before .before .before .before .before .before .before .before .before .before .before .before .before .before .pre .outputs 1 (lit< tt)))
+slice-aggregate-run-candidates-3 c =
+    sym (front-length _ _ (c .before .before .before .before .before .before .before .before .before .before .room-for-words2 .result)
+    (c .before .before .before .before .before .before .before .before .before .before .room-for-words2 .ensures)
+    (c .before .before .before .before .before .before .before .before .before .before .before .before .before .before .before .before .pre .outputs 1 (lit< tt)))
 
 array-borrow-prefix-constraints : tie.Need-array-borrow-prefix-constraints
-array-borrow-prefix-constraints c = omega (arith, c .before .before .before .before .before .before .before .before .before .room-for-words3 .ensures, c .before .before .before .before .before .before .before .before .before .before .before .before .before .before .before .before .pre .outputs 2 (lit< tt))
+array-borrow-prefix-constraints c =
+    omega (
+      arith,
+      c .before .before .before .before .before .before .before .before .before .room-for-words3 .ensures,
+      c .before .before .before .before .before .before .before
+          .before .before .before .before .before .before .before .before .before .pre .outputs 2 (lit< tt),
+    )
 
 slice-aggregate-run-candidates-4 : tie.Need-slice-aggregate-run-candidates-4
-slice-aggregate-run-candidates-4 c = sym (front-length _ _ (c .before .before .before .before .before .before .before .before .before .before .room-for-words3 .result) (c .before .before .before .before .before .before .before .before .before .before .room-for-words3 .ensures) (c .before .before .before .before .before .before .before .before .before .before .before .before .before .before .before .before .before .pre .outputs 2 (lit< tt)))
+slice-aggregate-run-candidates-4 c =
+    sym (front-length _ _ (c .before .before .before .before .before .before .before .before .before .before .room-for-words3 .result)
+    (c .before .before .before .before .before .before .before .before .before .before .room-for-words3 .ensures)
+    (c .before .before .before .before .before .before .before .before .before .before .before .before .before .before .before .before .before .pre .outputs 2 (lit< tt)))
 
 array-borrow-prefix-open-edges : tie.Need-array-borrow-prefix-open-edges
-array-borrow-prefix-open-edges c = omega (arith, c .before .before .before .before .before .before .before .before .before .room-for-words4 .ensures, c .before .before .before .before .before .before .before .before .before .before .before .before .before .before .before .before .before .pre .outputs 3 (lit< tt))
+array-borrow-prefix-open-edges c =
+    omega (
+      arith,
+      c .before .before .before .before .before .before .before .before .before .room-for-words4 .ensures,
+      c .before .before .before .before .before .before .before
+          .before .before .before .before .before .before .before .before .before .before .pre .outputs 3 (lit< tt),
+    )
 
 slice-aggregate-run-candidates-5 : tie.Need-slice-aggregate-run-candidates-5
-slice-aggregate-run-candidates-5 c = sym (front-length _ _ (c .before .before .before .before .before .before .before .before .before .before .room-for-words4 .result) (c .before .before .before .before .before .before .before .before .before .before .room-for-words4 .ensures) (c .before .before .before .before .before .before .before .before .before .before .before .before .before .before .before .before .before .before .pre .outputs 3 (lit< tt)))
+slice-aggregate-run-candidates-5 c =
+    sym (front-length _ _ (c .before .before .before .before .before .before .before .before .before .before .room-for-words4 .result)
+    (c .before .before .before .before .before .before .before .before .before .before .room-for-words4 .ensures)
+    (c .before .before .before .before .before .before .before .before .before .before .before .before .before .before .before .before .before .before .pre .outputs 3 (lit< tt)))
 
 run-candidates-requires : tie.Need-run-candidates-requires
-run-candidates-requires c κs = (c .before .before .before .before .before .before .before .before .before .before .before .before .before .before .before .before .before .before .pre, (front-length _ _ (c .before .before .before .before .before .before .before .before .before .before .before .before .before .before .room-for-work .result) (c .before .before .before .before .before .before .before .before .before .before .before .before .before .before .room-for-work .ensures) (c .before .before .before .before .before .before .before .before .before .before .before .before .before .before .before .before .before .before .pre .work), record { candidates = front-length _ _ (c .before .before .before .before .before .before .before .before .before .before .before .before .before .room-for-words .result) (c .before .before .before .before .before .before .before .before .before .before .before .before .before .room-for-words .ensures) (c .before .before .before .before .before .before .before .before .before .before .before .before .before .before .before .before .before .before .pre .outputs 0 (lit< tt)); face-lists = front-length _ _ (c .before .before .before .before .before .before .before .before .before .before .before .before .room-for-words2 .result) (c .before .before .before .before .before .before .before .before .before .before .before .before .room-for-words2 .ensures) (c .before .before .before .before .before .before .before .before .before .before .before .before .before .before .before .before .before .before .pre .outputs 1 (lit< tt)); constraints = front-length _ _ (c .before .before .before .before .before .before .before .before .before .before .before .room-for-words3 .result) (c .before .before .before .before .before .before .before .before .before .before .before .room-for-words3 .ensures) (c .before .before .before .before .before .before .before .before .before .before .before .before .before .before .before .before .before .before .pre .outputs 2 (lit< tt)); open-edges = front-length _ _ (c .before .before .before .before .before .before .before .before .before .before .room-for-words4 .result) (c .before .before .before .before .before .before .before .before .before .before .room-for-words4 .ensures) (c .before .before .before .before .before .before .before .before .before .before .before .before .before .before .before .before .before .before .pre .outputs 3 (lit< tt)) }))
+run-candidates-requires c κs = (
+  c .before .before .before .before .before .before .before .before .before .before .before .before .before .before .before .before .before .before .pre,
+  (
+    front-length _ _ (c .before .before .before .before .before .before .before .before .before .before .before .before .before .before .room-for-work .result)
+        (c .before .before .before .before .before .before .before .before .before .before .before .before .before .before .room-for-work .ensures)
+        (c .before .before .before .before .before .before .before .before .before .before .before .before .before .before .before .before .before .before .pre .work),
+    record {
+      candidates = front-length _ _ (c .before .before .before .before .before .before .before .before .before .before .before .before .before .room-for-words .result)
+          (c .before .before .before .before .before .before .before .before .before .before .before .before .before .room-for-words .ensures)
+          (c .before .before .before .before .before .before .before .before .before .before .before .before .before .before .before .before .before .before .pre .outputs 0 (lit< tt));
+      face-lists = front-length _ _ (c .before .before .before .before .before .before .before .before .before .before .before .before .room-for-words2 .result)
+          (c .before .before .before .before .before .before .before .before .before .before .before .before .room-for-words2 .ensures)
+          (c .before .before .before .before .before .before .before .before .before .before .before .before .before .before .before .before .before .before .pre .outputs 1 (lit< tt));
+      constraints = front-length _ _ (c .before .before .before .before .before .before .before .before .before .before .before .room-for-words3 .result)
+          (c .before .before .before .before .before .before .before .before .before .before .before .room-for-words3 .ensures)
+          (c .before .before .before .before .before .before .before .before .before .before .before .before .before .before .before .before .before .before .pre .outputs 2 (lit< tt));
+      open-edges = front-length _ _ (c .before .before .before .before .before .before .before .before .before .before .room-for-words4 .result)
+          (c .before .before .before .before .before .before .before .before .before .before .room-for-words4 .ensures)
+          (c .before .before .before .before .before .before .before .before .before .before .before .before .before .before .before .before .before .before .pre .outputs 3 (lit< tt));
+    },
+  ),
+)
 
 returns : tie.Need-returns
 returns c = search needs

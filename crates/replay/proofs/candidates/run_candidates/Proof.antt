@@ -14,19 +14,68 @@ old-words-requires : tie.Need-old-words-requires
 old-words-requires c κs = search needs
 
 old-words-requires-2 : tie.Need-old-words-requires-2
-old-words-requires-2 c κs = omega (arith, c .before .before .before .before .before .before .before .before .before .before .before .before .before .pre .0 .outputs 0 (lit< tt), c .before .before .before .before .before .before .before .before .before .before .before .before .before .pre .1 .1 .candidates)
+old-words-requires-2 c κs =
+    omega (
+      arith,
+      c .before .before .before .before .before .before .before .before .before .before .before .before .before .pre .0 .outputs 0 (lit< tt),
+      c .before .before .before
+          .before .before .before .before .before .before .before .before .before .before .pre .1 .1 .candidates,
+    )
 
 old-words-requires-3 : tie.Need-old-words-requires-3
-old-words-requires-3 c κs = omega (arith, c .before .before .before .before .before .before .before .before .before .before .before .before .before .before .before .before .before .pre .0 .outputs 1 (lit< tt), c .before .before .before .before .before .before .before .before .before .before .before .before .before .before .before .before .before .pre .1 .1 .face-lists)
+old-words-requires-3 c κs =
+    omega (
+      arith,
+      c .before .before .before .before .before .before .before .before .before .before .before .before .before .before .before .before .before .pre .0 .outputs 1
+          (lit< tt),
+      c .before .before .before .before .before .before .before .before .before .before .before .before .before .before .before .before .before .pre .1 .1 .face-lists,
+    )
 
 old-words-requires-4 : tie.Need-old-words-requires-4
-old-words-requires-4 c κs = omega (arith, c .before .before .before .before .before .before .before .before .before .before .before .before .before .before .before .before .before .before .before .before .before .pre .0 .outputs 2 (lit< tt), c .before .before .before .before .before .before .before .before .before .before .before .before .before .before .before .before .before .before .before .before .before .pre .1 .1 .constraints)
+old-words-requires-4 c κs =
+    omega (
+      arith,
+      c .before .before .before .before .before .before .before .before .before .before .before .before .before .before .before .before .before .before .before .before
+          .before .pre .0 .outputs 2 (lit< tt),
+      c .before .before .before .before .before .before .before .before .before .before .before .before .before .before .before .before .before
+          .before .before .before .before .pre .1 .1 .constraints,
+    )
 
 old-words-requires-5 : tie.Need-old-words-requires-5
-old-words-requires-5 c κs = omega (arith, c .before .before .before .before .before .before .before .before .before .before .before .before .before .before .before .before .before .before .before .before .before .before .before .before .before .pre .0 .outputs 3 (lit< tt), c .before .before .before .before .before .before .before .before .before .before .before .before .before .before .before .before .before .before .before .before .before .before .before .before .before .pre .1 .1 .open-edges)
+old-words-requires-5 c κs =
+    omega (
+      arith,
+      c .before .before .before .before .before .before .before .before .before .before .before .before .before .before .before .before .before .before .before .before
+          .before .before .before .before .before .pre .0 .outputs 3 (lit< tt),
+      c .before .before .before .before .before .before .before .before .before .before .before .before .before
+          .before .before .before .before .before .before .before .before .before .before .before .before .pre .1 .1 .open-edges,
+    )
 
 candidates-agree-requires : tie.Need-candidates-agree-requires
-candidates-agree-requires c κs = (c .before .before .before .before .before .before .before .before .before .before .before .before .before .before .before .before .before .before .before .before .before .before .before .before .before .before .before .before .before .before .before .before .before .pre .0, record { lent = c .before .before .before .before .before .before .before .before .before .before .before .before .before .before .before .before .before .before .before .before .before .before .before .old-words .kept .0 ∙ c .before .before .before .before .before .before .before .before .before .before .before .before .before .before .before .before .before .before .before .before .before .before .before .before .before .before .before .before .before .before .before .before .before .pre .1 .0; candidates = c .before .before .before .before .before .before .before .before .before .before .before .before .before .before .before .before .before .before .before .old-words2 .ensures ∙ ap oldWords (c .before .before .before .before .before .before .before .before .before .before .before .before .before .before .before .before .before .before .before .before .before .before .before .before .before .before .before .before .before .before .before .before .before .pre .1 .1 .candidates); face-lists = c .before .before .before .before .before .before .before .before .before .before .before .before .before .before .before .old-words3 .ensures ∙ ap oldWords (c .before .before .before .before .before .before .before .before .before .before .before .before .before .before .before .before .before .before .before .before .before .before .before .before .before .before .before .before .before .before .before .before .before .pre .1 .1 .face-lists); constraints = c .before .before .before .before .before .before .before .before .before .before .before .old-words4 .ensures ∙ ap oldWords (c .before .before .before .before .before .before .before .before .before .before .before .before .before .before .before .before .before .before .before .before .before .before .before .before .before .before .before .before .before .before .before .before .before .pre .1 .1 .constraints); open-edges = c .before .before .before .before .before .before .before .old-words5 .ensures ∙ ap oldWords (c .before .before .before .before .before .before .before .before .before .before .before .before .before .before .before .before .before .before .before .before .before .before .before .before .before .before .before .before .before .before .before .before .before .pre .1 .1 .open-edges) })
+candidates-agree-requires c κs = (
+  c .before .before .before .before .before .before .before .before .before .before .before .before .before .before .before .before .before .before .before .before .before
+      .before .before .before .before .before .before .before .before .before .before .before .before .pre .0,
+  record {
+    lent = c .before .before .before .before .before .before .before .before .before .before .before .before .before .before .before .before .before .before .before .before
+        .before .before .before .old-words .kept .0 ∙ c .before .before .before .before .before .before .before .before .before .before .before .before .before .before .before .before
+        .before .before .before .before .before .before .before .before .before .before .before .before .before .before .before .before .before .pre .1 .0;
+    candidates = c .before
+        .before .before .before .before .before .before .before .before .before .before .before .before .before .before .before .before .before .before .old-words2 .ensures ∙ ap
+        oldWords (c .before .before .before .before .before .before .before .before .before .before .before .before .before .before .before .before .before .before .before .before
+        .before .before .before .before .before .before .before .before .before .before .before .before .before .pre .1 .1 .candidates);
+    face-lists = c .before .before .before .before
+        .before .before .before .before .before .before .before .before .before .before .before .old-words3 .ensures ∙ ap oldWords
+        (c .before .before .before .before .before .before .before .before .before .before .before .before .before .before .before .before .before .before .before .before .before
+        .before .before .before .before .before .before .before .before .before .before .before .before .pre .1 .1 .face-lists);
+    constraints = c .before .before .before .before .before
+        .before .before .before .before .before .before .old-words4 .ensures ∙ ap oldWords
+        (c .before .before .before .before .before .before .before .before .before .before .before .before .before .before .before .before .before .before .before .before .before
+        .before .before .before .before .before .before .before .before .before .before .before .before .pre .1 .1 .constraints);
+    open-edges = c .before .before .before .before .before
+        .before .before .old-words5 .ensures ∙ ap oldWords (c .before .before .before .before .before .before .before .before .before .before .before .before .before .before .before
+        .before .before .before .before .before .before .before .before .before .before .before .before .before .before .before .before .before .before .pre .1 .1 .open-edges);
+  },
+)
 
 same-length : tie.Need-same-length
 same-length c = search needs

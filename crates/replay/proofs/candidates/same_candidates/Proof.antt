@@ -24,7 +24,13 @@ same-outputs-requires : tie.Need-same-outputs-requires
 same-outputs-requires c κs = search needs
 
 returns-3 : tie.Need-returns-3
-returns-3 c = ends _ (c .same-outputs .ensures) (λ z. record { replied = passes (c .before .before .before .before .same-reply .ensures) (c .before .before .before .if1 .left); cleared = passes (c .before .before .is-zero .ensures) (c .before .if2 .left); outputs = z }) (λ a. a .outputs)
+returns-3 c =
+    ends _ (c .same-outputs .ensures) (λ z. record {
+      replied = passes (c .before .before .before .before .same-reply .ensures) (c .before .before .before .if1 .left);
+      cleared =
+          passes (c .before .before .is-zero .ensures) (c .before .if2 .left);
+      outputs = z;
+    }) (λ a. a .outputs)
 
 pub same-candidates-spec : {M : Type 1} → statement M
 same-candidates-spec =

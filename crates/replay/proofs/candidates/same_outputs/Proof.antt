@@ -64,7 +64,16 @@ same-list-requires-4 : tie.Need-same-list-requires-4
 same-list-requires-4 c κs = search needs
 
 returns-4 : tie.Need-returns-4
-returns-4 c = ends _ (c .same-list4 .ensures) (λ z. record { candidates = passes (c .before .before .before .before .before .before .before .before .before .same-list .ensures) (c .before .before .before .before .before .before .before .before .if1 .left); face-lists = passes (c .before .before .before .before .before .before .same-list2 .ensures) (c .before .before .before .before .before .if2 .left); constraints = passes (c .before .before .before .same-list3 .ensures) (c .before .before .if3 .left); open-edges = z }) (λ a. a .open-edges)
+returns-4 c =
+    ends _ (c .same-list4 .ensures) (λ z. record {
+      candidates = passes (c .before .before .before .before .before .before .before .before .before .same-list .ensures)
+          (c .before .before .before .before .before .before .before .before .if1 .left);
+      face-lists = passes (c .before .before .before .before .before .before .same-list2 .ensures)
+          (c .before .before .before .before .before .if2 .left);
+      constraints = passes (c .before .before .before .same-list3 .ensures) (c .before .before .if3 .left);
+      open-edges = z;
+    })
+    (λ a. a .open-edges)
 
 pub same-outputs-spec : {M : Type 1} → statement M
 same-outputs-spec =

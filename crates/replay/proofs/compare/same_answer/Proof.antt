@@ -52,7 +52,15 @@ is-zero-requires : tie.Need-is-zero-requires
 is-zero-requires c κs = search needs
 
 returns-4 : tie.Need-returns-4
-returns-4 c = ends _ (c .is-zero .ensures) (λ z. record { replied = passes (c .before .before .before .before .before .before .before .before .before .same-reply .ensures) (c .before .before .before .before .before .before .before .before .if1 .left); coordinates = passes (c .before .before .before .before .same-doubles .ensures) (c .before .before .before .if2 .left); numbers = passes (c .before .before .same-numbers .ensures) (c .before .if3 .left); cleared = z }) (λ a. a .cleared)
+returns-4 c =
+    ends _ (c .is-zero .ensures) (λ z. record {
+      replied = passes (c .before .before .before .before .before .before .before .before .before .same-reply .ensures)
+          (c .before .before .before .before .before .before .before .before .if1 .left);
+      coordinates = passes (c .before .before .before .before .same-doubles .ensures)
+          (c .before .before .before .if2 .left);
+      numbers = passes (c .before .before .same-numbers .ensures) (c .before .if3 .left);
+      cleared = z;
+    }) (λ a. a .cleared)
 
 pub same-answer-spec : {M : Type 1} → statement M
 same-answer-spec =

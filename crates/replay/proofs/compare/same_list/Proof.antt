@@ -29,7 +29,10 @@ same-words-requires : tie.Need-same-words-requires
 same-words-requires c κs = search needs
 
 returns : tie.Need-returns
-returns c = part-decides (now (c .before .before .before .before .args .stored)) (now (c .before .before .before .before .args .output)) (c .before .before .before .before .args .from) (c .before .before .before .before .args .from + length (now (c .before .before .before .before .args .output)) - c .before .before .before .before .args .from) (omega arith) (c .before .before .before .before .pre) _ (c .same-words .ensures)
+returns c =
+    part-decides (now (c .before .before .before .before .args .stored)) (now (c .before .before .before .before .args .output)) (c .before .before .before .before .args .from)
+    (c .before .before .before .before .args .from + length (now (c .before .before .before .before .args .output)) - c .before .before .before .before .args .from) (omega arith)
+    (c .before .before .before .before .pre) _ (c .same-words .ensures)
 
 pub same-list-spec : {M : Type 1} → statement M
 same-list-spec =

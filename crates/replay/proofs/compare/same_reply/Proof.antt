@@ -26,7 +26,9 @@ same-words-requires : tie.Need-same-words-requires
 same-words-requires c κs = search needs
 
 returns-2 : tie.Need-returns-2
-returns-2 c = same-values (now (c .before .before .before .before .before .before .args .stored)) _ _ _ (c .before .before .before .before .before .before .pre) (c .before .before .before .if1 .left) (c .same-words .ensures)
+returns-2 c =
+    same-values (now (c .before .before .before .before .before .before .args .stored)) _ _ _ (c .before .before .before .before .before .before .pre)
+    (c .before .before .before .if1 .left) (c .same-words .ensures)
 
 pub same-reply-spec : {M : Type 1} → statement M
 same-reply-spec =

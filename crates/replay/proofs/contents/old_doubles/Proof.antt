@@ -33,7 +33,11 @@ loop-less : tie.Need-loop-less Inv-loop μ-loop
 loop-less c = search needs
 
 loop-again : tie.Need-loop-again Inv-loop μ-loop
-loop-again c = (filling-turn _ _ _ _ _ (c .before .loop .inv .0) (c .loop-test .taken) (c .before .loop .inv .1), next-double (c .before .loop .x) (c .before .loop .i) (c .before .loop .inv .1))
+loop-again c = (
+  filling-turn _ _ _ _ _ (c .before .loop .inv .0) (c .loop-test .taken) (c .before .loop .inv .1),
+  next-double (c .before .loop .x) (c .before .loop .i)
+      (c .before .loop .inv .1),
+)
 
 same-length : tie.Need-same-length Inv-loop μ-loop
 same-length c = search needs

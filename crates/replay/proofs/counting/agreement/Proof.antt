@@ -19,7 +19,12 @@ agrees-requires : tie.Need-agrees-requires
 agrees-requires c κs = search needs
 
 returns-2 : tie.Need-returns-2
-returns-2 c = one (c .before .before .before .request .ensures .sound (omega (arith, c .before .before .before .request .ensures .few, c .before .before .if1 .left)), c .before .agrees .ensures .sound (c .if2 .taken))
+returns-2 c =
+    one (
+      c .before .before .before .request .ensures .sound (omega (arith, c .before .before .before .request .ensures .few, c .before .before .if1 .left)),
+      c .before .agrees
+          .ensures .sound (c .if2 .taken),
+    )
 
 returns-3 : tie.Need-returns-3
 returns-3 c = none-of (λ a. clash (c .before .agrees .ensures .complete (a .1)) (c .if2 .left))

@@ -86,13 +86,18 @@ loop-less : tie.Need-loop-less Inv-loop μ-loop
 loop-less c = search needs
 
 loop-again : tie.Need-loop-again Inv-loop μ-loop
-loop-again c = tally-more _ (now (c .before .before .before .before .before .before .before .before .before .before .args .file)) _ _ _ _ (c .before .before .before .before .before .before .before .before .loop .inv) _ _ (c .before .before .before .before .before .record-length .ensures .0) (c .before .before .before .before .if1 .left) (c .before .before .request .ensures) (c .agreement .ensures)
+loop-again c =
+    tally-more _ (now (c .before .before .before .before .before .before .before .before .before .before .args .file)) _ _ _ _
+    (c .before .before .before .before .before .before .before .before .loop .inv) _ _ (c .before .before .before .before .before .record-length .ensures .0)
+    (c .before .before .before .before .if1 .left) (c .before .before .request .ensures) (c .agreement .ensures)
 
 returns : tie.Need-returns Inv-loop μ-loop
 returns c = tally-end _ (now (c .before .before .before .args .file)) _ _ _ 0 (c .before .loop .inv) (c .loop-test .left)
 
 returns-2 : tie.Need-returns-2 Inv-loop μ-loop
-returns-2 c = tally-stop _ (now (c .before .before .before .before .before .before .args .file)) _ _ _ _ (c .before .before .before .before .loop .inv) (c .before .record-length .ensures .0) (c .if1 .taken)
+returns-2 c =
+    tally-stop _ (now (c .before .before .before .before .before .before .args .file)) _ _ _ _ (c .before .before .before .before .loop .inv) (c .before .record-length .ensures .0)
+    (c .if1 .taken)
 
 pub count-spec : {M : Type 1} → statement M
 count-spec =

@@ -35,7 +35,15 @@ are-records-requires : tie.Need-are-records-requires
 are-records-requires c κs = search needs
 
 returns-5 : tie.Need-returns-5
-returns-5 c = ends _ (c .are-records .ensures) (λ r. record { head = c .before .before .before .before .before .before .before .before .if1 .left; magic = c .before .before .before .before .before .before .if2 .left; format = c .before .before .before .before .if3 .left; size = c .before .before .if4 .left; records = r }) (λ a. a .records)
+returns-5 c =
+    ends _ (c .are-records .ensures) (λ r. record {
+      head = c .before .before .before .before .before .before .before .before .if1 .left;
+      magic = c .before .before .before .before
+          .before .before .if2 .left;
+      format = c .before .before .before .before .if3 .left;
+      size = c .before .before .if4 .left;
+      records = r;
+    }) (λ a. a .records)
 
 pub are-answers-spec : {M : Type 1} → statement M
 are-answers-spec =

@@ -36,10 +36,14 @@ record-length-requires : tie.Need-record-length-requires Inv-loop μ-loop
 record-length-requires c κs = search needs
 
 returns : tie.Need-returns Inv-loop μ-loop
-returns c = walking-stuck _ (now (c .before .before .before .before .before .before .args .file)) _ _ _ (c .before .before .before .before .loop .inv) (c .before .record-length .ensures .0) (c .before .before .before .loop-test .taken) (c .if1 .taken)
+returns c =
+    walking-stuck _ (now (c .before .before .before .before .before .before .args .file)) _ _ _ (c .before .before .before .before .loop .inv)
+    (c .before .record-length .ensures .0) (c .before .before .before .loop-test .taken) (c .if1 .taken)
 
 returns-2 : tie.Need-returns-2 Inv-loop μ-loop
-returns-2 c = walking-over _ (now (c .before .before .before .before .before .before .before .args .file)) _ _ (c .before .before .before .before .before .loop .inv) (c .before .before .before .before .loop-test .taken) (c .if2 .taken)
+returns-2 c =
+    walking-over _ (now (c .before .before .before .before .before .before .before .args .file)) _ _ (c .before .before .before .before .before .loop .inv)
+    (c .before .before .before .before .loop-test .taken) (c .if2 .taken)
 
 sub-left : tie.Need-sub-left Inv-loop μ-loop
 sub-left c = search needs
@@ -51,7 +55,9 @@ loop-less : tie.Need-loop-less Inv-loop μ-loop
 loop-less c = search needs
 
 loop-again : tie.Need-loop-again Inv-loop μ-loop
-loop-again c = walking-more _ (now (c .before .before .before .before .before .before .before .args .file)) _ _ _ (c .before .before .before .before .before .loop .inv) (c .before .before .record-length .ensures .0) (c .before .if1 .left) (c .if2 .left)
+loop-again c =
+    walking-more _ (now (c .before .before .before .before .before .before .before .args .file)) _ _ _ (c .before .before .before .before .before .loop .inv)
+    (c .before .before .record-length .ensures .0) (c .before .if1 .left) (c .if2 .left)
 
 returns-3 : tie.Need-returns-3 Inv-loop μ-loop
 returns-3 c = walking-end _ (now (c .before .before .before .args .file)) _ _ (c .before .loop .inv) (c .loop-test .left)

@@ -32,10 +32,29 @@ returns-4 : tie.Need-returns-4
 returns-4 c = refuted (λ l. omega (arith, c .if4 .taken, l .work))
 
 size-requires : tie.Need-size-requires
-size-requires c κs = (c .before .before .before .before .before .before .if1 .left, (passes (c .before .before .before .before .before .are-few .ensures) (c .before .before .before .before .if2 .left), passes (c .before .before .before .are-few2 .ensures) (c .before .before .if3 .left)))
+size-requires c κs = (
+  c .before .before .before .before .before .before .if1 .left,
+  (
+    passes (c .before .before .before .before .before .are-few .ensures) (c .before .before .before .before .if2 .left),
+    passes (c .before .before .before .are-few2 .ensures)
+        (c .before .before .if3 .left),
+  ),
+)
 
 returns-5 : tie.Need-returns-5
-returns-5 c = record { sound = λ t. record { head = c .before .before .before .before .before .before .before .if1 .left; lists = passes (c .before .before .before .before .before .before .are-few .ensures) (c .before .before .before .before .before .if2 .left); outputs = passes (c .before .before .before .before .are-few2 .ensures) (c .before .before .before .if3 .left); work = c .before .if4 .left; whole = sym (c .size .ensures) ∙ eqb-true _ _ t }; complete = λ l. eq-eqb _ _ (c .size .ensures ∙ l .whole) }
+returns-5 c =
+    record {
+      sound = λ t. record {
+        head = c .before .before .before .before .before .before .before .if1 .left;
+        lists = passes
+            (c .before .before .before .before .before .before .are-few .ensures) (c .before .before .before .before .before .if2 .left);
+        outputs = passes
+            (c .before .before .before .before .are-few2 .ensures) (c .before .before .before .if3 .left);
+        work = c .before .if4 .left;
+        whole = sym (c .size .ensures) ∙ eqb-true _ _ t;
+      };
+      complete = λ l. eq-eqb _ _ (c .size .ensures ∙ l .whole);
+    }
 
 pub is-laid-spec : {M : Type 1} → statement M
 is-laid-spec =

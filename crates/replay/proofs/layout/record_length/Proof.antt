@@ -17,10 +17,18 @@ returns-2 : tie.Need-returns-2
 returns-2 c = (sym (cond-false _ _ _ _ (le-ltb _ _ (c .before .before .if1 .left)) (cond-true _ _ _ _ (lt-ltb _ _ (c .if2 .taken)) refl)), search needs)
 
 returns-3 : tie.Need-returns-3
-returns-3 c = (sym (cond-false _ _ _ _ (le-ltb _ _ (c .before .before .before .if1 .left)) (cond-false _ _ _ _ (le-ltb _ _ (c .before .if2 .left)) (cond-true _ _ _ _ (lt-ltb _ _ (c .if3 .taken)) refl))), search needs)
+returns-3 c = (
+  sym (cond-false _ _ _ _ (le-ltb _ _ (c .before .before .before .if1 .left))
+      (cond-false _ _ _ _ (le-ltb _ _ (c .before .if2 .left)) (cond-true _ _ _ _ (lt-ltb _ _ (c .if3 .taken)) refl))),
+  search needs,
+)
 
 returns-4 : tie.Need-returns-4
-returns-4 c = (sym (cond-false _ _ _ _ (le-ltb _ _ (c .before .before .before .if1 .left)) (cond-false _ _ _ _ (le-ltb _ _ (c .before .if2 .left)) (cond-false _ _ _ _ (le-ltb _ _ (c .if3 .left)) refl))), search needs)
+returns-4 c = (
+  sym (cond-false _ _ _ _ (le-ltb _ _ (c .before .before .before .if1 .left))
+      (cond-false _ _ _ _ (le-ltb _ _ (c .before .if2 .left)) (cond-false _ _ _ _ (le-ltb _ _ (c .if3 .left)) refl))),
+  search needs,
+)
 
 pub record-length-spec : {M : Type 1} → statement M
 record-length-spec =

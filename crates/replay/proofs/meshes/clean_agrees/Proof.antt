@@ -20,7 +20,18 @@ yongpham-clean-requires : tie.Need-yongpham-clean-requires
 yongpham-clean-requires c κs = search needs
 
 same-answer-requires : tie.Need-same-answer-requires
-same-answer-requires c κs = outputs-within (now (c .before .before .before .before .before .before .before .before .before .before .before .before .before .before .before .before .before .before .before .before .before .before .before .args .stored)) (now (c .before .before .before .before .before .before .before .before .before .before .before .before .before .before .before .before .before .before .before .before .before .before .before .args .work)) (now (c .before .before .before .before .before .before .before .before .before .before .before .before .before .before .before .before .before .before .before .before .before .before .before .args .out-vertices)) (c .before .before .before .before .before .before .before .before .before .before .yongpham-clean .last .1 .1 .1 .1 .0) (now (c .before .before .before .before .before .before .before .before .before .before .before .before .before .before .before .before .before .before .before .before .before .before .before .args .out-facets)) (c .before .before .before .before .before .before .before .before .before .before .yongpham-clean .last .1 .1 .1 .1 .1 .0) (c .before .before .before .before .before .before .before .before .before .before .before .before .before .before .before .before .before .before .before .before .before .before .before .pre .0) (c .before .before .before .before .before .before .before .before .before .before .before .before .before .before .before .before .before .before .before .before .before .before .before .pre .1) (c .before .before .before .before .before .before .before .before .before .before .yongpham-clean .kept .1 .1 .1 .1 .0) (c .before .before .before .before .before .before .before .before .before .before .yongpham-clean .kept .1 .1 .1 .1 .1 .0)
+same-answer-requires c κs =
+    outputs-within (now (c .before .before .before .before .before .before .before .before .before .before .before .before .before .before .before .before .before .before .before
+    .before .before .before .before .args .stored)) (now (c .before .before .before .before .before .before .before .before .before .before .before .before .before .before .before
+    .before .before .before .before .before .before .before .before .args .work))
+    (now (c .before .before .before .before .before .before .before .before .before .before .before .before .before .before .before .before .before .before .before .before .before
+    .before .before .args .out-vertices)) (c .before .before .before .before .before .before .before .before .before .before .yongpham-clean .last .1 .1 .1 .1 .0)
+    (now (c .before .before .before .before .before .before .before .before .before .before .before .before .before .before .before .before .before .before .before .before .before
+    .before .before .args .out-facets)) (c .before .before .before .before .before .before .before .before .before .before .yongpham-clean .last .1 .1 .1 .1 .1 .0)
+    (c .before .before .before .before .before .before .before .before .before .before .before .before .before .before .before .before .before .before .before .before .before
+    .before .before .pre .0) (c .before .before .before .before .before .before .before .before .before .before .before .before .before .before .before .before .before .before
+    .before .before .before .before .before .pre .1) (c .before .before .before .before .before .before .before .before .before .before .yongpham-clean .kept .1 .1 .1 .1 .0)
+    (c .before .before .before .before .before .before .before .before .before .before .yongpham-clean .kept .1 .1 .1 .1 .1 .0)
 
 same-length : tie.Need-same-length
 same-length c = search needs
@@ -32,7 +43,34 @@ same-length-3 : tie.Need-same-length-3
 same-length-3 c = search needs
 
 returns : tie.Need-returns
-returns c = answer-decides (now (c .before .before .before .before .before .before .before .before .before .before .before .before .before .before .before .before .before .before .before .before .before .before .before .before .args .stored)) _ _ _ _ _ _ (now (c .before .before .before .before .before .before .before .before .before .before .before .before .before .before .before .before .before .before .before .before .before .before .before .before .args .work)) _ (now (c .before .before .before .before .before .before .before .before .before .before .before .before .before .before .before .before .before .before .before .before .before .before .before .before .args .out-vertices)) _ (now (c .before .before .before .before .before .before .before .before .before .before .before .before .before .before .before .before .before .before .before .before .before .before .before .before .args .out-facets)) _ (c .before .before .before .before .before .before .before .before .before .before .before .before .before .before .before .before .before .before .before .before .before .before .before .before .pre .1) (mesh-called _ _ _ _ _ _ _ _ _ _ (c .before .before .before .before .before .before .before .before .before .before .before .yongpham-clean .ensures .0)) (clean-reply (now (c .before .before .before .before .before .before .before .before .before .before .before .before .before .before .before .before .before .before .before .before .before .before .before .before .args .stored)) (now (c .before .before .before .before .before .before .before .before .before .before .before .before .before .before .before .before .before .before .before .before .before .before .before .before .args .work)) (now (c .before .before .before .before .before .before .before .before .before .before .before .before .before .before .before .before .before .before .before .before .before .before .before .before .args .out-vertices)) (now (c .before .before .before .before .before .before .before .before .before .before .before .before .before .before .before .before .before .before .before .before .before .before .before .before .args .out-facets)) (c .before .before .before .before .before .before .before .before .before .before .before .before .before .before .before .before .before .before .before .before .before .before .before .before .pre .1) (now (c .before .before .before .before .before .before .before .before .before .before .before .before .before .before .before .before .before .before .before .before .before .before .before .before .args .vertices)) (now (c .before .before .before .before .before .before .before .before .before .before .before .before .before .before .before .before .before .before .before .before .before .before .before .before .args .facets)) (c .before .before .before .before .before .before .before .before .before .before .before .before .before .before .before .before .double .ensures)) (clean-result (now (c .before .before .before .before .before .before .before .before .before .before .before .before .before .before .before .before .before .before .before .before .before .before .before .before .args .stored)) (now (c .before .before .before .before .before .before .before .before .before .before .before .before .before .before .before .before .before .before .before .before .before .before .before .before .args .vertices)) (now (c .before .before .before .before .before .before .before .before .before .before .before .before .before .before .before .before .before .before .before .before .before .before .before .before .args .facets)) (c .before .before .before .before .before .before .before .before .before .before .before .before .before .before .before .before .double .ensures)) (c .before .before .before .before .before .before .before .before .before .before .before .yongpham-clean .kept .1 .1 .1 .1 .0) _ (c .same-answer .ensures)
+returns c =
+    answer-decides (now (c .before .before .before .before .before .before .before .before .before .before .before .before .before .before .before .before .before .before .before
+    .before .before .before .before .before .args .stored)) _ _ _ _ _ _
+    (now (c .before .before .before .before .before .before .before .before .before .before .before .before .before .before .before .before .before .before .before .before .before
+    .before .before .before .args .work)) _ (now (c .before .before .before .before .before .before .before .before .before .before .before .before .before .before .before .before
+    .before .before .before .before .before .before .before .before .args .out-vertices)) _
+    (now (c .before .before .before .before .before .before .before .before .before .before .before .before .before .before .before .before .before .before .before .before .before
+    .before .before .before .args .out-facets)) _ (c .before .before .before .before .before .before .before .before .before .before .before .before .before .before .before .before
+    .before .before .before .before .before .before .before .before .pre .1)
+    (mesh-called _ _ _ _ _ _ _ _ _ _ (c .before .before .before .before .before .before .before .before .before .before .before .yongpham-clean .ensures .0))
+    (clean-reply (now (c .before .before .before .before .before .before .before .before .before .before .before .before .before .before .before .before .before .before .before
+    .before .before .before .before .before .args .stored)) (now (c .before .before .before .before .before .before .before .before .before .before .before .before .before .before
+    .before .before .before .before .before .before .before .before .before .before .args .work))
+    (now (c .before .before .before .before .before .before .before .before .before .before .before .before .before .before .before .before .before .before .before .before .before
+    .before .before .before .args .out-vertices)) (now (c .before .before .before .before .before .before .before .before .before .before .before .before .before .before .before
+    .before .before .before .before .before .before .before .before .before .args .out-facets))
+    (c .before .before .before .before .before .before .before .before .before .before .before .before .before .before .before .before .before .before .before .before .before
+    .before .before .before .pre .1) (now (c .before .before .before .before .before .before .before .before .before .before .before .before .before .before .before .before .before
+    .before .before .before .before .before .before .before .args .vertices))
+    (now (c .before .before .before .before .before .before .before .before .before .before .before .before .before .before .before .before .before .before .before .before .before
+    .before .before .before .args .facets)) (c .before .before .before .before .before .before .before .before .before .before .before .before .before .before .before .before
+    .double .ensures)) (clean-result (now (c .before .before .before .before .before .before .before .before .before .before .before .before .before .before .before .before .before
+    .before .before .before .before .before .before .before .args .stored))
+    (now (c .before .before .before .before .before .before .before .before .before .before .before .before .before .before .before .before .before .before .before .before .before
+    .before .before .before .args .vertices)) (now (c .before .before .before .before .before .before .before .before .before .before .before .before .before .before .before
+    .before .before .before .before .before .before .before .before .before .args .facets))
+    (c .before .before .before .before .before .before .before .before .before .before .before .before .before .before .before .before .double .ensures))
+    (c .before .before .before .before .before .before .before .before .before .before .before .yongpham-clean .kept .1 .1 .1 .1 .0) _ (c .same-answer .ensures)
 
 pub clean-agrees-spec : {M : Type 1} → statement M
 clean-agrees-spec =

@@ -34,22 +34,57 @@ array-borrow-prefix-work : tie.Need-array-borrow-prefix-work
 array-borrow-prefix-work c = search needs
 
 slice-aggregate-run : tie.Need-slice-aggregate-run
-slice-aggregate-run c = sym (front-length _ _ (c .before .before .before .before .before .before .room-for-work .result) (c .before .before .before .before .before .before .room-for-work .ensures) (c .before .before .before .before .before .before .before .before .before .before .pre .work))
+slice-aggregate-run c =
+    sym (front-length _ _ (c .before .before .before .before .before .before .room-for-work .result) (c .before .before .before .before .before .before .room-for-work .ensures)
+    (c .before .before .before .before .before .before .before .before .before .before .pre .work))
 
 array-borrow-prefix-out-vertices : tie.Need-array-borrow-prefix-out-vertices
-array-borrow-prefix-out-vertices c = omega (arith, c .before .before .before .before .before .room-for-doubles .ensures, c .before .before .before .before .before .before .before .before .before .before .pre .outputs 0 (lit< tt))
+array-borrow-prefix-out-vertices c =
+    omega (
+      arith,
+      c .before .before .before .before .before .room-for-doubles .ensures,
+      c .before .before .before .before .before .before .before .before .before .before .pre
+          .outputs 0 (lit< tt),
+    )
 
 slice-aggregate-run-2 : tie.Need-slice-aggregate-run-2
-slice-aggregate-run-2 c = sym (front-length _ _ (c .before .before .before .before .before .before .room-for-doubles .result) (c .before .before .before .before .before .before .room-for-doubles .ensures) (c .before .before .before .before .before .before .before .before .before .before .before .pre .outputs 0 (lit< tt)))
+slice-aggregate-run-2 c =
+    sym (front-length _ _ (c .before .before .before .before .before .before .room-for-doubles .result)
+    (c .before .before .before .before .before .before .room-for-doubles .ensures)
+    (c .before .before .before .before .before .before .before .before .before .before .before .pre .outputs 0 (lit< tt)))
 
 array-borrow-prefix-out-facets : tie.Need-array-borrow-prefix-out-facets
-array-borrow-prefix-out-facets c = omega (arith, c .before .before .before .before .before .room-for-numbers .ensures, c .before .before .before .before .before .before .before .before .before .before .before .pre .outputs 1 (lit< tt))
+array-borrow-prefix-out-facets c =
+    omega (
+      arith,
+      c .before .before .before .before .before .room-for-numbers .ensures,
+      c .before .before .before .before .before .before .before .before .before .before .before
+          .pre .outputs 1 (lit< tt),
+    )
 
 slice-aggregate-run-3 : tie.Need-slice-aggregate-run-3
-slice-aggregate-run-3 c = sym (front-length _ _ (c .before .before .before .before .before .before .room-for-numbers .result) (c .before .before .before .before .before .before .room-for-numbers .ensures) (c .before .before .before .before .before .before .before .before .before .before .before .before .pre .outputs 1 (lit< tt)))
+slice-aggregate-run-3 c =
+    sym (front-length _ _ (c .before .before .before .before .before .before .room-for-numbers .result)
+    (c .before .before .before .before .before .before .room-for-numbers .ensures)
+    (c .before .before .before .before .before .before .before .before .before .before .before .before .pre .outputs 1 (lit< tt)))
 
 run-requires : tie.Need-run-requires
-run-requires c κs = (c .before .before .before .before .before .before .before .before .before .before .before .before .pre, (front-length _ _ (c .before .before .before .before .before .before .before .before .room-for-work .result) (c .before .before .before .before .before .before .before .before .room-for-work .ensures) (c .before .before .before .before .before .before .before .before .before .before .before .before .pre .work), (front-length _ _ (c .before .before .before .before .before .before .before .room-for-doubles .result) (c .before .before .before .before .before .before .before .room-for-doubles .ensures) (c .before .before .before .before .before .before .before .before .before .before .before .before .pre .outputs 0 (lit< tt)), front-length _ _ (c .before .before .before .before .before .before .room-for-numbers .result) (c .before .before .before .before .before .before .room-for-numbers .ensures) (c .before .before .before .before .before .before .before .before .before .before .before .before .pre .outputs 1 (lit< tt)))))
+run-requires c κs = (
+  c .before .before .before .before .before .before .before .before .before .before .before .before .pre,
+  (
+    front-length _ _ (c .before .before .before .before .before .before .before .before .room-for-work .result)
+        (c .before .before .before .before .before .before .before .before .room-for-work .ensures)
+        (c .before .before .before .before .before .before .before .before .before .before .before .before .pre .work),
+    (
+      front-length _ _ (c .before .before .before .before .before .before .before .room-for-doubles .result)
+          (c .before .before .before .before .before .before .before .room-for-doubles .ensures)
+          (c .before .before .before .before .before .before .before .before .before .before .before .before .pre .outputs 0 (lit< tt)),
+      front-length _ _
+          (c .before .before .before .before .before .before .room-for-numbers .result) (c .before .before .before .before .before .before .room-for-numbers .ensures)
+          (c .before .before .before .before .before .before .before .before .before .before .before .before .pre .outputs 1 (lit< tt)),
+    ),
+  ),
+)
 
 returns : tie.Need-returns
 returns c = search needs

@@ -17,13 +17,18 @@ candidates-answer-agrees-requires : tie.Need-candidates-answer-agrees-requires
 candidates-answer-agrees-requires c κs = search needs
 
 returns : tie.Need-returns
-returns c = ends _ (c .candidates-answer-agrees .ensures) (λ s. candidates (c .before .if1 .taken) s) (λ a. as-candidates (now (c .before .before .before .before .before .before .args .stored)) (now (c .before .before .before .before .before .before .args .vertices)) (now (c .before .before .before .before .before .before .args .facets)) (c .before .if1 .taken) a)
+returns c =
+    ends _ (c .candidates-answer-agrees .ensures) (λ s. candidates (c .before .if1 .taken) s)
+    (λ a. as-candidates (now (c .before .before .before .before .before .before .args .stored)) (now (c .before .before .before .before .before .before .args .vertices))
+    (now (c .before .before .before .before .before .before .args .facets)) (c .before .if1 .taken) a)
 
 mesh-answer-agrees-requires : tie.Need-mesh-answer-agrees-requires
 mesh-answer-agrees-requires c κs = search needs
 
 returns-2 : tie.Need-returns-2
-returns-2 c = ends _ (c .mesh-answer-agrees .ensures) (λ m. mesh m) (λ a. as-mesh (now (c .before .before .before .before .before .before .args .stored)) (now (c .before .before .before .before .before .before .args .vertices)) (now (c .before .before .before .before .before .before .args .facets)) (c .before .if1 .left) a)
+returns-2 c =
+    ends _ (c .mesh-answer-agrees .ensures) (λ m. mesh m) (λ a. as-mesh (now (c .before .before .before .before .before .before .args .stored))
+    (now (c .before .before .before .before .before .before .args .vertices)) (now (c .before .before .before .before .before .before .args .facets)) (c .before .if1 .left) a)
 
 pub answer-agrees-spec : {M : Type 1} → statement M
 answer-agrees-spec =

@@ -38,7 +38,15 @@ are-few-requires-2 : tie.Need-are-few-requires-2
 are-few-requires-2 c κs = search needs
 
 returns-4 : tie.Need-returns-4
-returns-4 c = ends _ (c .are-few2 .ensures) (λ z. record { mode = passes (c .before .before .before .before .before .before .before .before .are-few .ensures) (c .before .before .before .before .before .before .before .if1 .left); plain = passes (c .before .before .before .before .before .before .are-numbers .ensures) (c .before .before .before .before .before .if2 .left); coordinates = passes (c .before .before .are-numbers2 .ensures) (c .before .if3 .left); narrow = z }) (λ a. a .narrow)
+returns-4 c =
+    ends _ (c .are-few2 .ensures) (λ z. record {
+      mode = passes (c .before .before .before .before .before .before .before .before .are-few .ensures)
+          (c .before .before .before .before .before .before .before .if1 .left);
+      plain = passes (c .before .before .before .before .before .before .are-numbers .ensures)
+          (c .before .before .before .before .before .if2 .left);
+      coordinates = passes (c .before .before .are-numbers2 .ensures) (c .before .if3 .left);
+      narrow = z;
+    }) (λ a. a .narrow)
 
 pub has-numbers-spec : {M : Type 1} → statement M
 has-numbers-spec =

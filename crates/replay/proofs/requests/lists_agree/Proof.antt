@@ -24,7 +24,13 @@ with-lists-requires : tie.Need-with-lists-requires
 with-lists-requires c κs = passes (c .before .before .before .is-laid .ensures) (c .before .before .if1 .left)
 
 returns-3 : tie.Need-returns-3
-returns-3 c = ends _ (c .with-lists .ensures) (λ z. record { laid = passes (c .before .before .before .before .is-laid .ensures) (c .before .before .before .if1 .left); numbers = passes (c .before .before .has-numbers .ensures) (c .before .if2 .left); answer = z }) (λ a. a .answer)
+returns-3 c =
+    ends _ (c .with-lists .ensures) (λ z. record {
+      laid = passes (c .before .before .before .before .is-laid .ensures) (c .before .before .before .if1 .left);
+      numbers = passes
+          (c .before .before .has-numbers .ensures) (c .before .if2 .left);
+      answer = z;
+    }) (λ a. a .answer)
 
 pub lists-agree-spec : {M : Type 1} → statement M
 lists-agree-spec =

@@ -29,7 +29,13 @@ same-length-2 : tie.Need-same-length-2
 same-length-2 c = search needs
 
 returns : tie.Need-returns
-returns c = lists-decides (now (c .before .before .before .before .before .before .before .before .before .before .before .before .before .before .args .stored)) _ _ _ _ _ _ (c .before .before .before .before .before .before .before .before .before .before .before .before .before .before .pre .1 .0) (c .before .before .before .before .before .before .before .before .before .read-doubles .kept .1 .1 .0 ∙ c .before .before .before .before .before .before .before .before .before .before .before .before .before .before .pre .1 .0) (c .before .before .before .before .before .before .before .before .before .before .before .before .before .before .pre .1 .1) (c .before .before .before .before .before .before .before .before .before .read-doubles .ensures) (c .before .before .before .before .before .read-numbers .ensures) (c .answer-agrees .ensures)
+returns c =
+    lists-decides (now (c .before .before .before .before .before .before .before .before .before .before .before .before .before .before .args .stored)) _ _ _ _ _ _
+    (c .before .before .before .before .before .before .before .before .before .before .before .before .before .before .pre .1 .0)
+    (c .before .before .before .before .before .before .before .before .before .read-doubles .kept .1 .1 .0 ∙ c .before .before .before .before .before .before .before .before
+    .before .before .before .before .before .before .pre .1 .0) (c .before .before .before .before .before .before .before .before .before .before .before .before .before .before
+    .pre .1 .1) (c .before .before .before .before .before .before .before .before .before .read-doubles .ensures)
+    (c .before .before .before .before .before .read-numbers .ensures) (c .answer-agrees .ensures)
 
 pub read-lists-spec : {M : Type 1} → statement M
 read-lists-spec =

@@ -27,16 +27,28 @@ array-borrow-prefix-vertices : tie.Need-array-borrow-prefix-vertices
 array-borrow-prefix-vertices c = omega (arith, c .before .before .before .room-for-doubles .ensures, c .before .before .before .before .before .pre .lists 0 (lit< tt))
 
 slice-aggregate-read-lists : tie.Need-slice-aggregate-read-lists
-slice-aggregate-read-lists c = sym (front-length _ _ (c .before .before .before .before .room-for-doubles .result) (c .before .before .before .before .room-for-doubles .ensures) (c .before .before .before .before .before .before .pre .lists 0 (lit< tt)))
+slice-aggregate-read-lists c =
+    sym (front-length _ _ (c .before .before .before .before .room-for-doubles .result) (c .before .before .before .before .room-for-doubles .ensures)
+    (c .before .before .before .before .before .before .pre .lists 0 (lit< tt)))
 
 array-borrow-prefix-facets : tie.Need-array-borrow-prefix-facets
 array-borrow-prefix-facets c = omega (arith, c .before .before .before .room-for-numbers .ensures, c .before .before .before .before .before .before .pre .lists 1 (lit< tt))
 
 slice-aggregate-read-lists-2 : tie.Need-slice-aggregate-read-lists-2
-slice-aggregate-read-lists-2 c = sym (front-length _ _ (c .before .before .before .before .room-for-numbers .result) (c .before .before .before .before .room-for-numbers .ensures) (c .before .before .before .before .before .before .before .pre .lists 1 (lit< tt)))
+slice-aggregate-read-lists-2 c =
+    sym (front-length _ _ (c .before .before .before .before .room-for-numbers .result) (c .before .before .before .before .room-for-numbers .ensures)
+    (c .before .before .before .before .before .before .before .pre .lists 1 (lit< tt)))
 
 read-lists-requires : tie.Need-read-lists-requires
-read-lists-requires c κs = (c .before .before .before .before .before .before .before .pre, (front-length _ _ (c .before .before .before .before .before .room-for-doubles .result) (c .before .before .before .before .before .room-for-doubles .ensures) (c .before .before .before .before .before .before .before .pre .lists 0 (lit< tt)), front-length _ _ (c .before .before .before .before .room-for-numbers .result) (c .before .before .before .before .room-for-numbers .ensures) (c .before .before .before .before .before .before .before .pre .lists 1 (lit< tt))))
+read-lists-requires c κs = (
+  c .before .before .before .before .before .before .before .pre,
+  (
+    front-length _ _ (c .before .before .before .before .before .room-for-doubles .result) (c .before .before .before .before .before .room-for-doubles .ensures)
+        (c .before .before .before .before .before .before .before .pre .lists 0 (lit< tt)),
+    front-length _ _ (c .before .before .before .before .room-for-numbers .result)
+        (c .before .before .before .before .room-for-numbers .ensures) (c .before .before .before .before .before .before .before .pre .lists 1 (lit< tt)),
+  ),
+)
 
 returns : tie.Need-returns
 returns c = search needs

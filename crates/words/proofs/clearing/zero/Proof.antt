@@ -35,7 +35,9 @@ same-length : tie.Need-same-length Inv-loop μ-loop
 same-length c = omega arith
 
 returns : tie.Need-returns Inv-loop μ-loop
-returns c = zero-end (length (c .before .before .args .w .now)) (c .before .before .args .w .now) (c .before .loop .w) (c .before .loop .i) (c .before .loop .inv) (omega arith) ∙ overlay-whole (replicate (length (c .before .before .args .w .now)) 0) (c .before .before .args .w .now) (simp length-replicate (omega arith))
+returns c =
+    zero-end (length (c .before .before .args .w .now)) (c .before .before .args .w .now) (c .before .loop .w) (c .before .loop .i) (c .before .loop .inv) (omega arith) ∙
+    overlay-whole (replicate (length (c .before .before .args .w .now)) 0) (c .before .before .args .w .now) (simp length-replicate (omega arith))
 
 pub zero-spec : {M : Type 1} → statement M
 zero-spec =

@@ -29,7 +29,8 @@ same-length-5 : tie.Need-same-length-5
 same-length-5 c = search needs
 
 returns : tie.Need-returns
-returns c = called _ _ _ _ _ _ _ (c .before .before .before .before .before .before .before .before .before .before .before .before .cap-candidates .ensures) (c .report-reply .ensures)
+returns c =
+    called _ _ _ _ _ _ _ (c .before .before .before .before .before .before .before .before .before .before .before .before .cap-candidates .ensures) (c .report-reply .ensures)
 
 pub yongpham-candidates-spec : {M : Type 1} → statement M
 yongpham-candidates-spec =

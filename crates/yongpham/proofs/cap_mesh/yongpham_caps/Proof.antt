@@ -21,7 +21,9 @@ same-length : tie.Need-same-length
 same-length c = search needs
 
 returns : tie.Need-returns
-returns c = caps-none _ _ _ _ _ _ _ _ _ _ _ _ _ (c .before .before .before .before .before .before .if1 .taken) (c .before .before .before .before .zero .ensures) refl refl (c .refuse-mode .ensures)
+returns c =
+    caps-none _ _ _ _ _ _ _ _ _ _ _ _ _ (c .before .before .before .before .before .before .if1 .taken) (c .before .before .before .before .zero .ensures) refl refl
+    (c .refuse-mode .ensures)
 
 mode-of-requires : tie.Need-mode-of-requires
 mode-of-requires c κs = search needs
@@ -42,7 +44,10 @@ same-length-4 : tie.Need-same-length-4
 same-length-4 c = search needs
 
 returns-2 : tie.Need-returns-2
-returns-2 c = caps-reported _ _ _ _ _ _ _ _ _ _ _ _ _ _ _ (c .before .before .before .before .before .before .before .before .before .before .before .before .before .if1 .left) (c .before .before .before .before .before .before .before .before .before .before .before .before .mode-of .ensures) (c .before .before .before .before .before .before .before .before .cap-mesh-to-aabb .ensures) (c .report-reply .ensures)
+returns-2 c =
+    caps-reported _ _ _ _ _ _ _ _ _ _ _ _ _ _ _ (c .before .before .before .before .before .before .before .before .before .before .before .before .before .if1 .left)
+    (c .before .before .before .before .before .before .before .before .before .before .before .before .mode-of .ensures)
+    (c .before .before .before .before .before .before .before .before .cap-mesh-to-aabb .ensures) (c .report-reply .ensures)
 
 pub yongpham-caps-spec : {M : Type 1} → statement M
 yongpham-caps-spec =

@@ -23,7 +23,11 @@ same-length-3 : tie.Need-same-length-3
 same-length-3 c = search needs
 
 returns : tie.Need-returns
-returns c = (called _ _ _ _ _ _ _ (c .before .before .before .before .before .before .before .before .clean-mesh .ensures .answered) (c .report-reply .ensures), c .before .before .before .before .before .before .before .before .clean-mesh .ensures .rule)
+returns c = (
+  called _ _ _ _ _ _ _ (c .before .before .before .before .before .before .before .before .clean-mesh .ensures .answered) (c .report-reply .ensures),
+  c .before .before .before
+      .before .before .before .before .before .clean-mesh .ensures .rule,
+)
 
 pub yongpham-clean-spec : {M : Type 1} → statement M
 yongpham-clean-spec =
