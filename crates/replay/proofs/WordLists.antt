@@ -9,8 +9,9 @@ use mathlib.Core.List.{List, [], _∷_}
 use lib.ListN.{length, getD}
 use lib.Ieee.{Float}
 use Rattle.geometry.specs.declared.aabb.AABB.{AABB}
-use Rattle.geometry.specs.Triangles.{flat}
 use Rattle.refusals.specs.Refusals.{settle}
+use Rattle.candidate_pool.specs.OpenEdges.{openEdgeWords}
+use Rattle.candidate_constraints.specs.Constraints.{constraintWords}
 use Rattle.boundary_closure.specs.Candidates.{Candidates, candidateWords, listWords}
 use Rattle.boundary_closure.specs.Operation.{candidatesReply, candidatesResult}
 use Rattle.yongpham.specs.Calls.{CandidatesReported}
@@ -84,11 +85,11 @@ module _ (stored reply reply₀ : List ℕ) (result result₀ : Candidates) (num
     ends-l : l' ≡ settle reply (listWords (result .lists)) (oldWords (getD stored 16 0))
     ends-l = there .face-lists .ends ∙ ap (settle reply (listWords (result .lists))) (fresh .face-lists)
 
-    ends-k : k' ≡ settle reply (flat (result .constraints)) (oldWords (getD stored 17 0))
-    ends-k = there .constraints .ends ∙ ap (settle reply (flat (result .constraints))) (fresh .constraints)
+    ends-k : k' ≡ settle reply (constraintWords (result .constraints)) (oldWords (getD stored 17 0))
+    ends-k = there .constraints .ends ∙ ap (settle reply (constraintWords (result .constraints))) (fresh .constraints)
 
-    ends-e : e' ≡ settle reply (flat (result .edges)) (oldWords (getD stored 18 0))
-    ends-e = there .open-edges .ends ∙ ap (settle reply (flat (result .edges))) (fresh .open-edges)
+    ends-e : e' ≡ settle reply (openEdgeWords (result .edges)) (oldWords (getD stored 18 0))
+    ends-e = there .open-edges .ends ∙ ap (settle reply (openEdgeWords (result .edges))) (fresh .open-edges)
 
     same-words : (from : ℕ) {x y : List ℕ} → x ≡ y → SameWords stored from x → SameWords stored from y
     same-words from p s = subst (λ (z : List ℕ). SameWords stored from z) p s

@@ -27,6 +27,8 @@ use Rattle.refusals.specs.Refusals.{settle}
 use Rattle.tolerance.specs.Tolerance.{toleranceReply}
 use Rattle.aabb_clipping.specs.Clip.{clipReply, clipResult}
 use Rattle.mesh_cleanup.specs.Clean.{cleanReply, cleanResult}
+use Rattle.candidate_pool.specs.OpenEdges.{openEdgeWords}
+use Rattle.candidate_constraints.specs.Constraints.{constraintWords}
 use Rattle.boundary_closure.specs.Candidates.{Candidates, candidateWords, listWords}
 use Rattle.boundary_closure.specs.Operation.{candidatesReply, candidatesResult}
 use Rattle.caps.specs.Operation.{capsResult}
@@ -119,8 +121,8 @@ pub record WordsStored (stored reply : List ℕ) (result : Candidates) : Type 0 
       SameOutputs stored
       (settle reply (candidateWords (result .all)) (oldWords (getD stored 15 0)))
       (settle reply (listWords (result .lists)) (oldWords (getD stored 16 0)))
-      (settle reply (flat (result .constraints)) (oldWords (getD stored 17 0)))
-      (settle reply (flat (result .edges)) (oldWords (getD stored 18 0)))
+      (settle reply (constraintWords (result .constraints)) (oldWords (getD stored 17 0)))
+      (settle reply (openEdgeWords (result .edges)) (oldWords (getD stored 18 0)))
 
 abbrev pub ToleranceStored : List ℕ → Type 0
 ToleranceStored stored = reported (toleranceReply (boxIn stored)) ≡ storedReply stored

@@ -45,6 +45,8 @@ use Rattle.refusals.specs.declared.reply.MeshReply.{MeshReply}
 use Rattle.refusals.specs.declared.reply.MeshReply.the-variants as mesh
 use Rattle.geometry.specs.Triangles.{flat}
 use Rattle.geometry.specs.Meshes.{Mesh, coordinates}
+use Rattle.candidate_pool.specs.OpenEdges.{openEdgeWords}
+use Rattle.candidate_constraints.specs.Constraints.{constraintWords}
 use Rattle.boundary_closure.specs.declared.reply.CandidatesReply.{CandidatesReply}
 use Rattle.boundary_closure.specs.declared.reply.CandidatesReply.the-variants as candidates
 use Rattle.boundary_closure.specs.Candidates.{Candidates, candidateWords, listWords}
@@ -91,8 +93,8 @@ module _ (vs : List Float) (fs : List ℕ) (box : AABB) (eps resolution : Float)
         reported = same-reply (documentedCandidates m) _ r ws (d .replied) g;
         candidates = subst (λ (p : List ℕ). Settled p (candidateWords (result .all)) c c') (d .replied) (d .candidates);
         face-lists = subst (λ (p : List ℕ). Settled p (listWords (result .lists)) l l') (d .replied) (d .face-lists);
-        constraints = subst (λ (p : List ℕ). Settled p (flat (result .constraints)) k k') (d .replied) (d .constraints);
-        open-edges = subst (λ (p : List ℕ). Settled p (flat (result .edges)) e e') (d .replied) (d .open-edges);
+        constraints = subst (λ (p : List ℕ). Settled p (constraintWords (result .constraints)) k k') (d .replied) (d .constraints);
+        open-edges = subst (λ (p : List ℕ). Settled p (openEdgeWords (result .edges)) e e') (d .replied) (d .open-edges);
         work = d .work;
       }
 

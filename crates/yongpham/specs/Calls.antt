@@ -19,6 +19,8 @@ use Rattle.refusals.specs.declared.refusal.Refusal.the-variants.{BadNumber}
 use Rattle.refusals.specs.Refusals.{replyTo, Settled, Zeroed}
 use Rattle.refusals.specs.Front.{ceiling, listTests}
 use Rattle.refusals.specs.Reports.{Reported}
+use Rattle.candidate_pool.specs.OpenEdges.{openEdgeWords}
+use Rattle.candidate_constraints.specs.Constraints.{constraintWords}
 use Rattle.boundary_closure.specs.Candidates.{Candidates, candidateWords, listWords}
 use Rattle.caps.specs.declared.mode.BoundaryClosure.{BoundaryClosure}
 use Rattle.caps.specs.declared.mode.BoundaryClosure.the-variants.{None, ClosePositive, CloseNegative}
@@ -38,8 +40,8 @@ pub record CandidatesReported (reply : List ℕ) (result : Candidates) (r : ℕ)
   pub reported : Reported reply r values
   pub candidates : Settled reply (candidateWords (result .all)) c c'
   pub face-lists : Settled reply (listWords (result .lists)) l l'
-  pub constraints : Settled reply (flat (result .constraints)) k k'
-  pub open-edges : Settled reply (flat (result .edges)) e e'
+  pub constraints : Settled reply (constraintWords (result .constraints)) k k'
+  pub open-edges : Settled reply (openEdgeWords (result .edges)) e e'
   pub work : Zeroed w w'
 
 -- 0, 1 and 2; any other number is no mode, and is turned down
