@@ -19,7 +19,7 @@ push-faces-requires : tie.Need-push-faces-requires
 push-faces-requires c κs = (c .before .before .before .place-candidate .ensures .0 .holds, number-in (c .before .before .before .before .before .before .args .eps) (c .before .before .before .before .before .before .args .n) (c .before .before .before .before .before .before .args .w .now) (c .before .before .before .place-candidate .last .0) _ (c .before .before .before .place-candidate .result) (c .before .before .before .place-candidate .ensures .0) (c .before .before .before .place-candidate .ensures .1))
 
 same-length : tie.Need-same-length
-same-length c = length-set (c .before .before .before .before .push-faces .last .0) (c .before .joined-at .result + c .before .before .before .before .before .before .before .before .before .before .before .args .v .0) (c .before .before .before .before .before .before .before .before .place-candidate .result + 1) ∙ c .before .before .before .before .push-faces .ensures .long ∙ c .before .before .before .before .before .before .before .before .place-candidate .ensures .0 .long
+same-length c = simp length-set (c .before .before .before .before .push-faces .ensures .long ∙ c .before .before .before .before .before .before .before .before .place-candidate .ensures .0 .long)
 
 returns : tie.Need-returns
 returns c = (vertex-inserted (c .before .before .before .before .before .before .before .before .before .before .before .args .eps) (c .before .before .before .before .before .before .before .before .before .before .before .args .n) (c .before .before .before .before .before .before .before .before .before .before .before .args .v .0) (c .before .before .before .before .before .before .before .before .place-candidate .result) (candidate (c .before .before .before .before .before .before .before .before .before .before .before .args .p) (c .before .before .before .before .before .before .before .before .before .before .before .args .v .0 + 1) (facesIn (c .before .before .before .before .before .before .before .before .before .before .before .args .mask))) (c .before .before .before .before .before .before .before .before .before .before .before .args .w .now) (c .before .before .before .before .push-faces .last .0) (inserted-faces (c .before .before .before .before .before .before .before .before .before .before .before .args .eps) (c .before .before .before .before .before .before .before .before .before .before .before .args .n) (c .before .before .before .before .before .before .before .before .before .before .before .args .w .now) (c .before .before .before .before .before .before .before .before .place-candidate .last .0) (c .before .before .before .before .push-faces .last .0) (c .before .before .before .before .before .before .before .before .before .before .before .args .p) (c .before .before .before .before .before .before .before .before .before .before .before .args .v .0 + 1) (c .before .before .before .before .before .before .before .before .place-candidate .result) (c .before .before .before .before .before .before .before .before .before .before .before .pre .0) (c .before .before .before .before .before .before .before .before .place-candidate .ensures .0) (c .before .before .before .before .before .before .before .before .place-candidate .ensures .1) (c .before .before .before .before .before .before .before .before .before .before .before .args .mask) (c .before .before .before .before .push-faces .ensures)) (c .before .before .before .before .before .before .before .before .before .before .before .pre .1 .0 .2) (c .before .before .before .before .before .before .before .before .place-candidate .ensures .1 ∙ same-number (byKey (c .before .before .before .before .before .before .before .before .before .before .before .args .eps)) (poolAt (c .before .before .before .before .before .before .before .before .before .before .before .args .n) (c .before .before .before .before .before .before .before .before .before .before .before .args .w .now)) (c .before .before .before .before .before .before .before .before .before .before .before .args .p) (c .before .before .before .before .before .before .before .before .before .before .before .args .v .0 + 1) (facesIn (c .before .before .before .before .before .before .before .before .before .before .before .args .mask))) _ (c .before .joined-at .result) (c .before .joined-at .ensures) refl, c .before .before .before .before .before .before .before .before .place-candidate .ensures .1 ∙ same-number (byKey (c .before .before .before .before .before .before .before .before .before .before .before .args .eps)) (poolAt (c .before .before .before .before .before .before .before .before .before .before .before .args .n) (c .before .before .before .before .before .before .before .before .before .before .before .args .w .now)) (c .before .before .before .before .before .before .before .before .before .before .before .args .p) (c .before .before .before .before .before .before .before .before .before .before .before .args .v .0 + 1) (facesIn (c .before .before .before .before .before .before .before .before .before .before .before .args .mask)))
