@@ -33,9 +33,9 @@ unfoldable pub betweenEnds : Float → Float → Fraction
 betweenEnds t slack = cond (le (neg slack) t && le t (oneF ⊕ slack)) (At (clamped t)) Nothing
 
 module _ (eps : Float) where
-  -- for a side of the extent d along its axis, and a point w away from the side's line
-  unfoldable pub alongSide : Float → Float → Float → Fraction
-  alongSide d t w = cond (within eps w) (betweenEnds t (eps ⊘ larger (magnitude d) eps)) Nothing
+  -- of a side with this extent along its axis, and a point that stands at this fraction of it and this far from the side's line
+  unfoldable pub alongSide : (extent fraction away : Float) → Fraction
+  alongSide extent fraction away = cond (within eps away) (betweenEnds fraction (eps ⊘ larger (magnitude extent) eps)) Nothing
 
   -- along u where the side is no longer in v
   unfoldable pub onSide : Side → Uv → Fraction

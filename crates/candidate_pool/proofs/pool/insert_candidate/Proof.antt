@@ -26,10 +26,8 @@ push-faces-requires c κs = (
 
 same-length : tie.Need-same-length
 same-length c =
-    length-set (c .before .before .before .before .push-faces .last .0)
-    (c .before .joined-at .result + c .before .before .before .before .before .before .before .before .before .before .before .args .v .0)
-    (c .before .before .before .before .before .before .before .before .place-candidate .result + 1) ∙ c .before .before .before .before .push-faces .ensures .long ∙ c .before
-    .before .before .before .before .before .before .before .place-candidate .ensures .0 .long
+    simp length-set (c .before .before .before .before .push-faces .ensures .long ∙ c .before .before .before .before .before .before .before .before .place-candidate .ensures .0
+    .long)
 
 returns : tie.Need-returns
 returns c = (
@@ -75,7 +73,8 @@ add-w c =
     omega (
       arith,
       number-in (c .before .before .before .before .before .before .before .before .before .args .eps)
-          (c .before .before .before .before .before .before .before .before .before .args .n) (c .before .before .before .before .before .before .before .before .before .args .w .now)
+          (c .before .before .before .before .before .before .before .before .before .args .n)
+          (c .before .before .before .before .before .before .before .before .before .args .w .now)
           (c .before .before .before .before .before .before .place-candidate .last .0) _ (c .before .before .before .before .before .before .place-candidate .result)
           (c .before .before .before .before .before .before .place-candidate .ensures .0) (c .before .before .before .before .before .before .place-candidate .ensures .1),
       c .before
