@@ -54,7 +54,7 @@ module _ (ws : List ℕ) (a : ℕ) (f : First (standsAt ws earlier earlier earli
 
   module _ (b : ℕ) (g : First (standsAt ws later later later) (length ws / 5) b) (h : length ws / 5 ≤ a) where
     abbrev rest : ℕ → Bool
-    rest at = ltb at (length ws / 5) && (eqb (getD ws (5 * at + 3) 0) 2 && every (free ws at) (upTo (length ws / 5)))
+    rest at = ltb at (length ws / 5) && (eqb (getD ws (5 * at + 3) 0) 2 && every (free ws later at) (upTo (length ws / 5)))
 
     later-is : isLater ws ≡ rest b
     unfolding isLater
@@ -68,7 +68,7 @@ module _ (ws : List ℕ) (a : ℕ) (f : First (standsAt ws earlier earlier earli
     pub later-other : b < length ws / 5 → (getD ws (5 * b + 3) 0 ≡ 2 → ⊥) → false ≡ isLater ws
     later-other k o = sym (later-is ∙ and-next _ _ _ (lt-ltb b (length ws / 5) k) (and-stop _ _ (ne-eqb _ _ o)))
 
-    pub later-alone : (r : Bool) → b < length ws / 5 → getD ws (5 * b + 3) 0 ≡ 2 → r ≡ every (free ws b) (upTo (length ws / 5)) → r ≡ isLater ws
+    pub later-alone : (r : Bool) → b < length ws / 5 → getD ws (5 * b + 3) 0 ≡ 2 → r ≡ every (free ws later b) (upTo (length ws / 5)) → r ≡ isLater ws
     later-alone r k o e = sym (later-is ∙ and-next _ _ _ (lt-ltb b (length ws / 5) k) (and-next _ _ _ (eq-eqb _ _ o) (sym e)))
 
 module _ (vs : List Float) (fs : List ℕ) (eps resolution : Float) (lent n : ℕ) (b box : AABB) (m r : ℕ) (ws c' : List ℕ) (e : b ≡ box) (long : m ≡ lent)

@@ -48,13 +48,13 @@ earlier = 13778763059940032512
 abbrev pub later : ℕ
 later = 4555391023085256704
 
--- "one candidate, the later point": none is at the earlier one, the first at the later one is mesh vertex 1, and no other comes from vertex 0 or 1
+-- "one candidate, the later point": none is at the earlier one, the first at the later one is mesh vertex 1, and no other is there or comes from vertex 0 or 1
 unfoldable pub isLater : List ℕ → Bool
 isLater words =
     let n = length words / 5 in
     let at = placeOf words later later later in
     not (ltb (placeOf words earlier earlier earlier) n)
-    && (ltb at n && (eqb (getD words (5 * at + 3) 0) 2 && every (free words at) (upTo n)))
+    && (ltb at n && (eqb (getD words (5 * at + 3) 0) 2 && every (free words later at) (upTo n)))
 
 unfoldable pub facetReply : Asked → ℕ → List ℕ
 facetReply q lent =

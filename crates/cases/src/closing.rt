@@ -63,7 +63,7 @@ fn box_to(x: f64, y: f64, z: f64) -> AABB
     }
 }
 
-// "one candidate, the later point": none lies at the earlier one, and no other comes from either vertex. Zeros behind the list say neither.
+// "one candidate, the later point": none lies at the earlier one, and no other is there or comes from either vertex. Zeros behind the list say neither.
 fn is_later_point(candidates: &[u64]) -> bool
     ensures { λ r. ⌜ r ≡ isLater (now (candidates .entry)) ⌝ }
 {
@@ -74,7 +74,7 @@ fn is_later_point(candidates: &[u64]) -> bool
     let at = place_of(candidates, LATER, LATER, LATER);
     if at < n {
         if candidates[5 * at + 3] == 2 {
-            return is_alone(candidates, at);
+            return is_alone(candidates, LATER, at);
         }
     }
     false

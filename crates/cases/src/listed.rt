@@ -7,34 +7,6 @@ ghost use lib.ListN.{length};
 ghost use Rattle.lists.specs.Lists.{every, upTo};
 ghost use Rattle.cases.specs.Comparing.{standsAt, free, First};
 
-// Candidate i, of this number, is the one at `at` or comes neither from mesh vertex 0 nor from 1.
-fn is_free(number: u64, i: usize, at: usize) -> bool
-    ensures { λ r. ⌜ r ≡ (eqb i at || (not (eqb number 1) && not (eqb number 2))) ⌝ }
-{
-    if i == at {
-        return true;
-    }
-    if number == 1 {
-        return false;
-    }
-    number != 2
-}
-
-// No other candidate than this one comes from mesh vertex 0 or 1.
-pub fn is_alone(candidates: &[u64], at: usize) -> bool
-    ensures { λ r. ⌜ r ≡ every (free (now (candidates .entry)) at) (upTo (length (now (candidates .entry)) / 5)) ⌝ }
-{
-    let n = candidates.len() / 5;
-    let mut i = 0;
-    while i < n {
-        if !is_free(candidates[5 * i + 3], i, at) {
-            return false;
-        }
-        i += 1;
-    }
-    true
-}
-
 fn is_at(candidates: &[u64], i: usize, x: u64, y: u64, z: u64) -> bool
     requires { ⌜ 5 * i + 2 < length (now candidates) ⌝ }
     ensures { λ r. ⌜ r ≡ standsAt (now (candidates .entry)) x y z i ⌝ }
@@ -46,6 +18,39 @@ fn is_at(candidates: &[u64], i: usize, x: u64, y: u64, z: u64) -> bool
         return false;
     }
     candidates[5 * i + 2] == z
+}
+
+// Candidate i is the one at `at`, or comes neither from mesh vertex 0 nor from 1 and is not at the point (x, x, x).
+fn is_free(candidates: &[u64], i: usize, x: u64, at: usize) -> bool
+    requires { ⌜ 5 * i + 3 < length (now candidates) ⌝ }
+    ensures { λ r. ⌜ r ≡ free (now (candidates .entry)) x at i ⌝ }
+{
+    if i == at {
+        return true;
+    }
+    let number = candidates[5 * i + 3];
+    if number == 1 {
+        return false;
+    }
+    if number == 2 {
+        return false;
+    }
+    !is_at(candidates, i, x, x, x)
+}
+
+// No other candidate than this one comes from mesh vertex 0 or 1, or is at the point (x, x, x).
+pub fn is_alone(candidates: &[u64], x: u64, at: usize) -> bool
+    ensures { λ r. ⌜ r ≡ every (free (now (candidates .entry)) x at) (upTo (length (now (candidates .entry)) / 5)) ⌝ }
+{
+    let n = candidates.len() / 5;
+    let mut i = 0;
+    while i < n {
+        if !is_free(candidates, i, x, at) {
+            return false;
+        }
+        i += 1;
+    }
+    true
 }
 
 // The number of the first candidate at this point, and how many candidates there are where none is there.

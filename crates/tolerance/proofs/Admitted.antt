@@ -74,7 +74,7 @@ module _ (b : AABB) (e : boxInRange b ≡ true) where
 -- ---- what `bbox_eps` promises, by cases
 
 pub refused : (b : AABB) (r : Refusal) → documented r ≡ toleranceReply b → Tolerated b (Refused r)
-refused b r e = record { replied = e; admitted = λ eps h. absurd (never r eps h) }
+refused b r e = record { replied = e; admitted = λ eps h. absurd (never r eps h); rooted = λ eps h. absurd (never r eps h) }
   where
     never : (r : Refusal) (eps : Float) → Refused r ≡ Of eps → ⊥
     never r eps h = let z : _≡_ {A = ℕ} 0 1 = cc in omega arith
@@ -84,4 +84,5 @@ tolerated b eps h e f =
     record {
       replied = ap (λ (d : Float). 0 ∷ toBits binary64 d ∷ []) h ∙ reply-done b e f;
       admitted = λ d k. ap epsInRange (let same : d ≡ tolerance b = cc in same) ∙ tolerance-admitted b e;
+      rooted = λ d k. root-meets (norm2 (sides b)) (norm2-fits b) (norm2-rootable 31 (lit≤ tt) (sides-within b e));
     }

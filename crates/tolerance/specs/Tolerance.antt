@@ -3,17 +3,18 @@
 --   toleranceTests       4, 5
 --   toleranceReply       the reply: 0 and the tolerance's bits, or the refusal's number
 --   documentedTolerance  the number and values of each case of the answer
---   Tolerated            what `bbox_eps` promises: that reply, and that the tolerance is an eps in its range
+--   Tolerated            what `bbox_eps` promises: that reply; that the tolerance is an eps in its range; and that its root is "the double nearest the exact root"
 use Prim.Native.Nat.{ℕ}
 use mathlib.Core.Path.{_≡_}
 use mathlib.Core.Bool.{true, not}
 use mathlib.Core.List.{List, [], _∷_}
 use lib.Ieee.{Float, binary64, toBits}
 use Rattle.root.specs.Doubles.{_⊖_, _⊗_, oneF, 1e-10, larger}
+use Rattle.root.specs.Root.{IsRoot}
 use Rattle.geometry.specs.declared.aabb.AABB.{AABB}
 use Rattle.geometry.specs.declared.point.Point.{Point}
 use Rattle.geometry.specs.Boxes.{low, high}
-use Rattle.geometry.specs.Points.{onAxes, norm}
+use Rattle.geometry.specs.Points.{onAxes, norm2, norm}
 use Rattle.refusals.specs.declared.refusal.Refusal.the-variants.{BadNumber, BadBox}
 use Rattle.refusals.specs.Refusals.{documented, Test, replyTo}
 use Rattle.refusals.specs.Front.{boxInRange, badBox, epsInRange}
@@ -39,3 +40,4 @@ documentedTolerance (Refused r) = documented r
 pub record Tolerated (b : AABB) (r : Tolerance) : Type 0 where
   pub replied : documentedTolerance r ≡ toleranceReply b
   pub admitted : (eps : Float) → r ≡ Of eps → epsInRange eps ≡ true
+  pub rooted : (eps : Float) → r ≡ Of eps → IsRoot (norm2 (sides b)) (norm (sides b))

@@ -14,32 +14,20 @@ use Rattle.cases.proofs.listed.is_alone.Lts as lts
 use Rattle.cases.proofs.listed.is_free.Reads as is-free-reads
 
 abbrev Inv-loop : tie.InvT-loop
-Inv-loop candidates at n i₀ i = (i ≤ n) × (every (free candidates at) (upTo n) ≡ every (free candidates at) (drop i (upTo n)))
+Inv-loop candidates x at n i₀ i = (i ≤ n) × (every (free candidates x at) (upTo n) ≡ every (free candidates x at) (drop i (upTo n)))
 
 abbrev μ-loop : tie.MeasureT-loop
-μ-loop candidates at n i₀ i = n - i
+μ-loop candidates x at n i₀ i = n - i
 
 loop-holds : tie.Need-loop-holds Inv-loop μ-loop
 loop-holds c = (search needs, refl)
-
-mul-is-free : tie.Need-mul-is-free Inv-loop μ-loop
-mul-is-free c = search needs
-
-add-is-free : tie.Need-add-is-free Inv-loop μ-loop
-add-is-free c = search needs
-
-mul-is-free-2 : tie.Need-mul-is-free-2 Inv-loop μ-loop
-mul-is-free-2 c = search needs
-
-shared-slice-read-is-free : tie.Need-shared-slice-read-is-free Inv-loop μ-loop
-shared-slice-read-is-free c = search needs
 
 is-free-requires : tie.Need-is-free-requires Inv-loop μ-loop
 is-free-requires c κs = search needs
 
 returns : tie.Need-returns Inv-loop μ-loop
 returns c =
-    sym (row-stop _ _ _ (c .before .before .before .before .loop .inv .1) (c .before .before .before .loop-test .taken)
+    sym (row-stop _ _ _ (c .before .before .before .loop .inv .1) (c .before .before .loop-test .taken)
     (sym (c .before .is-free .ensures) ∙ not-true _ (c .if1 .taken)))
 
 add-i : tie.Need-add-i Inv-loop μ-loop
@@ -51,7 +39,7 @@ loop-less c = search needs
 loop-again : tie.Need-loop-again Inv-loop μ-loop
 loop-again c = (
   search needs,
-  row-more _ _ _ (c .before .before .before .before .loop .inv .1) (c .before .before .before .loop-test .taken)
+  row-more _ _ _ (c .before .before .before .loop .inv .1) (c .before .before .loop-test .taken)
       (sym (c .before .is-free .ensures) ∙ not-false _ (c .if1 .left)),
 )
 
@@ -65,10 +53,6 @@ is-alone-spec =
     Inv-loop
     μ-loop
     loop-holds
-    mul-is-free
-    add-is-free
-    mul-is-free-2
-    shared-slice-read-is-free
     is-free-requires
     returns
     add-i
