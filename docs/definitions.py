@@ -48,6 +48,7 @@ LIST = [
     ("box_faces/Faces", "which faces a point lies on; u and v of a face; which turn is outward"),
     ("box_faces/Segments", "whether a point lies on a segment of a face"),
     ("box_faces/Sides", "the four sides of a face, and where along one a point stands"),
+    ("candidate_pool/OpenEdges", "an open edge as it is listed: its face and its two candidates"),
     ("candidate_pool/Pool", "a candidate, and how one is entered: one for each key"),
     ("candidate_pool/Setting", "box, eps, resolution, skip tolerance and joining rule in one"),
     ("candidate_edges/Surface", "open edges and vertices on two faces entered"),
