@@ -1,25 +1,29 @@
-//! Clean beside the Rust: a surface with shared vertices, and facets with vertices
-//! of their own that must be welded.
+//! Clean beside the Rust: a surface with shared vertices, facets with vertices of
+//! their own that must be welded, and, if asked for, all vertices in one cell.
 
-use crate::meshes::{own_vertices, surface, Mesh, SIZES, UNIT};
+use crate::meshes::{one_cell, own_vertices, surface, Mesh, SIZES, UNIT};
 use crate::timing::{interleaved, mesh_row, time};
 
 /// Three vertices a facet, 65,536 in all.
 const MOST_OWN: usize = 21_000;
 
-pub fn rows(rounds: usize) {
+pub fn rows(rounds: usize, large: bool) {
+    let eps = oracle::reference::bbox_eps(&UNIT);
     for facets in SIZES {
-        row(rounds, "clean, shared vertices", &surface(facets, 0.5, 1.0));
-        row(
-            rounds,
-            "clean, own vertices",
-            &own_vertices(&surface(facets.min(MOST_OWN), 0.5, 1.0)),
-        );
+        let shared = surface(facets, 0.5, 1.0);
+        row(rounds, "clean, shared vertices", &shared, eps);
+        let own = own_vertices(&surface(facets.min(MOST_OWN), 0.5, 1.0));
+        row(rounds, "clean, own vertices", &own, eps);
+    }
+    if large {
+        for count in [16_384, 65_536] {
+            let name = format!("clean, {count} vertices in one cell, eps 0");
+            row(rounds, &name, &one_cell(count), 0.0);
+        }
     }
 }
 
-fn row(rounds: usize, name: &str, mesh: &Mesh) {
-    let eps = oracle::reference::bbox_eps(&UNIT);
+fn row(rounds: usize, name: &str, mesh: &Mesh, eps: f64) {
     let wide = mesh.wide_facets();
     let need = oracle::need_words(mesh.vertices.len() / 3, mesh.count(), 0, 0) as usize;
     let mut work = vec![1u64; need];

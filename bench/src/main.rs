@@ -3,7 +3,8 @@
 //!
 //!     bench [ROUNDS] [large]
 //!
-//! ROUNDS is 9 if not given and at least 7; `large` adds caps at 1,000,000 supplied triangles.
+//! ROUNDS is 9 if not given and at least 7; `large` adds caps at 1,000,000 supplied
+//! triangles and clean with all vertices in one cell.
 
 mod candidates;
 mod caps;
@@ -24,11 +25,12 @@ fn main() {
         .find_map(|text| text.parse().ok())
         .unwrap_or(9)
         .max(7usize);
+    let large = arguments.iter().any(|text| text == "large");
     numbers::rows(rounds);
     words::rows(rounds);
     timing::mesh_header();
     clip::rows(rounds);
-    clean::rows(rounds);
+    clean::rows(rounds, large);
     candidates::rows(rounds);
-    caps::rows(rounds, arguments.iter().any(|text| text == "large"));
+    caps::rows(rounds, large);
 }

@@ -46,6 +46,21 @@ pub fn surface(facets: usize, middle: f64, reach: f64) -> Mesh {
     }
 }
 
+/// A surface in one cell of the side 1e-12, which is the cells' side for eps 0: no two
+/// vertices join, and each is compared with all before it. What `count` has over
+/// the surface's vertices no facet uses.
+pub fn one_cell(count: usize) -> Mesh {
+    let mut mesh = surface(count, 0.5, 1.0);
+    for k in mesh.vertices.len() / 3..count {
+        mesh.vertices
+            .extend([2.0 * k as f64 / count as f64, 0.0, 0.0]);
+    }
+    for coordinate in &mut mesh.vertices {
+        *coordinate *= 2e-13;
+    }
+    mesh
+}
+
 /// Triangles of random corners in and around the box. At most 65,536 vertices are
 /// taken, so larger soups share corners at random.
 pub fn soup(facets: usize) -> Mesh {

@@ -16,7 +16,10 @@ fn random(state: &mut u64) -> u64 {
 
 fn row(leaf: &str, beside: &str, n: usize, ours: std::time::Duration, rust: std::time::Duration) {
     let [o, r] = [ours, rust].map(milliseconds);
-    println!("| {leaf} | {beside} | {n} | {o:.3} | {r:.3} | {:.2} |", o / r);
+    println!(
+        "| {leaf} | {beside} | {n} | {o:.3} | {r:.3} | {:.2} |",
+        o / r
+    );
 }
 
 /// Keys as an edge table has them: two numbers below 2^17 packed in a word, many of them twice.
@@ -24,7 +27,10 @@ fn sort(rounds: usize, n: usize) {
     let mut state = 1;
     let records: Vec<(u64, u64)> = (0..n as u64)
         .map(|payload| {
-            let (a, b) = (random(&mut state) % (1 << 17), random(&mut state) % (1 << 17));
+            let (a, b) = (
+                random(&mut state) % (1 << 17),
+                random(&mut state) % (1 << 17),
+            );
             (a.min(b) << 32 | a.max(b), payload)
         })
         .collect();
@@ -46,7 +52,10 @@ fn sort(rounds: usize, n: usize) {
             },
         ],
     );
-    assert!(words.chunks_exact(2).zip(&copy).all(|(place, &(key, payload))| place == [key, payload]));
+    assert!(words
+        .chunks_exact(2)
+        .zip(&copy)
+        .all(|(place, &(key, payload))| place == [key, payload]));
     row("sort of records", "sort_unstable", n, ours, rust);
 }
 
@@ -54,8 +63,15 @@ fn sort(rounds: usize, n: usize) {
 fn chains(rounds: usize, n: usize) {
     let mut state = 2;
     let keys: Vec<u64> = (0..n).map(|_| random(&mut state)).collect();
-    let asked: Vec<u64> =
-        (0..n).map(|i| if i % 2 == 0 { keys[random(&mut state) as usize % n] } else { random(&mut state) }).collect();
+    let asked: Vec<u64> = (0..n)
+        .map(|i| {
+            if i % 2 == 0 {
+                keys[random(&mut state) as usize % n]
+            } else {
+                random(&mut state)
+            }
+        })
+        .collect();
     let buckets = n;
     let mut room = vec![0u64; 2 * buckets + n];
     let mut found = vec![0u64; n];
@@ -64,7 +80,11 @@ fn chains(rounds: usize, n: usize) {
         rounds,
         [
             &mut || {
-                time(|| assert!(leaves::look_up(&mut room, buckets, &keys, &asked, &mut found)))
+                time(|| {
+                    assert!(leaves::look_up(
+                        &mut room, buckets, &keys, &asked, &mut found
+                    ))
+                })
             },
             &mut || {
                 time(|| {
@@ -143,12 +163,23 @@ fn components(rounds: usize, n: usize) {
             &mut || time(|| least = plain_components(&labels, n, m)),
         ],
     );
-    assert!(words[..n].iter().zip(&least).all(|(&ours, &rust)| ours == u64::from(rust)));
-    row("components, 3 labels, with sizes", "plain union-find", n, ours, rust);
+    assert!(words[..n]
+        .iter()
+        .zip(&least)
+        .all(|(&ours, &rust)| ours == u64::from(rust)));
+    row(
+        "components, 3 labels, with sizes",
+        "plain union-find",
+        n,
+        ours,
+        rust,
+    );
 }
 
 pub fn rows(rounds: usize) {
-    println!("\n| leaf | beside | n | ours ms | Rust ms | ours / Rust |\n|---|---|---|---|---|---|");
+    println!(
+        "\n| leaf | beside | n | ours ms | Rust ms | ours / Rust |\n|---|---|---|---|---|---|"
+    );
     SIZES.iter().for_each(|&n| sort(rounds, n));
     SIZES.iter().for_each(|&n| chains(rounds, n));
     SIZES.iter().for_each(|&n| components(rounds, n));
