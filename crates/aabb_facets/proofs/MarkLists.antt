@@ -23,7 +23,7 @@ use Rattle.refusals.specs.Front.{badIndex}
 use Rattle.geometry.specs.Meshes.{vertexOf}
 use Rattle.lists.proofs.Bools.{and-next, and-stop}
 use Rattle.aabb_facets.specs.Clipped.{insideBox}
-use Rattle.aabb_facets.specs.Rooms.{link, mark, word, words, marked}
+use Rattle.aabb_facets.specs.Rooms.{link, mark, markWord, markWords, marked}
 
 -- a store among the values of f at k, k + 1, .. makes them those of g, where f and g differ there alone
 set-up : (f g : ℕ → ℕ) (k n i x : ℕ) → x ≡ g (k + i) → ((w : ℕ) → (w ≡ k + i → ⊥) → f w ≡ g w) → set (map f (upFrom k n)) i x ≡ map g (upFrom k n)
@@ -50,37 +50,37 @@ module _ (vs : List Float) (box : AABB) (eps : Float) where
   abbrev in-box : ℕ → Bool
   in-box v = insideBox box eps (vertexOf vs v)
 
-  pub words-length : (n : ℕ) (l : List (ℕ × ℕ)) → length (words vs box eps n l) ≡ n
-  words-length n l = length-map (upTo n) (word vs box eps l) ∙ length-up 0 n
+  pub words-length : (n : ℕ) (l : List (ℕ × ℕ)) → length (markWords vs box eps n l) ≡ n
+  words-length n l = length-map (upTo n) (markWord vs box eps l) ∙ length-up 0 n
 
-  words-at : (n : ℕ) (l : List (ℕ × ℕ)) (v : ℕ) → v < n → getD (words vs box eps n l) v 0 ≡ word vs box eps l v
-  words-at n l v h = let z : 0 + v ≡ v = omega arith in at-map-up (word vs box eps l) 0 0 n v h ∙ ap (word vs box eps l) z
+  words-at : (n : ℕ) (l : List (ℕ × ℕ)) (v : ℕ) → v < n → getD (markWords vs box eps n l) v 0 ≡ markWord vs box eps l v
+  words-at n l v h = let z : 0 + v ≡ v = omega arith in at-map-up (markWord vs box eps l) 0 0 n v h ∙ ap (markWord vs box eps l) z
 
   is-marked : (b : Bool) (s : ℕ) → not (eqb (mark b s) 0) ≡ b
   is-marked true s = ap not (ne-eqb (s + 1) 0 (λ h. omega arith))
   is-marked false s = refl
 
-  pub marked-is : (n : ℕ) (l : List (ℕ × ℕ)) (v : ℕ) → v < n → marked (words vs box eps n l) v ≡ in-box v
+  pub marked-is : (n : ℕ) (l : List (ℕ × ℕ)) (v : ℕ) → v < n → marked (markWords vs box eps n l) v ≡ in-box v
   marked-is n l v h = ap (λ (k : ℕ). not (eqb k 0)) (words-at n l v h) ∙ is-marked (in-box v) (link l v)
 
-  pub word-less : (n : ℕ) (l : List (ℕ × ℕ)) (v : ℕ) → v < n → in-box v ≡ true → getD (words vs box eps n l) v 0 - 1 ≡ link l v
+  pub word-less : (n : ℕ) (l : List (ℕ × ℕ)) (v : ℕ) → v < n → in-box v ≡ true → getD (markWords vs box eps n l) v 0 - 1 ≡ link l v
   word-less n l v h t =
-      let e : getD (words vs box eps n l) v 0 ≡ link l v + 1 = words-at n l v h ∙ ap (λ (b : Bool). mark b (link l v)) t in
+      let e : getD (markWords vs box eps n l) v 0 ≡ link l v + 1 = words-at n l v h ∙ ap (λ (b : Bool). mark b (link l v)) t in
       omega arith
 
-  pub new-word : (n : ℕ) (l : List (ℕ × ℕ)) (v k : ℕ) → in-box v ≡ true → set (words vs box eps n l) v (k + 2) ≡ words vs box eps n ((v, k) ∷ l)
+  pub new-word : (n : ℕ) (l : List (ℕ × ℕ)) (v k : ℕ) → in-box v ≡ true → set (markWords vs box eps n l) v (k + 2) ≡ markWords vs box eps n ((v, k) ∷ l)
   new-word n l v k t =
       let q : k + 2 ≡ k + 1 + 1 = omega arith in
       let z : v ≡ 0 + v = omega arith in
-      set-up (word vs box eps l) (word vs box eps ((v, k) ∷ l)) 0 n v (k + 2)
-      (q ∙ sym (ap (λ (j : ℕ). j + 1) (link-new l v k)) ∙ sym (ap (λ (b : Bool). mark b (link ((v, k) ∷ l) v)) t) ∙ ap (word vs box eps ((v, k) ∷ l)) z)
+      set-up (markWord vs box eps l) (markWord vs box eps ((v, k) ∷ l)) 0 n v (k + 2)
+      (q ∙ sym (ap (λ (j : ℕ). j + 1) (link-new l v k)) ∙ sym (ap (λ (b : Bool). mark b (link ((v, k) ∷ l) v)) t) ∙ ap (markWord vs box eps ((v, k) ∷ l)) z)
       (λ w d. ap (mark (in-box w)) (sym (link-other l v k w (λ e. d (e ∙ z)))))
 
   low-mark : (b : Bool) → mark b 0 ≤ 1
   low-mark true = omega arith
   low-mark false = omega arith
 
-  pub words-low : (k n w : ℕ) → getD (map (word vs box eps []) (upFrom k n)) w 0 ≤ 1
+  pub words-low : (k n w : ℕ) → getD (map (markWord vs box eps []) (upFrom k n)) w 0 ≤ 1
   unfolding upFrom link
   words-low k zero w = omega arith
   words-low k (suc n) zero = low-mark (in-box k)
@@ -88,11 +88,11 @@ module _ (vs : List Float) (box : AABB) (eps : Float) where
 
 -- ---- the words made, from the front
 abbrev pub MarkedTo : List Float → AABB → Float → List ℕ → List ℕ → ℕ → Type 0
-MarkedTo vs box eps w v i = v ≡ words vs box eps i [] ++ drop i w
+MarkedTo vs box eps w v i = v ≡ markWords vs box eps i [] ++ drop i w
 
 module _ (vs : List Float) (box : AABB) (eps : Float) (w : List ℕ) where
   pub marking-same : (v : List ℕ) (i : ℕ) → MarkedTo vs box eps w v i → i ≤ length w → length v ≡ length w
-  marking-same v i e h = ap length e ∙ length-append (words vs box eps i []) (drop i w) ∙ omega (arith, words-length vs box eps i [], length-drop i w)
+  marking-same v i e h = ap length e ∙ length-append (markWords vs box eps i []) (drop i w) ∙ omega (arith, words-length vs box eps i [], length-drop i w)
 
   pub marking-more : (v : List ℕ) (i : ℕ) (x : ℕ) → MarkedTo vs box eps w v i → i ≤ length w → i < length v → x ≡ mark (insideBox box eps (vertexOf vs i)) 0
       → (i + 1 ≤ length w) × MarkedTo vs box eps w (set v i x) (i + 1)
@@ -100,21 +100,21 @@ module _ (vs : List Float) (box : AABB) (eps : Float) (w : List ℕ) where
   marking-more v i x e h k g =
       let l : i < length w = omega (arith, marking-same v i e h) in
       let d : drop i w ≡ getD w i 0 ∷ drop (suc i) w = drop-cons w i 0 l in
-      let one : words vs box eps (i + 1) [] ≡ words vs box eps i [] ++ (word vs box eps [] i ∷ []) =
-      ap (map (word vs box eps [])) (up-snoc i) ∙ map-append (word vs box eps []) (upTo i) (i ∷ []) in (
+      let one : markWords vs box eps (i + 1) [] ≡ markWords vs box eps i [] ++ (markWord vs box eps [] i ∷ []) =
+      ap (map (markWord vs box eps [])) (up-snoc i) ∙ map-append (markWord vs box eps []) (upTo i) (i ∷ []) in (
         omega arith,
-        ap (λ (y : List ℕ). set y i x) (e ∙ ap (λ (y : List ℕ). words vs box eps i [] ++ y) d)
-            ∙ set-at (words vs box eps i []) (getD w i 0) (drop (suc i) w) x i (words-length vs box eps i [])
-            ∙ ap (λ (y : ℕ). words vs box eps i [] ++ (y ∷ drop (suc i) w)) g
-            ∙ sym (append-assoc (words vs box eps i []) (mark (insideBox box eps (vertexOf vs i)) 0 ∷ []) (drop (suc i) w))
+        ap (λ (y : List ℕ). set y i x) (e ∙ ap (λ (y : List ℕ). markWords vs box eps i [] ++ y) d)
+            ∙ set-at (markWords vs box eps i []) (getD w i 0) (drop (suc i) w) x i (words-length vs box eps i [])
+            ∙ ap (λ (y : ℕ). markWords vs box eps i [] ++ (y ∷ drop (suc i) w)) g
+            ∙ sym (append-assoc (markWords vs box eps i []) (mark (insideBox box eps (vertexOf vs i)) 0 ∷ []) (drop (suc i) w))
             ∙ (λ t. sym one t ++ drop (sym (add-one i) t) w),
       )
 
-  pub marking-end : (v : List ℕ) (i : ℕ) → MarkedTo vs box eps w v i → i ≤ length w → length v ≤ i → v ≡ words vs box eps (length w) []
+  pub marking-end : (v : List ℕ) (i : ℕ) → MarkedTo vs box eps w v i → i ≤ length w → length v ≤ i → v ≡ markWords vs box eps (length w) []
   marking-end v i e h k =
       let n : i ≡ length w = omega (arith, marking-same v i e h) in
-      e ∙ ap (λ (l : List ℕ). words vs box eps i [] ++ l) (drop-of-length-le w {i = i} (omega arith))
-      ∙ append-nil (words vs box eps i []) ∙ ap (λ (k : ℕ). words vs box eps k []) n
+      e ∙ ap (λ (l : List ℕ). markWords vs box eps i [] ++ l) (drop-of-length-le w {i = i} (omega arith))
+      ∙ append-nil (markWords vs box eps i []) ∙ ap (λ (k : ℕ). markWords vs box eps k []) n
 
 -- ---- the three tests
 module _ (l : List ℕ) (a b c : ℕ) where
@@ -139,7 +139,7 @@ marking-none vs box eps w = refl
 
 -- ---- a facet number is below the count of vertices, so its word and its coordinates are there
 pub all-below : (vs : List Float) (fs : List ℕ) (box : AABB) (eps : Float) (ids₀ ids : List ℕ) → badIndex (length vs / 3) fs ≡ false
-    → ids₀ ≡ words vs box eps (length vs / 3) [] → length ids ≡ length ids₀
+    → ids₀ ≡ markWords vs box eps (length vs / 3) [] → length ids ≡ length ids₀
     → (j : ℕ) → j < length fs → (getD fs j 0 < length ids) × (3 * getD fs j 0 + 2 < length vs)
 unfolding badIndex
 all-below vs fs box eps ids₀ ids e g l j h =

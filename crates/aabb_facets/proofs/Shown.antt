@@ -30,7 +30,7 @@ use Rattle.geometry.proofs.Meshes.{length-coordinates, coordinates-append}
 use Rattle.aabb_polygons.specs.Polygons.{snapped, clipPolygon}
 use Rattle.aabb_facets.specs.declared.facets.Counts.{Counts}
 use Rattle.aabb_facets.specs.Clipped.{Clipping, sharedNumber, insideBox, fan, fanned, shareOnce, sharing, clipFacet, clipFacets}
-use Rattle.aabb_facets.specs.Rooms.{Room, room, grow, marked, link, words, shareRoomAs, shareRoom, shareTo, fanRoom, facetRoom, showsAs, shows, Low}
+use Rattle.aabb_facets.specs.Rooms.{Room, room, grow, marked, link, markWords, shareRoomAs, shareRoom, shareTo, fanRoom, facetRoom, showsAs, shows, Low}
 use Rattle.aabb_facets.proofs.Clipped.{isShared, linked, unlinked, share-first, share-again, number-new, shared-now, shared-still, number-still}
 use Rattle.aabb_facets.proofs.MarkLists.{words-low, marked-is, word-less, new-word}
 use Rattle.aabb_facets.proofs.RoomLaws.{room-eq, facet-low}
@@ -156,7 +156,7 @@ module _ (vs : List Float) (fs : List ℕ) (box : AABB) (eps : Float) (n : ℕ) 
     pub facet-shows : facetRoom vs fs box eps (shows vs box eps n m ov of) i ≡ shows vs box eps n (clipFacet box eps (pointsOf vs) m (tri a b c)) ov of
     unfolding facetRoom clipFacet
     facet-shows =
-        let w = words vs box eps n (m .shared) in
+        let w = markWords vs box eps n (m .shared) in
         let polygon : List Point = vertexOf vs a ∷ vertexOf vs b ∷ vertexOf vs c ∷ [] in
         let room = shows vs box eps n m ov of in
         (λ t. cond (marked w (ea t) && (marked w (eb t) && marked w (ec t)))
@@ -203,7 +203,7 @@ pub record Passed (vs : List Float) (fs : List ℕ) (box : AABB) (eps : Float) (
   pub f-length : length outf ≡ length of
 
 module _ (vs : List Float) (fs : List ℕ) (box : AABB) (eps : Float) (ids₀ : List ℕ) (ov : List Float) (of : List ℕ) where
-  pub pass-start : ids₀ ≡ words vs box eps (length vs / 3) [] → Passed vs fs box eps ids₀ ov of ids₀ ov of (record { vertices = 0; numbers = 0 }) 0
+  pub pass-start : ids₀ ≡ markWords vs box eps (length vs / 3) [] → Passed vs fs box eps ids₀ ov of ids₀ ov of (record { vertices = 0; numbers = 0 }) 0
   unfolding madeTo flatMap
   pass-start e =
       record {

@@ -2,7 +2,7 @@
 -- this; the product promises nothing by it. `sets old i new` stores new from the place i on, as far as there is room. Assumes nothing.
 --   Room, room        counts and contents                   grow          more vertices and more facet numbers
 --   link              0, or 1 more than the number that a vertex is shared by
---   mark, word, words the word of a vertex, and of all      marked        a vertex inside
+--   mark, markWord, markWords   the word of a vertex, and of all      marked        a vertex inside
 --   shareRoom, shareTo, fanRoom, facetRoom   what a shared corner, a facet's first corners, a fan and a facet do
 --   shows             the room that shows what was made     Ran           what a whole pass does
 use Prim.Native.Nat.{ℕ, zero, suc, _+_, _*_, _-_, _≤_}
@@ -80,12 +80,12 @@ link [] v = 0
 link (s ∷ l) v = cond (eqb v (s .0)) (s .1 + 1) (link l v)
 
 module _ (vs : List Float) (box : AABB) (eps : Float) where
-  abbrev pub word : List (ℕ × ℕ) → ℕ → ℕ
-  word shared v = mark (insideBox box eps (vertexOf vs v)) (link shared v)
+  abbrev pub markWord : List (ℕ × ℕ) → ℕ → ℕ
+  markWord shared v = mark (insideBox box eps (vertexOf vs v)) (link shared v)
 
   -- of n vertices, as shared so far
-  abbrev pub words : ℕ → List (ℕ × ℕ) → List ℕ
-  words n shared = map (word shared) (upTo n)
+  abbrev pub markWords : ℕ → List (ℕ × ℕ) → List ℕ
+  markWords n shared = map (markWord shared) (upTo n)
 
   -- new vertices, facet numbers and words, over old contents
   abbrev pub showsAs : ℕ → List Point → List ℕ → List (ℕ × ℕ) → List Float → List ℕ → Room
@@ -93,7 +93,7 @@ module _ (vs : List Float) (box : AABB) (eps : Float) where
       record {
         nv = length ps;
         nf = length ks;
-        ids = words n shared;
+        ids = markWords n shared;
         vs = sets ov 0 (coordinates ps);
         fs = sets of 0 ks;
       }

@@ -7,7 +7,7 @@ ghost use lib.ListN.{length};
 ghost use Rattle.lists.specs.Lists.{every};
 ghost use Rattle.geometry.specs.Meshes.{pointsOf};
 ghost use Rattle.aabb_facets.specs.Clipped.{insideBox};
-ghost use Rattle.aabb_facets.specs.Rooms.{mark, marked, words};
+ghost use Rattle.aabb_facets.specs.Rooms.{mark, marked, markWords};
 use aabb_polygons::plane::point_inside_aabb;
 use geometry::aabb::AABB;
 use geometry::numbers::MeshVertexId;
@@ -27,7 +27,7 @@ fn mark_of(p: Point, extents: AABB, eps: f64) -> u64
 
 pub fn mark_all(vertices: &[f64], extents: AABB, eps: f64, ids: &mut [u64])
     requires { ⌜ 3 * length (now ids) ≤ length (now vertices) ⌝ }
-    ensures { λ _. ⌜ now (ids .exit) ≡ words (now (vertices .entry)) extents eps (length (now (ids .entry))) [] ⌝ }
+    ensures { λ _. ⌜ now (ids .exit) ≡ markWords (now (vertices .entry)) extents eps (length (now (ids .entry))) [] ⌝ }
 {
     let mut v = 0;
     while v < ids.len() {

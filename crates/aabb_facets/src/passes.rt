@@ -7,7 +7,7 @@ ghost use lib.ListN.{length};
 ghost use Rattle.refusals.specs.Front.{badIndex};
 ghost use Rattle.geometry.specs.Meshes.{meshOf};
 ghost use Rattle.aabb_facets.specs.Clipped.{clipFacets, clipped};
-ghost use Rattle.aabb_facets.specs.Rooms.{room, words, shows, Ran};
+ghost use Rattle.aabb_facets.specs.Rooms.{room, markWords, shows, Ran};
 use crate::facets::Counts;
 use crate::facets::clip_facet;
 use crate::marks::mark_all;
@@ -24,7 +24,7 @@ fn clip_pass(
 ) -> Counts
     requires { ⌜ (length (now vertices) / 3 ≤ 65536) × (length (now facets) / 3 ≤ 65536) ⌝ }
     requires { ⌜ badIndex (length (now vertices) / 3) (now facets) ≡ false ⌝ }
-    requires { ⌜ now ids ≡ words (now vertices) extents eps (length (now vertices) / 3) [] ⌝ }
+    requires { ⌜ now ids ≡ markWords (now vertices) extents eps (length (now vertices) / 3) [] ⌝ }
     ensures { λ r. ⌜ room r (now (ids .exit)) (now («out_vertices» .exit)) (now («out_facets» .exit)) ≡ shows (now (vertices .entry)) extents eps
         (length (now (vertices .entry)) / 3) (clipFacets extents eps (meshOf (now (vertices .entry)) (now (facets .entry)))) (now («out_vertices» .entry))
         (now («out_facets» .entry)) ⌝ }

@@ -6,7 +6,7 @@ use Rattle.root.specs.Doubles.{within}
 use Rattle.geometry.specs.declared.point.Point.{Point}
 use Rattle.geometry.specs.declared.aabb.AABB.{AABB}
 use Rattle.geometry.specs.Points.{along}
-use Rattle.geometry.specs.Boxes.{low, high}
+use Rattle.geometry.specs.Boxes.{lowest, highest}
 use Rattle.geometry.proofs.Within.{within-turned}
 use Rattle.aabb_polygons.specs.Polygons.{snapTo, snapped}
 
@@ -51,7 +51,7 @@ module _ (lo hi eps : Float) where
 pub snap-twice : (box : AABB) (eps : Float) (p : Point) → snapped box eps (snapped box eps p) ≡ snapped box eps p
 unfolding snapped along
 snap-twice box eps p = λ i. record {
-  x = axis-twice (low box 0) (high box 0) eps (p .x) i;
-  y = axis-twice (low box 1) (high box 1) eps (p .y) i;
-  z = axis-twice (low box 2) (high box 2) eps (p .z) i;
+  x = axis-twice (lowest box 0) (highest box 0) eps (p .x) i;
+  y = axis-twice (lowest box 1) (highest box 1) eps (p .y) i;
+  z = axis-twice (lowest box 2) (highest box 2) eps (p .z) i;
 }

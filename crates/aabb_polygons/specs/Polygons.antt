@@ -20,7 +20,7 @@ use Rattle.geometry.specs.declared.aabb.AABB.{AABB}
 use Rattle.geometry.specs.declared.fraction.Fraction.{Fraction}
 use Rattle.geometry.specs.declared.fraction.Fraction.the-variants.{At, Nothing}
 use Rattle.geometry.specs.Points.{along, onAxes, origin}
-use Rattle.geometry.specs.Boxes.{low, high, axis, isMin, plane}
+use Rattle.geometry.specs.Boxes.{lowest, highest, axis, isMin, plane}
 use Rattle.aabb_polygons.specs.declared.plane.BoxPlane.{BoxPlane}
 use Rattle.aabb_polygons.specs.declared.plane.BoxPlane.the-variants.{XMin, XMax, YMin, YMax, ZMin, ZMax}
 
@@ -64,7 +64,7 @@ module _ (box : AABB) (eps : Float) where
 
   -- "min before max on each axis, x, y, z"
   unfoldable pub snapped : Point → Point
-  snapped p = onAxes (λ k. snapTo eps (high box k) (snapTo eps (low box k) (along p k)))
+  snapped p = onAxes (λ k. snapTo eps (highest box k) (snapTo eps (lowest box k) (along p k)))
 
   -- "The crossing is a + t(b - a), set to the plane, then snapped"
   unfoldable pub crossed : ℕ → Point → Point → Fraction → List Point

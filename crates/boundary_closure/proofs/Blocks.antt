@@ -24,7 +24,7 @@ use Rattle.candidate_pool.specs.OpenEdges.{openEdge, openEdgeWords}
 use Rattle.candidate_constraints.specs.Constraints.{Constraint, constraintWords}
 use Rattle.candidate_pool.specs.Offsets.{entryAt, listAt, poolEnd}
 use Rattle.candidate_pool.specs.Pool.{Candidate}
-use Rattle.candidate_pool.specs.Standing.{facesIn, countAt, candidateAt, poolAt, Stored, Holds, edgeAt, edgesAt}
+use Rattle.candidate_pool.specs.Standing.{facesIn, countAt, candidateAt, poolAt, PointStored, Holds, edgeAt, edgesAt}
 use Rattle.candidate_pool.proofs.Masking.{mask-back}
 use Rattle.candidate_constraints.specs.Steps.{unpacked}
 use Rattle.boundary_closure.specs.Candidates.{candidateWords, listWords}
@@ -161,7 +161,7 @@ five w c =
 abbrev wordsOf : Candidate → List ℕ
 wordsOf c = toBits binary64 (c .point .x) ∷ toBits binary64 (c .point .y) ∷ toBits binary64 (c .point .z) ∷ c .mesh ∷ faceBits (c .on) ∷ []
 
-five-is : (w : List ℕ) (c : ℕ) → Stored w (entryAt c) → getD w (entryAt c + 4) 0 < 64 → wordsOf (candidateAt w c) ≡ five w c
+five-is : (w : List ℕ) (c : ℕ) → PointStored w (entryAt c) → getD w (entryAt c + 4) 0 < 64 → wordsOf (candidateAt w c) ≡ five w c
 five-is w c s h = λ t. s .x t ∷ s .y t ∷ s .z t ∷ getD w (entryAt c + 3) 0 ∷ mask-back (getD w (entryAt c + 4) 0) h t ∷ []
 
 five-view : (w : List ℕ) (o : ℕ) → o + 5 ≤ length w → view w o 5 ≡ getD w o 0 ∷ getD w (o + 1) 0 ∷ getD w (o + 2) 0 ∷ getD w (o + 3) 0 ∷ getD w (o + 4) 0 ∷ []

@@ -26,7 +26,7 @@ use Rattle.candidate_pool.specs.Offsets.{roomEnd}
 use Rattle.candidate_pool.specs.Standing.{PointIn}
 use Rattle.candidate_edges.specs.Steps.{VerticesIn, MeshFits}
 use Rattle.boundary_closure.specs.Asked.{Asked, oneResolution}
-use Rattle.boundary_closure.specs.Steps.{Sound, most}
+use Rattle.boundary_closure.specs.Steps.{Sound, mostCandidates}
 use Rattle.boundary_closure.proofs.Checking.{grid-small}
 
 -- ---- numbers
@@ -75,7 +75,7 @@ module _ (vs : List Float) (fs : List ℕ) (q : Asked) (S : Sound vs fs q) where
       subst PointIn (sym (vertex-at vs v nan (omega arith)))
       (record { x = coordinate (3 * v) (omega arith); y = coordinate (3 * v + 1) (omega arith); z = coordinate (3 * v + 2) (omega arith) })
 
-  pub most-small : most vs q ≤ 464920
+  pub most-small : mostCandidates vs q ≤ 464920
   most-small = let a = grid-small (q .box) (q .eps) (oneResolution (q .resolution)) (S .coarse) in let b = S .lists .few-vertices in omega (arith, a, b)
 
   number-below : (i : ℕ) → i < length fs → getD fs i 0 < length vs / 3
@@ -84,7 +84,7 @@ module _ (vs : List Float) (fs : List ℕ) (q : Asked) (S : Sound vs fs q) where
       ltb-true (getD fs i 0) (length vs / 3)
       (not-false (ltb (getD fs i 0) (length vs / 3)) (none-at (λ k. not (ltb k (length vs / 3))) fs i 0 (S .lists .below) h))
 
-  pub mesh-fits : (n : ℕ) (w : List ℕ) → n ≡ most vs q → roomEnd (most vs q) (length fs / 3) ≤ length w → MeshFits vs fs n w
+  pub mesh-fits : (n : ℕ) (w : List ℕ) → n ≡ mostCandidates vs q → roomEnd (mostCandidates vs q) (length fs / 3) ≤ length w → MeshFits vs fs n w
   mesh-fits n w e h =
       record {
         threes = S .lists .whole-facets;
@@ -96,5 +96,5 @@ module _ (vs : List Float) (fs : List ℕ) (q : Asked) (S : Sound vs fs q) where
       }
 
   pub room-for : (caps lent : ℕ) → 128 * (length vs / 3 + length fs / 3 + caps + gridSize (q .box) (q .eps) (oneResolution (q .resolution))) + 1024 ≤ lent
-      → roomEnd (most vs q) (length fs / 3) ≤ lent
+      → roomEnd (mostCandidates vs q) (length fs / 3) ≤ lent
   room-for caps lent h = omega arith

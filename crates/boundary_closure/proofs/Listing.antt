@@ -24,7 +24,7 @@ use Rattle.candidate_constraints.specs.Steps.{Constrained}
 use Rattle.boundary_closure.specs.Candidates.{candidates}
 use Rattle.boundary_closure.specs.Asked.{Asked, setting}
 use Rattle.boundary_closure.specs.Operation.{noTwoEnds}
-use Rattle.boundary_closure.specs.Steps.{Completed, standing, Readable}
+use Rattle.boundary_closure.specs.Steps.{Completed, candidatesStanding, Readable}
 use Rattle.boundary_closure.proofs.Frames.{words-same}
 
 module _ (vs : List Float) (fs : List ℕ) (q : Asked) (listed : ℕ) (el : listed ≡ length (edgeSurface (q .box) (q .eps) (byKey (q .eps)) (meshOf vs fs) .edges)) where
@@ -61,7 +61,7 @@ module _ (vs : List Float) (fs : List ℕ) (q : Asked) (listed : ℕ) (el : list
           faces-listed = el ∙ sym (ap length edges-here);
         }
 
-    pub standing-is : standing n nf k total w' ≡ candidates (setting q) (meshOf vs fs)
+    pub standing-is : candidatesStanding n nf k total w' ≡ candidates (setting q) (meshOf vs fs)
     unfolding candidates
     standing-is =
         let p = pool-same (q .eps) n w w' (D .holds) (K .long) (λ x h. K .low x (omega arith)) ∙ D .pool in

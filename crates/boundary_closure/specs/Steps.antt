@@ -1,12 +1,12 @@
 -- What the inner functions do, of which the outer contract does not speak. The room is laid out as crate candidate_pool says (src/room.rt). Assumes nothing.
 --   Sound          what is known once tests 1 to 6 have passed
---   most           how many candidates there may be: vertices and grid points
+--   mostCandidates           how many candidates there may be: vertices and grid points
 --   Tabled         the records of the open edges stand in the room, each with its key
 --   Surfaced       what the open edges leave stands in the room
 --   fullPool       the candidates once the corner vertices and the grids are in
 --   Completed      they stand in the room, with the open edges
 --   faceWords      "face and two candidates" as words, if the face is one of those in a mask
---   standing       the four results that stand in the room
+--   candidatesStanding       the four results that stand in the room
 --   Readable       what is asked of the room for them to be written out
 --   surfaceResult  the result of a mesh with a facet
 use Prim.Native.Nat.{ℕ, _+_, _*_, _/_, _%_, _≤_, _<_}
@@ -22,7 +22,7 @@ use Rattle.geometry.specs.Triangles.{threes}
 use Rattle.geometry.specs.Meshes.{Mesh, meshOf, pointsOf}
 use Rattle.geometry.specs.Axes.{gridSize}
 use Rattle.edges.specs.Edges.{openEdges}
-use Rattle.edges.specs.Table.{keyOf}
+use Rattle.edges.specs.Table.{edgeKey}
 use Rattle.refusals.specs.Front.{ceiling, inRange, epsInRange, resolutionInRange, boxInRange, badBox, gridTooFine, ListsPass}
 use Rattle.box_faces.specs.Faces.{hasBit}
 use Rattle.candidate_pool.specs.OpenEdges.{openEdgeWords}
@@ -48,12 +48,12 @@ pub record Sound (vs : List Float) (fs : List ℕ) (q : Asked) : Type 0 where
   pub box-good : badBox (q .box) ≡ false
   pub coarse : gridTooFine (q .box) (q .eps) (oneResolution (q .resolution)) ≡ false
 
-abbrev pub most : List Float → Asked → ℕ
-most vs q = length vs / 3 + gridSize (q .box) (q .eps) (oneResolution (q .resolution))
+abbrev pub mostCandidates : List Float → Asked → ℕ
+mostCandidates vs q = length vs / 3 + gridSize (q .box) (q .eps) (oneResolution (q .resolution))
 
 pub record Tabled (fs : List ℕ) (n k : ℕ) (w : List ℕ) : Type 0 where
   pub table : TableAt fs w (edgeTableAt n (length fs / 3)) k
-  pub key : (i : ℕ) → i < k → getD w (edgeTableAt n (length fs / 3) + 2 * i) 0 ≡ keyOf (getD (openEdges (threes fs)) i (0, 0))
+  pub key : (i : ℕ) → i < k → getD w (edgeTableAt n (length fs / 3) + 2 * i) 0 ≡ edgeKey (getD (openEdges (threes fs)) i (0, 0))
 
 pub record Surfaced (vs : List Float) (fs : List ℕ) (box : AABB) (eps : Float) (n k : ℕ) (w : List ℕ) : Type 0 where
   pub pool : poolAt n w ≡ edgeSurface box eps (byKey eps) (meshOf vs fs) .pool
@@ -77,8 +77,8 @@ abbrev pub faceWords : ℕ → ℕ → ℕ → ℕ → List ℕ
 faceWords mask a b f = cond (hasBit mask f) (f ∷ a ∷ b ∷ []) []
 
 -- for nf facets, k open edges and `total` constraints
-abbrev pub standing : ℕ → ℕ → ℕ → ℕ → List ℕ → Candidates
-standing n nf k total w =
+abbrev pub candidatesStanding : ℕ → ℕ → ℕ → ℕ → List ℕ → Candidates
+candidatesStanding n nf k total w =
     record {
       all = poolAt n w .all;
       lists = poolAt n w .lists;

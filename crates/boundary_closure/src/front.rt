@@ -9,7 +9,7 @@ ghost use Rattle.candidate_edges.specs.Steps.{MeshFits};
 ghost use Rattle.candidate_pool.specs.Offsets.{roomEnd};
 ghost use Rattle.boundary_closure.specs.Asked.{asked};
 ghost use Rattle.boundary_closure.specs.Operation.{edgeTests, candidatesTests, candidatesResult, candidateOutputs};
-ghost use Rattle.boundary_closure.specs.Steps.{Sound, most, Tabled, surfaceResult};
+ghost use Rattle.boundary_closure.specs.Steps.{Sound, mostCandidates, Tabled, surfaceResult};
 use crate::outputs::deliver;
 use crate::surface::complete;
 use crate::surface::enter_surface;
@@ -39,7 +39,7 @@ fn list_candidates(
     open_edges: &mut [u64],
 ) -> Reply
     requires { ⌜ Sound (now vertices) (now facets) (asked extents eps resolution) ⌝ }
-    requires { ⌜ MeshFits (now vertices) (now facets) n (now w) × (n ≡ most (now vertices) (asked extents eps resolution)) ⌝ }
+    requires { ⌜ MeshFits (now vertices) (now facets) n (now w) × (n ≡ mostCandidates (now vertices) (asked extents eps resolution)) ⌝ }
     requires { ⌜ Tabled (now facets) n k (now w) ⌝ }
     ensures { λ r. ⌜ Answer []
         (candidateOutputs (surfaceResult (now (vertices .entry)) (now (facets .entry)) (asked extents eps resolution)) (now (candidates .entry)) (now (candidates .exit))
@@ -81,7 +81,7 @@ fn make_candidates(
     open_edges: &mut [u64],
 ) -> Reply
     requires { ⌜ Sound (now vertices) (now facets) (asked extents eps resolution) ⌝ }
-    requires { ⌜ roomEnd (most (now vertices) (asked extents eps resolution)) (length (now facets) / 3) ≤ length (now w) ⌝ }
+    requires { ⌜ roomEnd (mostCandidates (now vertices) (asked extents eps resolution)) (length (now facets) / 3) ≤ length (now w) ⌝ }
     ensures { λ r. ⌜ Answer (edgeTests (now (vertices .entry)) (now (facets .entry)) (asked extents eps resolution))
         (candidateOutputs (surfaceResult (now (vertices .entry)) (now (facets .entry)) (asked extents eps resolution)) (now (candidates .entry)) (now (candidates .exit))
         (now («face_lists» .entry)) (now («face_lists» .exit)) (now (constraints .entry)) (now (constraints .exit)) (now («open_edges» .entry)) (now («open_edges» .exit)))

@@ -15,7 +15,7 @@ ghost use Rattle.boundary_closure.specs.Candidates.{listWords};
 ghost use Rattle.refusals.specs.Refusals.{documentedReply};
 ghost use Rattle.refusals.specs.Answers.{Answer};
 ghost use Rattle.boundary_closure.specs.Operation.{candidateOutputs};
-ghost use Rattle.boundary_closure.specs.Steps.{faceWords, standing, Readable};
+ghost use Rattle.boundary_closure.specs.Steps.{faceWords, candidatesStanding, Readable};
 use box_faces::faces::has_face;
 use candidate_pool::room::constraints_at;
 use candidate_pool::room::list_at;
@@ -151,7 +151,7 @@ pub fn deliver(
 ) -> Reply
     requires { ⌜ Readable n nf k listed total (now w) ⌝ }
     ensures { λ r. ⌜ Answer []
-        (candidateOutputs (standing n nf k total (now (w .entry))) (now (candidates .entry)) (now (candidates .exit)) (now («face_lists» .entry)) (now («face_lists» .exit))
+        (candidateOutputs (candidatesStanding n nf k total (now (w .entry))) (now (candidates .entry)) (now (candidates .exit)) (now («face_lists» .entry)) (now («face_lists» .exit))
         (now (constraints .entry)) (now (constraints .exit)) (now («open_edges» .entry)) (now («open_edges» .exit))) (documentedReply r) ⌝ }
 {
     let count = w[6] as usize;

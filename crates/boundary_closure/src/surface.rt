@@ -10,7 +10,7 @@ ghost use Rattle.candidate_pool.specs.Pool.{byKey};
 ghost use Rattle.candidate_edges.specs.Surface.{edgeSurface};
 ghost use Rattle.candidate_edges.specs.Steps.{MeshFits, VerticesIn};
 ghost use Rattle.boundary_closure.specs.Asked.{asked, oneResolution};
-ghost use Rattle.boundary_closure.specs.Steps.{Sound, most, Tabled, Surfaced, Completed};
+ghost use Rattle.boundary_closure.specs.Steps.{Sound, mostCandidates, Tabled, Surfaced, Completed};
 use candidate_edges::corners::enter_corners;
 use candidate_edges::open::enter_edges;
 use candidate_grids::grids::enter_grids;
@@ -22,7 +22,7 @@ use refusals::grid::grid_size;
 // Each vertex and each grid point is at most one candidate.
 pub fn most_candidates(vertices: &[f64], extents: AABB, eps: f64, resolution: f64) -> usize
     requires { ⌜ (length (now vertices) / 3 ≤ 65536) × (gridTooFine extents eps (oneResolution resolution) ≡ false) ⌝ }
-    ensures { λ r. ⌜ r ≡ most (now (vertices .entry)) (asked extents eps resolution) ⌝ }
+    ensures { λ r. ⌜ r ≡ mostCandidates (now (vertices .entry)) (asked extents eps resolution) ⌝ }
 {
     vertices.len() / 3 + grid_size(extents, eps, [resolution, resolution, resolution])
 }
@@ -71,7 +71,7 @@ pub fn complete(
     k: usize,
 )
     requires { ⌜ Sound (now vertices) (now facets) (asked extents eps resolution) ⌝ }
-    requires { ⌜ MeshFits (now vertices) (now facets) n (now w) × (n ≡ most (now vertices) (asked extents eps resolution)) × (k ≤ length (now facets)) ⌝ }
+    requires { ⌜ MeshFits (now vertices) (now facets) n (now w) × (n ≡ mostCandidates (now vertices) (asked extents eps resolution)) × (k ≤ length (now facets)) ⌝ }
     requires { ⌜ Surfaced (now vertices) (now facets) extents eps n k (now w) ⌝ }
     ensures { λ _. ⌜ Completed (now (vertices .entry)) (now (facets .entry)) (asked extents eps resolution) n k (now (w .exit)) ⌝ }
 {

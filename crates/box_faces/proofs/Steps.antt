@@ -14,11 +14,11 @@ use Rattle.root.specs.Doubles.{_⊕_, _⊖_, _⊗_, magnitude}
 use Rattle.geometry.specs.declared.point.Point.{Point}
 use Rattle.geometry.specs.declared.aabb.AABB.{AABB}
 use Rattle.geometry.specs.Points.{along}
-use Rattle.geometry.specs.Boxes.{low, high}
+use Rattle.geometry.specs.Boxes.{lowest, highest}
 use Rattle.geometry.specs.Axes.{segments, gridLine}
 use Rattle.box_faces.specs.declared.uv.Uv.{Uv}
 use Rattle.box_faces.specs.Faces.{uv}
-use Rattle.box_faces.specs.Segments.{minus, onSegmentBy}
+use Rattle.box_faces.specs.Segments.{uvDifference, onSegmentBy}
 use Rattle.box_faces.specs.Lines.{lineAt}
 
 pub third : (k : ℕ) → k < 3 → (k ≡ 0 → ⊥) → (k ≡ 1 → ⊥) → k ≡ 2
@@ -44,7 +44,7 @@ le-same e f t = sym (λ i. le (e i) (f i)) ∙ t
 pub uv-is : {u v x y : Float} → u ≡ x → v ≡ y → _≡_ {A = Uv} (uv u v) (uv x y)
 uv-is e f = λ i. uv (e i) (f i)
 
-module _ (bound tolerance : Float) (p a b : Uv) {ab ap bp : Uv} {m : Float} (eab : ab ≡ minus b a) (eap : ap ≡ minus p a) (ebp : bp ≡ minus p b)
+module _ (bound tolerance : Float) (p a b : Uv) {ab ap bp : Uv} {m : Float} (eab : ab ≡ uvDifference b a) (eap : ap ≡ uvDifference p a) (ebp : bp ≡ uvDifference p b)
     (em : m ≡ magnitude (ab .u ⊗ ap .v ⊖ ab .v ⊗ ap .u)) where
   off-is : m ≡ magnitude ((b .u ⊖ a .u) ⊗ (p .v ⊖ a .v) ⊖ (b .v ⊖ a .v) ⊗ (p .u ⊖ a .u))
   off-is = em ∙ (λ i. magnitude (eab i .u ⊗ eap i .v ⊖ eab i .v ⊗ eap i .u))
@@ -59,6 +59,6 @@ module _ (bound tolerance : Float) (p a b : Uv) {ab ap bp : Uv} {m : Float} (eab
       let e : lt bound (magnitude ((b .u ⊖ a .u) ⊗ (p .v ⊖ a .v) ⊖ (b .v ⊖ a .v) ⊗ (p .u ⊖ a .u))) ≡ false = sym (λ i. lt bound (off-is i)) ∙ t in
       simp e (λ i. le (eap i .u ⊗ ebp i .u ⊕ eap i .v ⊗ ebp i .v) (tolerance ⊗ tolerance))
 
-pub line-is : (box : AABB) (eps : Float) (resolution : ℕ → Float) (k i : ℕ) → gridLine box eps resolution k i ≡ lineAt (low box k) (high box k) (segments box eps resolution k) i
+pub line-is : (box : AABB) (eps : Float) (resolution : ℕ → Float) (k i : ℕ) → gridLine box eps resolution k i ≡ lineAt (lowest box k) (highest box k) (segments box eps resolution k) i
 unfolding gridLine lineAt
 line-is box eps resolution k i = refl

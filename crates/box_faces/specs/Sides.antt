@@ -11,7 +11,7 @@ use Rattle.root.specs.Doubles.{_⊕_, _⊖_, _⊘_, oneF, magnitude, within, la
 use Rattle.geometry.specs.declared.aabb.AABB.{AABB}
 use Rattle.geometry.specs.declared.fraction.Fraction.{Fraction}
 use Rattle.geometry.specs.declared.fraction.Fraction.the-variants.{At, Nothing}
-use Rattle.geometry.specs.Boxes.{low, high}
+use Rattle.geometry.specs.Boxes.{lowest, highest}
 use Rattle.box_faces.specs.declared.uv.Uv.{Uv}
 use Rattle.box_faces.specs.declared.uv.Side.{Side}
 use Rattle.box_faces.specs.Faces.{uv, uAxis, vAxis}
@@ -22,10 +22,10 @@ sideFrom a b = record { start = a; end = b }
 -- round the face: two of them run downward
 unfoldable pub faceSides : AABB → ℕ → List Side
 faceSides box f =
-    let u0 = low box (uAxis f) in
-    let u1 = high box (uAxis f) in
-    let v0 = low box (vAxis f) in
-    let v1 = high box (vAxis f) in
+    let u0 = lowest box (uAxis f) in
+    let u1 = highest box (uAxis f) in
+    let v0 = lowest box (vAxis f) in
+    let v1 = highest box (vAxis f) in
     sideFrom (uv u0 v0) (uv u1 v0) ∷ sideFrom (uv u1 v0) (uv u1 v1) ∷ sideFrom (uv u1 v1) (uv u0 v1) ∷ sideFrom (uv u0 v1) (uv u0 v0) ∷ []
 
 -- an infinite t is beyond them

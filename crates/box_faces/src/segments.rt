@@ -3,14 +3,14 @@ ghost use mathlib.Core.Path.{_≡_};
 ghost use lib.Dec.{T};
 ghost use Rattle.root.specs.Root.{rootable};
 ghost use Rattle.root.specs.Doubles.{_⊕_, _⊖_, _⊗_};
-ghost use Rattle.box_faces.specs.Segments.{minus, segmentLength, segmentBound, onSegmentBy};
+ghost use Rattle.box_faces.specs.Segments.{uvDifference, segmentLength, segmentBound, onSegmentBy};
 use crate::uv::Uv;
 use root::sqrt;
 use rounding::abs;
 use rounding::max;
 
 pub fn sub(p: Uv, q: Uv) -> Uv
-    ensures { λ r. ⌜ r ≡ minus p q ⌝ }
+    ensures { λ r. ⌜ r ≡ uvDifference p q ⌝ }
 {
     Uv {
         u: p.u - q.u,

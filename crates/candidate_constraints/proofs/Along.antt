@@ -36,7 +36,7 @@ use Rattle.box_faces.specs.Faces.{project}
 use Rattle.box_faces.specs.Sides.{betweenEnds, alongSide, onSide}
 use Rattle.candidate_pool.specs.Offsets.{entryAt, listAt, sideAt}
 use Rattle.candidate_pool.specs.Pool.{Pool, pointOf, faceList}
-use Rattle.candidate_pool.specs.Standing.{countAt, pointAt, poolAt, Stored}
+use Rattle.candidate_pool.specs.Standing.{countAt, pointAt, poolAt, PointStored}
 use Rattle.candidate_pool.proofs.Reading.{pool-point, list-in, list-at, list-length}
 use Rattle.candidate_constraints.specs.Constraints.{standing}
 use Rattle.candidate_constraints.specs.Steps.{Kept, Shown, stands, onSideAll, byFraction, sidePlaces, keyed, NoNan, Fractioned, Collected}
@@ -180,7 +180,7 @@ module _ (eps : Float) (n f : ℕ) (s : Side) (w₀ : List ℕ) where
 
     -- with the names that the code has for two places
     module _ (list : ℕ) (a : list ≡ listAt n f) where
-      pub collected-stored : i < getD w₀ f 0 → Stored w (entryAt (getD w (list + i) 0)) × (entryAt (getD w (list + i) 0) + 2 < length w)
+      pub collected-stored : i < getD w₀ f 0 → PointStored w (entryAt (getD w (list + i) 0)) × (entryAt (getD w (list + i) 0) + 2 < length w)
       collected-stored h =
           let e : getD w (list + i) 0 ≡ getD w (listAt n f + i) 0 = ap (λ (k : ℕ). getD w (k + i) 0) a in
           let l = collected-low h in (

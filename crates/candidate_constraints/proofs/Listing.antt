@@ -30,7 +30,7 @@ use Rattle.candidate_pool.specs.Offsets.{poolEnd, placesAt, sideAt, pairsAt, co
 use Rattle.candidate_pool.specs.Pool.{Pool, faceList}
 use Rattle.candidate_pool.specs.Standing.{poolAt, edgesAt, EdgesHeld}
 use Rattle.candidate_pool.proofs.Reading.{list-length}
-use Rattle.candidate_constraints.specs.Constraints.{Constraint, constraint, neighbours, sideOrder, edgePlaces, faceConstraints}
+use Rattle.candidate_constraints.specs.Constraints.{Constraint, constraint, consecutive, sideOrder, edgePlaces, faceConstraints}
 use Rattle.candidate_constraints.specs.Steps.{unpacked, Constrained, Kept, Shown, Roomy, Placed, sidePlaces, pairRecord, sidePairs, edgePairs, allPairs, Pushed, Distinct, FaceListed}
 use Rattle.candidate_constraints.proofs.Frames.{kept-same, kept-wider, kept-then, kept-sorted, view-above}
 use Rattle.candidate_constraints.proofs.Showing.{pool-same, shown-same, edges-after, held-after}
@@ -94,8 +94,8 @@ module _ (box : AABB) (eps : Float) (n nf k f : ℕ) (w w1 : List ℕ) (o : Show
         })
 
 -- ---- places of pairs
-neighbours-low : (b : ℕ) → b ≤ 2097152 → (l : List ℕ) → Each (λ x. x < b) l → Each Low (neighbours l)
-unfolding neighbours
+neighbours-low : (b : ℕ) → b ≤ 2097152 → (l : List ℕ) → Each (λ x. x < b) l → Each Low (consecutive l)
+unfolding consecutive
 neighbours-low b h [] e = tt
 neighbours-low b h (x ∷ []) e = tt
 neighbours-low b h (x ∷ y ∷ l) e = ((omega (arith, e .0), omega (arith, e .1 .0)), neighbours-low b h (y ∷ l) (e .1))
@@ -103,7 +103,7 @@ neighbours-low b h (x ∷ y ∷ l) e = ((omega (arith, e .0), omega (arith, e .1
 pub pairs-low : (box : AABB) (eps : Float) (p : Pool) (f : ℕ) (edges : List OpenEdge) → length (faceList p f) < 2097152 → Each Low (allPairs box eps p f edges)
 pairs-low box eps p f edges h =
     each-append Low (sidePairs box eps p f) (edgePairs p f edges)
-    (each-flat Low (λ s. neighbours (sidePlaces eps p f s)) (faceSides box f)
+    (each-flat Low (λ s. consecutive (sidePlaces eps p f s)) (faceSides box f)
     (λ s. neighbours-low (length (faceList p f)) (omega arith) (sidePlaces eps p f s) (places-low eps p f s)))
     (each-mapped Low (λ e. (place (eqb (e .from)) (faceList p f), place (eqb (e .to)) (faceList p f))) (keep (λ e. eqb (e .face) f) edges)
     (each-any (λ (e : OpenEdge). Low (place (eqb (e .from)) (faceList p f), place (eqb (e .to)) (faceList p f))) (keep (λ e. eqb (e .face) f) edges)
@@ -122,7 +122,7 @@ module _ (box : AABB) (eps : Float) (n nf k f total : ℕ) (w : List ℕ) (o : S
         listed =
             sym (ap (λ (b : Bool). map unpacked (view w (constraintsAt n nf) total)
             ++ cond b [] (map (λ q. constraint f (sortedPair q .0) (sortedPair q .1)) (distinct samePair (sortBy pairBefore
-            (flatMap (λ s. neighbours (sideOrder box eps E (poolAt n w) f s)) (faceSides box f) ++ edgePlaces box eps E (poolAt n w) f)))))
+            (flatMap (λ s. consecutive (sideOrder box eps E (poolAt n w) f s)) (faceSides box f) ++ edgePlaces box eps E (poolAt n w) f)))))
             (lt-ltb (length (faceList (poolAt n w) f)) 3 (omega (arith, list-length n w f (o .size) (o .lengths f hf) hf))) ∙ append-nil
             (map unpacked (view w (constraintsAt n nf) total)));
         kept = kept-same (placesAt n) (openEdgesAt n nf) w;

@@ -23,7 +23,7 @@ use Rattle.candidate_pool.specs.Offsets.{placesAt, sideAt, pairsAt, openEdgesAt
 use Rattle.candidate_pool.specs.Pool.{Pool, faceList}
 use Rattle.candidate_pool.specs.Standing.{facesIn, poolAt, edgeAt, edgesAt, EdgesHeld}
 use Rattle.candidate_pool.proofs.Edges.{held-fewer}
-use Rattle.candidate_constraints.specs.Constraints.{neighbours}
+use Rattle.candidate_constraints.specs.Constraints.{consecutive}
 use Rattle.candidate_constraints.specs.Steps.{Shown, Roomy, Placed, LowPlaces, pairRecord, edgePairs, Pushed}
 use Rattle.candidate_constraints.proofs.Frames.{kept-same, kept-put, kept-wider, kept-then, records-kept}
 use Rattle.candidate_constraints.proofs.Showing.{pool-same, shown-same, held-after}
@@ -81,15 +81,15 @@ module _ (n f : ℕ) where
       record { few = omega (arith, p .few); records = p .records ∙ ap (λ (s : List (ℕ × ℕ)). recordsAt w (pairsAt n) c ++ map (pairRecord f) s) e; kept = p .kept }
 
 -- ---- push_neighbours
-pub neighbours-more : (l : List ℕ) (i : ℕ) → suc i < length l → neighbours (take (suc (suc i)) l) ≡ neighbours (take (suc i) l) ++ ((getD l i 0, getD l (suc i) 0) ∷ [])
-unfolding neighbours
+pub neighbours-more : (l : List ℕ) (i : ℕ) → suc i < length l → consecutive (take (suc (suc i)) l) ≡ consecutive (take (suc i) l) ++ ((getD l i 0, getD l (suc i) 0) ∷ [])
+unfolding consecutive
 neighbours-more [] i h = absurd (omega arith)
 neighbours-more (a ∷ []) i h = absurd (omega arith)
 neighbours-more (a ∷ b ∷ l) zero h = refl
 neighbours-more (a ∷ b ∷ l) (suc i) h = ap (λ (r : List (ℕ × ℕ)). (a, b) ∷ r) (neighbours-more (b ∷ l) i (omega arith))
 
-neighbours-first : (l : List ℕ) → neighbours (take 1 l) ≡ []
-unfolding neighbours
+neighbours-first : (l : List ℕ) → consecutive (take 1 l) ≡ []
+unfolding consecutive
 neighbours-first [] = refl
 neighbours-first (a ∷ l) = refl
 
@@ -107,7 +107,7 @@ module _ (n f m count : ℕ) (w₀ : List ℕ) where
   pub record Nearing (w : List ℕ) (c i : ℕ) : Type 0 where
     pub sum : c ≡ count + i
     pub within : i ≤ m
-    pub pushed : Pushed n f (pairsAt n + 2 * count) i (neighbours (take (suc i) line)) count c w₀ w
+    pub pushed : Pushed n f (pairsAt n + 2 * count) i (consecutive (take (suc i) line)) count c w₀ w
 
   pub nearing-start : Nearing w₀ count 0
   nearing-start =
@@ -115,7 +115,7 @@ module _ (n f m count : ℕ) (w₀ : List ℕ) where
         sum = omega arith;
         within = omega arith;
         pushed =
-            pushed-as n f (pairsAt n + 2 * count) 0 0 [] (neighbours (take 1 line)) count count w₀ w₀ (omega arith) (sym (neighbours-first line))
+            pushed-as n f (pairsAt n + 2 * count) 0 0 [] (consecutive (take 1 line)) count count w₀ w₀ (omega arith) (sym (neighbours-first line))
             (pushed-none n f (pairsAt n + 2 * count) count w₀);
       }
 
@@ -130,12 +130,12 @@ module _ (n f m count : ℕ) (w₀ : List ℕ) where
           sum = omega (arith, o .sum);
           within = omega arith;
           pushed =
-              subst (λ (k : ℕ). Pushed n f (pairsAt n + 2 * count) k (neighbours (take (suc k) line)) count (c + 1) w₀ (putRecord w (pairsAt n + 2 * c) (pairRecord f (a, b))))
+              subst (λ (k : ℕ). Pushed n f (pairsAt n + 2 * count) k (consecutive (take (suc k) line)) count (c + 1) w₀ (putRecord w (pairsAt n + 2 * c) (pairRecord f (a, b))))
               (one i)
-              (pushed-as n f (pairsAt n + 2 * count) (i + 1) (suc i) (neighbours (take (suc i) line) ++ ((a, b) ∷ [])) (neighbours (take (suc (suc i)) line)) count (c + 1) w₀
+              (pushed-as n f (pairsAt n + 2 * count) (i + 1) (suc i) (consecutive (take (suc i) line) ++ ((a, b) ∷ [])) (consecutive (take (suc (suc i)) line)) count (c + 1) w₀
               (putRecord w (pairsAt n + 2 * c) (pairRecord f (a, b))) (omega arith)
-              ((λ t. neighbours (take (suc i) line) ++ ((first t, second t) ∷ [])) ∙ sym (neighbours-more line i (omega (arith, line-length))))
-              (pushed-then n f (pairsAt n + 2 * count) (pairsAt n + 2 * c) i 1 (neighbours (take (suc i) line)) ((a, b) ∷ []) count c (c + 1) w₀ w
+              ((λ t. consecutive (take (suc i) line) ++ ((first t, second t) ∷ [])) ∙ sym (neighbours-more line i (omega (arith, line-length))))
+              (pushed-then n f (pairsAt n + 2 * count) (pairsAt n + 2 * c) i 1 (consecutive (take (suc i) line)) ((a, b) ∷ []) count c (c + 1) w₀ w
               (putRecord w (pairsAt n + 2 * c) (pairRecord f (a, b))) (omega (arith, o .sum)) (o .pushed)
               (pushed-one n f (a, b) c w (omega (arith, o .sum, o .pushed .kept .long)))));
         }
@@ -169,10 +169,10 @@ module _ (n f m count : ℕ) (w₀ : List ℕ) where
         let y : getD w (at + 2 * i + 3) 0 ≡ getD w (sideAt n + 2 * (i + 1) + 1) 0 = ap (λ (k : ℕ). getD w k 0) (omega arith) in
         (omega (arith, near-low l i (omega arith)), omega (arith, near-low l (i + 1) h))
 
-    pub nearing-end : m ≤ i + 1 → Pushed n f (pairsAt n + 2 * count) m (neighbours line) count c w₀ w
+    pub nearing-end : m ≤ i + 1 → Pushed n f (pairsAt n + 2 * count) m (consecutive line) count c w₀ w
     nearing-end h =
-        pushed-as n f (pairsAt n + 2 * count) i m (neighbours (take (suc i) line)) (neighbours line) count c w₀ w (o .within)
-        (ap neighbours (take-all (suc i) line (omega (arith, line-length)))) (o .pushed)
+        pushed-as n f (pairsAt n + 2 * count) i m (consecutive (take (suc i) line)) (consecutive line) count c w₀ w (o .within)
+        (ap consecutive (take-all (suc i) line (omega (arith, line-length)))) (o .pushed)
 
 -- ---- push_open_edge
 keep-map : {A B : Type 0} (g : A → B) (p : B → Bool) (q : A → Bool) (l : List A) → keep p (map g (keep q l)) ≡ map g (keep (λ x. p (g x) && q x) l)

@@ -28,7 +28,7 @@ use Rattle.candidate_pool.specs.Offsets.{sideAt, pairsAt}
 use Rattle.candidate_pool.specs.Pool.{Pool, pointOf, faceList}
 use Rattle.candidate_pool.specs.Standing.{poolAt}
 use Rattle.candidate_pool.proofs.Reading.{list-length}
-use Rattle.candidate_constraints.specs.Constraints.{neighbours, standing}
+use Rattle.candidate_constraints.specs.Constraints.{consecutive, standing}
 use Rattle.candidate_constraints.specs.Steps.{Kept, Shown, stands, onSideAll, byFraction, sidePlaces, keyed, LowPlaces, pairRecord, Collected, Pushed}
 use Rattle.candidate_constraints.proofs.Frames.{kept-wider, kept-then, kept-sorted, records-above}
 use Rattle.candidate_constraints.proofs.Showing.{pool-same, shown-same}
@@ -89,12 +89,12 @@ module _ (eps : Float) (n f : ℕ) (s : Side) (count m : ℕ) (w w1 w2 : List �
   pub side-long : length w2 ≡ length w
   side-long = kept-side .long
 
-  pub side-pushed : (w3 : List ℕ) (r : ℕ) → Pushed n f (pairsAt n + 2 * count) m (neighbours (map (λ x. x .1) (recordsAt w2 (sideAt n) m))) count r w2 w3
-      → Pushed n f (sideAt n) n (neighbours (sidePlaces eps (poolAt n w) f s)) count r w w3
+  pub side-pushed : (w3 : List ℕ) (r : ℕ) → Pushed n f (pairsAt n + 2 * count) m (consecutive (map (λ x. x .1) (recordsAt w2 (sideAt n) m))) count r w2 w3
+      → Pushed n f (sideAt n) n (consecutive (sidePlaces eps (poolAt n w) f s)) count r w w3
   side-pushed w3 r q =
-      let l = neighbours (map (λ (x : ℕ × ℕ). x .1) (recordsAt w2 (sideAt n) m)) in
-      pushed-as n f (sideAt n) m n l (neighbours (sidePlaces eps (poolAt n w) f s)) count r w w3 side-few
-      (ap neighbours (ap (map (λ (x : ℕ × ℕ). x .1)) in-order ∙ sorted-places eps (poolAt n w) f s))
+      let l = consecutive (map (λ (x : ℕ × ℕ). x .1) (recordsAt w2 (sideAt n) m)) in
+      pushed-as n f (sideAt n) m n l (consecutive (sidePlaces eps (poolAt n w) f s)) count r w w3 side-few
+      (ap consecutive (ap (map (λ (x : ℕ × ℕ). x .1)) in-order ∙ sorted-places eps (poolAt n w) f s))
       (record {
         few = q .few;
         records = q .records ∙ ap (λ (x : List (ℕ × ℕ)). x ++ map (pairRecord f) l) (records-above (sideAt n) (pairsAt n) (pairsAt n) count w w2 kept-side (omega arith));
@@ -111,7 +111,7 @@ four box f = refl
 
 module _ (box : AABB) (eps : Float) (n f : ℕ) (w₀ : List ℕ) where
   abbrev pub near : Side → List (ℕ × ℕ)
-  near s = neighbours (sidePlaces eps (poolAt n w₀) f s)
+  near s = consecutive (sidePlaces eps (poolAt n w₀) f s)
 
   pub record Siding (w : List ℕ) (c k : ℕ) : Type 0 where
     pub within : k ≤ 4
@@ -134,20 +134,20 @@ module _ (box : AABB) (eps : Float) (n f : ℕ) (w₀ : List ℕ) where
     siding-shown = shown-same n w₀ w o (g .pushed .kept .long) (λ x h. g .pushed .kept .low x (omega arith))
 
     pub siding-turn : (d s : Side) (r : ℕ) (w' : List ℕ) → k < 4 → s ≡ getD (faceSides box f) k d
-        → Pushed n f (sideAt n) n (neighbours (sidePlaces eps (poolAt n w) f s)) c r w w' → Siding w' r (k + 1)
+        → Pushed n f (sideAt n) n (consecutive (sidePlaces eps (poolAt n w) f s)) c r w w' → Siding w' r (k + 1)
     unfolding flatMap
     siding-turn d s r w' h e p =
         let S = faceSides box f in
         record {
           within = omega arith;
           pushed =
-              pushed-as n f (sideAt n) (k * n + n) ((k + 1) * n) (flatMap near (take k S) ++ neighbours (sidePlaces eps (poolAt n w) f s)) (flatMap near (take (k + 1) S)) 0 r w₀ w'
+              pushed-as n f (sideAt n) (k * n + n) ((k + 1) * n) (flatMap near (take k S) ++ consecutive (sidePlaces eps (poolAt n w) f s)) (flatMap near (take (k + 1) S)) 0 r w₀ w'
               (omega arith)
-              ((λ t. flatMap near (take k S) ++ neighbours (sidePlaces eps (same t) f (e t)))
+              ((λ t. flatMap near (take k S) ++ consecutive (sidePlaces eps (same t) f (e t)))
               ∙ ap (λ (l : List (ℕ × ℕ)). flatMap near (take k S) ++ l) (sym (append-nil (near (getD S k d))))
               ∙ sym (flatMap-append near (take k S) (getD S k d ∷ [])) ∙ ap (flatMap near) (sym (take-suc S k d (omega (arith, four box f)))) ∙ ap
               (λ (j : ℕ). flatMap near (take j S)) (one k))
-              (pushed-then n f (sideAt n) (sideAt n) (k * n) n (flatMap near (take k S)) (neighbours (sidePlaces eps (poolAt n w) f s)) 0 c r w₀ w w' (omega arith) (g .pushed) p);
+              (pushed-then n f (sideAt n) (sideAt n) (k * n) n (flatMap near (take k S)) (consecutive (sidePlaces eps (poolAt n w) f s)) 0 c r w₀ w w' (omega arith) (g .pushed) p);
         }
       where
         one : (k : ℕ) → suc k ≡ k + 1

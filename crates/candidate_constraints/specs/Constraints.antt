@@ -1,6 +1,6 @@
 -- Constraints of a face: pairs of places in its list (document 01, module 5; `build_face_cdt` and `add_face_box_boundary_constraints` of boundary_closure.rs). Assumes nothing.
 --   Constraint, constraint   a face and two places in its list        constraintWords   their 64-bit words, three each
---   neighbours        each two that follow each other
+--   consecutive        each two that follow each other
 --   standing          a place with its fraction along a side, if it stands on it
 --   sideOrder         the places on a side, "sorted by clamped t in `total_cmp` order, stable"
 --   edgePlaces        the places of an open edge's two candidates
@@ -34,10 +34,10 @@ constraint f a b = record { face = f; smaller = a; greater = b }
 abbrev pub constraintWords : List Constraint → List ℕ
 constraintWords l = flatMap (λ c. c .face ∷ c .smaller ∷ c .greater ∷ []) l
 
-unfoldable pub neighbours : List ℕ → List (ℕ × ℕ)
-neighbours [] = []
-neighbours (a ∷ []) = []
-neighbours (a ∷ b ∷ l) = (a, b) ∷ neighbours (b ∷ l)
+unfoldable pub consecutive : List ℕ → List (ℕ × ℕ)
+consecutive [] = []
+consecutive (a ∷ []) = []
+consecutive (a ∷ b ∷ l) = (a, b) ∷ consecutive (b ∷ l)
 
 abbrev pub standing : ℕ → Fraction → List (Float × ℕ)
 standing i (At t) = (t, i) ∷ []
@@ -59,6 +59,6 @@ module _ (box : AABB) (eps : Float) (edges : List OpenEdge) (pool : Pool) (f : �
   -- "neighbours along each box side .. plus open edges; none on a face with under three candidates"
   unfoldable pub faceConstraints : List Constraint
   faceConstraints =
-      let pairs = flatMap (λ s. neighbours (sideOrder s)) (faceSides box f) ++ edgePlaces in
+      let pairs = flatMap (λ s. consecutive (sideOrder s)) (faceSides box f) ++ edgePlaces in
       let listed = map (λ q. constraint f (sortedPair q .0) (sortedPair q .1)) (distinct samePair (sortBy pairBefore pairs)) in
       cond (ltb (length (faceList pool f)) 3) [] listed

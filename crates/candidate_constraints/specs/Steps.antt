@@ -38,8 +38,8 @@ use Rattle.edges.specs.Edges.{sortedPair}
 use Rattle.candidate_pool.specs.OpenEdges.{OpenEdge}
 use Rattle.candidate_pool.specs.Offsets.{entryAt, poolEnd, placesAt, sideAt, pairsAt, constraintsAt, openEdgesAt, roomEnd}
 use Rattle.candidate_pool.specs.Pool.{Pool, pointOf, faceList}
-use Rattle.candidate_pool.specs.Standing.{countAt, poolAt, edgesAt, Stored, Tidy}
-use Rattle.candidate_constraints.specs.Constraints.{Constraint, constraint, neighbours, standing, faceConstraints}
+use Rattle.candidate_pool.specs.Standing.{countAt, poolAt, edgesAt, PointStored, Tidy}
+use Rattle.candidate_constraints.specs.Constraints.{Constraint, constraint, consecutive, standing, faceConstraints}
 
 abbrev pub unpacked : ℕ → Constraint
 unpacked key = constraint (tripleFirst key) (tripleSecond key) (tripleThird key)
@@ -60,7 +60,7 @@ pub record Shown (n : ℕ) (w : List ℕ) : Type 0 where
   pub size : poolEnd n ≤ length w
   pub few : countAt w ≤ n
   pub lengths : (f : ℕ) → f < 6 → getD w f 0 ≤ n
-  pub stored : (c : ℕ) → c < countAt w → Stored w (entryAt c)
+  pub stored : (c : ℕ) → c < countAt w → PointStored w (entryAt c)
   pub tidy : Tidy (poolAt n w)
 
 pub record Roomy (n nf : ℕ) (w : List ℕ) : Type 0 where
@@ -116,7 +116,7 @@ abbrev pub edgePairs : Pool → ℕ → List OpenEdge → List (ℕ × ℕ)
 edgePairs p f edges = map (λ e. (place (eqb (e .from)) (faceList p f), place (eqb (e .to)) (faceList p f))) (keep (λ e. eqb (e .face) f) edges)
 
 abbrev pub sidePairs : AABB → Float → Pool → ℕ → List (ℕ × ℕ)
-sidePairs box eps p f = flatMap (λ s. neighbours (sidePlaces eps p f s)) (faceSides box f)
+sidePairs box eps p f = flatMap (λ s. consecutive (sidePlaces eps p f s)) (faceSides box f)
 
 abbrev pub allPairs : AABB → Float → Pool → ℕ → List OpenEdge → List (ℕ × ℕ)
 allPairs box eps p f edges = sidePairs box eps p f ++ edgePairs p f edges

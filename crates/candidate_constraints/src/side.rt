@@ -6,7 +6,7 @@ ghost use lib.ListN.{length};
 ghost use Rattle.sorting.specs.Buffer.{recordsAt};
 ghost use Rattle.candidate_pool.specs.Offsets.{sideAt, pairsAt};
 ghost use Rattle.candidate_pool.specs.Standing.{poolAt};
-ghost use Rattle.candidate_constraints.specs.Constraints.{neighbours};
+ghost use Rattle.candidate_constraints.specs.Constraints.{consecutive};
 ghost use Rattle.candidate_constraints.specs.Steps.{Shown, sidePlaces, sidePairs, NoNan, LowPlaces, Fractioned, Collected, Pushed};
 use crate::pairs::put_pair;
 use box_faces::faces::project;
@@ -63,7 +63,7 @@ fn collect_side(w: &mut [u64], n: usize, face: usize, side: Side, eps: f64) -> u
 fn push_neighbours(w: &mut [u64], n: usize, face: usize, m: usize, count: usize) -> usize
     requires { ⌜ (n < 2097152) × (face < 6) × (pairsAt n + 2 * (count + m) ≤ length (now w)) × (m ≤ n) × (count < 1073741824) ⌝ }
     requires { ⌜ LowPlaces n m (now w) ⌝ }
-    ensures { λ r. ⌜ Pushed n face (pairsAt n + 2 * count) m (neighbours (map (λ x. x .1) (recordsAt (now (w .entry)) (sideAt n) m))) count r (now (w .entry)) (now (w .exit)) ⌝ }
+    ensures { λ r. ⌜ Pushed n face (pairsAt n + 2 * count) m (consecutive (map (λ x. x .1) (recordsAt (now (w .entry)) (sideAt n) m))) count r (now (w .entry)) (now (w .exit)) ⌝ }
 {
     let at = side_at(n);
     let pairs = pairs_at(n);
@@ -83,7 +83,7 @@ fn push_neighbours(w: &mut [u64], n: usize, face: usize, m: usize, count: usize)
 fn push_side(w: &mut [u64], n: usize, face: usize, side: Side, eps: f64, count: usize) -> usize
     requires { ⌜ Shown n (now w) ⌝ }
     requires { ⌜ (n < 2097152) × (face < 6) × (count ≤ 3 * n) × (pairsAt n + 16 * n ≤ length (now w)) ⌝ }
-    ensures { λ r. ⌜ Pushed n face (sideAt n) n (neighbours (sidePlaces eps (poolAt n (now (w .entry))) face side)) count r (now (w .entry)) (now (w .exit)) ⌝ }
+    ensures { λ r. ⌜ Pushed n face (sideAt n) n (consecutive (sidePlaces eps (poolAt n (now (w .entry))) face side)) count r (now (w .entry)) (now (w .exit)) ⌝ }
 {
     let m = collect_side(w, n, face, side, eps);
     let at = side_at(n);

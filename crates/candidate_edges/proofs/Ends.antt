@@ -22,7 +22,7 @@ use Rattle.candidate_pool.specs.Offsets.{joinedAt}
 use Rattle.candidate_pool.specs.Pool.{Pool, byKey, numberFor}
 use Rattle.candidate_pool.specs.Standing.{facesIn, candidate, joinedIn, poolAt, PointIn, RoomFor, VertexInserted}
 use Rattle.candidate_pool.proofs.Reading.{pool-count}
-use Rattle.candidate_edges.specs.Steps.{TableAt, Sourced, Ready, VertexEntered}
+use Rattle.candidate_edges.specs.Steps.{TableAt, Sourced, SourcesReady, VertexEntered}
 use Rattle.candidate_edges.proofs.Sources.{sourced-kept, sourced-room}
 
 module _ (fs : List ℕ) (many s : ℕ) (whole : length fs % 3 ≡ 0) (numbers : (i : ℕ) → i < length fs → getD fs i 0 < many) (h : s < length fs) where
@@ -39,7 +39,7 @@ module _ (fs w : List ℕ) (at t k i : ℕ) (table : TableAt fs w at k) (is : t 
   pub side-low : getD w (t + 2 * i + 1) 0 < length fs
   side-low = subst (λ (x : ℕ). getD w (x + 2 * i + 1) 0 < length fs) (sym is) (table .number i h)
 
-module _ (vs : List Float) (eps : Float) (n : ℕ) (w : List ℕ) (v : ℕ) (p : Point) (ready : Ready vs eps n w) (h : v < length vs / 3) (is : p ≡ vertex (pointsOf vs) v) where
+module _ (vs : List Float) (eps : Float) (n : ℕ) (w : List ℕ) (v : ℕ) (p : Point) (ready : SourcesReady vs eps n w) (h : v < length vs / 3) (is : p ≡ vertex (pointsOf vs) v) where
   pub vertex-in : PointIn p
   vertex-in = subst PointIn (sym is) (ready .within v h)
 
@@ -68,5 +68,5 @@ module _ (vs : List Float) (eps : Float) (n : ℕ) (w : List ℕ) (v : ℕ) (p :
         rest = λ x l. done .rest x (omega arith) (λ q. omega (arith, ready .vertices));
       }
 
-pub ready-next : (vs : List Float) (eps : Float) (n v mask r : ℕ) (w w' : List ℕ) → Ready vs eps n w → VertexEntered vs eps n v mask r w w' → Ready vs eps n w'
+pub ready-next : (vs : List Float) (eps : Float) (n v mask r : ℕ) (w w' : List ℕ) → SourcesReady vs eps n w → VertexEntered vs eps n v mask r w w' → SourcesReady vs eps n w'
 ready-next vs eps n v mask r w w' ready e = record { holds = e .inserted .holds; vertices = ready .vertices; within = ready .within; sourced = e .sourced }

@@ -29,7 +29,7 @@ use Rattle.candidate_pool.specs.Standing.{facesIn, joinedIn, poolAt, Holds, edg
 use Rattle.candidate_pool.proofs.Reading.{pool-count}
 use Rattle.candidate_pool.proofs.Edges.{edges-none, held-none}
 use Rattle.candidate_edges.specs.Surface.{Surface, edgeFaces, meshCandidate, enterEdge, edgeSurface, cornerVertices}
-use Rattle.candidate_edges.specs.Steps.{TableAt, MeshFits, VerticesIn, Sourced, Ready, VertexEntered, surfaceAt, Entering, EdgeEntered, EdgesEntered, CornerEntered, CornersEntered}
+use Rattle.candidate_edges.specs.Steps.{TableAt, MeshFits, VerticesIn, Sourced, SourcesReady, VertexEntered, surfaceAt, EdgesEntering, EdgeEntered, EdgesEntered, CornerEntered, CornersEntered}
 use Rattle.candidate_edges.proofs.Faces.{stray-word, mask-faces, mask-count}
 use Rattle.candidate_edges.proofs.Sources.{sourced-none, sourced-few}
 use Rattle.candidate_edges.proofs.Ends.{ready-next}
@@ -53,7 +53,7 @@ pub record EdgesGoing (vs : List Float) (fs : List ℕ) (box : AABB) (eps : Floa
       ≡ foldl (enterEdge box eps (byKey eps) (meshOf vs fs)) (record { pool = noPool; edges = [] }) (take i (openEdges (threes fs)))
   pub entries : listed ≡ length (edgesAt w (openEdgesAt n (length fs / 3)) i)
   pub few : listed ≤ 6 * i
-  pub entering : Entering vs fs eps n i w
+  pub entering : EdgesEntering vs fs eps n i w
   pub long : length w ≡ length w₀
 
 module _ (vs : List Float) (fs : List ℕ) (box : AABB) (eps : Float) (n : ℕ) where
@@ -133,7 +133,7 @@ module _ (vs : List Float) (box : AABB) (eps : Float) where
 pub record CornersGoing (vs : List Float) (box : AABB) (eps : Float) (n v : ℕ) (w₀ w : List ℕ) : Type 0 where
   pub low : v ≤ length vs / 3
   pub pool : poolAt n w ≡ foldl (insert (byKey eps)) (poolAt n w₀) (keep (twice vs box eps) (map (corner vs box eps) (upTo v)))
-  pub ready : Ready vs eps n w
+  pub ready : SourcesReady vs eps n w
   pub long : length w ≡ length w₀
   pub rest : (x : ℕ) → poolEnd n ≤ x → getD w x 0 ≡ getD w₀ x 0
 
@@ -142,7 +142,7 @@ module _ (vs : List Float) (box : AABB) (eps : Float) (n : ℕ) where
   unfolding keep
   kept v b e = ap (λ (t : Bool). cond t (corner vs box eps v ∷ []) []) e
 
-  module _ (v mask : ℕ) (p : Point) (w : List ℕ) (ready : Ready vs eps n w) (at : p ≡ vertex (pointsOf vs) v) (is : mask ≡ faceBits (facesOf box eps p p)) where
+  module _ (v mask : ℕ) (p : Point) (w : List ℕ) (ready : SourcesReady vs eps n w) (at : p ≡ vertex (pointsOf vs) v) (is : mask ≡ faceBits (facesOf box eps p p)) where
     own : mask ≡ faceBits (edgeFaces box eps (meshOf vs []) (v, v))
     own = is ∙ ap (λ (q : Point). faceBits (facesOf box eps q q)) at
 

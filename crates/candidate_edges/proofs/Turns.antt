@@ -28,7 +28,7 @@ use Rattle.candidate_pool.proofs.Edges.{edges-more, edges-same, held-kept, held
 use Rattle.geometry.proofs.Meshes.{length-pointsOf}
 use Rattle.candidate_edges.proofs.Sources.{sourced-same}
 use Rattle.candidate_edges.specs.Surface.{edgeFaces, meshCandidate, enterEdge}
-use Rattle.candidate_edges.specs.Steps.{TableAt, MeshFits, Sourced, Ready, VertexEntered, surfaceAt, Entering, EdgeEntered}
+use Rattle.candidate_edges.specs.Steps.{TableAt, MeshFits, Sourced, SourcesReady, VertexEntered, surfaceAt, EdgesEntering, EdgeEntered}
 use Rattle.candidate_edges.proofs.Faces.{mask-faces, mask-small}
 
 -- ---- three words stored one behind the other
@@ -85,7 +85,7 @@ edge-small mask false h = h
 -- ---- one turn
 
 module _ (vs : List Float) (fs : List ℕ) (box : AABB) (eps : Float) (n i mask a b r : ℕ) (w w1 w2 w3 : List ℕ)
-    (entering : Entering vs fs eps n i w)
+    (entering : EdgesEntering vs fs eps n i w)
     (h : i < length (openEdges (threes fs)))
     (is : mask ≡ faceBits (edgeFaces box eps (meshOf vs fs) (getD (openEdges (threes fs)) i (0, 0))))
     (first : VertexEntered vs eps n (getD (openEdges (threes fs)) i (0, 0) .0) mask a w w1)
@@ -220,7 +220,7 @@ module _ (vs : List Float) (fs : List ℕ) (box : AABB) (eps : Float) (n i mask 
         side = λ j l. ap (λ (x : ℕ). getD (sides (threes fs)) x (0, 0)) (table-word j) ∙ t .side j l;
       }
 
-  ready : Ready vs eps n w3
+  ready : SourcesReady vs eps n w3
   ready =
       record {
         holds = holds-same eps n w2 w3 (second .inserted .holds) long3 (λ x l. same-below x (omega arith));
@@ -270,7 +270,7 @@ module _ (vs : List Float) (fs : List ℕ) (box : AABB) (eps : Float) (n i mask 
       }
 
 pub edge-done : (vs : List Float) (fs : List ℕ) (box : AABB) (eps : Float) (n i s at v u mask a b r : ℕ) (w w1 w2 w3 : List ℕ)
-    → Entering vs fs eps n i w
+    → EdgesEntering vs fs eps n i w
     → i < length (openEdges (threes fs))
     → getD (sides (threes fs)) s (0, 0) ≡ getD (openEdges (threes fs)) i (0, 0)
     → at ≡ openEdgesAt n (length fs / 3)

@@ -4,9 +4,9 @@
 --   MeshFits         the mesh and the room that the functions ask for
 --   VerticesIn       every vertex is a point of no NaN and no infinity
 --   Sourced          a vertex's word names the candidate that the rule finds for it, and each candidate is named by a vertex: so there are no more than vertices
---   Ready            what `enter_vertex` asks for       VertexEntered    what it leaves
+--   SourcesReady            what `enter_vertex` asks for       VertexEntered    what it leaves
 --   surfaceAt        the candidates and the first i open edges as they stand
---   Entering         what `enter_edge` asks for and keeps, before the open edge i
+--   EdgesEntering         what `enter_edge` asks for and keeps, before the open edge i
 --   EdgeEntered      what `enter_edge` leaves           EdgesEntered     what `enter_edges` leaves
 --   CornerEntered    what `enter_corner` leaves         CornersEntered   what `enter_corners` leaves
 use Prim.Native.Nat.{ℕ, suc, _+_, _*_, _/_, _%_, _≤_, _<_}
@@ -53,7 +53,7 @@ pub record Sourced (points : List Point) (eps : Float) (p : Pool) (word : ℕ �
   pub within : (c : ℕ) → c < length (p .all) → source c < length points
   pub names : (c : ℕ) → c < length (p .all) → word (source c) ≡ suc c
 
-pub record Ready (vs : List Float) (eps : Float) (n : ℕ) (w : List ℕ) : Type 0 where
+pub record SourcesReady (vs : List Float) (eps : Float) (n : ℕ) (w : List ℕ) : Type 0 where
   pub holds : Holds eps n w
   pub vertices : length vs / 3 ≤ n
   pub within : VerticesIn vs
@@ -68,10 +68,10 @@ pub record VertexEntered (vs : List Float) (eps : Float) (n v mask r : ℕ) (w w
 abbrev pub surfaceAt : ℕ → List ℕ → ℕ → ℕ → Surface
 surfaceAt n w at i = record { pool = poolAt n w; edges = edgesAt w at i }
 
-pub record Entering (vs : List Float) (fs : List ℕ) (eps : Float) (n i : ℕ) (w : List ℕ) : Type 0 where
+pub record EdgesEntering (vs : List Float) (fs : List ℕ) (eps : Float) (n i : ℕ) (w : List ℕ) : Type 0 where
   pub fits : MeshFits vs fs n w
   pub table : TableAt fs w (edgeTableAt n (length fs / 3)) (length (openEdges (threes fs)))
-  pub ready : Ready vs eps n w
+  pub ready : SourcesReady vs eps n w
   pub held : EdgesHeld (poolAt n w) w (openEdgesAt n (length fs / 3)) i
 
 pub record EdgeEntered (vs : List Float) (fs : List ℕ) (box : AABB) (eps : Float) (n i r : ℕ) (w w' : List ℕ) : Type 0 where
@@ -79,7 +79,7 @@ pub record EdgeEntered (vs : List Float) (fs : List ℕ) (box : AABB) (eps : Flo
       (getD (openEdges (threes fs)) i (0, 0))
   pub listed : length (edgesAt w' (openEdgesAt n (length fs / 3)) (i + 1)) ≡ length (edgesAt w (openEdgesAt n (length fs / 3)) i) + r
   pub few : r ≤ 6
-  pub entering : Entering vs fs eps n (i + 1) w'
+  pub entering : EdgesEntering vs fs eps n (i + 1) w'
   pub long : length w' ≡ length w
 
 pub record EdgesEntered (vs : List Float) (fs : List ℕ) (box : AABB) (eps : Float) (n k r : ℕ) (w w' : List ℕ) : Type 0 where
@@ -95,7 +95,7 @@ pub record EdgesEntered (vs : List Float) (fs : List ℕ) (box : AABB) (eps : Fl
 pub record CornerEntered (vs : List Float) (box : AABB) (eps : Float) (n v : ℕ) (w w' : List ℕ) : Type 0 where
   pub pool : poolAt n w' ≡ foldl (insert (byKey eps)) (poolAt n w)
       (keep (λ c. leb 2 (length (c .on))) (meshCandidate (meshOf vs []) v (edgeFaces box eps (meshOf vs []) (v, v)) ∷ []))
-  pub ready : Ready vs eps n w'
+  pub ready : SourcesReady vs eps n w'
   pub long : length w' ≡ length w
   pub rest : (x : ℕ) → poolEnd n ≤ x → getD w' x 0 ≡ getD w x 0
 

@@ -3,7 +3,7 @@ ghost use Prim.Native.Nat.{_/_, _≤_, _<_};
 ghost use lib.ListN.{length};
 ghost use Rattle.geometry.specs.Meshes.{pointsOf};
 ghost use Rattle.candidate_pool.specs.Standing.{joinedIn, poolAt, Holds};
-ghost use Rattle.candidate_edges.specs.Steps.{VerticesIn, Sourced, Ready, CornerEntered, CornersEntered};
+ghost use Rattle.candidate_edges.specs.Steps.{VerticesIn, Sourced, SourcesReady, CornerEntered, CornersEntered};
 use crate::open::enter_vertex;
 use crate::open::vertex_point;
 use box_faces::faces::aabb_face_mask;
@@ -12,7 +12,7 @@ use geometry::aabb::AABB;
 use geometry::numbers::MeshVertexId;
 
 fn enter_corner(w: &mut [u64], vertices: &[f64], n: usize, v: MeshVertexId, extents: AABB, eps: f64)
-    requires { ⌜ Ready (now vertices) eps n (now w) ⌝ }
+    requires { ⌜ SourcesReady (now vertices) eps n (now w) ⌝ }
     requires { ⌜ v .0 < length (now vertices) / 3 ⌝ }
     ensures { λ _. ⌜ CornerEntered (now (vertices .entry)) extents eps n (v .0) (now (w .entry)) (now (w .exit)) ⌝ }
 {

@@ -13,7 +13,7 @@ ghost use Rattle.candidate_pool.specs.Offsets.{edgeTableAt};
 ghost use Rattle.candidate_pool.specs.Pool.{noPool};
 ghost use Rattle.candidate_pool.specs.Standing.{joinedIn, poolAt, Holds};
 ghost use Rattle.candidate_edges.specs.Surface.{edgeFaces};
-ghost use Rattle.candidate_edges.specs.Steps.{TableAt, VerticesIn, MeshFits, Ready, VertexEntered, Entering, EdgeEntered, EdgesEntered};
+ghost use Rattle.candidate_edges.specs.Steps.{TableAt, VerticesIn, MeshFits, SourcesReady, VertexEntered, EdgesEntering, EdgeEntered, EdgesEntered};
 use box_faces::faces::aabb_face_mask;
 use box_faces::faces::count_faces;
 use candidate_pool::pool::insert_candidate;
@@ -83,7 +83,7 @@ pub fn enter_vertex(
     mask: u64,
     eps: f64,
 ) -> CandidateVertexId
-    requires { ⌜ Ready (now vertices) eps n (now w) ⌝ }
+    requires { ⌜ SourcesReady (now vertices) eps n (now w) ⌝ }
     requires { ⌜ (v .0 < length (now vertices) / 3) × (mask < 64) ⌝ }
     ensures { λ r. ⌜ VertexEntered (now (vertices .entry)) eps n (v .0) mask (r .0) (now (w .entry)) (now (w .exit)) ⌝ }
 {
@@ -122,7 +122,7 @@ fn enter_edge(
     extents: AABB,
     eps: f64,
 ) -> usize
-    requires { ⌜ Entering (now vertices) (now facets) eps n i (now w) ⌝ }
+    requires { ⌜ EdgesEntering (now vertices) (now facets) eps n i (now w) ⌝ }
     requires { ⌜ i < length (openEdges (threes (now facets))) ⌝ }
     ensures { λ r. ⌜ EdgeEntered (now (vertices .entry)) (now (facets .entry)) extents eps n i r (now (w .entry)) (now (w .exit)) ⌝ }
 {

@@ -16,7 +16,7 @@ use Rattle.root.proofs.Bounds.{held-pow, held-small, round-within}
 use Rattle.root.proofs.Powers.{within-pow, mul-pow, add-pow, sub-pow, div-pow}
 use Rattle.geometry.specs.declared.point.Point.{Point}
 use Rattle.geometry.specs.declared.aabb.AABB.{AABB}
-use Rattle.geometry.specs.Boxes.{low, high, axis}
+use Rattle.geometry.specs.Boxes.{lowest, highest, axis}
 use Rattle.refusals.specs.Front.{boxInRange}
 use Rattle.refusals.proofs.Ranges.{CornersWithin, box-within}
 use Rattle.box_faces.specs.Faces.{uAxis}
@@ -46,7 +46,7 @@ parts-at-least : (n : ℕ) → 1 ≤ n → n ≤ 256 → AtLeast (2 ^ 0) (ofInt 
 unfolding ofInt
 parts-at-least n a b = whole-at-least _ n (held-small binary64 n (le-trans b (lit≤ tt))) a
 
-pub line-in : (box : AABB) (k parts i : ℕ) → boxInRange box ≡ true → k < 3 → 1 ≤ parts → parts ≤ 256 → i ≤ 256 → Within (2 ^ 48) (lineAt (low box k) (high box k) parts i)
+pub line-in : (box : AABB) (k parts i : ℕ) → boxInRange box ≡ true → k < 3 → 1 ≤ parts → parts ≤ 256 → i ≤ 256 → Within (2 ^ 48) (lineAt (lowest box k) (highest box k) parts i)
 unfolding lineAt
 line-in box k parts i e h some few j = go (eqb i parts)
   where
@@ -56,10 +56,10 @@ line-in box k parts i e h some few j = go (eqb i parts)
     ratio : Within (2 ^ 8) (ofInt binary64 (pos i) ⊘ ofInt binary64 (pos parts))
     ratio = div-pow 8 0 (lit≤ tt) (number-in i j) (parts-at-least parts some few)
 
-    step : Within (2 ^ 39) ((high box k ⊖ low box k) ⊗ (ofInt binary64 (pos i) ⊘ ofInt binary64 (pos parts)))
+    step : Within (2 ^ 39) ((highest box k ⊖ lowest box k) ⊗ (ofInt binary64 (pos i) ⊘ ofInt binary64 (pos parts)))
     step = mul-pow 31 8 (lit≤ tt) (sub-pow 30 (lit≤ tt) (C .high-within) (C .low-within)) ratio
 
-    go : (b : Bool) → Within (2 ^ 48) (cond b (high box k) (low box k ⊕ (high box k ⊖ low box k) ⊗ (ofInt binary64 (pos i) ⊘ ofInt binary64 (pos parts))))
+    go : (b : Bool) → Within (2 ^ 48) (cond b (highest box k) (lowest box k ⊕ (highest box k ⊖ lowest box k) ⊗ (ofInt binary64 (pos i) ⊘ ofInt binary64 (pos parts))))
     go true = within-pow 30 48 (lit≤ tt) (C .high-within)
     go false = within-pow 40 48 (lit≤ tt) (add-pow 39 (lit≤ tt) (within-pow 30 39 (lit≤ tt) (C .low-within)) step)
 

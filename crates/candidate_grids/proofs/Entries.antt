@@ -17,7 +17,7 @@ use Rattle.lists.proofs.Sequences.{fold-flat}
 use Rattle.root.specs.Bounds.{Within}
 use Rattle.geometry.specs.declared.point.Point.{Point}
 use Rattle.geometry.specs.declared.aabb.AABB.{AABB}
-use Rattle.geometry.specs.Boxes.{low, high}
+use Rattle.geometry.specs.Boxes.{lowest, highest}
 use Rattle.box_faces.specs.declared.uv.Uv.{Uv}
 use Rattle.box_faces.specs.Faces.{vAxis, project}
 use Rattle.box_faces.specs.Lines.{lineAt, pointOnFace}
@@ -27,7 +27,7 @@ use Rattle.candidate_pool.proofs.Growing.{count-grows, count-most, grows, point
 use Rattle.candidate_pool.proofs.Reading.{pool-count}
 use Rattle.candidate_grids.specs.declared.grids.Near.{Near}
 use Rattle.candidate_grids.specs.declared.grids.Row.{Row}
-use Rattle.candidate_grids.specs.Steps.{skipsNear, inside, gridCell, rowCell, PointReady, Grown, Entered, RowReady}
+use Rattle.candidate_grids.specs.Steps.{skipsNear, isInner, gridCell, rowCell, PointReady, Grown, PointsEntered, RowReady}
 use Rattle.candidate_grids.proofs.Frames.{skips-same, near-same}
 use Rattle.candidate_grids.proofs.Bounded.{line-in}
 
@@ -55,7 +55,7 @@ grown-inserted eps n e w v z I =
     }
 
 module _ (eps : Float) (n : ℕ) (skips : Uv → Bool) (inner : Bool) (f : ℕ) (p : Point) (w : List ℕ) where
-  pub cell-left : (inner && skips (project f p)) ≡ true → Holds eps n w → Entered eps n (gridCell skips inner f p) 1 w w
+  pub cell-left : (inner && skips (project f p)) ≡ true → Holds eps n w → PointsEntered eps n (gridCell skips inner f p) 1 w w
   unfolding gridCell
   cell-left e H =
       record {
@@ -67,7 +67,7 @@ module _ (eps : Float) (n : ℕ) (skips : Uv → Bool) (inner : Bool) (f : ℕ) 
         rest = λ x h. refl;
       }
 
-  pub cell-in : (inner && skips (project f p)) ≡ false → (v : List ℕ) → Inserted eps n (candidate p 0 (f ∷ [])) w v → Entered eps n (gridCell skips inner f p) 1 w v
+  pub cell-in : (inner && skips (project f p)) ≡ false → (v : List ℕ) → Inserted eps n (candidate p 0 (f ∷ [])) w v → PointsEntered eps n (gridCell skips inner f p) 1 w v
   unfolding gridCell
   cell-in e v I =
       record {
@@ -86,14 +86,14 @@ module _ (eps : Float) (n : ℕ) (skips : Uv → Bool) (inner : Bool) (f : ℕ) 
       }
 
 module _ (eps : Float) (n : ℕ) (g : ℕ → List Candidate) (w : List ℕ) where
-  pub entered-none : (most : ℕ) → Holds eps n w → Entered eps n (flatMap g (upTo 0)) most w w
+  pub entered-none : (most : ℕ) → Holds eps n w → PointsEntered eps n (flatMap g (upTo 0)) most w w
   unfolding flatMap upFrom
   entered-none most H = record { pool = refl; holds = H; few = omega arith; grown = grown-none n w; long = refl; rest = λ x h. refl }
 
   -- l is what the turn with i entered
-  pub entered-more : (v u : List ℕ) (l : List Candidate) (i most more total : ℕ) → Entered eps n (flatMap g (upTo i)) most w v → l ≡ g i → Entered eps n l more v u → most + more ≡
+  pub entered-more : (v u : List ℕ) (l : List Candidate) (i most more total : ℕ) → PointsEntered eps n (flatMap g (upTo i)) most w v → l ≡ g i → PointsEntered eps n l more v u → most + more ≡
       total
-      → Entered eps n (flatMap g (upTo (i + 1))) total w u
+      → PointsEntered eps n (flatMap g (upTo (i + 1))) total w u
   entered-more v u l i most more total a e b q =
       record {
         pool = fold-flat (insert (byKey eps)) (poolAt n w) (poolAt n v) (poolAt n u) g i (a .pool) (b .pool ∙ ap (foldl (insert (byKey eps)) (poolAt n v)) e);
@@ -107,8 +107,8 @@ module _ (eps : Float) (n : ℕ) (g : ℕ → List Candidate) (w : List ℕ) whe
 -- ---- a row
 
 module _ (eps : Float) (n : ℕ) (near : Near) (f : ℕ) (row : Row) (box : AABB) (last : ℕ) (w v : List ℕ) (R : RowReady eps n near f row box last w) (j : ℕ)
-    (E : Entered eps n (flatMap (rowCell (skipsNear w near) box f row last) (upTo j)) j w v) (lt : j ≤ last) where
-  pub row-line-in : (line : Float) → vAxis f < 3 → line ≡ lineAt (low box (vAxis f)) (high box (vAxis f)) last j → Within (2 ^ 48) line
+    (E : PointsEntered eps n (flatMap (rowCell (skipsNear w near) box f row last) (upTo j)) j w v) (lt : j ≤ last) where
+  pub row-line-in : (line : Float) → vAxis f < 3 → line ≡ lineAt (lowest box (vAxis f)) (highest box (vAxis f)) last j → Within (2 ^ 48) line
   row-line-in line h el = rw el (line-in box (vAxis f) last j (R .box-in) h (R .some-parts) (R .few-parts) (let a = R .few-parts in omega arith))
 
   pub row-point-ready : (p : Point) → PointIn p → PointReady eps n near f p v
@@ -121,14 +121,14 @@ module _ (eps : Float) (n : ℕ) (near : Near) (f : ℕ) (row : Row) (box : AABB
         point-in = h;
       }
 
-  pub row-cell : (line : Float) (p : Point) (inner : Bool) → line ≡ lineAt (low box (vAxis f)) (high box (vAxis f)) last j → p ≡ pointOnFace f (row .at) (row .u) line → inner ≡
-      (row .inner && inside j last)
+  pub row-cell : (line : Float) (p : Point) (inner : Bool) → line ≡ lineAt (lowest box (vAxis f)) (highest box (vAxis f)) last j → p ≡ pointOnFace f (row .at) (row .u) line → inner ≡
+      (row .inner && isInner j last)
       → gridCell (skipsNear v near) inner f p ≡ rowCell (skipsNear w near) box f row last j
   unfolding gridCell rowCell
   row-cell line p inner el ep ei =
       let same : skipsNear v near (project f p) ≡ skipsNear w near (project f p)
       = skips-same w v (near .at) (near .count) (λ x a b. E .rest x (let q = R .near-in .above in omega arith)) (near .tolerance) (project f p) in
-      let q : p ≡ pointOnFace f (row .at) (row .u) (lineAt (low box (vAxis f)) (high box (vAxis f)) last j) = ep ∙ ap (pointOnFace f (row .at) (row .u)) el in
+      let q : p ≡ pointOnFace f (row .at) (row .u) (lineAt (lowest box (vAxis f)) (highest box (vAxis f)) last j) = ep ∙ ap (pointOnFace f (row .at) (row .u)) el in
       ap (λ (b : Bool). cond (inner && b) [] (candidate p 0 (f ∷ []) ∷ [])) same
       ∙ ap (λ (b : Bool). cond (b && skipsNear w near (project f p)) [] (candidate p 0 (f ∷ []) ∷ [])) ei
-      ∙ ap (λ (z : Point). cond ((row .inner && inside j last) && skipsNear w near (project f z)) [] (candidate z 0 (f ∷ []) ∷ [])) q
+      ∙ ap (λ (z : Point). cond ((row .inner && isInner j last) && skipsNear w near (project f z)) [] (candidate z 0 (f ∷ []) ∷ [])) q

@@ -26,7 +26,7 @@ use Rattle.root.specs.Doubles.{larger, _⊖_}
 use Rattle.rounding.proofs.Segments.{segments-some}
 use Rattle.geometry.specs.declared.point.Point.{Point}
 use Rattle.geometry.specs.declared.aabb.AABB.{AABB}
-use Rattle.geometry.specs.Boxes.{low, high, axis, isMin}
+use Rattle.geometry.specs.Boxes.{lowest, highest, axis, isMin}
 use Rattle.geometry.specs.Axes.{segments, gridLine}
 use Rattle.refusals.specs.Front.{boxInRange, byAxis, gridTooFine}
 use Rattle.refusals.proofs.Grids.{not-too-fine, cut-is}
@@ -41,7 +41,24 @@ use Rattle.candidate_pool.proofs.Frames.{pool-same, holds-same}
 use Rattle.candidate_grids.specs.declared.grids.Near.{Near}
 use Rattle.candidate_grids.specs.declared.grids.Row.{Row}
 use Rattle.candidate_grids.specs.Grid.{gridPoint, skipped, gridAt, faceGrid}
-use Rattle.candidate_grids.specs.Steps.{byAxes, skipsAt, skipsNear, Gathered, NearReady, inside, gridCell, rowCell, faceLine, rowAt, Grown, Entered, RowReady, faceSize, FaceReady, FaceEntered}
+use Rattle.candidate_grids.specs.Steps.{
+  byAxes,
+  skipsAt,
+  skipsNear,
+  Gathered,
+  NearReady,
+  isInner,
+  gridCell,
+  rowCell,
+  faceLine,
+  rowAt,
+  Grown,
+  PointsEntered,
+  RowReady,
+  faceSize,
+  FaceReady,
+  FaceEntered,
+}
 use Rattle.candidate_grids.proofs.Frames.{skips-same, near-same}
 use Rattle.candidate_grids.proofs.Entries.{grown-more}
 use Rattle.candidate_grids.proofs.Bounded.{line-in}
@@ -75,7 +92,7 @@ module _ (box : AABB) (eps : Float) (resolution : List Float) where
 
   pub parts-some : (k : ℕ) → 1 ≤ segs k
   unfolding segments
-  parts-some k = segments-some (high box k ⊖ low box k) (larger (byAxis resolution k) eps)
+  parts-some k = segments-some (highest box k ⊖ lowest box k) (larger (byAxis resolution k) eps)
 
   pub parts-few : (k : ℕ) → k < 3 → gridTooFine box eps (byAxis resolution) ≡ false → segs k ≤ 256
   parts-few zero h e = not-too-fine box eps (byAxis resolution) e .x
@@ -104,8 +121,8 @@ module _ (box : AABB) (eps : Float) (resolution skip : List Float) where
   segs' k = segments box eps (byAxis resolution) k
 
   pub point-is : (f i j : ℕ) → f < 6
-      → pointOnFace f (faceLine box f (segs' (axis f))) (lineAt (low box (uAxis f)) (high box (uAxis f)) (segs' (uAxis f)) i)
-      (lineAt (low box (vAxis f)) (high box (vAxis f)) (segs' (vAxis f)) j)
+      → pointOnFace f (faceLine box f (segs' (axis f))) (lineAt (lowest box (uAxis f)) (highest box (uAxis f)) (segs' (uAxis f)) i)
+      (lineAt (lowest box (vAxis f)) (highest box (vAxis f)) (segs' (vAxis f)) j)
       ≡ gridPoint (byAxes box eps resolution skip) f i j
   unfolding gridPoint gridLine lineAt pointOnFace
   point-is zero i j h = refl
@@ -122,10 +139,10 @@ module _ (box : AABB) (eps : Float) (resolution skip : List Float) where
           edges pool f i j
       unfolding rowCell gridCell gridAt
       cell-is i j =
-          ap (λ (p : Point). cond ((inside i (segs' (uAxis f)) && inside j (segs' (vAxis f))) && skips (project f p)) [] (candidate p 0 (f ∷ []) ∷ [])) (point-is f i j f-in)
+          ap (λ (p : Point). cond ((isInner i (segs' (uAxis f)) && isInner j (segs' (vAxis f))) && skips (project f p)) [] (candidate p 0 (f ∷ []) ∷ [])) (point-is f i j f-in)
           ∙ ap (λ (b : Bool). cond b [] (candidate (gridPoint (byAxes box eps resolution skip) f i j) 0 (f ∷ []) ∷ []))
-          (and-both (inside i (segs' (uAxis f))) (inside j (segs' (vAxis f))) (skips (project f (gridPoint (byAxes box eps resolution skip) f i j)))
-          ∙ ap (λ (b : Bool). inside i (segs' (uAxis f)) && (inside j (segs' (vAxis f)) && b)) (same (project f (gridPoint (byAxes box eps resolution skip) f i j))))
+          (and-both (isInner i (segs' (uAxis f))) (isInner j (segs' (vAxis f))) (skips (project f (gridPoint (byAxes box eps resolution skip) f i j)))
+          ∙ ap (λ (b : Bool). isInner i (segs' (uAxis f)) && (isInner j (segs' (vAxis f)) && b)) (same (project f (gridPoint (byAxes box eps resolution skip) f i j))))
 
       pub face-is : (at : Float) (last last-v parts : ℕ) → last ≡ segs' (uAxis f) → last-v ≡ segs' (vAxis f) → parts ≡ segs' (axis f) → at ≡ faceLine box f parts
           → flatMap (λ i. flatMap (rowCell skips box f (rowAt box f at last i) last-v) (upTo (last-v + 1))) (upTo (last + 1)) ≡ faceGrid (byAxes box eps resolution skip) edges pool f
@@ -160,13 +177,13 @@ unfolding rowCell gridCell
 rows-same skips skips' same box f row last m =
     flat-below (rowCell skips box f row last) (rowCell skips' box f row last) m
     (λ j h.
-    let p = pointOnFace f (row .at) (row .u) (lineAt (low box (vAxis f)) (high box (vAxis f)) last j) in
-    ap (λ (b : Bool). cond ((row .inner && inside j last) && b) [] (candidate p 0 (f ∷ []) ∷ [])) (same (project f p)))
+    let p = pointOnFace f (row .at) (row .u) (lineAt (lowest box (vAxis f)) (highest box (vAxis f)) last j) in
+    ap (λ (b : Bool). cond ((row .inner && isInner j last) && b) [] (candidate p 0 (f ∷ []) ∷ [])) (same (project f p)))
 
 module _ (eps : Float) (n : ℕ) (near : Near) (f : ℕ) (box : AABB) (at : Float) (last last-v : ℕ) (w v : List ℕ) (N : NearReady n near w) (i : ℕ)
-    (E : Entered eps n (flatMap (λ x. flatMap (rowCell (skipsNear w near) box f (rowAt box f at last x) last-v) (upTo (last-v + 1))) (upTo i)) (i * (last-v + 1)) w v) where
+    (E : PointsEntered eps n (flatMap (λ x. flatMap (rowCell (skipsNear w near) box f (rowAt box f at last x) last-v) (upTo (last-v + 1))) (upTo i)) (i * (last-v + 1)) w v) where
   pub row-ready : (u : Float) (inner : Bool) → f < 6 → boxInRange box ≡ true → i ≤ last → last ≤ 256 → 1 ≤ last → last-v ≤ 256 → 1 ≤ last-v
-      → countAt w + (last + 1) * (last-v + 1) ≤ n → Within (2 ^ 48) at → u ≡ lineAt (low box (uAxis f)) (high box (uAxis f)) last i
+      → countAt w + (last + 1) * (last-v + 1) ≤ n → Within (2 ^ 48) at → u ≡ lineAt (lowest box (uAxis f)) (highest box (uAxis f)) last i
       → RowReady eps n near f (record { at = at; u = u; inner = inner }) box last-v v
   row-ready u inner f-in box-in le lu su lv sv room at-in eu =
       record {
@@ -185,14 +202,14 @@ module _ (eps : Float) (n : ℕ) (near : Near) (f : ℕ) (box : AABB) (at : Floa
         u-in = rw eu (line-in box (uAxis f) last i box-in (u-low f f-in) su lu (omega arith));
       }
 
-  pub row-is : (u : Float) (inner : Bool) → u ≡ lineAt (low box (uAxis f)) (high box (uAxis f)) last i → inner ≡ inside i last
+  pub row-is : (u : Float) (inner : Bool) → u ≡ lineAt (lowest box (uAxis f)) (highest box (uAxis f)) last i → inner ≡ isInner i last
       → flatMap (rowCell (skipsNear v near) box f (record { at = at; u = u; inner = inner }) last-v) (upTo (last-v + 1))
       ≡ flatMap (rowCell (skipsNear w near) box f (rowAt box f at last i) last-v) (upTo (last-v + 1))
   row-is u inner eu ei =
       rows-same (skipsNear v near) (skipsNear w near) (skips-same w v (near .at) (near .count) (λ x a b. E .rest x (let q = N .above in omega arith)) (near .tolerance)) box f
       (record { at = at; u = u; inner = inner }) last-v (last-v + 1)
       ∙ ap (λ (x : Float). flatMap (rowCell (skipsNear w near) box f (record { at = at; u = x; inner = inner }) last-v) (upTo (last-v + 1))) eu
-      ∙ ap (λ (b : Bool). flatMap (rowCell (skipsNear w near) box f (record { at = at; u = lineAt (low box (uAxis f)) (high box (uAxis f)) last i; inner = b }) last-v)
+      ∙ ap (λ (b : Bool). flatMap (rowCell (skipsNear w near) box f (record { at = at; u = lineAt (lowest box (uAxis f)) (highest box (uAxis f)) last i; inner = b }) last-v)
       (upTo (last-v + 1))) ei
 
 pub turn-size : (i m : ℕ) → i * m + m ≡ (i + 1) * m
@@ -240,7 +257,7 @@ module _ (box : AABB) (eps : Float) (resolution skip : List Float) (n nf k f : �
   pub face-end : (place : ℕ) (at : Float) (last last-v parts i : ℕ) → place ≡ segmentsAt n nf → last ≡ segments box eps (byAxis resolution) (uAxis f) → last-v ≡ segments box eps
       (byAxis resolution) (vAxis f)
       → parts ≡ segments box eps (byAxis resolution) (axis f) → at ≡ faceLine box f parts → i ≡ last + 1
-      → Entered eps n (flatMap (λ x. flatMap (rowCell (skipsNear v (record { at = place; count = count; tolerance = byAxis skip (axis f) })) box f (rowAt box f at last x) last-v)
+      → PointsEntered eps n (flatMap (λ x. flatMap (rowCell (skipsNear v (record { at = place; count = count; tolerance = byAxis skip (axis f) })) box f (rowAt box f at last x) last-v)
       (upTo (last-v + 1))) (upTo i)) (i * (last-v + 1)) v u
       → FaceEntered box eps resolution skip n nf k f w u
   face-end place at last last-v parts i es eu ev ep ea ei E =

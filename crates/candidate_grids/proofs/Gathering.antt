@@ -19,7 +19,7 @@ use Rattle.box_faces.specs.Faces.{project, hasBit}
 use Rattle.box_faces.specs.Segments.{onSegment}
 use Rattle.candidate_pool.specs.Offsets.{entryAt, openEdgesAt, segmentsAt}
 use Rattle.candidate_pool.specs.Pool.{pointOf}
-use Rattle.candidate_pool.specs.Standing.{countAt, pointAt, poolAt, Stored}
+use Rattle.candidate_pool.specs.Standing.{countAt, pointAt, poolAt, PointStored}
 use Rattle.candidate_pool.proofs.Placing.{point-same, stored-same}
 use Rattle.candidate_pool.proofs.Reading.{pool-point}
 use Rattle.candidate_grids.specs.Steps.{SegmentAt, hitAt, skipsAt, EdgeReady, SegmentGathered, edgeHit, EdgesReady, Gathered}
@@ -82,9 +82,9 @@ module _ (n nf k face : ℕ) (tolerance : Float) (w : List ℕ) where
       same-at : (c : ℕ) → c < countAt w → (x : ℕ) → x < 5 → getD v (entryAt c + x) 0 ≡ getD w (entryAt c + x) 0
       same-at c h x l = G .rest (entryAt c + x) (let f = R .few in omega arith)
 
-      stored : (c d : ℕ) → d ≡ c → c < countAt w → Stored v (entryAt d)
+      stored : (c d : ℕ) → d ≡ c → c < countAt w → PointStored v (entryAt d)
       stored c d q h =
-          subst (λ (x : ℕ). Stored v (entryAt x)) (sym q) (stored-same w v (entryAt c) (λ x l. same-at c h x (omega arith)) (R .stored c h))
+          subst (λ (x : ℕ). PointStored v (entryAt x)) (sym q) (stored-same w v (entryAt c) (λ x l. same-at c h x (omega arith)) (R .stored c h))
 
       in-room : (c d : ℕ) → d ≡ c → c < countAt w → entryAt d + 2 < length v
       in-room c d q h = let f = R .few in let s = R .size in let l = G .long in omega arith

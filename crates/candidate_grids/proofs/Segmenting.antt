@@ -24,9 +24,9 @@ use Rattle.geometry.specs.declared.point.Point.{Point}
 use Rattle.geometry.specs.Points.{along}
 use Rattle.box_faces.specs.declared.uv.Uv.{Uv}
 use Rattle.box_faces.specs.Faces.{uv, uAxis, vAxis, project}
-use Rattle.box_faces.specs.Segments.{segmentLength, segmentLengthIs, minus, segmentBound, onSegmentBy, onSegment}
+use Rattle.box_faces.specs.Segments.{segmentLength, segmentLengthIs, uvDifference, segmentBound, onSegmentBy, onSegment}
 use Rattle.candidate_pool.specs.Offsets.{entryAt}
-use Rattle.candidate_pool.specs.Standing.{pointAt, PointIn, Stored}
+use Rattle.candidate_pool.specs.Standing.{pointAt, PointIn, PointStored}
 use Rattle.candidate_grids.specs.Steps.{double, SegmentIn, startAt, endAt, hitAt, SegmentPut, SegmentGathered}
 
 abbrev bits : Float → ℕ
@@ -113,7 +113,7 @@ pub project-in : (f : ℕ) (p : Point) → PointIn p → UvIn (project f p)
 unfolding project
 project-in f p h = record { u = along-in p (uAxis f) h; v = along-in p (vAxis f) h }
 
-pub end-in : (f : ℕ) (w : List ℕ) (at : ℕ) (p : Point) (a : Uv) → Stored w at → p ≡ pointAt w at → a ≡ project f p → UvIn a
+pub end-in : (f : ℕ) (w : List ℕ) (at : ℕ) (p : Point) (a : Uv) → PointStored w at → p ≡ pointAt w at → a ≡ project f p → UvIn a
 end-in f w at p a s ep ea = subst UvIn (sym (ea ∙ ap (project f) ep)) (project-in f (pointAt w at) (s .within))
 
 module _ (a b : Uv) (ha : UvIn a) (hb : UvIn b) where
@@ -126,9 +126,9 @@ module _ (a b : Uv) (ha : UvIn a) (hb : UvIn b) where
   pub edge-rootable : T (rootable ((b .u ⊖ a .u) ⊗ (b .u ⊖ a .u) ⊕ (b .v ⊖ a .v) ⊗ (b .v ⊖ a .v)))
   edge-rootable = two-rootable 49 (lit≤ tt) du dv
 
-  length-in : Within (2 ^ 50) (segmentLength (minus b a))
+  length-in : Within (2 ^ 50) (segmentLength (uvDifference b a))
   length-in =
-      subst (λ (x : Float). Within (2 ^ 50) x) (sym (segmentLengthIs (minus b a)))
+      subst (λ (x : Float). Within (2 ^ 50) x) (sym (segmentLengthIs (uvDifference b a)))
       (root-pow ((b .u ⊖ a .u) ⊗ (b .u ⊖ a .u) ⊕ (b .v ⊖ a .v) ⊗ (b .v ⊖ a .v)) 50 (lit≤ tt)
       (add-fits binary64 ((b .u ⊖ a .u) ⊗ (b .u ⊖ a .u)) ((b .v ⊖ a .v) ⊗ (b .v ⊖ a .v)))
       edge-rootable (within-pow 99 100 (lit≤ tt) (two-squares 49 (lit≤ tt) du dv)))

@@ -11,11 +11,11 @@
 --   edgeHit       a point of a face lies on open edge i there
 --   EdgesReady, Gathered          the open edges of a face were
 --   NearReady     the segments of the face worked on stand in the room
---   inside        an index is neither the first nor the last
+--   isInner        an index is neither the first nor the last
 --   gridCell, rowCell, rowAt      what a grid point inserts, by the segments; a row's j-th; a face's row i
 --   faceLine      a face's own line               faceSize      how many points its grid has
 --   Grown         candidates keep their points, and stay in their lists
---   Entered       some points were entered, at most so many of them new
+--   PointsEntered       some points were entered, at most so many of them new
 --   PointReady, RowReady, FaceReady, FaceEntered   what entering a point, a row, a face's grid asks, and what the last leaves
 use Prim.Native.Nat.{ℕ, _+_, _*_, _≤_, _<_, _^_}
 use mathlib.Core.Path.{_≡_}
@@ -30,7 +30,7 @@ use Rattle.root.specs.Doubles.{finite}
 use Rattle.root.specs.Bounds.{Within}
 use Rattle.geometry.specs.declared.point.Point.{Point}
 use Rattle.geometry.specs.declared.aabb.AABB.{AABB}
-use Rattle.geometry.specs.Boxes.{low, high, axis, isMin}
+use Rattle.geometry.specs.Boxes.{lowest, highest, axis, isMin}
 use Rattle.geometry.specs.Axes.{segments, gridSize}
 use Rattle.refusals.specs.Front.{boxInRange, badBox, byAxis, gridTooFine}
 use Rattle.box_faces.specs.declared.uv.Uv.{Uv}
@@ -40,7 +40,7 @@ use Rattle.box_faces.specs.Segments.{onSegmentBy, onSegment}
 use Rattle.candidate_pool.specs.Offsets.{entryAt, joinedAt, poolEnd, openEdgesAt, segmentsAt, roomEnd}
 use Rattle.candidate_pool.specs.Pool.{Candidate, Pool, pointOf, faceList, byKey, insert}
 use Rattle.candidate_pool.specs.Setting.{Setting}
-use Rattle.candidate_pool.specs.Standing.{candidate, countAt, pointAt, poolAt, PointIn, Stored, Holds, edgesAt, EdgesHeld}
+use Rattle.candidate_pool.specs.Standing.{candidate, countAt, pointAt, poolAt, PointIn, PointStored, Holds, edgesAt, EdgesHeld}
 use Rattle.candidate_grids.specs.declared.grids.Near.{Near}
 use Rattle.candidate_grids.specs.declared.grids.Row.{Row}
 use Rattle.candidate_grids.specs.Grid.{faceGrid, grid}
@@ -106,9 +106,9 @@ pub record SegmentPut (at : ℕ) (a b : Uv) (bound : Float) (w w' : List ℕ) : 
 pub record EdgeReady (at edge : ℕ) (tolerance : Float) (w : List ℕ) : Type 0 where
   pub size : at + 5 ≤ length w
   pub before : edge + 1 < at
-  pub from : Stored w (entryAt (getD w edge 0))
+  pub from : PointStored w (entryAt (getD w edge 0))
   pub from-in : entryAt (getD w edge 0) + 2 < length w
-  pub to : Stored w (entryAt (getD w (edge + 1) 0))
+  pub to : PointStored w (entryAt (getD w (edge + 1) 0))
   pub to-in : entryAt (getD w (edge + 1) 0) + 2 < length w
   pub tolerance-in : Within (2 ^ 48) tolerance
 
@@ -133,7 +133,7 @@ pub record EdgesReady (n nf k face : ℕ) (tolerance : Float) (w : List ℕ) : T
   pub edges : k ≤ 3 * nf
   pub face-in : face < 6
   pub few : countAt w ≤ n
-  pub stored : (c : ℕ) → c < countAt w → Stored w (entryAt c)
+  pub stored : (c : ℕ) → c < countAt w → PointStored w (entryAt c)
   pub from : (i : ℕ) → i < k → hasBit (getD w (openEdgesAt n nf + 3 * i + 2) 0) face ≡ true → getD w (openEdgesAt n nf + 3 * i) 0 < countAt w
   pub to : (i : ℕ) → i < k → hasBit (getD w (openEdgesAt n nf + 3 * i + 2) 0) face ≡ true → getD w (openEdgesAt n nf + 3 * i + 1) 0 < countAt w
   pub tolerance-in : Within (2 ^ 48) tolerance
@@ -155,21 +155,21 @@ skipsNear w near = skipsAt w (near .at) (near .count) (near .tolerance)
 
 -- ---- points, rows, faces
 
-abbrev pub inside : ℕ → ℕ → Bool
-inside i last = not (eqb i 0) && not (eqb i last)
+abbrev pub isInner : ℕ → ℕ → Bool
+isInner i last = not (eqb i 0) && not (eqb i last)
 
 unfoldable pub gridCell : (Uv → Bool) → Bool → ℕ → Point → List Candidate
 gridCell skips inner f p = cond (inner && skips (project f p)) [] (candidate p 0 (f ∷ []) ∷ [])
 
 unfoldable pub rowCell : (Uv → Bool) → AABB → ℕ → Row → ℕ → ℕ → List Candidate
 rowCell skips box f row last j =
-    gridCell skips (row .inner && inside j last) f (pointOnFace f (row .at) (row .u) (lineAt (low box (vAxis f)) (high box (vAxis f)) last j))
+    gridCell skips (row .inner && isInner j last) f (pointOnFace f (row .at) (row .u) (lineAt (lowest box (vAxis f)) (highest box (vAxis f)) last j))
 
 abbrev pub faceLine : AABB → ℕ → ℕ → Float
-faceLine box f parts = lineAt (low box (axis f)) (high box (axis f)) parts (cond (isMin f) 0 parts)
+faceLine box f parts = lineAt (lowest box (axis f)) (highest box (axis f)) parts (cond (isMin f) 0 parts)
 
 abbrev pub rowAt : AABB → ℕ → Float → ℕ → ℕ → Row
-rowAt box f at last i = record { at = at; u = lineAt (low box (uAxis f)) (high box (uAxis f)) last i; inner = inside i last }
+rowAt box f at last i = record { at = at; u = lineAt (lowest box (uAxis f)) (highest box (uAxis f)) last i; inner = isInner i last }
 
 pub record PointReady (eps : Float) (n : ℕ) (near : Near) (face : ℕ) (p : Point) (w : List ℕ) : Type 0 where
   pub holds : Holds eps n w
@@ -185,7 +185,7 @@ pub record Grown (n : ℕ) (w w' : List ℕ) : Type 0 where
   pub lists : (f c : ℕ) → f < 6 → has (faceList (poolAt n w) f) c ≡ true → has (faceList (poolAt n w') f) c ≡ true
 
 -- the words behind the pool are as they were
-pub record Entered (eps : Float) (n : ℕ) (l : List Candidate) (most : ℕ) (w w' : List ℕ) : Type 0 where
+pub record PointsEntered (eps : Float) (n : ℕ) (l : List Candidate) (most : ℕ) (w w' : List ℕ) : Type 0 where
   pub pool : poolAt n w' ≡ foldl (insert (byKey eps)) (poolAt n w) l
   pub holds : Holds eps n w'
   pub few : countAt w' ≤ countAt w + most

@@ -5,7 +5,7 @@ ghost use mathlib.Core.List.{flatMap};
 ghost use Prim.Native.Nat.{_+_, _*_, _<_, _≤_};
 ghost use lib.ListN.{length};
 ghost use Rattle.lists.specs.Lists.{upTo};
-ghost use Rattle.geometry.specs.Boxes.{low, high};
+ghost use Rattle.geometry.specs.Boxes.{lowest, highest};
 ghost use Rattle.box_faces.specs.Lines.{lineAt};
 ghost use Rattle.candidate_grids.specs.Steps.{
   GridReady,
@@ -20,12 +20,12 @@ ghost use Rattle.candidate_grids.specs.Steps.{
   EdgesReady,
   Gathered,
   NearReady,
-  inside,
+  isInner,
   gridCell,
   rowCell,
   faceLine,
   PointReady,
-  Entered,
+  PointsEntered,
   RowReady,
   FaceReady,
   FaceEntered,
@@ -142,7 +142,7 @@ fn is_skipped(w: &[u64], n: usize, near: Near, p: Uv) -> bool
 
 fn grid_line(extents: AABB, axis: usize, parts: usize, i: usize) -> f64
     requires { ⌜ (axis < 3) × ((i ≤ 256) × (parts ≤ 256)) ⌝ }
-    ensures { λ r. ⌜ r ≡ lineAt (low extents axis) (high extents axis) parts i ⌝ }
+    ensures { λ r. ⌜ r ≡ lineAt (lowest extents axis) (highest extents axis) parts i ⌝ }
 {
     axis_grid_coordinate(extents.min_corner[axis], extents.max_corner[axis], parts, i)
 }
@@ -160,13 +160,13 @@ fn face_line(extents: AABB, face: usize, parts: usize) -> f64
 }
 
 fn is_interior(i: usize, last: usize) -> bool
-    ensures { λ r. ⌜ r ≡ inside i last ⌝ }
+    ensures { λ r. ⌜ r ≡ isInner i last ⌝ }
 {
     if i == 0 { false } else { i != last }
 }
 
 fn is_inner(inner: bool, i: usize, last: usize) -> bool
-    ensures { λ r. ⌜ r ≡ inner && inside i last ⌝ }
+    ensures { λ r. ⌜ r ≡ inner && isInner i last ⌝ }
 {
     if inner { is_interior(i, last) } else { false }
 }
@@ -182,7 +182,7 @@ fn enter_grid_point(
     eps: f64,
 )
     requires { ⌜ PointReady eps n near face p (now w) ⌝ }
-    ensures { λ _. ⌜ Entered eps n (gridCell (skipsNear (now (w .entry)) near) inner face p) 1 (now (w .entry)) (now (w .exit)) ⌝ }
+    ensures { λ _. ⌜ PointsEntered eps n (gridCell (skipsNear (now (w .entry)) near) inner face p) 1 (now (w .entry)) (now (w .exit)) ⌝ }
 {
     if inner {
         if is_skipped(w, n, near, project(face, p)) {
@@ -204,7 +204,7 @@ fn enter_grid_row(
     eps: f64,
 )
     requires { ⌜ RowReady eps n near face row extents last (now w) ⌝ }
-    ensures { λ _. ⌜ Entered eps n (flatMap (rowCell (skipsNear (now (w .entry)) near) extents face row last) (upTo (last + 1))) (last + 1) (now (w .entry)) (now (w .exit)) ⌝ }
+    ensures { λ _. ⌜ PointsEntered eps n (flatMap (rowCell (skipsNear (now (w .entry)) near) extents face row last) (upTo (last + 1))) (last + 1) (now (w .entry)) (now (w .exit)) ⌝ }
 {
     let axis = v_axis(face);
     let mut j = 0;

@@ -6,7 +6,7 @@ use mathlib.Core.Path.{_≡_, sym, ap, subst, _∙_}
 use mathlib.Core.List.{List, []}
 use lib.ListN.{getD, length}
 use lib.Ieee.{Float}
-use Rattle.lists.specs.Regions.{view, Zeroed}
+use Rattle.lists.specs.Regions.{view, PartZeroed}
 use Rattle.chains.proofs.Entering.{linked-none}
 use Rattle.candidate_pool.specs.Offsets.{keysAt, chainAt, listAt, joinedAt, poolEnd}
 use Rattle.candidate_pool.specs.Pool.{noPool}
@@ -16,7 +16,7 @@ use Rattle.candidate_pool.proofs.Tidying.{tidy-none}
 use Rattle.candidate_pool.proofs.Reading.{pool-is}
 
 module _ (eps : Float) (n : ℕ) (w u t v : List ℕ) (at to : ℕ) (at-is : at ≡ chainAt n) (to-is : to ≡ joinedAt n) (small : n < 268435456) (size : poolEnd n ≤ length w)
-    (counts : Zeroed w u 0 8) (chains : Zeroed u t at (2 * n)) (vertices : Zeroed t v to n) where
+    (counts : PartZeroed w u 0 8) (chains : PartZeroed u t at (2 * n)) (vertices : PartZeroed t v to n) where
   count-zero : (f : ℕ) → f < 8 → getD v f 0 ≡ 0
   count-zero f h =
       vertices .rest f (λ i r e. omega arith) ∙ chains .rest f (λ i r e. omega arith) ∙ ap (λ (x : ℕ). getD u x 0) (omega arith) ∙ counts .zero f h

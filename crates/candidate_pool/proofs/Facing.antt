@@ -26,7 +26,7 @@ use Rattle.mesh_weld.specs.Cells.{keyOf}
 use Rattle.candidate_pool.specs.Offsets.{entryAt, keysAt, listsAt, listAt, joinedAt}
 use Rattle.candidate_pool.specs.Pool.{Candidate, Pool, noCandidate, faceList, renewed, added, listed}
 use Rattle.candidate_pool.specs.Room.{keyWords, keyAt}
-use Rattle.candidate_pool.specs.Standing.{facesIn, candidate, countAt, pointAt, candidateAt, poolAt, Stored, Tidy, Holds, withFace, FaceAdded}
+use Rattle.candidate_pool.specs.Standing.{facesIn, candidate, countAt, pointAt, candidateAt, poolAt, PointStored, Tidy, Holds, withFace, FaceAdded}
 use Rattle.candidate_pool.proofs.Listing.{keep-faces, has-kept, has-one, listed-at}
 use Rattle.candidate_pool.proofs.Tidying.{tidy-faces}
 use Rattle.candidate_pool.proofs.Reading.{pool-count, pool-at, pool-list, pool-is, candidate-same, list-in, list-apart, list-long}
@@ -259,7 +259,7 @@ module _ (eps : Float) (n : ℕ) (w : List ℕ) (h : Holds eps n w) (id f : ℕ)
               ∙ h .keys c r
               ∙ ap (λ (q : Point). keyWords (keyOf eps q)) (sym (point-same w facePut (entryAt c) (λ i s. point-word c i r (omega arith))))
 
-          stored : (c : ℕ) → c < countAt w → Stored facePut (entryAt c)
+          stored : (c : ℕ) → c < countAt w → PointStored facePut (entryAt c)
           stored c r = stored-same w facePut (entryAt c) (λ i s. point-word c i r (omega arith)) (h .stored c r)
 
           masks : (c : ℕ) → c < countAt w → Dec (c ≡ id) → getD facePut (entryAt c + 4) 0 < 64

@@ -17,7 +17,7 @@ use Rattle.geometry.specs.declared.point.Point.{Point}
 use Rattle.mesh_weld.specs.Cells.{keyOf}
 use Rattle.candidate_pool.specs.Offsets.{entryAt, keysAt, listAt, joinedAt}
 use Rattle.candidate_pool.specs.Room.{keyWords}
-use Rattle.candidate_pool.specs.Standing.{countAt, pointAt, candidateAt, poolAt, Stored, Tidy, Holds}
+use Rattle.candidate_pool.specs.Standing.{countAt, pointAt, candidateAt, poolAt, PointStored, Tidy, Holds}
 use Rattle.candidate_pool.proofs.Reading.{pool-count, pool-at, pool-list, pool-is, candidate-same, list-in, list-few}
 use Rattle.candidate_pool.proofs.Putting.{key-same}
 use Rattle.candidate_pool.proofs.Placing.{table-kept, point-same, stored-same}
@@ -47,7 +47,7 @@ module _ (n : ℕ) (w w' : List ℕ) (long : length w' ≡ length w) (same : (x 
     pub candidate-kept : (c : ℕ) → c < countAt w → candidateAt w' c ≡ candidateAt w c
     candidate-kept c h = candidate-same w w' c (λ i k. same (entryAt c + i) (omega arith))
 
-    pub stored-kept : (c : ℕ) → c < countAt w → Stored w (entryAt c) → Stored w' (entryAt c)
+    pub stored-kept : (c : ℕ) → c < countAt w → PointStored w (entryAt c) → PointStored w' (entryAt c)
     stored-kept c h = stored-same w w' (entryAt c) (λ i k. same (entryAt c + i) (omega arith))
 
     pub pool-agrees : Tidy (poolAt n w) → poolAt n w' ≡ poolAt n w

@@ -33,7 +33,7 @@ use Rattle.candidate_pool.specs.Offsets.{entryAt, keysAt, chainAt, lists
 use Rattle.candidate_pool.specs.declared.keys.KeyWords.{KeyWords}
 use Rattle.candidate_pool.specs.Pool.{Candidate, Pool, noCandidate, byKey, renewed, enteredAs, listed, placeFor, numberFor, insert}
 use Rattle.candidate_pool.specs.Room.{keyWords, keyAt, sameWords, keyBucket, KeyTable}
-use Rattle.candidate_pool.specs.Standing.{facesIn, candidate, countAt, pointAt, candidateAt, poolAt, PointIn, Stored, Tidy, Holds, RoomFor, Inserted}
+use Rattle.candidate_pool.specs.Standing.{facesIn, candidate, countAt, pointAt, candidateAt, poolAt, PointIn, PointStored, Tidy, Holds, RoomFor, Inserted}
 use Rattle.candidate_pool.specs.Steps.{BitsOf, pointPut, candidatePut}
 use Rattle.candidate_pool.proofs.Listing.{keep-faces, has-kept}
 use Rattle.candidate_pool.proofs.Rule.{key-lawful}
@@ -67,7 +67,7 @@ point-at w at p b x y z =
     λ i. pt ((ap (ofBits binary64) x ∙ b .x) i) ((ap (ofBits binary64) y ∙ b .y) i) ((ap (ofBits binary64) z ∙ b .z) i)
 
 stored-at : (w : List ℕ) (at : ℕ) (p : Point) → BitsOf p → PointIn p → getD w at 0 ≡ toBits binary64 (p .x) → getD w (at + 1) 0 ≡ toBits binary64 (p .y)
-    → getD w (at + 2) 0 ≡ toBits binary64 (p .z) → Stored w at
+    → getD w (at + 2) 0 ≡ toBits binary64 (p .z) → PointStored w at
 stored-at w at p b within x y z =
     record {
       x = ap (λ (v : ℕ). toBits binary64 (ofBits binary64 v)) x ∙ ap (toBits binary64) (b .x) ∙ sym x;
@@ -83,7 +83,7 @@ point-same u w at same =
     first : getD w at 0 ≡ getD u at 0
     first = ap (λ (x : ℕ). getD w x 0) (omega arith) ∙ same 0 (omega arith) ∙ ap (λ (x : ℕ). getD u x 0) (omega arith)
 
-pub stored-same : (u w : List ℕ) (at : ℕ) → ((i : ℕ) → i < 3 → getD w (at + i) 0 ≡ getD u (at + i) 0) → Stored u at → Stored w at
+pub stored-same : (u w : List ℕ) (at : ℕ) → ((i : ℕ) → i < 3 → getD w (at + i) 0 ≡ getD u (at + i) 0) → PointStored u at → PointStored w at
 stored-same u w at same s =
     record {
       x = ap (λ (v : ℕ). toBits binary64 (ofBits binary64 v)) first ∙ s .x ∙ sym first;
@@ -180,7 +180,7 @@ module _ (eps : Float) (n : ℕ) (w : List ℕ) (h : Holds eps n w) (p : Point) 
           let r : c < id = omega arith in
           old-key c r ∙ h .keys c r ∙ ap (λ (q : Point). keyWords (keyOf eps q)) (sym (point-same w new (entryAt c) (λ i s. old-word c i r (omega arith))))
 
-      stored : (c : ℕ) → c < id + 1 → Dec (c ≡ id) → Stored new (entryAt c)
+      stored : (c : ℕ) → c < id + 1 → Dec (c ≡ id) → PointStored new (entryAt c)
       stored c k (yes e) = rw e (stored-at new (entryAt id) p bits within (put .x) (put .y) (put .z))
       stored c k (no d) = let r : c < id = omega arith in stored-same w new (entryAt c) (λ i s. old-word c i r (omega arith)) (h .stored c r)
 
@@ -339,7 +339,7 @@ module _ (eps : Float) (n : ℕ) (w : List ℕ) (h : Holds eps n w) (p : Point) 
         keys c k (yes e) = rw e (key-kept id ∙ link-key eps n w h (candidate p m []) id found ∙ ap (λ (q : Point). keyWords (keyOf eps q)) (sym point-is))
         keys c k (no d) = key-kept c ∙ h .keys c k ∙ ap (λ (q : Point). keyWords (keyOf eps q)) (sym (point-same w moved (entryAt c) (λ i s. other-word c i d (omega arith))))
 
-        stored : (c : ℕ) → c < countAt w → Dec (c ≡ id) → Stored moved (entryAt c)
+        stored : (c : ℕ) → c < countAt w → Dec (c ≡ id) → PointStored moved (entryAt c)
         stored c k (yes e) = rw e (stored-at moved (entryAt id) p bits within at-x at-y at-z)
         stored c k (no d) = stored-same w moved (entryAt c) (λ i s. other-word c i d (omega arith)) (h .stored c k)
 

@@ -14,7 +14,7 @@ use lib.Seq.{getD-set-same, getD-set-other}
 use lib.Ieee.{binary64, toBits}
 use Rattle.lists.specs.Regions.{Outside}
 use Rattle.geometry.specs.declared.point.Point.{Point}
-use Rattle.chains.specs.Chains.{Linked, entered}
+use Rattle.chains.specs.Chains.{Linked, linkedIn}
 use Rattle.chains.proofs.Entering.{linked-same, linked-more, tail-le, entered-length, entered-rest}
 use Rattle.candidate_pool.specs.Offsets.{entryAt, keysAt, chainAt, poolEnd}
 use Rattle.candidate_pool.specs.declared.keys.KeyWords.{KeyWords}
@@ -155,10 +155,10 @@ module _ (w : List ℕ) (n id : ℕ) (p : Point) (m : ℕ) (k : KeyWords) (size 
     enter-asks h q l =
         (q, (omega (arith, ap (length {A = ℕ}) made-is, long4), subst (λ (x : ℕ). x ≤ id) (sym (λ i. getD (made-is i) (t-is i + n + b) 0)) (tail-room h b q l)))
 
-    pub put-all : v ≡ entered made t n id b → v ≡ candidatePut w n id p m k b
-    put-all e = e ∙ (λ i. entered (made-is i) (t-is i) n id b)
+    pub put-all : v ≡ linkedIn made t n id b → v ≡ candidatePut w n id p m k b
+    put-all e = e ∙ (λ i. linkedIn (made-is i) (t-is i) n id b)
 
-    pub put-long : v ≡ entered made t n id b → length v ≡ length w
+    pub put-long : v ≡ linkedIn made t n id b → length v ≡ length w
     put-long e = ap (length {A = ℕ}) (put-all e) ∙ entered-length w4 (chainAt n) n id b ∙ long4
 
   module _ (b : ℕ) (q : b < n) (low : getD w4 (chainAt n + n + b) 0 ≤ id) where

@@ -6,7 +6,7 @@
 --   pointAt        a point from three words of bits          candidateAt   candidate c
 --   poolAt         all of them, with the face lists
 --   PointIn        a point of no NaN and no infinity, as vertices and grid points are
---   Stored         three words are the bits of such a point
+--   PointStored         three words are the bits of such a point
 --   Tidy           what every pool that was filled by `insert` satisfies: a candidate is in a face's list exactly if it has the face, and once
 --   Holds          the room holds its pool, so that a candidate is found by its key
 --   RoomFor        there is room for an inserted one, should it be new
@@ -61,7 +61,7 @@ pub record PointIn (p : Point) : Type 0 where
   pub y : Within (2 ^ 48) (p .y)
   pub z : Within (2 ^ 48) (p .z)
 
-pub record Stored (w : List ℕ) (at : ℕ) : Type 0 where
+pub record PointStored (w : List ℕ) (at : ℕ) : Type 0 where
   pub x : toBits binary64 (ofBits binary64 (getD w at 0)) ≡ getD w at 0
   pub y : toBits binary64 (ofBits binary64 (getD w (at + 1) 0)) ≡ getD w (at + 1) 0
   pub z : toBits binary64 (ofBits binary64 (getD w (at + 2) 0)) ≡ getD w (at + 2) 0
@@ -76,7 +76,7 @@ pub record Holds (eps : Float) (n : ℕ) (w : List ℕ) : Type 0 where
   pub size : poolEnd n ≤ length w
   pub table : KeyTable w n (countAt w)
   pub keys : (c : ℕ) → c < countAt w → keyAt w (keysAt n + 3 * c) ≡ keyWords (keyOf eps (pointAt w (entryAt c)))
-  pub stored : (c : ℕ) → c < countAt w → Stored w (entryAt c)
+  pub stored : (c : ℕ) → c < countAt w → PointStored w (entryAt c)
   pub masks : (c : ℕ) → c < countAt w → getD w (entryAt c + 4) 0 < 64
   pub lengths : (f : ℕ) → f < 6 → getD w f 0 ≤ n
   pub tidy : Tidy (poolAt n w)

@@ -11,7 +11,7 @@ use lib.ListN.{length, getD, set}
 use lib.Ieee.{Float, binary64, ofBits, toBits}
 use Rattle.geometry.specs.declared.point.Point.{Point}
 use Rattle.geometry.specs.Points.{origin}
-use Rattle.chains.specs.Chains.{entered}
+use Rattle.chains.specs.Chains.{linkedIn}
 use Rattle.candidate_pool.specs.Offsets.{entryAt, keysAt, chainAt, joinedAt}
 use Rattle.candidate_pool.specs.declared.keys.KeyWords.{KeyWords}
 use Rattle.candidate_pool.specs.Pool.{Pool, noCandidate, renewed, listed}
@@ -33,7 +33,7 @@ keyPut w at key = set (set (set w at (key .x)) (at + 1) (key .y)) (at + 2) (key 
 
 abbrev pub candidatePut : List ℕ → ℕ → ℕ → Point → ℕ → KeyWords → ℕ → List ℕ
 candidatePut w n id p mesh key b =
-    entered (keyPut (set (pointPut (set w 6 (id + 1)) id p mesh) (entryAt id + 4) 0) (keysAt n + 3 * id) key) (chainAt n) n id b
+    linkedIn (keyPut (set (pointPut (set w 6 (id + 1)) id p mesh) (entryAt id + 4) 0) (keysAt n + 3 * id) key) (chainAt n) n id b
 
 abbrev pub withFaces : Pool → ℕ → List ℕ → Pool
 withFaces p c on =

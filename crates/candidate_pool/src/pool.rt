@@ -7,7 +7,7 @@ ghost use lib.ListN.{length};
 ghost use Rattle.candidate_pool.specs.Offsets.{entryAt, poolEnd};
 ghost use Rattle.candidate_pool.specs.Pool.{byKey, numberFor};
 ghost use Rattle.candidate_pool.specs.Room.{KeyTable};
-ghost use Rattle.candidate_pool.specs.Standing.{facesIn, countAt, pointAt, poolAt, candidate, PointIn, Stored, Holds, RoomFor, Inserted, VertexInserted, FaceAdded, Cleared};
+ghost use Rattle.candidate_pool.specs.Standing.{facesIn, countAt, pointAt, poolAt, candidate, PointIn, PointStored, Holds, RoomFor, Inserted, VertexInserted, FaceAdded, Cleared};
 ghost use Rattle.candidate_pool.specs.Steps.{BitsOf, pointPut, candidatePut, FacesAdded};
 use crate::keys::KeyWords;
 use crate::keys::find_key;
@@ -147,7 +147,7 @@ pub fn insert_grid_point(w: &mut [u64], n: usize, p: Point, face: usize, eps: f6
 }
 
 pub fn point_of(w: &[u64], id: CandidateVertexId) -> Point
-    requires { ⌜ Stored (now w) (entryAt (id .0)) × (entryAt (id .0) + 2 < length (now w)) ⌝ }
+    requires { ⌜ PointStored (now w) (entryAt (id .0)) × (entryAt (id .0) + 2 < length (now w)) ⌝ }
     ensures { λ r. ⌜ r ≡ pointAt (now (w .entry)) (entryAt (id .0)) ⌝ }
 {
     let at = 8 + 5 * id.0;

@@ -18,7 +18,7 @@ use Rattle.candidate_pool.specs.Offsets.{entryAt, keysAt}
 use Rattle.candidate_pool.specs.Pool.{Candidate, noCandidate, pointOf}
 use Rattle.candidate_pool.specs.Standing.{countAt, candidateAt, poolAt}
 use Rattle.cap_closing.specs.Entering.{MeshWords}
-use Rattle.cap_closing.specs.Steps.{pointIn, namedAt, Entering, Started}
+use Rattle.cap_closing.specs.Steps.{pointIn, namedAt, NamesEntering, Started}
 use Rattle.cap_closing.proofs.Growth.{named-of}
 use Rattle.cap_closing.proofs.Upwards.{at-place}
 
@@ -66,7 +66,7 @@ module _ (b n nc nv : ℕ) (w w' : List ℕ) (pool : keysAt n ≤ b) (count : co
   count-same : countAt w' ≡ countAt w
   count-same = S .above .below 6 (omega arith)
 
-  pub entering-first : Entering b n nc nv w'
+  pub entering-first : NamesEntering b n nc nv w'
   entering-first =
       let k = count-same in
       let l = S .above .long in

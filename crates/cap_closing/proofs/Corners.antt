@@ -25,7 +25,7 @@ use Rattle.geometry.proofs.Points.{PointWithin, minus-within, cross-within, nor
 use Rattle.mesh_filter.specs.Room.{Below}
 use Rattle.candidate_pool.specs.Offsets.{entryAt, keysAt}
 use Rattle.candidate_pool.specs.Standing.{countAt, PointIn}
-use Rattle.cap_closing.specs.Steps.{pointIn, namedAt, Entering, Entered, Numbers, Shaped}
+use Rattle.cap_closing.specs.Steps.{pointIn, namedAt, NamesEntering, NamesEntered, NewNumbers, Shaped}
 use Rattle.cap_closing.proofs.Growth.{fold-cong}
 use Rattle.cap_closing.proofs.Numbering.{points-at, number-at}
 use Rattle.cap_closing.proofs.Upwards.{at-place}
@@ -37,11 +37,11 @@ point-below b n w w' h same c l =
     let z = same (entryAt c + 2) (omega arith) in
     λ t. pt (ofBits binary64 (x t)) (ofBits binary64 (y t)) (ofBits binary64 (z t))
 
-pub entered-count : (b n nc nv : ℕ) (cs : List ℕ) (w w' : List ℕ) → Entered b n nc nv cs w w' → countAt w' ≡ countAt w
+pub entered-count : (b n nc nv : ℕ) (cs : List ℕ) (w w' : List ℕ) → NamesEntered b n nc nv cs w w' → countAt w' ≡ countAt w
 entered-count b n nc nv cs w w' e = e .below 6 (let p = e .entering .pool in omega arith)
 
-module _ (b n nc nv : ℕ) (w : List ℕ) (E : Entering b n nc nv w) where
-  entered-trans : (cs ds : List ℕ) (w₁ w₂ : List ℕ) → Each (λ c. c < countAt w) ds → Entered b n nc nv cs w w₁ → Entered b n nc nv ds w₁ w₂ → Entered b n nc nv (cs ++ ds) w w₂
+module _ (b n nc nv : ℕ) (w : List ℕ) (E : NamesEntering b n nc nv w) where
+  entered-trans : (cs ds : List ℕ) (w₁ w₂ : List ℕ) → Each (λ c. c < countAt w) ds → NamesEntered b n nc nv cs w w₁ → NamesEntered b n nc nv ds w₁ w₂ → NamesEntered b n nc nv (cs ++ ds) w w₂
   entered-trans cs ds w₁ w₂ low e f =
       let k = entered-count b n nc nv cs w w₁ e in
       record {
@@ -60,14 +60,14 @@ module _ (b n nc nv : ℕ) (w : List ℕ) (E : Entering b n nc nv w) where
       }
 
   module _ (t : Triangle ℕ) (low : Below (countAt w) t) (r : Triangle ℕ) (w₁ w₂ w₃ : List ℕ)
-      (e : Entered b n nc nv (t .a ∷ []) w w₁) (f : Entered b n nc nv (t .b ∷ []) w₁ w₂) (g : Entered b n nc nv (t .c ∷ []) w₂ w₃)
+      (e : NamesEntered b n nc nv (t .a ∷ []) w w₁) (f : NamesEntered b n nc nv (t .b ∷ []) w₁ w₂) (g : NamesEntered b n nc nv (t .c ∷ []) w₂ w₃)
       (x : r .a + 1 ≡ getD w₁ (b + t .a) 0) (y : r .b + 1 ≡ getD w₂ (b + t .b) 0) (z : r .c + 1 ≡ getD w₃ (b + t .c) 0) where
-    pub entered-three : Entered b n nc nv (vertices t) w w₃
+    pub entered-three : NamesEntered b n nc nv (vertices t) w w₃
     entered-three =
         entered-trans (t .a ∷ t .b ∷ []) (t .c ∷ []) w₂ w₃ (low .c, tt)
         (entered-trans (t .a ∷ []) (t .b ∷ []) w₁ w₂ (low .b, tt) e f) g
 
-    pub numbers-three : Numbers b w₃ t r
+    pub numbers-three : NewNumbers b w₃ t r
     numbers-three =
         let k = entered-count b n nc nv (t .a ∷ []) w w₁ e in
         let l = entered-count b n nc nv (t .b ∷ []) w₁ w₂ f in
@@ -78,7 +78,7 @@ module _ (b n nc nv : ℕ) (w : List ℕ) (E : Entering b n nc nv w) where
         let s = g .stays (t .b) (omega arith) (omega arith) in
         record { a = x ∙ sym p ∙ sym q; b = y ∙ sym s; c = z }
 
-module _ (b n nc nv : ℕ) (w : List ℕ) (E : Entering b n nc nv w) (t r : Triangle ℕ) (low : Below (countAt w) t) (N : Numbers b w t r) where
+module _ (b n nc nv : ℕ) (w : List ℕ) (E : NamesEntering b n nc nv w) (t r : Triangle ℕ) (low : Below (countAt w) t) (N : NewNumbers b w t r) where
   pub numbers-below : Below (getD w (b + 2 * n + 8 * nc) 0) r
   numbers-below =
       let x = E .low (t .a) (low .a) in
@@ -101,7 +101,7 @@ module _ (b n nc nv : ℕ) (w : List ℕ) (E : Entering b n nc nv w) (t r : Tria
 
 -- ---- where vertices stand
 
-module _ (vs : List Float) (b n nc : ℕ) (w : List ℕ) (E : Entering b n nc (length vs / 3) w) where
+module _ (vs : List Float) (b n nc : ℕ) (w : List ℕ) (E : NamesEntering b n nc (length vs / 3) w) where
   abbrev all : List Point
   all = namedAt b n nc (length vs / 3) (pointsOf vs) w .points
 

@@ -15,7 +15,7 @@ use lib.Seq.{getD-set-same, getD-set-other}
 use Rattle.lists.specs.Lists.{keep, upFrom, upTo}
 use Rattle.lists.proofs.Counts.{count-le}
 use Rattle.lists.proofs.Places.{length-up}
-use Rattle.cap_closing.specs.Steps.{placeIn, isStart, bit, Marked}
+use Rattle.cap_closing.specs.Steps.{placeIn, isStart, bit, FirstsMarked}
 use Rattle.cap_closing.proofs.Upwards.{count-more}
 
 pub bit-is : (b : Bool) → boolByte b ≡ bit b
@@ -25,12 +25,12 @@ bit-is false = refl
 module _ (w : List ℕ) (records firsts left : ℕ) (behind : records + 2 * left ≤ firsts) (room : firsts + left ≤ length w)
     (low : (j : ℕ) → j < left → placeIn w records j < left)
     (once : (i j : ℕ) → i < j → j < left → placeIn w records i ≡ placeIn w records j → ⊥) where
-  pub marked-none : Marked records firsts left 0 0 w w
+  pub marked-none : FirstsMarked records firsts left 0 0 w w
   unfolding upFrom keep
   marked-none = record { marks = λ j h. absurd (omega arith); counted = refl; long = refl; below = λ x h. refl; beyond = λ x h. refl }
 
   -- how many there are so far, with the next
-  pub marked-few : (i r : ℕ) (v : List ℕ) → Marked records firsts left i r w v → (b : Bool) → r + boolByte b ≤ i + 1
+  pub marked-few : (i r : ℕ) (v : List ℕ) → FirstsMarked records firsts left i r w v → (b : Bool) → r + boolByte b ≤ i + 1
   marked-few i r v M b =
       let x = M .counted in
       let y = count-le (isStart w records) (upTo i) in
@@ -42,7 +42,7 @@ module _ (w : List ℕ) (records firsts left : ℕ) (behind : records + 2 * left
       one true = omega arith
       one false = omega arith
 
-  module _ (i r : ℕ) (v : List ℕ) (h : i < left) (M : Marked records firsts left i r w v) where
+  module _ (i r : ℕ) (v : List ℕ) (h : i < left) (M : FirstsMarked records firsts left i r w v) where
     pub place-same : placeIn v records i ≡ placeIn w records i
     place-same = M .below (records + 2 * i + 1) (omega arith)
 
@@ -72,7 +72,7 @@ module _ (w : List ℕ) (records firsts left : ℕ) (behind : records + 2 * left
           getD-set-other v spot (firsts + placeIn w records j) (bit b) 0 (λ e. let q = place-same in once j i (omega arith) h (omega arith))
           ∙ M .marks j (omega arith)
 
-      pub marked-more : Marked records firsts left (i + 1) (r + bit b) w (set v spot (bit b))
+      pub marked-more : FirstsMarked records firsts left (i + 1) (r + bit b) w (set v spot (bit b))
       marked-more =
           let s = spot-room in
           record {

@@ -26,11 +26,11 @@ use Rattle.geometry.specs.Meshes.{Named, enter}
 use Rattle.geometry.proofs.Meshes.{enter-new, enter-old}
 use Rattle.candidate_pool.specs.Offsets.{entryAt}
 use Rattle.candidate_pool.specs.Standing.{countAt}
-use Rattle.cap_closing.specs.Steps.{pointIn, namedAt, Entering, Entered}
+use Rattle.cap_closing.specs.Steps.{pointIn, namedAt, NamesEntering, NamesEntered}
 use Rattle.cap_closing.proofs.Growth.{named-of, Sound}
 use Rattle.cap_closing.proofs.Upwards.{map-more, few-places}
 
-module _ (b n nc nv : ℕ) (w : List ℕ) (E : Entering b n nc nv w) where
+module _ (b n nc nv : ℕ) (w : List ℕ) (E : NamesEntering b n nc nv w) where
   abbrev top : ℕ
   top = getD w (b + 2 * n + 8 * nc) 0
 
@@ -113,8 +113,8 @@ module _ (b n nc nv : ℕ) (w : List ℕ) (E : Entering b n nc nv w) where
 
 -- ---- one candidate
 
-module _ (b n nc nv : ℕ) (w : List ℕ) (E : Entering b n nc nv w) (id : ℕ) (low : id < countAt w) where
-  pub entered-old : (getD w (b + id) 0 ≡ 0 → ⊥) → Entered b n nc nv (id ∷ []) w w
+module _ (b n nc nv : ℕ) (w : List ℕ) (E : NamesEntering b n nc nv w) (id : ℕ) (low : id < countAt w) where
+  pub entered-old : (getD w (b + id) 0 ≡ 0 → ⊥) → NamesEntered b n nc nv (id ∷ []) w w
   entered-old h =
       record {
         entering = E;
@@ -198,7 +198,7 @@ module _ (b n nc nv : ℕ) (w : List ℕ) (E : Entering b n nc nv w) (id : ℕ) 
     given-same : (c : ℕ) → c < countAt w → (c ≡ id → ⊥) → getD w₃ (b + c) 0 ≡ getD w (b + c) 0
     given-same c h d = let l = E .count in off (b + c) (λ e. d (omega arith)) (λ e. omega arith) (λ e. omega arith)
 
-    entering : Entering b n nc nv w₃
+    entering : NamesEntering b n nc nv w₃
     entering =
         let t = at-top in
         let l = long₃ in
@@ -283,7 +283,7 @@ module _ (b n nc nv : ℕ) (w : List ℕ) (E : Entering b n nc nv w) (id : ℕ) 
         named-of g p
         ∙ sym (enter-new (pointIn w) (namedAt b n nc nv points w) id (number-at b n nc nv w E points own id low ∙ none))
 
-    pub entered-new : Entered b n nc nv (id ∷ []) w w₃
+    pub entered-new : NamesEntered b n nc nv (id ∷ []) w w₃
     entered-new =
         record {
           entering = entering;
@@ -303,8 +303,8 @@ module _ (b n nc nv : ℕ) (w : List ℕ) (E : Entering b n nc nv w) (id : ℕ) 
 
 -- ---- the same, by the places that the code computes
 
-module _ (b n nc nv : ℕ) (w : List ℕ) (E : Entering b n nc nv w) (id : ℕ) (low : id < countAt w) (g : ℕ) (at-given : g ≡ b) where
-  pub old-at : (getD w (g + id) 0 ≡ 0 → ⊥) → Entered b n nc nv (id ∷ []) w w × (getD w (g + id) 0 - 1 + 1 ≡ getD w (b + id) 0)
+module _ (b n nc nv : ℕ) (w : List ℕ) (E : NamesEntering b n nc nv w) (id : ℕ) (low : id < countAt w) (g : ℕ) (at-given : g ≡ b) where
+  pub old-at : (getD w (g + id) 0 ≡ 0 → ⊥) → NamesEntered b n nc nv (id ∷ []) w w × (getD w (g + id) 0 - 1 + 1 ≡ getD w (b + id) 0)
   old-at h =
       let q = ap (λ (x : ℕ). getD w (x + id) 0) at-given in
       (entered-old b n nc nv w E id low (λ e. h (q ∙ e)), positive (getD w (g + id) 0) (getD w (b + id) 0) h q)
@@ -318,7 +318,7 @@ module _ (b n nc nv : ℕ) (w : List ℕ) (E : Entering b n nc nv w) (id : ℕ) 
 
     abbrev Done : ℕ → ℕ → ℕ → Type 0
     Done g f u =
-        Entered b n nc nv (id ∷ []) w (set (set (set w (g + id) (getD w u 0 + 1)) (f + (getD w u 0 - nv)) id) u (getD w u 0 + 1))
+        NamesEntered b n nc nv (id ∷ []) w (set (set (set w (g + id) (getD w u 0 + 1)) (f + (getD w u 0 - nv)) id) u (getD w u 0 + 1))
         × (getD w u 0 + 1 ≡ getD (set (set (set w (g + id) (getD w u 0 + 1)) (f + (getD w u 0 - nv)) id) u (getD w u 0 + 1)) (b + id) 0)
 
     pub new-at : Done g f u

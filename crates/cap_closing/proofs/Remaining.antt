@@ -25,7 +25,7 @@ use Rattle.geometry.proofs.Meshes.{length-pointsOf}
 use Rattle.mesh_filter.specs.Room.{cornersKey, Below}
 use Rattle.candidate_pool.specs.Standing.{countAt}
 use Rattle.cap_closing.specs.Closing.{isLarge}
-use Rattle.cap_closing.specs.Steps.{pointIn, namedAt, Entering, Entered, Numbers, facetAt, LeftAre, putLeft, Appended}
+use Rattle.cap_closing.specs.Steps.{pointIn, namedAt, NamesEntering, NamesEntered, NewNumbers, leftFacet, LeftAre, putLeft, Appended}
 use Rattle.cap_closing.proofs.Growth.{named-of}
 use Rattle.cap_closing.proofs.Upwards.{keep-nil, map-more}
 use Rattle.cap_closing.proofs.Numbering.{most-vertices, points-at}
@@ -33,7 +33,7 @@ use Rattle.cap_closing.proofs.Corners.{point-below, entered-count, numb
 
 -- ---- what stands behind the numbers given out does not matter to them
 
-module _ (b n nc nv : ℕ) (w w' : List ℕ) (E : Entering b n nc nv w) (long : length w' ≡ length w)
+module _ (b n nc nv : ℕ) (w w' : List ℕ) (E : NamesEntering b n nc nv w) (long : length w' ≡ length w)
     (same : (x : ℕ) → x < b + 2 * n → getD w' x 0 ≡ getD w x 0) (top : getD w' (b + 2 * n + 8 * nc) 0 ≡ getD w (b + 2 * n + 8 * nc) 0) where
   count-same : countAt w' ≡ countAt w
   count-same = same 6 (let p = E .pool in omega arith)
@@ -41,7 +41,7 @@ module _ (b n nc nv : ℕ) (w w' : List ℕ) (E : Entering b n nc nv w) (long : 
   fresh-same : (i : ℕ) → nv + i < getD w (b + 2 * n + 8 * nc) 0 → getD w' (b + n + i) 0 ≡ getD w (b + n + i) 0
   fresh-same i h = let m = most-vertices b n nc nv w E in let c = E .count in same (b + n + i) (omega arith)
 
-  pub entering-kept : Entering b n nc nv w'
+  pub entering-kept : NamesEntering b n nc nv w'
   entering-kept =
       let k = count-same in
       let s = E .size in
@@ -90,7 +90,7 @@ module _ (b n nc left : ℕ) (w w' : List ℕ) (list : List (Triangle ℕ)) (few
     (same : (j : ℕ) → j < 3 * left → getD w' (b + 2 * n + j) 0 ≡ getD w (b + 2 * n + j) 0)
     (records : (j : ℕ) → j < 2 * left → getD w' (b + 2 * n + 3 * nc + j) 0 ≡ getD w (b + 2 * n + 3 * nc + j) 0)
     (grows : getD w (b + 2 * n + 8 * nc) 0 ≤ getD w' (b + 2 * n + 8 * nc) 0) (L : LeftAre b n nc left w list) where
-  facet-same : (j : ℕ) → j < left → facetAt b n w' j ≡ facetAt b n w j
+  facet-same : (j : ℕ) → j < left → leftFacet b n w' j ≡ leftFacet b n w j
   facet-same j h =
       let x = same (3 * j) (omega arith) in
       let y = near (b + 2 * n) (3 * j) 1 (same (3 * j + 1) (omega arith)) in
@@ -103,12 +103,12 @@ module _ (b n nc left : ℕ) (w w' : List ℕ) (list : List (Triangle ℕ)) (few
   pub left-frame : LeftAre b n nc left w' list
   left-frame =
       record {
-        facets = map-below (facetAt b n w') (facetAt b n w) left facet-same ∙ L .facets;
+        facets = map-below (leftFacet b n w') (leftFacet b n w) left facet-same ∙ L .facets;
         keys = λ j h. records (2 * j) (omega arith) ∙ L .keys j h ∙ ap cornersKey (sym (facet-same j h));
         places = λ j h. let q : b + 2 * n + 3 * nc + 2 * j + 1 ≡ b + 2 * n + 3 * nc + (2 * j + 1) = omega arith in
             ap (λ (x : ℕ). getD w' x 0) q ∙ records (2 * j + 1) (omega arith) ∙ sym (ap (λ (x : ℕ). getD w x 0) q) ∙ L .places j h;
         below = λ j h. subst (Below (getD w' (b + 2 * n + 8 * nc) 0)) (sym (facet-same j h))
-            (below-more (getD w (b + 2 * n + 8 * nc) 0) (getD w' (b + 2 * n + 8 * nc) 0) (facetAt b n w j) grows (L .below j h));
+            (below-more (getD w (b + 2 * n + 8 * nc) 0) (getD w' (b + 2 * n + 8 * nc) 0) (leftFacet b n w j) grows (L .below j h));
       }
 
 module _ (b n nc left : ℕ) (w : List ℕ) (t : Triangle ℕ) (room : left < nc) (size : b + 2 * n + 8 * nc < length w) where
@@ -180,7 +180,7 @@ module _ (b n nc left : ℕ) (w : List ℕ) (t : Triangle ℕ) (room : left < nc
   at-place : getD w₅ (p + 1) 0 ≡ left
   at-place = getD-set-same w₄ (p + 1) left 0 (let l = long₄ in omega arith)
 
-  facet-put : facetAt b n w₅ left ≡ t
+  facet-put : leftFacet b n w₅ left ≡ t
   facet-put = let x = at-a in let y = at-b in let z = at-c in λ i. tri (x i) (y i) (z i)
 
   module _ (list : List (Triangle ℕ)) (L : LeftAre b n nc left w list) (B : Below (getD w (b + 2 * n + 8 * nc) 0) t) where
@@ -201,10 +201,10 @@ module _ (b n nc left : ℕ) (w : List ℕ) (t : Triangle ℕ) (room : left < nc
     pub left-put : LeftAre b n nc (left + 1) w₅ (list ++ (t ∷ []))
     left-put =
         record {
-          facets = map-more (facetAt b n w₅) left ∙ (λ i. old .facets i ++ (facet-put i ∷ []));
-          keys = each (λ j. getD w₅ (b + 2 * n + 3 * nc + 2 * j) 0 ≡ cornersKey (facetAt b n w₅ j)) (old .keys) (at-key ∙ ap cornersKey (sym facet-put));
+          facets = map-more (leftFacet b n w₅) left ∙ (λ i. old .facets i ++ (facet-put i ∷ []));
+          keys = each (λ j. getD w₅ (b + 2 * n + 3 * nc + 2 * j) 0 ≡ cornersKey (leftFacet b n w₅ j)) (old .keys) (at-key ∙ ap cornersKey (sym facet-put));
           places = each (λ j. getD w₅ (b + 2 * n + 3 * nc + 2 * j + 1) 0 ≡ j) (old .places) at-place;
-          below = each (λ j. Below (getD w₅ (b + 2 * n + 8 * nc) 0) (facetAt b n w₅ j)) (old .below)
+          below = each (λ j. Below (getD w₅ (b + 2 * n + 8 * nc) 0) (leftFacet b n w₅ j)) (old .below)
               (subst (Below (getD w₅ (b + 2 * n + 8 * nc) 0)) (sym facet-put)
               (subst (λ (k : ℕ). Below k t) (sym put-top) B));
         }
@@ -212,7 +212,7 @@ module _ (b n nc left : ℕ) (w : List ℕ) (t : Triangle ℕ) (room : left < nc
 -- ---- one triangle
 
 module _ (vs : List Float) (b n nc left : ℕ) (t r : Triangle ℕ) (w w₁ : List ℕ) (room : left < nc) (low : Below (countAt w) t)
-    (e : Entered b n nc (length vs / 3) (vertices t) w w₁) (N : Numbers b w₁ t r) where
+    (e : NamesEntered b n nc (length vs / 3) (vertices t) w w₁) (N : NewNumbers b w₁ t r) where
   abbrev nv : ℕ
   nv = length vs / 3
 

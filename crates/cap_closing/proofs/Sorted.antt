@@ -26,7 +26,7 @@ use Rattle.sorting.proofs.Comparing.{record-order}
 use Rattle.sorting.proofs.Records.{length-records, records-get}
 use Rattle.sorting.proofs.Sorting.{SortedPart, at-most-key, at-most-payload}
 use Rattle.lists.proofs.Pigeonhole.{pairwise-places}
-use Rattle.cap_closing.specs.Steps.{keyIn, placeIn, isStart, isFirst, bit, Marked, Found}
+use Rattle.cap_closing.specs.Steps.{keyIn, placeIn, isStart, isFirst, bit, FirstsMarked, Found}
 use Rattle.cap_closing.proofs.Places.{first-none, first-some}
 
 -- ---- over plain functions: the key and the place of each sorted record, and the key of each place
@@ -189,7 +189,7 @@ module _ (w w' : List ℕ) (a left : ℕ) (room : a + 4 * left ≤ length w) (S 
       start : (i : ℕ) → 0 + i ≡ i
       start i = omega arith
 
-  module _ (firsts r : ℕ) (u : List ℕ) (behind : a + 4 * left ≤ firsts) (M : Marked a firsts left left r w' u) where
+  module _ (firsts r : ℕ) (u : List ℕ) (behind : a + 4 * left ≤ firsts) (M : FirstsMarked a firsts left left r w' u) where
     before-same : (x : ℕ) → x < a → getD w' x 0 ≡ getD w x 0
     before-same x h = sym (getD-take a w' x 0 h) ∙ ap (λ (l : List ℕ). getD l x 0) (S .before) ∙ getD-take a w x 0 h
 

@@ -22,10 +22,10 @@ use Rattle.geometry.specs.Meshes.{pointsOf, Named, newNumber, enter}
 use Rattle.geometry.proofs.Meshes.{length-pointsOf}
 use Rattle.mesh_filter.specs.Room.{Below}
 use Rattle.candidate_pool.specs.Offsets.{entryAt}
-use Rattle.candidate_pool.specs.Standing.{countAt, PointIn, Stored}
+use Rattle.candidate_pool.specs.Standing.{countAt, PointIn, PointStored}
 use Rattle.cap_triangles.specs.Room.{turnedAt, componentsAt, seededAt, closingAt, Above}
 use Rattle.cap_closing.specs.Closing.{isLarge}
-use Rattle.cap_closing.specs.Steps.{pointIn, namedAt, Entering, Shaped, facetAt, LeftAre, Appended, capAtRoom, isTaken, takenAt, Taking, Turned, Appending}
+use Rattle.cap_closing.specs.Steps.{pointIn, namedAt, NamesEntering, Shaped, leftFacet, LeftAre, Appended, capAtRoom, isTaken, takenAt, Taking, Turned, Appending}
 use Rattle.cap_closing.proofs.Growth.{Grown, grown-fold, fold-has, fold-cong, Corners, flat-each, each-flat, kept-left}
 use Rattle.cap_closing.proofs.Upwards.{keep-nil, keep-more, each-up}
 use Rattle.cap_closing.proofs.Numbering.{given-long, sound-at}
@@ -64,7 +64,7 @@ module _ (n nf nc : ℕ) (w w' : List ℕ) (A : Above (closingAt n nf nc) w w') 
   pub shaped-kept : (vs : List Float) → countAt w ≤ n → Shaped vs w → Shaped vs w'
   shaped-kept vs few S = record { vertices = S .vertices; stored = λ c h. stored c (let e = count-kept in omega arith) }
     where
-      stored : (c : ℕ) → c < countAt w → Stored w' (entryAt c)
+      stored : (c : ℕ) → c < countAt w → PointStored w' (entryAt c)
       stored c h =
           let s = S .stored c h in
           let x = A .below (entryAt c) (omega arith) in
@@ -108,7 +108,7 @@ flat-more ts t = flatMap-append vertices ts (t ∷ [])
 
 -- ---- the loop
 
-module _ (vs : List Float) (n nf nc : ℕ) (positive : Bool) (w : List ℕ) (E : Entering (closingAt n nf nc) n nc (length vs / 3) w) (K : Taking n nf nc w) where
+module _ (vs : List Float) (n nf nc : ℕ) (positive : Bool) (w : List ℕ) (E : NamesEntering (closingAt n nf nc) n nc (length vs / 3) w) (K : Taking n nf nc w) where
   abbrev b : ℕ
   b = closingAt n nf nc
 
@@ -140,7 +140,7 @@ module _ (vs : List Float) (n nf nc : ℕ) (positive : Bool) (w : List ℕ) (E :
       nothing-flat : foldl (enter (pointIn w)) (names w) (flat []) ≡ names w
       nothing-flat = refl
 
-      nothing-up : map (facetAt b n w) (upTo 0) ≡ []
+      nothing-up : map (leftFacet b n w) (upTo 0) ≡ []
       nothing-up = refl
 
   module _ (i left : ℕ) (w' : List ℕ) (h : i < nc) (P : Appending vs b n nf nc positive i left w w') where

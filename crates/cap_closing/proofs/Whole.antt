@@ -29,7 +29,7 @@ use Rattle.cap_triangles.proofs.Good.{turned-corners, turned-low}
 use Rattle.cap_selection.specs.Chosen.{chosenIn}
 use Rattle.cap_closing.specs.Closing.{taken, entered, isLarge, capFacets}
 use Rattle.cap_closing.specs.Entering.{MeshWords, takenIn, namedFor, firstsIn, Closed}
-use Rattle.cap_closing.specs.Steps.{pointIn, namedAt, Entering, Shaped, facetAt, capAtRoom, isTaken, takenAt, Taking, Appending, keyIn, isFirst, bit, Started, Found}
+use Rattle.cap_closing.specs.Steps.{pointIn, namedAt, NamesEntering, Shaped, leftFacet, capAtRoom, isTaken, takenAt, Taking, Appending, keyIn, isFirst, bit, Started, Found}
 use Rattle.cap_closing.proofs.Growth.{fold-cong}
 use Rattle.cap_closing.proofs.Upwards.{map-keep-up, at-place}
 use Rattle.cap_closing.proofs.Numbering.{most-vertices}
@@ -118,7 +118,7 @@ module _ (n nf : ℕ) (capList : List ℕ) (w : List ℕ) (T : TurnedReady n nf 
     top₃ : getD w₃ (b + 2 * n + 8 * nc) 0 ≡ getD w₂ (b + 2 * n + 8 * nc) 0
     top₃ = F .beyond (b + 2 * n + 8 * nc) (let l = P .few in omega arith)
 
-    entering₃ : Entering b n nc nv w₃
+    entering₃ : NamesEntering b n nc nv w₃
     entering₃ = entering-kept b n nc nv w₂ w₃ (P .entering) (F .long) (λ x h. below₃ x (omega arith)) top₃
 
     named₃ : namedAt b n nc nv (pointsOf vs) w₃ ≡ namedFor n nf capList positive vs w
@@ -129,10 +129,10 @@ module _ (n nf : ℕ) (capList : List ℕ) (w : List ℕ) (T : TurnedReady n nf 
     top-low : getD w₂ (b + 2 * n + 8 * nc) 0 < 2097152
     top-low = let m = most-vertices b n nc nv w₂ (P .entering) in let c = P .entering .count in let s = P .entering .small in omega arith
 
-    facet-low : (j : ℕ) → j < left → Below 2097152 (facetAt b n w₂ j)
+    facet-low : (j : ℕ) → j < left → Below 2097152 (leftFacet b n w₂ j)
     facet-low j h = let t = top-low in let B = P .facets .below j h in let x = B .a in let y = B .b in let z = B .c in record { a = omega arith; b = omega arith; c = omega arith }
 
-    facet₃ : (j : ℕ) → j < left → facetAt b n w₃ j ≡ facetAt b n w₂ j
+    facet₃ : (j : ℕ) → j < left → leftFacet b n w₃ j ≡ leftFacet b n w₂ j
     facet₃ j h =
         let l = P .few in
         let x = below₃ (b + 2 * n + 3 * j) (omega arith) in
@@ -143,30 +143,30 @@ module _ (n nf : ℕ) (capList : List ℕ) (w : List ℕ) (T : TurnedReady n nf 
     abbrev key : ℕ → ℕ
     key = keyIn w₂ (b + 2 * n + 3 * nc)
 
-    alike : (i j : ℕ) → j < i → i < left → sameCorners (facetAt b n w₂ i) (facetAt b n w₂ j) ≡ eqb (key j) (key i)
+    alike : (i j : ℕ) → j < i → i < left → sameCorners (leftFacet b n w₂ i) (leftFacet b n w₂ j) ≡ eqb (key j) (key i)
     alike i j h l =
-        same-key (facetAt b n w₂ i) (facetAt b n w₂ j) (facet-low i l) (facet-low j (omega arith))
+        same-key (leftFacet b n w₂ i) (leftFacet b n w₂ j) (facet-low i l) (facet-low j (omega arith))
         ∙ (λ t. eqb (sym (P .facets .keys j (omega arith)) t) (sym (P .facets .keys i l) t))
 
     marked : (x : Bool) → eqb (bit x) 1 ≡ x
     marked true = refl
     marked false = refl
 
-    firsts-are : map (facetAt b n w₂) (keep (isFirst key) (upTo left)) ≡ capFacets (namedFor n nf capList positive vs w) ts
+    firsts-are : map (leftFacet b n w₂) (keep (isFirst key) (upTo left)) ≡ capFacets (namedFor n nf capList positive vs w) ts
     unfolding capFacets
     firsts-are =
-        sym (distinct-places sameCorners (facetAt b n w₂) key left alike)
+        sym (distinct-places sameCorners (leftFacet b n w₂) key left alike)
         ∙ ap (distinct sameCorners)
         (P .facets .facets ∙ (λ t. keep (isLarge (named₂ t .points)) (map (mapped (newNumber (named₂ t))) (same-taken t))))
 
     written : firstsIn n nf nc w₃ left ≡ capFacets (namedFor n nf capList positive vs w) ts
     written =
-        map-keep-up (facetAt b n w₃) (facetAt b n w₂) (λ i. eqb (getD w₃ (b + 2 * n + 7 * nc + i) 0) 1) (isFirst key) left facet₃
+        map-keep-up (leftFacet b n w₃) (leftFacet b n w₂) (λ i. eqb (getD w₃ (b + 2 * n + 7 * nc + i) 0) 1) (isFirst key) left facet₃
         (λ i h. ap (λ (x : ℕ). eqb x 1) (F .marks i h) ∙ marked (isFirst key i))
         ∙ firsts-are
 
     counted : found ≡ length (capFacets (namedFor n nf capList positive vs w) ts)
-    counted = F .counted ∙ sym (length-map (keep (isFirst key) (upTo left)) (facetAt b n w₂)) ∙ ap (length {A = Triangle ℕ}) firsts-are
+    counted = F .counted ∙ sym (length-map (keep (isFirst key) (upTo left)) (leftFacet b n w₂)) ∙ ap (length {A = Triangle ℕ}) firsts-are
 
     word-low : (q r j : ℕ) → j ≡ 3 * q + r → q < left → r < 3 → Dec (r ≡ 0) → Dec (r ≡ 1) → getD w₃ (b + 2 * n + j) 0 < 2097152
     word-low q r j e h l (yes z) d =

@@ -2,10 +2,10 @@
 -- candidate its vertex + 1 or 0 (n words), the candidates that became new vertices (n), facets left after the area test (3 nc), their records (4 nc), of a facet left 1 if it is the first
 -- of its three corners (nc), and how many vertices there are (1). Assumes nothing.
 --   pointIn           the point of candidate c               namedAt    the numbers given out, and the vertices, as they stand in the room
---   Entering          such numbers stand in the room: each new vertex is a candidate's, which has its number
---   Entered           the corners cs were entered            Numbers    the vertices of three candidates
+--   NamesEntering          such numbers stand in the room: each new vertex is a candidate's, which has its number
+--   NamesEntered           the corners cs were entered            NewNumbers    the vertices of three candidates
 --   Shaped            candidates and vertices are points of no NaN and no infinity
---   facetAt, LeftAre  facet i of those left; these are left, with their records
+--   leftFacet, LeftAre  facet i of those left; these are left, with their records
 --   putLeft           the room with one facet more
 --   Appended          the corners of one triangle were entered, and its facet is left or not
 --   capAtRoom, isTaken, takenAt   triangle i as it stands, turned; whether the mode takes it; those taken of the first i
@@ -15,7 +15,7 @@
 --   keyIn, placeIn    of record j its key and its place
 --   isStart           no record just before record j has its key      isFirst    no earlier place has the key of place i
 --   bit               a truth value as a word                Started    what `start_entering` leaves
---   Marked            what `mark_firsts` leaves              Found      what `find_firsts` leaves
+--   FirstsMarked            what `mark_firsts` leaves              Found      what `find_firsts` leaves
 use Prim.Native.Nat.{ℕ, _+_, _*_, _-_, _/_, _≤_, _<_}
 use mathlib.Core.Path.{_≡_}
 use mathlib.Core.Bool.{Bool, true, false, cond, not, Bool·beq}
@@ -30,7 +30,7 @@ use Rattle.geometry.specs.Triangles.{Triangle, tri, mapped, vertices, flat}
 use Rattle.geometry.specs.Meshes.{pointsOf, Named, newNumber, enter}
 use Rattle.mesh_filter.specs.Room.{cornersKey, Below}
 use Rattle.candidate_pool.specs.Offsets.{entryAt, keysAt}
-use Rattle.candidate_pool.specs.Standing.{countAt, pointAt, Stored}
+use Rattle.candidate_pool.specs.Standing.{countAt, pointAt, PointStored}
 use Rattle.candidate_edges.specs.Steps.{VerticesIn}
 use Rattle.cap_triangles.specs.Room.{turnedAt, componentsAt, seededAt, Above}
 use Rattle.cap_closing.specs.Closing.{isLarge}
@@ -45,7 +45,7 @@ namedAt b n nc nv points w =
       points = points ++ map (pointIn w) (view w (b + n) (getD w (b + 2 * n + 8 * nc) 0 - nv));
     }
 
-pub record Entering (b n nc nv : ℕ) (w : List ℕ) : Type 0 where
+pub record NamesEntering (b n nc nv : ℕ) (w : List ℕ) : Type 0 where
   pub pool : keysAt n ≤ b
   pub size : b + 2 * n + 8 * nc < length w
   pub count : countAt w ≤ n
@@ -57,8 +57,8 @@ pub record Entering (b n nc nv : ℕ) (w : List ℕ) : Type 0 where
   pub numbered : (i : ℕ) → nv + i < getD w (b + 2 * n + 8 * nc) 0 → getD w (b + getD w (b + n + i) 0) 0 ≡ nv + i + 1
   pub low : (c : ℕ) → c < countAt w → getD w (b + c) 0 ≤ getD w (b + 2 * n + 8 * nc) 0
 
-pub record Entered (b n nc nv : ℕ) (cs : List ℕ) (w w' : List ℕ) : Type 0 where
-  pub entering : Entering b n nc nv w'
+pub record NamesEntered (b n nc nv : ℕ) (cs : List ℕ) (w w' : List ℕ) : Type 0 where
+  pub entering : NamesEntering b n nc nv w'
   pub long : length w' ≡ length w
   pub below : (x : ℕ) → x < b → getD w' x 0 ≡ getD w x 0
   pub between : (x : ℕ) → b + 2 * n ≤ x → x < b + 2 * n + 8 * nc → getD w' x 0 ≡ getD w x 0
@@ -66,23 +66,23 @@ pub record Entered (b n nc nv : ℕ) (cs : List ℕ) (w w' : List ℕ) : Type 0 
   pub grows : getD w (b + 2 * n + 8 * nc) 0 ≤ getD w' (b + 2 * n + 8 * nc) 0
   pub named : (points : List Point) → length points ≡ nv → namedAt b n nc nv points w' ≡ foldl (enter (pointIn w)) (namedAt b n nc nv points w) cs
 
-pub record Numbers (at : ℕ) (w : List ℕ) (t r : Triangle ℕ) : Type 0 where
+pub record NewNumbers (at : ℕ) (w : List ℕ) (t r : Triangle ℕ) : Type 0 where
   pub a : r .a + 1 ≡ getD w (at + t .a) 0
   pub b : r .b + 1 ≡ getD w (at + t .b) 0
   pub c : r .c + 1 ≡ getD w (at + t .c) 0
 
 pub record Shaped (vs : List Float) (w : List ℕ) : Type 0 where
   pub vertices : VerticesIn vs
-  pub stored : (c : ℕ) → c < countAt w → Stored w (entryAt c)
+  pub stored : (c : ℕ) → c < countAt w → PointStored w (entryAt c)
 
-abbrev pub facetAt : ℕ → ℕ → List ℕ → ℕ → Triangle ℕ
-facetAt b n w i = tri (getD w (b + 2 * n + 3 * i) 0) (getD w (b + 2 * n + 3 * i + 1) 0) (getD w (b + 2 * n + 3 * i + 2) 0)
+abbrev pub leftFacet : ℕ → ℕ → List ℕ → ℕ → Triangle ℕ
+leftFacet b n w i = tri (getD w (b + 2 * n + 3 * i) 0) (getD w (b + 2 * n + 3 * i + 1) 0) (getD w (b + 2 * n + 3 * i + 2) 0)
 
 pub record LeftAre (b n nc left : ℕ) (w : List ℕ) (list : List (Triangle ℕ)) : Type 0 where
-  pub facets : map (facetAt b n w) (upTo left) ≡ list
-  pub keys : (j : ℕ) → j < left → getD w (b + 2 * n + 3 * nc + 2 * j) 0 ≡ cornersKey (facetAt b n w j)
+  pub facets : map (leftFacet b n w) (upTo left) ≡ list
+  pub keys : (j : ℕ) → j < left → getD w (b + 2 * n + 3 * nc + 2 * j) 0 ≡ cornersKey (leftFacet b n w j)
   pub places : (j : ℕ) → j < left → getD w (b + 2 * n + 3 * nc + 2 * j + 1) 0 ≡ j
-  pub below : (j : ℕ) → j < left → Below (getD w (b + 2 * n + 8 * nc) 0) (facetAt b n w j)
+  pub below : (j : ℕ) → j < left → Below (getD w (b + 2 * n + 8 * nc) 0) (leftFacet b n w j)
 
 abbrev pub putLeft : ℕ → ℕ → ℕ → ℕ → Triangle ℕ → List ℕ → List ℕ
 putLeft b n nc left t w =
@@ -90,7 +90,7 @@ putLeft b n nc left t w =
     (b + 2 * n + 3 * nc + 2 * left) (cornersKey t)) (b + 2 * n + 3 * nc + 2 * left + 1) left
 
 pub record Appended (vs : List Float) (b n nc : ℕ) (t : Triangle ℕ) (left r : ℕ) (w w' : List ℕ) : Type 0 where
-  pub entering : Entering b n nc (length vs / 3) w'
+  pub entering : NamesEntering b n nc (length vs / 3) w'
   pub above : Above b w w'
   pub named : namedAt b n nc (length vs / 3) (pointsOf vs) w' ≡ foldl (enter (pointIn w)) (namedAt b n nc (length vs / 3) (pointsOf vs) w) (vertices t)
   pub few : r ≤ 1
@@ -118,7 +118,7 @@ pub record Turned (vs : List Float) (b n nf nc : ℕ) (positive : Bool) (i left 
   pub few : r ≤ 1
 
 pub record Appending (vs : List Float) (b n nf nc : ℕ) (positive : Bool) (i left : ℕ) (w w' : List ℕ) : Type 0 where
-  pub entering : Entering b n nc (length vs / 3) w'
+  pub entering : NamesEntering b n nc (length vs / 3) w'
   pub above : Above b w w'
   pub named : namedAt b n nc (length vs / 3) (pointsOf vs) w' ≡ foldl (enter (pointIn w)) (namedAt b n nc (length vs / 3) (pointsOf vs) w) (flat (takenAt n nf nc positive w i))
   pub few : left ≤ i
@@ -145,7 +145,7 @@ pub record Started (b n nc nv : ℕ) (w w' : List ℕ) : Type 0 where
   pub own : getD w' (b + 2 * n + 8 * nc) 0 ≡ nv
   pub given : (c : ℕ) → c < countAt w → getD w' (b + c) 0 ≡ getD w (entryAt c + 3) 0
 
-pub record Marked (records firsts left i r : ℕ) (w w' : List ℕ) : Type 0 where
+pub record FirstsMarked (records firsts left i r : ℕ) (w w' : List ℕ) : Type 0 where
   pub marks : (j : ℕ) → j < i → getD w' (firsts + placeIn w records j) 0 ≡ bit (isStart w records j)
   pub counted : r ≡ count (isStart w records) (upTo i)
   pub long : length w' ≡ length w

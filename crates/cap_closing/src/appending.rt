@@ -9,7 +9,7 @@ ghost use Rattle.mesh_filter.specs.Room.{Below};
 ghost use Rattle.candidate_pool.specs.Standing.{countAt};
 ghost use Rattle.cap_triangles.specs.Room.{turnedAt, closingAt};
 ghost use Rattle.cap_closing.specs.Closing.{isLarge};
-ghost use Rattle.cap_closing.specs.Steps.{namedAt, Entering, Entered, Numbers, Shaped, putLeft, capAtRoom, Appended, Taking, Turned, Appending};
+ghost use Rattle.cap_closing.specs.Steps.{namedAt, NamesEntering, NamesEntered, NewNumbers, Shaped, putLeft, capAtRoom, Appended, Taking, Turned, Appending};
 use crate::entering::entered_point;
 use crate::entering::materialize_candidate;
 use crate::room::left_at;
@@ -31,8 +31,8 @@ fn materialize_triangle(
     t: CandidateTriangle,
 ) -> MeshTriangle
     requires { ⌜ (nf < 268435456) × Below (countAt (now w)) (candidatesOf t) ⌝ }
-    requires { ⌜ Entering (closingAt n nf nc) n nc nv (now w) ⌝ }
-    ensures { λ r. ⌜ Entered (closingAt n nf nc) n nc nv (vertices (candidatesOf t)) (now (w .entry)) (now (w .exit)) × Numbers (closingAt n nf nc)
+    requires { ⌜ NamesEntering (closingAt n nf nc) n nc nv (now w) ⌝ }
+    ensures { λ r. ⌜ NamesEntered (closingAt n nf nc) n nc nv (vertices (candidatesOf t)) (now (w .entry)) (now (w .exit)) × NewNumbers (closingAt n nf nc)
         (now (w .exit)) (candidatesOf t) (meshVerticesOf r) ⌝ }
 {
     let a = materialize_candidate(w, n, nf, nc, nv, t.a);
@@ -44,7 +44,7 @@ fn materialize_triangle(
 // "less those of measured double area 1e-12 or under"
 fn is_large(w: &[u64], vertices: &[f64], n: usize, nf: usize, nc: usize, t: MeshTriangle) -> bool
     requires { ⌜ (nf < 268435456) × Below (getD (now w) (closingAt n nf nc + 2 * n + 8 * nc) 0) (meshVerticesOf t) ⌝ }
-    requires { ⌜ Entering (closingAt n nf nc) n nc (length (now vertices) / 3) (now w) ⌝ }
+    requires { ⌜ NamesEntering (closingAt n nf nc) n nc (length (now vertices) / 3) (now w) ⌝ }
     requires { ⌜ Shaped (now vertices) (now w) ⌝ }
     ensures { λ r. ⌜ r ≡ isLarge (namedAt (closingAt n nf nc) n nc (length (now (vertices .entry)) / 3) (pointsOf (now (vertices .entry))) (now (w .entry)) .points) (meshVerticesOf t) ⌝ }
 {
@@ -81,7 +81,7 @@ fn append_cap(
     left: usize,
 ) -> usize
     requires { ⌜ (nf < 268435456) × (i < nc) × (left < nc) ⌝ }
-    requires { ⌜ Entering (closingAt n nf nc) n nc (length (now vertices) / 3) (now w) ⌝ }
+    requires { ⌜ NamesEntering (closingAt n nf nc) n nc (length (now vertices) / 3) (now w) ⌝ }
     requires { ⌜ Shaped (now vertices) (now w) ⌝ }
     requires { ⌜ Taking n nf nc (now w) ⌝ }
     ensures { λ r. ⌜ Appended (now (vertices .entry)) (closingAt n nf nc) n nc (capAtRoom n nf nc (now (w .entry)) i) left r (now (w .entry)) (now (w .exit)) ⌝ }
@@ -107,7 +107,7 @@ fn append_if_taken(
     left: usize,
 ) -> usize
     requires { ⌜ (nf < 268435456) × (i < nc) × (left < nc) ⌝ }
-    requires { ⌜ Entering (closingAt n nf nc) n nc (length (now vertices) / 3) (now w) ⌝ }
+    requires { ⌜ NamesEntering (closingAt n nf nc) n nc (length (now vertices) / 3) (now w) ⌝ }
     requires { ⌜ Shaped (now vertices) (now w) ⌝ }
     requires { ⌜ Taking n nf nc (now w) ⌝ }
     ensures { λ r. ⌜ Turned (now (vertices .entry)) (closingAt n nf nc) n nf nc positive i left r (now (w .entry)) (now (w .exit)) ⌝ }
@@ -129,7 +129,7 @@ pub fn append_caps(
     positive: bool,
 ) -> usize
     requires { ⌜ nf < 268435456 ⌝ }
-    requires { ⌜ Entering (closingAt n nf nc) n nc (length (now vertices) / 3) (now w) ⌝ }
+    requires { ⌜ NamesEntering (closingAt n nf nc) n nc (length (now vertices) / 3) (now w) ⌝ }
     requires { ⌜ Shaped (now vertices) (now w) ⌝ }
     requires { ⌜ Taking n nf nc (now w) ⌝ }
     ensures { λ r. ⌜ Appending (now (vertices .entry)) (closingAt n nf nc) n nf nc positive nc r (now (w .entry)) (now (w .exit)) ⌝ }

@@ -6,7 +6,7 @@ ghost use lib.ListN.{length, getD};
 ghost use Rattle.geometry.specs.Meshes.{vertex, pointsOf};
 ghost use Rattle.candidate_pool.specs.Standing.{countAt};
 ghost use Rattle.cap_triangles.specs.Room.{closingAt};
-ghost use Rattle.cap_closing.specs.Steps.{namedAt, Entering, Entered, Shaped, Started};
+ghost use Rattle.cap_closing.specs.Steps.{namedAt, NamesEntering, NamesEntered, Shaped, Started};
 use crate::room::fresh_at;
 use crate::room::given_at;
 use crate::room::vertices_at;
@@ -41,8 +41,8 @@ pub fn materialize_candidate(
     id: CandidateVertexId,
 ) -> MeshVertexId
     requires { ⌜ (nf < 268435456) × (id .0 < countAt (now w)) ⌝ }
-    requires { ⌜ Entering (closingAt n nf nc) n nc nv (now w) ⌝ }
-    ensures { λ r. ⌜ Entered (closingAt n nf nc) n nc nv (id .0 ∷ []) (now (w .entry)) (now (w .exit)) × (r .0 + 1 ≡ getD (now (w .exit)) (closingAt n nf nc + id .0) 0) ⌝ }
+    requires { ⌜ NamesEntering (closingAt n nf nc) n nc nv (now w) ⌝ }
+    ensures { λ r. ⌜ NamesEntered (closingAt n nf nc) n nc nv (id .0 ∷ []) (now (w .entry)) (now (w .exit)) × (r .0 + 1 ≡ getD (now (w .exit)) (closingAt n nf nc + id .0) 0) ⌝ }
 {
     let at = given_at(n, nf, nc) + id.0;
     let known = w[at] as usize;
@@ -67,7 +67,7 @@ pub fn entered_point(
     v: MeshVertexId,
 ) -> Point
     requires { ⌜ (nf < 268435456) × (v .0 < getD (now w) (closingAt n nf nc + 2 * n + 8 * nc) 0) ⌝ }
-    requires { ⌜ Entering (closingAt n nf nc) n nc (length (now vertices) / 3) (now w) ⌝ }
+    requires { ⌜ NamesEntering (closingAt n nf nc) n nc (length (now vertices) / 3) (now w) ⌝ }
     requires { ⌜ Shaped (now vertices) (now w) ⌝ }
     ensures { λ r. ⌜ r ≡ vertex (namedAt (closingAt n nf nc) n nc (length (now (vertices .entry)) / 3) (pointsOf (now (vertices .entry))) (now (w .entry)) .points) (v .0) ⌝ }
 {

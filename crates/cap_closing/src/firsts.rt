@@ -3,7 +3,7 @@ ghost use mathlib.Core.Path.{_≡_};
 ghost use Prim.Native.Nat.{ℕ, _+_, _*_, _≤_, _<_};
 ghost use lib.ListN.{length, getD};
 ghost use Rattle.cap_triangles.specs.Room.{closingAt};
-ghost use Rattle.cap_closing.specs.Steps.{placeIn, isStart, Marked, Found};
+ghost use Rattle.cap_closing.specs.Steps.{placeIn, isStart, FirstsMarked, Found};
 use crate::room::firsts_at;
 use crate::room::threes_at;
 use sorting::sort_records;
@@ -24,7 +24,7 @@ fn mark_firsts(w: &mut [u64], records: usize, firsts: usize, left: usize) -> usi
     requires { ⌜ (records + 2 * left ≤ firsts) × (firsts + left ≤ length (now w)) ⌝ }
     requires { ⌜ ((j : ℕ) → j < left → placeIn (now w) records j < left) ⌝ }
     requires { ⌜ ((i j : ℕ) → i < j → j < left → placeIn (now w) records i ≡ placeIn (now w) records j → ⊥) ⌝ }
-    ensures { λ r. ⌜ Marked records firsts left left r (now (w .entry)) (now (w .exit)) ⌝ }
+    ensures { λ r. ⌜ FirstsMarked records firsts left left r (now (w .entry)) (now (w .exit)) ⌝ }
 {
     let mut count = 0;
     let mut i = 0;

@@ -29,10 +29,10 @@ use Rattle.refusals.specs.declared.reply.Reply.the-variants.{DoneTwo, Refused}
 use Rattle.refusals.specs.Refusals.{documentedReply}
 use Rattle.refusals.specs.Answers.{output, meshOutputs, Answer}
 use Rattle.refusals.proofs.Answers.{short, done-two}
-use Rattle.candidate_pool.specs.Standing.{Stored}
+use Rattle.candidate_pool.specs.Standing.{PointStored}
 use Rattle.cap_closing.specs.Closing.{ownFacets}
 use Rattle.cap_closing.specs.Entering.{freshAt, leftAt, firstsAt, verticesAt, freshIn, facetIn, firstsIn}
-use Rattle.cap_outputs.specs.Written.{pointsIn, allCapWords, standing, Deliverable}
+use Rattle.cap_outputs.specs.Written.{pointsIn, allCapWords, closedMeshIn, Deliverable}
 use Rattle.cap_outputs.proofs.Blocks.{fresh-long, own-long, caps-are}
 
 -- ---- test 12: a mesh of x coordinates and y numbers
@@ -76,7 +76,7 @@ module _ (vs : List Float) (fs : List ℕ) (n nc left caps : ℕ) (positive : Bo
   nv = length vs / 3
 
   abbrev m : Mesh
-  m = standing vs fs n nc positive left w
+  m = closedMeshIn vs fs n nc positive left w
 
   pub caps-few : caps ≤ 1048576
   caps-few =
@@ -108,7 +108,7 @@ module _ (vs : List Float) (fs : List ℕ) (n nc left caps : ℕ) (positive : Bo
     pub fresh-room : (fa : ℕ) → fa ≡ freshAt n nf nc → fa + (many - nv) ≤ length w
     fresh-room fa e = let a = many-is in omega (arith, e, a, D .size, D .most, D .own)
 
-    pub fresh-stored : (fa : ℕ) → fa ≡ freshAt n nf nc → (i : ℕ) → i < many - nv → Stored w (entryAt (getD w (fa + i) 0)) × (entryAt (getD w (fa + i) 0) + 2 < length w)
+    pub fresh-stored : (fa : ℕ) → fa ≡ freshAt n nf nc → (i : ℕ) → i < many - nv → PointStored w (entryAt (getD w (fa + i) 0)) × (entryAt (getD w (fa + i) 0) + 2 < length w)
     fresh-stored fa e i h =
         let a = many-is in
         let b : getD w (fa + i) 0 ≡ getD w (freshAt n nf nc + i) 0 = ap (λ (x : ℕ). getD w (x + i) 0) e in

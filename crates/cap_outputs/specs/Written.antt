@@ -2,7 +2,7 @@
 -- Assumes nothing.
 --   pointsIn       the points of some candidates
 --   capWords       a facet left, if it is the first of its three corners         allCapWords   all those
---   standing       the closed mesh that stands in the room
+--   closedMeshIn       the closed mesh that stands in the room
 --   Deliverable    what is asked of the room for it to be written out
 use Prim.Native.Nat.{ℕ, _+_, _*_, _-_, _/_, _≤_, _<_}
 use mathlib.Core.Path.{_≡_}
@@ -17,7 +17,7 @@ use Rattle.candidate_pool.specs.Offsets.{entryAt}
 use Rattle.geometry.specs.Triangles.{threes}
 use Rattle.geometry.specs.Meshes.{Mesh, pointsOf}
 use Rattle.refusals.specs.Front.{ceiling, ListsPass}
-use Rattle.candidate_pool.specs.Standing.{countAt, pointAt, Stored}
+use Rattle.candidate_pool.specs.Standing.{countAt, pointAt, PointStored}
 use Rattle.cap_closing.specs.Closing.{ownFacets}
 use Rattle.cap_closing.specs.Entering.{freshAt, leftAt, verticesAt, freshIn, firstsIn}
 
@@ -31,8 +31,8 @@ abbrev pub allCapWords : List ℕ → ℕ → ℕ → ℕ → List ℕ
 allCapWords w facets firsts left = flatMap (λ i. capWords w (facets + 3 * i) (firsts + i)) (upTo left)
 
 -- for at most n candidates, nc supplied triangles, and `left` facets after the area test
-abbrev pub standing : List Float → List ℕ → ℕ → ℕ → Bool → ℕ → List ℕ → Mesh
-standing vs fs n nc positive left w =
+abbrev pub closedMeshIn : List Float → List ℕ → ℕ → ℕ → Bool → ℕ → List ℕ → Mesh
+closedMeshIn vs fs n nc positive left w =
     record {
       points = pointsOf vs ++ pointsIn w (freshIn n (length fs / 3) nc w (length vs / 3));
       facets = ownFacets positive (threes fs) ++ firstsIn n (length fs / 3) nc w left;
@@ -44,7 +44,7 @@ pub record Deliverable (vs : List Float) (fs : List ℕ) (n nc left caps : ℕ) 
   pub few-caps : nc ≤ 1048576
   pub size : verticesAt n (length fs / 3) nc < length w
   pub few : countAt w ≤ n
-  pub stored : (c : ℕ) → c < countAt w → Stored w (entryAt c)
+  pub stored : (c : ℕ) → c < countAt w → PointStored w (entryAt c)
   pub own : length vs / 3 ≤ getD w (verticesAt n (length fs / 3) nc) 0
   pub most : getD w (verticesAt n (length fs / 3) nc) 0 ≤ length vs / 3 + n
   pub fresh : (i : ℕ) → i < getD w (verticesAt n (length fs / 3) nc) 0 - length vs / 3 → getD w (freshAt n (length fs / 3) nc + i) 0 < countAt w

@@ -10,9 +10,9 @@ ghost use Rattle.geometry.specs.Meshes.{coordinates, meshOf};
 ghost use Rattle.candidate_pool.specs.Offsets.{entryAt};
 ghost use Rattle.refusals.specs.Refusals.{documentedReply};
 ghost use Rattle.refusals.specs.Answers.{meshOutputs, Answer};
-ghost use Rattle.candidate_pool.specs.Standing.{Stored};
+ghost use Rattle.candidate_pool.specs.Standing.{PointStored};
 ghost use Rattle.cap_closing.specs.Closing.{ownFacets};
-ghost use Rattle.cap_outputs.specs.Written.{pointsIn, capWords, allCapWords, standing, Deliverable};
+ghost use Rattle.cap_outputs.specs.Written.{pointsIn, capWords, allCapWords, closedMeshIn, Deliverable};
 use candidate_pool::pool::point_of;
 use cap_closing::room::firsts_at;
 use cap_closing::room::fresh_at;
@@ -69,7 +69,7 @@ fn write_three(out: &mut [u32], at: usize, a: u32, b: u32, c: u32)
 // The points of the `count` candidates that became new vertices, from `at` on.
 fn write_fresh(w: &[u64], fresh: usize, count: usize, out: &mut [f64], at: usize)
     requires { ⌜ (fresh + count ≤ length (now w)) × (at + 3 * count ≤ length (now out)) ⌝ }
-    requires { ⌜ ((i : ℕ) → i < count → Stored (now w) (entryAt (getD (now w) (fresh + i) 0)) × (entryAt (getD (now w) (fresh + i) 0) + 2 < length (now w))) ⌝ }
+    requires { ⌜ ((i : ℕ) → i < count → PointStored (now w) (entryAt (getD (now w) (fresh + i) 0)) × (entryAt (getD (now w) (fresh + i) 0) + 2 < length (now w))) ⌝ }
     ensures { λ _. ⌜ now (out .exit) ≡ sets (now (out .entry)) at (coordinates (pointsIn (now (w .entry)) (view (now (w .entry)) fresh count))) ⌝ }
 {
     let mut i = 0;
@@ -159,7 +159,7 @@ pub fn deliver_closed(
 ) -> Reply
     requires { ⌜ Deliverable (now vertices) (now facets) n nc left caps (now w) ⌝ }
     ensures { λ r. ⌜ Answer []
-        (meshOutputs (standing (now (vertices .entry)) (now (facets .entry)) n nc positive left (now (w .entry))) (now («out_vertices» .entry)) (now («out_vertices» .exit))
+        (meshOutputs (closedMeshIn (now (vertices .entry)) (now (facets .entry)) n nc positive left (now (w .entry))) (now («out_vertices» .entry)) (now («out_vertices» .exit))
         (now («out_facets» .entry)) (now («out_facets» .exit))) (documentedReply r) ⌝ }
 {
     let nf = facets.len() / 3;

@@ -30,7 +30,7 @@ use Rattle.candidate_pool.specs.Standing.{countAt, poolAt}
 use Rattle.candidate_pool.proofs.Masking.{word-bit}
 use Rattle.candidate_pool.proofs.Reading.{pool-count}
 use Rattle.candidate_pool.proofs.Tidying.{has-low}
-use Rattle.cap_triangles.specs.Room.{turnedAt, recordsAt, Above, turnedIn, CapReady}
+use Rattle.cap_triangles.specs.Room.{turnedAt, pairRecordsAt, Above, turnedIn, CapReady}
 use Rattle.cap_triangles.proofs.Kept.{turnedIn-kept}
 use Rattle.cap_triangles.proofs.Good.{turned-low}
 use Rattle.cap_pairs.specs.Pairs.{edgePair, pairCount, pairAt}
@@ -75,7 +75,7 @@ module _ (n nf k : ℕ) (capList w : List ℕ) where
       back : (k s : ℕ) → k + s - k ≡ s
       back k s = omega arith
 
-  pub pair-kept : (b : ℕ) (w' : List ℕ) → Above b w w' → recordsAt n nf nc ≤ b → k ≤ 3 * nf → (q : ℕ) → pairAt n nf k capList w' q ≡ pairAt n nf k capList w q
+  pub pair-kept : (b : ℕ) (w' : List ℕ) → Above b w w' → pairRecordsAt n nf nc ≤ b → k ≤ 3 * nf → (q : ℕ) → pairAt n nf k capList w' q ≡ pairAt n nf k capList w q
   unfolding pairAt
   pair-kept b w' above end few q =
       ⊎-elim

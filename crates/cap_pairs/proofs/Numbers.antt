@@ -15,10 +15,10 @@ use Rattle.lists.proofs.Orders.{cases}
 use Rattle.sorting.specs.Buffer.{recordOf}
 use Rattle.sorting.proofs.Sorting.{SortedPart}
 use Rattle.edges.specs.Edges.{samePair}
-use Rattle.edges.specs.Table.{keyOf, nextSide}
+use Rattle.edges.specs.Table.{edgeKey, nextSide}
 use Rattle.edges.proofs.Keys.{same-pair-key}
 use Rattle.edges.proofs.Sides.{next-in}
-use Rattle.cap_triangles.specs.Room.{turnedAt, recordsAt, numbersAt, Above, CapReady}
+use Rattle.cap_triangles.specs.Room.{turnedAt, pairRecordsAt, numbersAt, Above, CapReady}
 use Rattle.cap_triangles.proofs.Kept.{above-more, above-less}
 use Rattle.cap_pairs.specs.Pairs.{edgePair, pairAt, Numbered}
 use Rattle.cap_pairs.specs.Steps.{sideWords, Recorded, SortedPairs, FirstsPut, TablesFor}
@@ -27,12 +27,12 @@ use Rattle.cap_pairs.proofs.Ordering as ordering
 use Rattle.candidate_pool.specs.Offsets.{openEdgesAt}
 
 module _ (n nf k : ℕ) (capList w w1 : List ℕ) (r : CapReady n nf k capList w)
-    (r1 : Recorded (λ i. edgePair w (openEdgesAt n nf + 3 * i)) w w1 (recordsAt n nf (length capList / 4)) 0 k) where
+    (r1 : Recorded (λ i. edgePair w (openEdgesAt n nf + 3 * i)) w w1 (pairRecordsAt n nf (length capList / 4)) 0 k) where
   abbrev nc : ℕ
   nc = length capList / 4
 
   abbrev at : ℕ
-  at = recordsAt n nf nc
+  at = pairRecordsAt n nf nc
 
   abbrev p : ℕ
   p = k + 3 * nc
@@ -41,7 +41,7 @@ module _ (n nf k : ℕ) (capList w w1 : List ℕ) (r : CapReady n nf k capList w
   P = pairAt n nf k capList w
 
   abbrev K : ℕ → ℕ
-  K q = keyOf (P q)
+  K q = edgeKey (P q)
 
   pub tables-then : TablesFor n nf nc w1 k
   tables-then =
@@ -66,13 +66,13 @@ module _ (n nf k : ℕ) (capList w w1 : List ℕ) (r : CapReady n nf k capList w
     of-edge q h =
         let x = r2 .above .below (at + 2 * q) (omega arith) in
         let y = r2 .above .below (at + 2 * q + 1) (omega arith) in
-        (λ t. (x t, y t)) ∙ r1 .done q h ∙ (λ t. (keyOf (sym (pair-edge n nf k capList w q h) t), start q t))
+        (λ t. (x t, y t)) ∙ r1 .done q h ∙ (λ t. (edgeKey (sym (pair-edge n nf k capList w q h) t), start q t))
       where
         start : (q : ℕ) → 0 + q ≡ q
         start q = omega arith
 
     of-side : (s : ℕ) → s < 3 * nc → recordOf w2 (at + 2 * (k + s)) ≡ (K (k + s), k + s)
-    of-side s h = ap (recordOf w2) (spread at k s) ∙ r2 .done s h ∙ (λ t. (keyOf (side-words s h t), k + s))
+    of-side s h = ap (recordOf w2) (spread at k s) ∙ r2 .done s h ∙ (λ t. (edgeKey (side-words s h t), k + s))
       where
         spread : (a k s : ℕ) → a + 2 * (k + s) ≡ a + 2 * k + 2 * s
         spread a k s = omega arith

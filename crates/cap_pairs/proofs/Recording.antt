@@ -13,7 +13,7 @@ use lib.ListN.{length, getD, set, length-set}
 use lib.Seq.{getD-set-same, getD-set-other}
 use Rattle.sorting.specs.Buffer.{recordOf, putRecord}
 use Rattle.sorting.proofs.Records.{put-length, put-same, put-other}
-use Rattle.edges.specs.Table.{keyOf}
+use Rattle.edges.specs.Table.{edgeKey}
 use Rattle.cap_triangles.specs.Room.{Above}
 use Rattle.cap_pairs.specs.Steps.{Recorded, keyIn, whichIn, SortedPairs, FirstOf, FirstsPut}
 
@@ -23,7 +23,7 @@ module _ (P : ℕ → ℕ × ℕ) (w₀ : List ℕ) (at first : ℕ) where
   recording-start = record { above = record { long = refl; below = λ x h. refl }; done = λ j h. absurd (omega arith) }
 
   module _ (w : List ℕ) (i : ℕ) (r : Recorded P w₀ w at first i) (room : at + 2 * i + 1 < length w₀) where
-    pub recording-turn : (key which : ℕ) → key ≡ keyOf (P i) → which ≡ first + i → Recorded P w₀ (putRecord w (at + 2 * i) (key, which)) at first (i + 1)
+    pub recording-turn : (key which : ℕ) → key ≡ edgeKey (P i) → which ≡ first + i → Recorded P w₀ (putRecord w (at + 2 * i) (key, which)) at first (i + 1)
     recording-turn key which e o =
         record {
           above = record {
@@ -36,9 +36,9 @@ module _ (P : ℕ → ℕ × ℕ) (w₀ : List ℕ) (at first : ℕ) where
         below : (j : ℕ) → (j ≡ i → ⊥) → j < i + 1 → j < i
         below j n h = omega arith
 
-        each : (j : ℕ) → j < i + 1 → Dec (j ≡ i) → recordOf (putRecord w (at + 2 * i) (key, which)) (at + 2 * j) ≡ (keyOf (P j), first + j)
+        each : (j : ℕ) → j < i + 1 → Dec (j ≡ i) → recordOf (putRecord w (at + 2 * i) (key, which)) (at + 2 * j) ≡ (edgeKey (P j), first + j)
         each j h (yes q) =
-            subst (λ (x : ℕ). recordOf (putRecord w (at + 2 * i) (key, which)) (at + 2 * x) ≡ (keyOf (P x), first + x)) (sym q)
+            subst (λ (x : ℕ). recordOf (putRecord w (at + 2 * i) (key, which)) (at + 2 * x) ≡ (edgeKey (P x), first + x)) (sym q)
             (put-same w (at + 2 * i) (key, which) (omega (arith, r .above .long)) ∙ (λ t. (e t, o t)))
         each j h (no n) =
             let x = put-other w (at + 2 * i) (key, which) (at + 2 * j) (λ q. n (omega arith)) (λ q. omega arith) in

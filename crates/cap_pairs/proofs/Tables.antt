@@ -11,7 +11,7 @@ use native.Mathlib.Omega.{arith}
 use lib.Dec.{eqb, ltb}
 use lib.ListN.{length, getD}
 use Rattle.lists.specs.Lists.{some, upTo}
-use Rattle.lists.specs.Regions.{Zeroed}
+use Rattle.lists.specs.Regions.{PartZeroed}
 use Rattle.lists.proofs.Sequences.{some-below}
 use Rattle.box_faces.specs.Faces.{hasBit}
 use Rattle.cap_triangles.specs.Selection.{Cap, capsOf}
@@ -57,7 +57,7 @@ module _ (n nf k : ℕ) (capList w : List ℕ) (ready : CapReady n nf k capList 
 
 module _ (n nf k : ℕ) (capList w : List ℕ) (ready : CapReady n nf k capList w) (N : PairNumbers n nf k capList w)
     (z1 z2 z : List ℕ) (up down held : ℕ) (eu : up ≡ upAt n nf (length capList / 4)) (ed : down ≡ downAt n nf (length capList / 4)) (eh : held ≡ heldAt n nf (length capList / 4))
-    (Z1 : Zeroed w z1 up (k + 3 * (length capList / 4))) (Z2 : Zeroed z1 z2 down (k + 3 * (length capList / 4))) (Z3 : Zeroed z2 z held (k + 3 * (length capList / 4))) where
+    (Z1 : PartZeroed w z1 up (k + 3 * (length capList / 4))) (Z2 : PartZeroed z1 z2 down (k + 3 * (length capList / 4))) (Z3 : PartZeroed z2 z held (k + 3 * (length capList / 4))) where
   abbrev nc : ℕ
   nc = length capList / 4
 

@@ -10,9 +10,9 @@ use lib.Dec.{eqb}
 use lib.ListN.{length, getD}
 use Rattle.words.specs.Packed.{edge}
 use Rattle.sorting.specs.Buffer.{putRecord}
-use Rattle.edges.specs.Table.{keyOf, nextSide}
+use Rattle.edges.specs.Table.{edgeKey, nextSide}
 use Rattle.edges.proofs.Sides.{next-in}
-use Rattle.cap_triangles.specs.Room.{turnedAt, recordsAt, Above}
+use Rattle.cap_triangles.specs.Room.{turnedAt, pairRecordsAt, Above}
 use Rattle.cap_pairs.specs.Pairs.{edgePair}
 use Rattle.cap_pairs.specs.Steps.{SmallEdge, sideWords, Recorded, TablesFor}
 use Rattle.cap_pairs.proofs.Recording.{recording-turn}
@@ -35,7 +35,7 @@ module _ (w₀ w : List ℕ) (b at : ℕ) (above : Above b w₀ w) (end : at + 2
       let r = s (λ q. f (z ∙ q)) in
       (omega (arith, r .0), omega (arith, r .1))
 
-module _ (w₀ w : List ℕ) (n nf nc k edges records i : ℕ) (tables : TablesFor n nf nc w₀ k) (e : edges ≡ openEdgesAt n nf) (r : records ≡ recordsAt n nf nc)
+module _ (w₀ w : List ℕ) (n nf nc k edges records i : ℕ) (tables : TablesFor n nf nc w₀ k) (e : edges ≡ openEdgesAt n nf) (r : records ≡ pairRecordsAt n nf nc)
     (inv : Recorded (λ j. edgePair w₀ (edges + 3 * j)) w₀ w records 0 i) where
   pub edge-asks : i < k → ((j : ℕ) → j < k → SmallEdge w₀ (openEdgesAt n nf + 3 * j)) → (edges + 3 * i + 2 < length w) × SmallEdge w (edges + 3 * i)
   edge-asks h s = (
@@ -44,15 +44,15 @@ module _ (w₀ w : List ℕ) (n nf nc k edges records i : ℕ) (tables : TablesF
         (subst (λ (x : ℕ). SmallEdge w₀ (x + 3 * i)) (sym e) (s i h)),
   )
 
-  pub edge-turn : i < k → (key : ℕ) → key ≡ keyOf (edgePair w (edges + 3 * i)) → Recorded (λ j. edgePair w₀ (edges + 3 * j)) w₀ (putRecord w (records + 2 * i) (key, i)) records 0
+  pub edge-turn : i < k → (key : ℕ) → key ≡ edgeKey (edgePair w (edges + 3 * i)) → Recorded (λ j. edgePair w₀ (edges + 3 * j)) w₀ (putRecord w (records + 2 * i) (key, i)) records 0
       (i + 1)
   edge-turn h key q =
       recording-turn (λ j. edgePair w₀ (edges + 3 * j)) w₀ records 0 w i inv (omega (arith, tables .edges, tables .size)) key i
-      (q ∙ ap keyOf (edge-same w₀ w records (edges + 3 * i) (inv .above) (omega (arith, tables .edges)))) (omega arith)
+      (q ∙ ap edgeKey (edge-same w₀ w records (edges + 3 * i) (inv .above) (omega (arith, tables .edges)))) (omega arith)
 
-  pub edge-end : i ≤ k → k ≤ i → Recorded (λ j. edgePair w₀ (openEdgesAt n nf + 3 * j)) w₀ w (recordsAt n nf nc) 0 k
+  pub edge-end : i ≤ k → k ≤ i → Recorded (λ j. edgePair w₀ (openEdgesAt n nf + 3 * j)) w₀ w (pairRecordsAt n nf nc) 0 k
   edge-end a b =
-      subst (λ (x : ℕ). Recorded (λ j. edgePair w₀ (x + 3 * j)) w₀ w (recordsAt n nf nc) 0 k) e
+      subst (λ (x : ℕ). Recorded (λ j. edgePair w₀ (x + 3 * j)) w₀ w (pairRecordsAt n nf nc) 0 k) e
       (subst (λ (x : ℕ). Recorded (λ j. edgePair w₀ (edges + 3 * j)) w₀ w x 0 k) r
       (subst (λ (x : ℕ). Recorded (λ j. edgePair w₀ (edges + 3 * j)) w₀ w records 0 x) (same i k a b) inv))
     where
@@ -60,7 +60,7 @@ module _ (w₀ w : List ℕ) (n nf nc k edges records i : ℕ) (tables : TablesF
       same i k a b = omega arith
 
 -- ---- a side
-module _ (w₀ w : List ℕ) (n nf nc k turned records s : ℕ) (tables : TablesFor n nf nc w₀ k) (e : turned ≡ turnedAt n nf) (r : records ≡ recordsAt n nf nc + 2 * k)
+module _ (w₀ w : List ℕ) (n nf nc k turned records s : ℕ) (tables : TablesFor n nf nc w₀ k) (e : turned ≡ turnedAt n nf) (r : records ≡ pairRecordsAt n nf nc + 2 * k)
     (inv : Recorded (sideWords w₀ turned) w₀ w records k s) where
   module _ (h : s < 3 * nc) where
     next-low : nextSide s < 3 * nc
@@ -94,9 +94,9 @@ module _ (w₀ w : List ℕ) (n nf nc k turned records s : ℕ) (tables : Tables
         recording-turn (sideWords w₀ turned) w₀ records k w s inv (omega (arith, tables .edges, tables .size)) key which
         (g ∙ ap (λ (y : ℕ). edge (getD w (turned + s) 0) (getD w (turned + y) 0)) q ∙ (λ t. edge (same-from t) (same-to t))) o
 
-  pub side-end : s ≤ 3 * nc → 3 * nc ≤ s → Recorded (sideWords w₀ (turnedAt n nf)) w₀ w (recordsAt n nf nc + 2 * k) k (3 * nc)
+  pub side-end : s ≤ 3 * nc → 3 * nc ≤ s → Recorded (sideWords w₀ (turnedAt n nf)) w₀ w (pairRecordsAt n nf nc + 2 * k) k (3 * nc)
   side-end a b =
-      subst (λ (x : ℕ). Recorded (sideWords w₀ x) w₀ w (recordsAt n nf nc + 2 * k) k (3 * nc)) e
+      subst (λ (x : ℕ). Recorded (sideWords w₀ x) w₀ w (pairRecordsAt n nf nc + 2 * k) k (3 * nc)) e
       (subst (λ (x : ℕ). Recorded (sideWords w₀ turned) w₀ w x k (3 * nc)) r
       (subst (λ (x : ℕ). Recorded (sideWords w₀ turned) w₀ w records k x) (same s (3 * nc) a b) inv))
     where

@@ -17,7 +17,7 @@ use Rattle.edges.specs.Edges.{sides, samePair}
 use Rattle.candidate_pool.specs.Offsets.{openEdgesAt}
 use Rattle.candidate_pool.specs.Standing.{poolAt, edgesAt}
 use Rattle.cap_triangles.specs.Selection.{capsOf, outwardCaps}
-use Rattle.cap_triangles.specs.Room.{recordsAt, numbersAt, upAt, downAt, heldAt, Above, turnedIn}
+use Rattle.cap_triangles.specs.Room.{pairRecordsAt, numbersAt, upAt, downAt, heldAt, Above, turnedIn}
 
 abbrev pub edgePair : List ℕ → ℕ → ℕ × ℕ
 edgePair w at = cond (eqb (getD w (at + 2) 0) 0) (0, 0) (getD w at 0, getD w (at + 1) 0)
@@ -37,7 +37,7 @@ module _ (n nf k : ℕ) (capList : List ℕ) where
     pub same : (q r : ℕ) → q < pairCount → r < pairCount → eqb (numberIn w q) (numberIn w r) ≡ samePair (pairAt w q) (pairAt w r)
 
   pub record Numbered (w w' : List ℕ) : Type 0 where
-    pub above : Above (recordsAt n nf (length capList / 4)) w w'
+    pub above : Above (pairRecordsAt n nf (length capList / 4)) w w'
     pub numbers : PairNumbers w'
 
   -- open edges as face and two candidates, triangles turned

@@ -21,7 +21,7 @@ use lib.ListN.{length, getD}
 use Rattle.lists.specs.Lists.{some, upTo}
 use Rattle.sorting.specs.Buffer.{recordOf}
 use Rattle.box_faces.specs.Faces.{hasBit}
-use Rattle.edges.specs.Table.{keyOf, nextSide}
+use Rattle.edges.specs.Table.{edgeKey, nextSide}
 use Rattle.cap_triangles.specs.Room.{numbersAt, upAt, downAt, heldAt, capsEnd, Above}
 use Rattle.candidate_pool.specs.Offsets.{openEdgesAt}
 
@@ -33,7 +33,7 @@ sideWords w at s = (getD w (at + s) 0, getD w (at + nextSide s) 0)
 
 pub record Recorded (P : ℕ → ℕ × ℕ) (w w' : List ℕ) (at first m : ℕ) : Type 0 where
   pub above : Above at w w'
-  pub done : (j : ℕ) → j < m → recordOf w' (at + 2 * j) ≡ (keyOf (P j), first + j)
+  pub done : (j : ℕ) → j < m → recordOf w' (at + 2 * j) ≡ (edgeKey (P j), first + j)
 
 abbrev pub keyIn : List ℕ → ℕ → ℕ → ℕ
 keyIn w at i = getD w (at + 2 * i) 0

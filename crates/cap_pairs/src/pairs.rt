@@ -5,8 +5,8 @@ ghost use Prim.Native.Nat.{ℕ, _+_, _*_, _≤_, _<_};
 ghost use mathlib.Core.Bool.{cond};
 ghost use lib.Dec.{eqb};
 ghost use lib.ListN.{length, getD};
-ghost use Rattle.edges.specs.Table.{keyOf};
-ghost use Rattle.cap_triangles.specs.Room.{CapReady, turnedAt, recordsAt};
+ghost use Rattle.edges.specs.Table.{edgeKey};
+ghost use Rattle.cap_triangles.specs.Room.{CapReady, turnedAt, pairRecordsAt};
 ghost use Rattle.cap_pairs.specs.Pairs.{edgePair, Numbered};
 ghost use Rattle.cap_pairs.specs.Steps.{SmallEdge, sideWords, Recorded, keyIn, SortedPairs, FirstsPut, TablesFor};
 ghost use Rattle.candidate_pool.specs.Offsets.{openEdgesAt};
@@ -21,7 +21,7 @@ use words::pack_edge;
 // The pair of an open edge in one word. One that kept one end has no face, and gets the word of no triangle's side.
 fn edge_word(w: &[u64], at: usize) -> u64
     requires { ⌜ (at + 2 < length (now w)) × SmallEdge (now w) at ⌝ }
-    ensures { λ r. ⌜ r ≡ keyOf (edgePair (now (w .entry)) at) ⌝ }
+    ensures { λ r. ⌜ r ≡ edgeKey (edgePair (now (w .entry)) at) ⌝ }
 {
     if w[at + 2] == 0 {
         return 0;
@@ -33,7 +33,7 @@ fn edge_word(w: &[u64], at: usize) -> u64
 fn put_edges(w: &mut [u64], n: usize, nf: usize, nc: usize, k: usize)
     requires { ⌜ TablesFor n nf nc (now w) k ⌝ }
     requires { ⌜ ((i : ℕ) → i < k → SmallEdge (now w) (openEdgesAt n nf + 3 * i)) ⌝ }
-    ensures { λ _. ⌜ Recorded (λ i. edgePair (now (w .entry)) (openEdgesAt n nf + 3 * i)) (now (w .entry)) (now (w .exit)) (recordsAt n nf nc) 0 k ⌝ }
+    ensures { λ _. ⌜ Recorded (λ i. edgePair (now (w .entry)) (openEdgesAt n nf + 3 * i)) (now (w .entry)) (now (w .exit)) (pairRecordsAt n nf nc) 0 k ⌝ }
 {
     let edges = open_edges_at(n, nf);
     let records = records_at(n, nf, nc);
@@ -49,7 +49,7 @@ fn put_edges(w: &mut [u64], n: usize, nf: usize, nc: usize, k: usize)
 fn put_sides(w: &mut [u64], n: usize, nf: usize, nc: usize, k: usize)
     requires { ⌜ TablesFor n nf nc (now w) k ⌝ }
     requires { ⌜ ((s : ℕ) → s < 3 * nc → getD (now w) (turnedAt n nf + s) 0 < 4294967296) ⌝ }
-    ensures { λ _. ⌜ Recorded (sideWords (now (w .entry)) (turnedAt n nf)) (now (w .entry)) (now (w .exit)) (recordsAt n nf nc + 2 * k) k (3 * nc) ⌝ }
+    ensures { λ _. ⌜ Recorded (sideWords (now (w .entry)) (turnedAt n nf)) (now (w .entry)) (now (w .exit)) (pairRecordsAt n nf nc + 2 * k) k (3 * nc) ⌝ }
 {
     let turned = turned_at(n, nf);
     let records = records_at(n, nf, nc) + 2 * k;

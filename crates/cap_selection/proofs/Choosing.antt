@@ -10,7 +10,7 @@ use lib.Dec.{T, eqb, eqb→eq}
 use lib.ListN.{length, getD, length-map}
 use lib.Seq.{ext-getD}
 use Rattle.lists.specs.Lists.{some, upTo}
-use Rattle.lists.specs.Regions.{view, Zeroed}
+use Rattle.lists.specs.Regions.{view, PartZeroed}
 use Rattle.lists.proofs.Members.{some-of, of-some, and-parts, and-of}
 use Rattle.lists.proofs.Places.{of-up, up-of, length-up, at-up, at-map-up}
 use Rattle.lists.proofs.Regions.{view-at}
@@ -28,7 +28,7 @@ use Rattle.cap_triangles.proofs.Selecting.{share-turn}
 use Rattle.cap_triangles.proofs.Kept.{above-less, above-more, pool-kept, edges-kept}
 use Rattle.cap_pairs.specs.Pairs.{PairsKnown}
 use Rattle.cap_selection.specs.Chosen.{chosenIn, Chosen}
-use Rattle.cap_selection.specs.Steps.{openIn, sideNumber, labelIn, seedIn, seededBy, Markable, JoinedCaps, Marked}
+use Rattle.cap_selection.specs.Steps.{openIn, sideNumber, labelIn, seedIn, seededBy, Markable, JoinedCaps, SeedsMarked}
 use Rattle.cap_selection.proofs.Same.{seed-same, numbered-same}
 use Rattle.cap_selection.proofs.Opening.{turnedCaps, sides-numbered, count-caps, numbers-same, open-known, faces-low, seed-known}
 use Rattle.cap_selection.proofs.Linking.{Labelling, labels-link}
@@ -39,7 +39,7 @@ bit-is false = refl
 
 -- w as the pairs were known, u with the components, v with no mark, z with the marks
 module _ (n nf k : ℕ) (capList w u v : List ℕ) (ready : CapReady n nf k capList w) (known : PairsKnown n nf k capList w)
-    (joined : JoinedCaps n nf (length capList / 4) k w u) (zeroed : Zeroed u v (seededAt n nf (length capList / 4)) (length capList / 4)) where
+    (joined : JoinedCaps n nf (length capList / 4) k w u) (zeroed : PartZeroed u v (seededAt n nf (length capList / 4)) (length capList / 4)) where
   abbrev nc : ℕ
   nc = length capList / 4
 
@@ -142,7 +142,7 @@ module _ (n nf k : ℕ) (capList w u v : List ℕ) (ready : CapReady n nf k capL
       marks : ℕ → Bool
       marks j = seedIn n nf nc k v j (getD capList (4 * j) 0) && eqb (getD v (componentsAt n nf nc + j) 0) (getD numbers i 0)
 
-  module _ (z : List ℕ) (done : Marked n nf nc k capList v z) where
+  module _ (z : List ℕ) (done : SeedsMarked n nf nc k capList v z) where
     all-above : Above (labelsAt n nf nc) w z
     all-above = above-more (labelsAt n nf nc) w v z labels-above (above-less (labelsAt n nf nc) (seededAt n nf nc) v z (omega arith) (done .above))
 

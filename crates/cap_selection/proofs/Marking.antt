@@ -16,7 +16,7 @@ use Rattle.lists.proofs.Bools.{and-next, and-stop, or-last, or-true}
 use Rattle.lists.proofs.Regions.{at-set}
 use Rattle.lists.proofs.Sequences.{some-up}
 use Rattle.cap_triangles.specs.Room.{labelsAt, componentsAt, seededAt, Above}
-use Rattle.cap_selection.specs.Steps.{seedIn, seededBy, markedSeed, SidesNumbered, Markable, Marked}
+use Rattle.cap_selection.specs.Steps.{seedIn, seededBy, markedSeed, SidesNumbered, Markable, SeedsMarked}
 use Rattle.cap_selection.proofs.Same.{seed-same, numbered-same}
 
 module _ (n nf nc k : ℕ) (capList w : List ℕ) where
@@ -116,7 +116,7 @@ module _ (n nf nc k : ℕ) (capList w : List ℕ) where
         go true e = marks-it (sym same ∙ e)
         go false e = skips (sym same ∙ e)
 
-  pub mark-end : (v : List ℕ) (i : ℕ) → nc ≤ i → Marking v i → Marked n nf nc k capList w v
+  pub mark-end : (v : List ℕ) (i : ℕ) → nc ≤ i → Marking v i → SeedsMarked n nf nc k capList w v
   mark-end v i h m =
       let u = m .upto in
       let e : i ≡ nc = omega arith in

@@ -7,7 +7,7 @@
 --   markedSeed     the room with the component of triangle i marked, if that is a seed
 --   SidesNumbered  there is room, and the numbers are those of pairs
 --   Markable       and the components' numbers, and no component is marked
---   Labelled, JoinedCaps, Marked   what `put_labels`, `join_caps` and `mark_seeds` leave
+--   Labelled, JoinedCaps, SeedsMarked   what `put_labels`, `join_caps` and `mark_seeds` leave
 use Prim.Native.Nat.{ℕ, _+_, _*_, _≤_, _<_}
 use mathlib.Core.Path.{_≡_}
 use mathlib.Core.Bool.{Bool, cond, not, _&&_, _||_}
@@ -71,6 +71,6 @@ module _ (n nf nc : ℕ) where
       pub above : Above (labelsAt n nf nc) w w'
       pub numbers : ComponentNumbers (map (labelIn w) (upTo (3 * nc))) nc 3 (view w' (componentsAt n nf nc) nc)
 
-    pub record Marked (capList w w' : List ℕ) : Type 0 where
+    pub record SeedsMarked (capList w w' : List ℕ) : Type 0 where
       pub above : Above (seededAt n nf nc) w w'
       pub seeded : (r : ℕ) → r < nc → getD w' (seededAt n nf nc + r) 0 ≡ cond (seededBy capList w nc r) 1 0

@@ -6,7 +6,7 @@ ghost use lib.ListN.{length, getD};
 ghost use Rattle.cap_triangles.specs.Room.{componentsAt, seededAt, CapReady};
 ghost use Rattle.cap_pairs.specs.Pairs.{PairsKnown};
 ghost use Rattle.cap_selection.specs.Chosen.{Chosen};
-ghost use Rattle.cap_selection.specs.Steps.{againstIn, seedIn, markedSeed, SidesNumbered, Markable, Marked};
+ghost use Rattle.cap_selection.specs.Steps.{againstIn, seedIn, markedSeed, SidesNumbered, Markable, SeedsMarked};
 use crate::labels::join_caps;
 use box_faces::faces::has_face;
 use cap_triangles::room::components_at;
@@ -61,7 +61,7 @@ fn mark_seed(w: &mut [u64], n: usize, nf: usize, nc: usize, k: usize, i: usize, 
 // Of each component 1 if a seed has it.
 fn mark_seeds(w: &mut [u64], n: usize, nf: usize, k: usize, cap_list: &[u64])
     requires { ⌜ Markable n nf (length (now «cap_list») / 4) k (now «cap_list») (now w) ⌝ }
-    ensures { λ _. ⌜ Marked n nf (length (now («cap_list» .entry)) / 4) k (now («cap_list» .entry)) (now (w .entry)) (now (w .exit)) ⌝ }
+    ensures { λ _. ⌜ SeedsMarked n nf (length (now («cap_list» .entry)) / 4) k (now («cap_list» .entry)) (now (w .entry)) (now (w .exit)) ⌝ }
 {
     let nc = cap_list.len() / 4;
     let mut i = 0;

@@ -4,7 +4,7 @@
 --   pool-kept, pooled-kept               the candidates: they end at poolEnd
 --   edges-kept, held-kept                k open edges: they end at their place + 3 k
 --   supplied-kept     with a list of triangles
---   turnedIn-kept, turned-kept           the turned triangles: they end at recordsAt
+--   turnedIn-kept, turned-kept           the turned triangles: they end at pairRecordsAt
 --   ready-kept        and with the open edges
 use Prim.Native.Nat.{ℕ, _+_, _-_, _*_, _/_, _≤_, _<_}
 use mathlib.Core.Path.{_≡_, refl, sym, ap, _∙_, subst}
@@ -20,7 +20,7 @@ use Rattle.candidate_pool.proofs.Frames.{view-kept, count-same, stored-kept, po
 use Rattle.candidate_pool.proofs.Edges.{edges-same, held-same}
 use Rattle.cap_triangles.specs.Selection.{capsOf, outwardCaps}
 use Rattle.cap_triangles.specs.Listed.{badCapPlace}
-use Rattle.cap_triangles.specs.Room.{turnedAt, recordsAt, Above, Pooled, Supplied, turnedIn, TurnedReady, CapReady}
+use Rattle.cap_triangles.specs.Room.{turnedAt, pairRecordsAt, Above, Pooled, Supplied, turnedIn, TurnedReady, CapReady}
 
 pub above-none : (b : ℕ) (w : List ℕ) → Above b w w
 above-none b w = record { long = refl; below = λ x h. refl }
@@ -63,7 +63,7 @@ module _ (b : ℕ) (w w' : List ℕ) (above : Above b w w') where
     pub held-kept : (p : Pool) → EdgesHeld p w at k → EdgesHeld p w' at k
     held-kept = held-same w w' at k (λ x g h. above .below x (omega arith))
 
-  pub turnedIn-kept : (n nf nc : ℕ) → recordsAt n nf nc ≤ b → turnedIn n nf nc w' ≡ turnedIn n nf nc w
+  pub turnedIn-kept : (n nf nc : ℕ) → pairRecordsAt n nf nc ≤ b → turnedIn n nf nc w' ≡ turnedIn n nf nc w
   turnedIn-kept n nf nc end = ap (threes {A = ℕ}) (view-below (turnedAt n nf) (3 * nc) (3 * nc) few end)
     where
       few : length (view w (turnedAt n nf) (3 * nc)) ≤ 3 * nc
@@ -81,7 +81,7 @@ module _ (b : ℕ) (w w' : List ℕ) (above : Above b w w') where
           size = let g = above .long in let z = s .size in omega arith;
         }
 
-    pub turned-kept : recordsAt n nf (length capList / 4) ≤ b → TurnedReady n nf capList w → TurnedReady n nf capList w'
+    pub turned-kept : pairRecordsAt n nf (length capList / 4) ≤ b → TurnedReady n nf capList w → TurnedReady n nf capList w'
     turned-kept end r =
         let e : poolAt n w' ≡ poolAt n w = pool-kept n (r .supplied .pooled) (omega arith) in
         record {
@@ -90,7 +90,7 @@ module _ (b : ℕ) (w w' : List ℕ) (above : Above b w w') where
           turned = turnedIn-kept n nf (length capList / 4) end ∙ r .turned ∙ ap (λ (p : Pool). map (λ t. t .corners) (outwardCaps p (capsOf capList))) (sym e);
         }
 
-    pub ready-kept : (k : ℕ) → recordsAt n nf (length capList / 4) ≤ b → CapReady n nf k capList w → CapReady n nf k capList w'
+    pub ready-kept : (k : ℕ) → pairRecordsAt n nf (length capList / 4) ≤ b → CapReady n nf k capList w → CapReady n nf k capList w'
     ready-kept k end r =
         let e : poolAt n w' ≡ poolAt n w = pool-kept n (r .ready .supplied .pooled) (omega arith) in
         let l = r .edges in

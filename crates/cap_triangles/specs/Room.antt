@@ -14,15 +14,15 @@ use lib.ListN.{length, getD}
 use Rattle.lists.specs.Regions.{view}
 use Rattle.geometry.specs.Triangles.{Triangle, threes}
 use Rattle.candidate_pool.specs.Offsets.{entryAt, poolEnd, openEdgesAt, roomEnd}
-use Rattle.candidate_pool.specs.Standing.{countAt, poolAt, Stored, Tidy, EdgesHeld}
+use Rattle.candidate_pool.specs.Standing.{countAt, poolAt, PointStored, Tidy, EdgesHeld}
 use Rattle.cap_triangles.specs.Selection.{capsOf, outwardCaps}
 use Rattle.cap_triangles.specs.Listed.{badCapPlace}
 
 abbrev pub turnedAt : ℕ → ℕ → ℕ
 turnedAt n nf = roomEnd n nf
 
-abbrev pub recordsAt : ℕ → ℕ → ℕ → ℕ
-recordsAt n nf nc = turnedAt n nf + 3 * nc
+abbrev pub pairRecordsAt : ℕ → ℕ → ℕ → ℕ
+pairRecordsAt n nf nc = turnedAt n nf + 3 * nc
 
 abbrev pub numbersAt : ℕ → ℕ → ℕ → ℕ
 numbersAt n nf nc = turnedAt n nf + 12 * nf + 15 * nc
@@ -58,7 +58,7 @@ pub record Above (b : ℕ) (w w' : List ℕ) : Type 0 where
 pub record Pooled (n : ℕ) (w : List ℕ) : Type 0 where
   pub size : poolEnd n ≤ length w
   pub few : countAt w ≤ n
-  pub stored : (c : ℕ) → c < countAt w → Stored w (entryAt c)
+  pub stored : (c : ℕ) → c < countAt w → PointStored w (entryAt c)
   pub masks : (c : ℕ) → c < countAt w → getD w (entryAt c + 4) 0 < 64
   pub tidy : Tidy (poolAt n w)
 

@@ -16,7 +16,7 @@ use Rattle.geometry.specs.Triangles.{Triangle, mapped, reversed}
 use Rattle.box_faces.specs.declared.uv.Uv.{Uv}
 use Rattle.box_faces.specs.Faces.{project, hasBit, ccwIsOutward}
 use Rattle.candidate_pool.specs.Offsets.{entryAt}
-use Rattle.candidate_pool.specs.Standing.{countAt, pointAt, Stored}
+use Rattle.candidate_pool.specs.Standing.{countAt, pointAt, PointStored}
 
 unfoldable pub listedIn : List ℕ → ℕ → ℕ → Bool
 listedIn w f c = ltb c (countAt w) && hasBit (getD w (entryAt c + 4) 0) f
@@ -25,9 +25,9 @@ unfoldable pub badWords : List ℕ → ℕ → ℕ → ℕ → ℕ → ℕ → B
 badWords w last f a b c = ltb 5 f || (ltb f last || ((eqb a b || (eqb b c || eqb c a)) || not (listedIn w f a && (listedIn w f b && listedIn w f c))))
 
 pub record Standing (w : List ℕ) (t : Triangle ℕ) : Type 0 where
-  pub a : Stored w (entryAt (t .a))
-  pub b : Stored w (entryAt (t .b))
-  pub c : Stored w (entryAt (t .c))
+  pub a : PointStored w (entryAt (t .a))
+  pub b : PointStored w (entryAt (t .b))
+  pub c : PointStored w (entryAt (t .c))
   pub a-low : entryAt (t .a) + 2 < length w
   pub b-low : entryAt (t .b) + 2 < length w
   pub c-low : entryAt (t .c) + 2 < length w

@@ -18,7 +18,7 @@
 // In all 9 + 65 (vertices + G) + 93 facets + 47 triangles, of the 128 (vertices + facets + triangles + G) + 1,024 that are lent.
 ghost use mathlib.Core.Path.{_≡_};
 ghost use Prim.Native.Nat.{_<_};
-ghost use Rattle.cap_triangles.specs.Room.{turnedAt, recordsAt, numbersAt, upAt, downAt, heldAt, labelsAt, componentsAt, seededAt, closingAt};
+ghost use Rattle.cap_triangles.specs.Room.{turnedAt, pairRecordsAt, numbersAt, upAt, downAt, heldAt, labelsAt, componentsAt, seededAt, closingAt};
 use candidate_pool::room::room_end;
 
 pub fn turned_at(n: usize, nf: usize) -> usize
@@ -30,7 +30,7 @@ pub fn turned_at(n: usize, nf: usize) -> usize
 
 pub fn records_at(n: usize, nf: usize, nc: usize) -> usize
     requires { ⌜ (n < 268435456) × (nf < 268435456) × (nc < 268435456) ⌝ }
-    ensures { λ r. ⌜ r ≡ recordsAt n nf nc ⌝ }
+    ensures { λ r. ⌜ r ≡ pairRecordsAt n nf nc ⌝ }
 {
     turned_at(n, nf) + 3 * nc
 }

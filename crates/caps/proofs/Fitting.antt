@@ -18,14 +18,14 @@ use Rattle.refusals.proofs.Replies.{cap-listed}
 use Rattle.candidate_pool.specs.Pool.{Pool, noCandidate}
 use Rattle.boundary_closure.specs.Asked.{Asked, setting}
 use Rattle.boundary_closure.specs.Operation.{closureTests}
-use Rattle.boundary_closure.specs.Steps.{Sound, most, Surfaced, fullPool, Completed}
+use Rattle.boundary_closure.specs.Steps.{Sound, mostCandidates, Surfaced, fullPool, Completed}
 use Rattle.boundary_closure.proofs.Checking.{room-passed, lists-passed}
 use Rattle.boundary_closure.proofs.Fitting.{vertices-in}
 use Rattle.cap_triangles.specs.Room.{turnedAt}
 use Rattle.caps.specs.Steps.{CapsChecked, Listable, Closable}
 use Rattle.caps.proofs.Numbering.{full-low, words-low, words-kept}
 
-pub listable : (vs : List Float) (fs capList : List ℕ) (q : Asked) (w : List ℕ) → Passes (closureTests vs fs q (length capList) (length w)) → Listable vs fs capList (most vs q) w
+pub listable : (vs : List Float) (fs capList : List ℕ) (q : Asked) (w : List ℕ) → Passes (closureTests vs fs q (length capList) (length w)) → Listable vs fs capList (mostCandidates vs q) w
 listable vs fs capList q w e =
     let r = room-passed vs fs q (length capList) (length w) e in
     record { list = cap-listed ceiling vs fs (length capList) (lists-passed vs fs q (length capList) (length w) e); size = omega (arith, r) }

@@ -26,7 +26,7 @@ use Rattle.candidate_pool.specs.Pool.{Pool}
 use Rattle.candidate_pool.specs.Standing.{poolAt, Holds, EdgesHeld}
 use Rattle.cap_triangles.specs.Selection.{Cap, capsOf}
 use Rattle.cap_triangles.specs.Listed.{badCap, badCapPlace, missingPlace}
-use Rattle.cap_triangles.specs.Room.{turnedAt, recordsAt, upAt, Above, Pooled, Supplied, TurnedReady, CapReady}
+use Rattle.cap_triangles.specs.Room.{turnedAt, pairRecordsAt, upAt, Above, Pooled, Supplied, TurnedReady, CapReady}
 use Rattle.cap_triangles.proofs.Fours.{caps-length}
 use Rattle.cap_triangles.proofs.Kept.{above-less, above-more, pool-kept, edges-kept, held-kept, ready-kept}
 use Rattle.cap_pairs.specs.Pairs.{Numbered, PairsKnown}
@@ -107,7 +107,7 @@ module _ (n nf k : ℕ) (capList w : List ℕ) (S : Supplied n nf capList w) (H 
 
       module _ (w₂ : List ℕ) (N : Numbered n nf k capList w₁ w₂) where
         pub numbered-ready : CapReady n nf k capList w₂
-        numbered-ready = ready-kept (recordsAt n nf (length capList / 4)) w₁ w₂ (N .above) n nf capList k (omega arith) turned-ready
+        numbered-ready = ready-kept (pairRecordsAt n nf (length capList / 4)) w₁ w₂ (N .above) n nf capList k (omega arith) turned-ready
 
         module _ (w₃ : List ℕ) (A₃ : Above (upAt n nf (length capList / 4)) w₂ w₃) where
           pub noted-ready : CapReady n nf k capList w₃
@@ -116,7 +116,7 @@ module _ (n nf k : ℕ) (capList w : List ℕ) (S : Supplied n nf capList w) (H 
           above-all : Above (turnedAt n nf) w w₃
           above-all =
               above-more (turnedAt n nf) w w₂ w₃
-              (above-more (turnedAt n nf) w w₁ w₂ A₁ (above-less (turnedAt n nf) (recordsAt n nf (length capList / 4)) w₁ w₂ (omega arith) (N .above)))
+              (above-more (turnedAt n nf) w w₁ w₂ A₁ (above-less (turnedAt n nf) (pairRecordsAt n nf (length capList / 4)) w₁ w₂ (omega arith) (N .above)))
               (above-less (turnedAt n nf) (upAt n nf (length capList / 4)) w₂ w₃ (omega arith) A₃)
 
           module _ (missing : ℕ) (em : missing ≡ missingPlace (poolAt n w₃) l (edgesIn n nf k w₃)) where

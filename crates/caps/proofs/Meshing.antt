@@ -19,7 +19,7 @@ use Rattle.cap_triangles.proofs.Kept.{pool-kept, pooled-kept, edges-kept, turne
 use Rattle.cap_selection.specs.Chosen.{chosenIn, Chosen}
 use Rattle.cap_closing.specs.Closing.{ownFacets, closed}
 use Rattle.cap_closing.specs.Entering.{MeshWords, Closed}
-use Rattle.cap_outputs.specs.Written.{standing, Deliverable}
+use Rattle.cap_outputs.specs.Written.{closedMeshIn, Deliverable}
 use Rattle.caps.specs.Steps.{edgesIn, closedOf, closedMesh, Closable}
 use Rattle.caps.proofs.Numbering.{words-kept}
 
@@ -68,12 +68,12 @@ module _ (vs : List Float) (fs capList : List ℕ) (n k : ℕ) (positive : Bool)
           count = K .count ∙ sym (ap length (K .facets));
         }
 
-    pub standing-is : standing vs fs n nc positive left w₂ ≡ closedMesh vs fs capList n k positive w
+    pub standing-is : closedMeshIn vs fs n nc positive left w₂ ≡ closedMesh vs fs capList n k positive w
     unfolding closed
     standing-is =
         (λ t. record { points = sym (K .points) t; facets = ownFacets positive (threes fs) ++ K .facets t })
         ∙ (λ t. closed (pool-is t) (capsOf capList) positive (meshOf vs fs) (chosen-is t))
 
-    pub answered : (v v' : List Float) (f f' : List ℕ) (reply : List ℕ) → Answer [] (meshOutputs (standing vs fs n nc positive left w₂) v v' f f') reply
+    pub answered : (v v' : List Float) (f f' : List ℕ) (reply : List ℕ) → Answer [] (meshOutputs (closedMeshIn vs fs n nc positive left w₂) v v' f f') reply
         → Answer [] (meshOutputs (closedMesh vs fs capList n k positive w) v v' f f') reply
     answered v v' f f' reply = subst (λ (m : Mesh). Answer [] (meshOutputs m v v' f f') reply) standing-is

@@ -8,7 +8,7 @@ ghost use Rattle.refusals.specs.Answers.{meshOutputs, Answer};
 ghost use Rattle.candidate_edges.specs.Steps.{MeshFits};
 ghost use Rattle.boundary_closure.specs.Asked.{asked};
 ghost use Rattle.boundary_closure.specs.Operation.{edgeTests, noTwoEnds};
-ghost use Rattle.boundary_closure.specs.Steps.{Sound, most, Tabled};
+ghost use Rattle.boundary_closure.specs.Steps.{Sound, mostCandidates, Tabled};
 ghost use Rattle.caps.specs.Operation.{capTests, capsTests, capsResult, Capped};
 ghost use Rattle.caps.specs.Steps.{Listable, surfaceMesh};
 use crate::closing::check_caps;
@@ -44,7 +44,7 @@ fn cap_edges(
     out_facets: &mut [u32],
 ) -> Reply
     requires { ⌜ Sound (now vertices) (now facets) (asked extents eps resolution) ⌝ }
-    requires { ⌜ MeshFits (now vertices) (now facets) n (now w) × (n ≡ most (now vertices) (asked extents eps resolution)) ⌝ }
+    requires { ⌜ MeshFits (now vertices) (now facets) n (now w) × (n ≡ mostCandidates (now vertices) (asked extents eps resolution)) ⌝ }
     requires { ⌜ Listable (now vertices) (now facets) (now «cap_list») n (now w) ⌝ }
     requires { ⌜ Tabled (now facets) n k (now w) ⌝ }
     ensures { λ r. ⌜ Answer
@@ -88,7 +88,7 @@ fn make_caps(
     out_facets: &mut [u32],
 ) -> Reply
     requires { ⌜ Sound (now vertices) (now facets) (asked extents eps resolution) ⌝ }
-    requires { ⌜ Listable (now vertices) (now facets) (now «cap_list») (most (now vertices) (asked extents eps resolution)) (now w) ⌝ }
+    requires { ⌜ Listable (now vertices) (now facets) (now «cap_list») (mostCandidates (now vertices) (asked extents eps resolution)) (now w) ⌝ }
     ensures { λ r. ⌜ Answer
         (edgeTests (now (vertices .entry)) (now (facets .entry)) (asked extents eps resolution) ++ unless
         (noTwoEnds (now (vertices .entry)) (now (facets .entry)) (asked extents eps resolution))

@@ -21,11 +21,11 @@ use Rattle.refusals.specs.Refusals.{settle}
 use Rattle.boundary_closure.specs.Candidates.{candidateWords}
 use Rattle.boundary_closure.specs.Asked.{asked}
 use Rattle.boundary_closure.specs.Operation.{candidatesResult}
-use Rattle.cases.specs.Comparing.{standsAt, free, First, placeOf}
+use Rattle.cases.specs.Comparing.{standsAt, free, FirstWhere, placeOf}
 use Rattle.cases.specs.Cleaning.{valuesOf}
 use Rattle.cases.specs.Closing.{listReply, Listing, candidatesIn, earlier, later, isLater}
 
-module _ (p : ℕ → Bool) (n r : ℕ) (h : First p n r) where
+module _ (p : ℕ → Bool) (n r : ℕ) (h : FirstWhere p n r) where
   passes : (j : ℕ) → j < n → p (getD (upTo n) j 0) ≡ p j
   passes j k = ap p (at-up 0 n j k ∙ zero-add j)
 
@@ -46,13 +46,13 @@ module _ (p : ℕ → Bool) (n r : ℕ) (h : First p n r) where
   pub first-place : r ≡ place p (upTo n)
   first-place = by-room (ltb r n) refl
 
-module _ (ws : List ℕ) (a : ℕ) (f : First (standsAt ws earlier earlier earlier) (length ws / 5) a) where
+module _ (ws : List ℕ) (a : ℕ) (f : FirstWhere (standsAt ws earlier earlier earlier) (length ws / 5) a) where
   pub later-earlier : a < length ws / 5 → false ≡ isLater ws
   unfolding isLater
   later-earlier h =
       sym (and-stop _ _ (ap (λ (k : ℕ). not (ltb k (length ws / 5))) (sym (first-place _ _ a f)) ∙ ap not (lt-ltb a (length ws / 5) h)))
 
-  module _ (b : ℕ) (g : First (standsAt ws later later later) (length ws / 5) b) (h : length ws / 5 ≤ a) where
+  module _ (b : ℕ) (g : FirstWhere (standsAt ws later later later) (length ws / 5) b) (h : length ws / 5 ≤ a) where
     abbrev rest : ℕ → Bool
     rest at = ltb at (length ws / 5) && (eqb (getD ws (5 * at + 3) 0) 2 && every (free ws later at) (upTo (length ws / 5)))
 

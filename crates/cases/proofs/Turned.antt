@@ -30,8 +30,9 @@ use Rattle.boundary_closure.specs.Asked.{asked}
 use Rattle.caps.specs.declared.mode.BoundaryClosure.{BoundaryClosure}
 use Rattle.caps.specs.Operation.{capsTests, capsResult, Capped}
 use Rattle.cases.specs.Closing.{boxTo}
-use Rattle.cases.specs.Comparing.{bitsOf, begins, sameBits, standsAt, First, placeOf}
-use Rattle.cases.specs.Halves.{points, corner, pointAt, candidateAt, capWord, capWords, isPoint, hasFacets, squareAtHalf, twoFacets, isHalf, capped, closesTo}
+use Rattle.cases.specs.Comparing.{bitsOf, begins, sameBits, standsAt, FirstWhere, placeOf}
+use Rattle.cases.specs.Cleaning.{twoFacets}
+use Rattle.cases.specs.Halves.{halfPoints, corner, halfPoint, candidateOfPoint, capWord, capListOf, isPoint, hasFacets, squareAtHalf, isHalf, capped, closesTo}
 use Rattle.cases.proofs.Rows.{row-stop, row-more, row-end}
 use Rattle.cases.proofs.Later.{first-place}
 
@@ -39,17 +40,17 @@ past : (k p : ℕ) → k ≤ p → (p ≡ k → ⊥) → k + 1 ≤ p
 past k p h n = omega arith
 
 pub last-point : (p : ℕ) → (p ≡ 0 → ⊥) → (p ≡ 1 → ⊥) → (p ≡ 2 → ⊥) → (p ≡ 3 → ⊥) → (p ≡ 4 → ⊥) → (p ≡ 5 → ⊥) → (p ≡ 6 → ⊥) → (p ≡ 7 → ⊥)
-    → (p ≡ 8 → ⊥) → (p ≡ 9 → ⊥) → (p ≡ 10 → ⊥) → corner zeroF oneF oneF ≡ pointAt p
-unfolding pointAt
+    → (p ≡ 8 → ⊥) → (p ≡ 9 → ⊥) → (p ≡ 10 → ⊥) → corner zeroF oneF oneF ≡ halfPoint p
+unfolding halfPoint
 last-point p a b c d e f g h i j k =
     let low : 0 ≤ p = omega arith in
     let six : 6 ≤ p = past 5 p (past 4 p (past 3 p (past 2 p (past 1 p (past 0 p low a) b) c) d) e) f in
     let far : 11 ≤ p = past 10 p (past 9 p (past 8 p (past 7 p (past 6 p six g) h) i) j) k in
-    sym (List·getD-eq-default points (corner zeroF oneF oneF) {n = p} far)
+    sym (List·getD-eq-default halfPoints (corner zeroF oneF oneF) {n = p} far)
 
-pub placed : (ws : List ℕ) (p x y z r : ℕ) (q : List Float) → q ≡ pointAt p → x ≡ bitsOf (getD q 0 nan) → y ≡ bitsOf (getD q 1 nan) → z ≡ bitsOf (getD q 2 nan)
-    → First (standsAt ws x y z) (length ws / 5) r → r ≡ candidateAt ws p
-unfolding candidateAt
+pub placed : (ws : List ℕ) (p x y z r : ℕ) (q : List Float) → q ≡ halfPoint p → x ≡ bitsOf (getD q 0 nan) → y ≡ bitsOf (getD q 1 nan) → z ≡ bitsOf (getD q 2 nan)
+    → FirstWhere (standsAt ws x y z) (length ws / 5) r → r ≡ candidateOfPoint ws p
+unfolding candidateOfPoint
 placed ws p x y z r q e ex ey ez h =
     first-place (standsAt ws x y z) (length ws / 5) r h
     ∙ (λ t. placeOf ws (ex t) (ey t) (ez t))
@@ -62,8 +63,8 @@ module _ (ws l : List ℕ) (i : ℕ) (long : length l ≡ 80) (f : (k : ℕ) →
       (λ k b. getD-set-other l i k x 0 (λ s. omega arith) ∙ f k b)
       (getD-set-same l i x 0 (subst (λ (n : ℕ). i < n) (sym long) h) ∙ e)
 
-  pub turned-all : 80 ≤ i → l ≡ capWords ws
-  unfolding capWords
+  pub turned-all : 80 ≤ i → l ≡ capListOf ws
+  unfolding capListOf
   turned-all h =
       ext-getD 0 l (map (capWord ws) (upTo 80)) (long ∙ sym (length-map (upTo 80) (capWord ws) ∙ length-up 0 80))
       (λ k b.
@@ -106,7 +107,7 @@ module _ (mode : BoundaryClosure) (l : List ℕ) (b : AABB) (reply : Reply) (w w
             replyIn (capsTests squareAtHalf twoFacets l (asked (e t) 1e-10 oneF) mode (long t))
             (meshLengths (capsResult squareAtHalf twoFacets l (asked (e t) 1e-10 oneF) mode)) (24 ∷ 36 ∷ []))
 
-pub point-goes : (vs q : List Float) (v p : ℕ) (r : Bool) → r ≡ begins sameBits nan (take (length vs - 3 * v) (drop (3 * v) vs)) q → q ≡ pointAt p
+pub point-goes : (vs q : List Float) (v p : ℕ) (r : Bool) → r ≡ begins sameBits nan (take (length vs - 3 * v) (drop (3 * v) vs)) q → q ≡ halfPoint p
     → v < length vs / 3 → r ≡ isPoint vs v p
 unfolding isPoint
 point-goes vs q v p r e f h =

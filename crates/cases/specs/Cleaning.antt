@@ -50,11 +50,11 @@ eps = bits 4562146422526312448
 abbrev pub fine : Float
 fine = bits 4517110426252607488
 
-abbrev pub near : Float
-near = bits 4706709771112153088
+abbrev pub nearPlace : Float
+nearPlace = bits 4706709771112153088
 
-abbrev pub far : Float
-far = bits 4706709772185894912
+abbrev pub farPlace : Float
+farPlace = bits 4706709772185894912
 
 abbrev pub c2Holds : Bool
 c2Holds = cleansTo (zeroF ∷ zeroF ∷ zeroF ∷ eps ∷ zeroF ∷ zeroF ∷ []) [] eps (zeroF ∷ zeroF ∷ zeroF ∷ []) []
@@ -70,4 +70,4 @@ c8Holds = cleansTo square twoFacets fine square twoFacets
 
 abbrev pub c14Holds : Bool
 c14Holds =
-    cleansTo (near ∷ zeroF ∷ zeroF ∷ []) [] zeroF (near ∷ zeroF ∷ zeroF ∷ []) [] && hasFarKey (far ∷ zeroF ∷ zeroF ∷ []) [] zeroF
+    cleansTo (nearPlace ∷ zeroF ∷ zeroF ∷ []) [] zeroF (nearPlace ∷ zeroF ∷ zeroF ∷ []) [] && hasFarKey (farPlace ∷ zeroF ∷ zeroF ∷ []) [] zeroF

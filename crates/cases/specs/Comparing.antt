@@ -4,7 +4,7 @@
 --   sameBits    two doubles have the same bits
 --   standsAt    candidate i, of five words, has these bits as its point
 --   free        candidate i is the one at `at`, or comes neither from mesh vertex 0 nor from 1 and is not at the point (x, x, x)
---   First       the first number below n that passes a test, and n where none does
+--   FirstWhere       the first number below n that passes a test, and n where none does
 --   placeOf     the first candidate at a point, and how many candidates there are where none is there
 use Prim.Native.Nat.{ℕ, _+_, _*_, _/_, _≤_, _<_}
 use mathlib.Core.Path.{_≡_}
@@ -31,7 +31,7 @@ abbrev pub free : List ℕ → ℕ → ℕ → ℕ → Bool
 free words x at i =
     eqb i at || (not (eqb (getD words (5 * i + 3) 0) 1) && (not (eqb (getD words (5 * i + 3) 0) 2) && not (standsAt words x x x i)))
 
-pub record First (p : ℕ → Bool) (n r : ℕ) : Type 0 where
+pub record FirstWhere (p : ℕ → Bool) (n r : ℕ) : Type 0 where
   pub within : r ≤ n
   pub before : (k : ℕ) → k < r → p k ≡ false
   pub there : r < n → p r ≡ true

@@ -1,6 +1,6 @@
 -- C15 of document 01's worked blocks, as a test of the definitions of candidates and caps. Assumes nothing.
---   pointAt       the twelve points: (0,0), (1,0), (1,1) and (0,1) at heights 0, 0.5 and 1, numbered from 0 to 11
---   candidateAt   the number of the candidate at a point      triangles, capWords   the cap list: a face and three points each, and as candidates
+--   halfPoint       the twelve points: (0,0), (1,0), (1,1) and (0,1) at heights 0, 0.5 and 1, numbered from 0 to 11
+--   candidateOfPoint   the number of the candidate at a point      triangles, capListOf   the cap list: a face and three points each, and as candidates
 --   isPoint, hasFacets   a vertex stands at a point; each corner of each facet is the stated point
 --   isHalf        a reply is eight vertices and twelve facets, the stated ones
 --   capped        the reply of caps, with 8,192 words of work room and outputs of 24 and 36
@@ -24,7 +24,7 @@ use Rattle.refusals.specs.Answers.{replyIn}
 use Rattle.boundary_closure.specs.Asked.{asked}
 use Rattle.caps.specs.Operation.{capsTests, capsResult}
 use Rattle.cases.specs.Comparing.{bitsOf, begins, sameBits, placeOf}
-use Rattle.cases.specs.Cleaning.{valuesOf}
+use Rattle.cases.specs.Cleaning.{valuesOf, twoFacets}
 use Rattle.cases.specs.Closing.{boxTo, listReply, candidatesIn}
 
 abbrev pub half : Float
@@ -34,17 +34,17 @@ abbrev pub corner : Float → Float → Float → List Float
 corner x y z = x ∷ y ∷ z ∷ []
 
 -- all but the last
-abbrev pub points : List (List Float)
-points =
+abbrev pub halfPoints : List (List Float)
+halfPoints =
     corner zeroF zeroF zeroF ∷ corner oneF zeroF zeroF ∷ corner oneF oneF zeroF ∷ corner zeroF oneF zeroF
     ∷ corner zeroF zeroF half ∷ corner oneF zeroF half ∷ corner oneF oneF half ∷ corner zeroF oneF half
     ∷ corner zeroF zeroF oneF ∷ corner oneF zeroF oneF ∷ corner oneF oneF oneF ∷ []
 
-unfoldable pub pointAt : ℕ → List Float
-pointAt p = getD points p (corner zeroF oneF oneF)
+unfoldable pub halfPoint : ℕ → List Float
+halfPoint p = getD halfPoints p (corner zeroF oneF oneF)
 
-unfoldable pub candidateAt : List ℕ → ℕ → ℕ
-candidateAt words p = let q = pointAt p in placeOf words (bitsOf (getD q 0 nan)) (bitsOf (getD q 1 nan)) (bitsOf (getD q 2 nan))
+unfoldable pub candidateOfPoint : List ℕ → ℕ → ℕ
+candidateOfPoint words p = let q = halfPoint p in placeOf words (bitsOf (getD q 0 nan)) (bitsOf (getD q 1 nan)) (bitsOf (getD q 2 nan))
 
 -- turned outward; side faces have two below and two above, bottom and top two each
 abbrev pub triangles : List ℕ
@@ -56,13 +56,13 @@ triangles =
     ∷ 4 ∷ 0 ∷ 3 ∷ 2 ∷ 4 ∷ 0 ∷ 2 ∷ 1 ∷ 5 ∷ 8 ∷ 9 ∷ 10 ∷ 5 ∷ 8 ∷ 10 ∷ 11 ∷ []
 
 abbrev pub capWord : List ℕ → ℕ → ℕ
-capWord words i = let t = getD triangles i 0 in cond (eqb (i % 4) 0) t (candidateAt words t)
+capWord words i = let t = getD triangles i 0 in cond (eqb (i % 4) 0) t (candidateOfPoint words t)
 
-unfoldable pub capWords : List ℕ → List ℕ
-capWords words = map (capWord words) (upTo 80)
+unfoldable pub capListOf : List ℕ → List ℕ
+capListOf words = map (capWord words) (upTo 80)
 
 unfoldable pub isPoint : List Float → ℕ → ℕ → Bool
-isPoint vs v p = ltb v (length vs / 3) && begins sameBits nan (drop (3 * v) vs) (pointAt p)
+isPoint vs v p = ltb v (length vs / 3) && begins sameBits nan (drop (3 * v) vs) (halfPoint p)
 
 unfoldable pub hasFacets : List Float → List ℕ → List ℕ → Bool
 hasFacets vs fs stated = every (λ i. isPoint vs (getD fs i 0) (getD stated i 0)) (upTo 36)
@@ -73,9 +73,6 @@ isHalf reply vs fs stated =
 
 abbrev pub squareAtHalf : List Float
 squareAtHalf = zeroF ∷ zeroF ∷ half ∷ oneF ∷ zeroF ∷ half ∷ oneF ∷ oneF ∷ half ∷ zeroF ∷ oneF ∷ half ∷ []
-
-abbrev pub twoFacets : List ℕ
-twoFacets = 0 ∷ 1 ∷ 2 ∷ 0 ∷ 2 ∷ 3 ∷ []
 
 module _ (mode : BoundaryClosure) (capList : List ℕ) where
   abbrev pub capped : List ℕ
@@ -108,7 +105,7 @@ upperHalf =
     ∷ 7 ∷ 11 ∷ 10 ∷ 7 ∷ 10 ∷ 6 ∷ 8 ∷ 9 ∷ 10 ∷ 8 ∷ 10 ∷ 11 ∷ []
 
 unfoldable pub closesBoth : List ℕ → Bool
-closesBoth words = closesTo ClosePositive (capWords words) lowerHalf && closesTo CloseNegative (capWords words) upperHalf
+closesBoth words = closesTo ClosePositive (capListOf words) lowerHalf && closesTo CloseNegative (capListOf words) upperHalf
 
 abbrev pub twelve : List ℕ
 twelve = listReply squareAtHalf twoFacets (asked (boxTo oneF oneF oneF) 1e-10 oneF) 8192 60

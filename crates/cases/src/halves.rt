@@ -4,7 +4,7 @@ ghost use Prim.Native.Nat.{_<_};
 ghost use Rattle.root.specs.Doubles.{oneF};
 ghost use Rattle.refusals.specs.Refusals.{documentedReply};
 ghost use Rattle.cases.specs.Closing.{boxTo};
-ghost use Rattle.cases.specs.Halves.{pointAt, candidateAt, capWord, capWords, isPoint, hasFacets, isHalf, closesTo, closesBoth, c15Holds};
+ghost use Rattle.cases.specs.Halves.{halfPoint, candidateOfPoint, capWord, capListOf, isPoint, hasFacets, isHalf, closesTo, closesBoth, c15Holds};
 use crate::bits::begins_with;
 use crate::bits::bits;
 use crate::closing::list_candidates;
@@ -192,7 +192,7 @@ fn cube() -> AABB
 
 // The twelve points: (0,0), (1,0), (1,1) and (0,1) at heights 0, 0.5 and 1, numbered here from 0 to 11.
 fn point(p: usize) -> [f64; 3]
-    ensures { λ r. ⌜ r ≡ pointAt p ⌝ }
+    ensures { λ r. ⌜ r ≡ halfPoint p ⌝ }
 {
     match p {
         0 => [0.0, 0.0, 0.0],
@@ -212,7 +212,7 @@ fn point(p: usize) -> [f64; 3]
 
 // The number of the candidate at point p.
 fn candidate_at(candidates: &[u64], p: usize) -> u64
-    ensures { λ r. ⌜ r ≡ candidateAt (now (candidates .entry)) p ⌝ }
+    ensures { λ r. ⌜ r ≡ candidateOfPoint (now (candidates .entry)) p ⌝ }
 {
     let q = point(p);
     place_of(candidates, bits(q[0]), bits(q[1]), bits(q[2])) as u64
@@ -231,7 +231,7 @@ fn cap_word(candidates: &[u64], i: usize) -> u64
 
 // The triangles as a cap list.
 fn list_triangles(candidates: &[u64]) -> [u64; 80]
-    ensures { λ r. ⌜ r ≡ capWords (now (candidates .entry)) ⌝ }
+    ensures { λ r. ⌜ r ≡ capListOf (now (candidates .entry)) ⌝ }
 {
     let mut list = [0u64; 80];
     let mut i = 0;

@@ -5,7 +5,7 @@ ghost use Prim.Native.Nat.{_+_, _*_, _/_, _<_};
 ghost use lib.Dec.{eqb};
 ghost use lib.ListN.{length};
 ghost use Rattle.lists.specs.Lists.{every, upTo};
-ghost use Rattle.cases.specs.Comparing.{standsAt, free, First};
+ghost use Rattle.cases.specs.Comparing.{standsAt, free, FirstWhere};
 
 fn is_at(candidates: &[u64], i: usize, x: u64, y: u64, z: u64) -> bool
     requires { ⌜ 5 * i + 2 < length (now candidates) ⌝ }
@@ -55,7 +55,7 @@ pub fn is_alone(candidates: &[u64], x: u64, at: usize) -> bool
 
 // The number of the first candidate at this point, and how many candidates there are where none is there.
 pub fn place_of(candidates: &[u64], x: u64, y: u64, z: u64) -> usize
-    ensures { λ r. ⌜ First (standsAt (now (candidates .entry)) x y z) (length (now (candidates .entry)) / 5) r ⌝ }
+    ensures { λ r. ⌜ FirstWhere (standsAt (now (candidates .entry)) x y z) (length (now (candidates .entry)) / 5) r ⌝ }
 {
     let n = candidates.len() / 5;
     let mut i = 0;

@@ -9,9 +9,9 @@ use lib.Dec.{eqb}
 use lib.ListN.{getD, set, length, length-set}
 use lib.Seq.{getD-set-same, getD-set-other}
 use borrow.Author.Tests.{eq-eqb, ne-eqb}
-use Rattle.lists.specs.Regions.{Outside, Zeroed}
+use Rattle.lists.specs.Regions.{Outside, PartZeroed}
 use Rattle.chains.specs.Links.{Absent, FirstFound, First, Final, Last}
-use Rattle.chains.specs.Chains.{Linked, linkPlace, entered}
+use Rattle.chains.specs.Chains.{Linked, linkPlace, linkedIn}
 use Rattle.chains.proofs.Firsts.{first-other, first-kept, last-other, first-new, last-new, first-empty, last-empty, first-cong, last-cong}
 
 -- cleared heads and tails are the table of no id
@@ -156,13 +156,13 @@ module _ (h : ℕ → ℕ) (m : List ℕ) (at nb n p : ℕ) (c-in : h n < nb) (r
       next i q (no d) (yes y) (no z) = absurd (f .after i (omega arith) q (sym y))
 
 -- the id n, entered with its bucket
-pub linked-more : (h : ℕ → ℕ) (m : List ℕ) (at nb n b : ℕ) → b ≡ h n → b < nb → at + nb + nb + n < length m → Linked h m at nb n → Linked h (entered m at nb n b) at nb (n + 1)
+pub linked-more : (h : ℕ → ℕ) (m : List ℕ) (at nb n b : ℕ) → b ≡ h n → b < nb → at + nb + nb + n < length m → Linked h m at nb n → Linked h (linkedIn m at nb n b) at nb (n + 1)
 linked-more h m at nb n b e q room l = rw e (go (ℕ-discrete (getD m (at + nb + h n) 0) 0))
   where
     c-in : h n < nb
     c-in = omega arith
 
-    go : Dec (getD m (at + nb + h n) 0 ≡ 0) → Linked h (entered m at nb n (h n)) at nb (n + 1)
+    go : Dec (getD m (at + nb + h n) 0 ≡ 0) → Linked h (linkedIn m at nb n (h n)) at nb (n + 1)
     go (yes z) =
         entered-head h m at nb n (linkPlace at nb (h n) (getD m (at + nb + h n) 0)) c-in room l
         (rw (eq-eqb (getD m (at + nb + h n) 0) 0 z)) (l .tails (h n) c-in .none z)
@@ -171,11 +171,11 @@ linked-more h m at nb n b e q room l = rw e (go (ℕ-discrete (getD m (at + nb +
         (rw (ne-eqb (getD m (at + nb + h n) 0) 0 d)) (l .tails (h n) c-in .some (getD m (at + nb + h n) 0 - 1) (omega arith))
 
 -- all else is as it was
-pub entered-length : (m : List ℕ) (at nb id b : ℕ) → length (entered m at nb id b) ≡ length m
+pub entered-length : (m : List ℕ) (at nb id b : ℕ) → length (linkedIn m at nb id b) ≡ length m
 entered-length m at nb id b = simp length-set
 
 pub entered-rest : (m : List ℕ) (at nb id b : ℕ) → b < nb → getD m (at + nb + b) 0 ≤ id → (x : ℕ) → Outside x at (nb + nb + (id + 1))
-    → getD (entered m at nb id b) x 0 ≡ getD m x 0
+    → getD (linkedIn m at nb id b) x 0 ≡ getD m x 0
 entered-rest m at nb id b q low x out =
     let p = linkPlace at nb b (getD m (at + nb + b) 0) in
     getD-set-other (set (set m p (id + 1)) (at + nb + b) (id + 1)) (at + nb + nb + id) x 0 0 (λ e. out (nb + nb + id) (omega arith) (omega arith))

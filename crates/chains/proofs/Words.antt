@@ -8,9 +8,9 @@ use lib.Dec.{T, eqb, eqb→eq}
 use lib.ListN.{getD, length}
 use borrow.Author.Tests.{eq-eqb, ne-eqb}
 use Rattle.lists.specs.Lists.{upTo}
-use Rattle.lists.specs.Regions.{Zeroed}
+use Rattle.lists.specs.Regions.{PartZeroed}
 use Rattle.chains.specs.Links.{linkTo}
-use Rattle.chains.specs.Chains.{Linked, Filed, entered}
+use Rattle.chains.specs.Chains.{Linked, Filed, linkedIn}
 use Rattle.chains.specs.Hash.{bucketOf, mixed, InBucket}
 use Rattle.chains.specs.ByWord.{wordBucket, WordTable}
 use Rattle.chains.proofs.Firsts.{linkTo-places}
@@ -30,7 +30,7 @@ pub word-answer : (keys : List ℕ) (key v : ℕ) → v ≡ linkTo (sought keys 
 word-answer keys key v e = e ∙ linkTo-places (eqb key) 0 keys (sought keys key) (λ i h. refl)
 
 module _ (keys : List ℕ) (at nb : ℕ) where
-  pub words-start : (u w : List ℕ) → at + nb + nb ≤ length u → Zeroed u w at (nb + nb) → WordTable keys at nb w w 0
+  pub words-start : (u w : List ℕ) → at + nb + nb ≤ length u → PartZeroed u w at (nb + nb) → WordTable keys at nb w w 0
   words-start u w room z = record {
     upto = omega arith;
     long = refl;
@@ -43,7 +43,7 @@ module _ (keys : List ℕ) (at nb : ℕ) where
     pub words-tail : (b : ℕ) → b < nb → getD w (at + nb + b) 0 ≤ i
     words-tail b q = tail-le (wordBucket keys nb) w at nb i b (f .linked) q
 
-    pub words-turn : (b : ℕ) → InBucket (mixed (getD keys i 0) 0 0) nb b → WordTable keys at nb u (entered w at nb i b) (i + 1)
+    pub words-turn : (b : ℕ) → InBucket (mixed (getD keys i 0) 0 0) nb b → WordTable keys at nb u (linkedIn w at nb i b) (i + 1)
     words-turn b h = let e = f .long in let q = h .low in record {
       upto = omega arith;
       long = entered-length w at nb i b ∙ f .long;
@@ -51,7 +51,7 @@ module _ (keys : List ℕ) (at nb : ℕ) where
       rest = λ x out. entered-rest w at nb i b (h .low) (words-tail b (h .low)) x (λ j l d. out j (omega arith) d) ∙ f .rest x out;
     }
 
-  pub words-end : (u w v : List ℕ) (i : ℕ) → length keys ≤ i → Zeroed u w at (nb + nb) → WordTable keys at nb w v i → WordTable keys at nb u v (length keys)
+  pub words-end : (u w v : List ℕ) (i : ℕ) → length keys ≤ i → PartZeroed u w at (nb + nb) → WordTable keys at nb w v i → WordTable keys at nb u v (length keys)
   words-end u w v i h z f = let g = f .upto in record {
     upto = omega arith;
     long = f .long ∙ z .long;

@@ -2,7 +2,7 @@
 -- A head is the link to a bucket's first id, a tail to its last, a next to the id entered after this one with the same bucket; 0 is none, so that cleared memory is the
 -- table of no id.
 --   Linked h m at nb n   the buffer m holds the table of the ids below n, each entered with the bucket h id
---   entered              the buffer after id n was entered with the bucket b
+--   linkedIn              the buffer after id n was entered with the bucket b
 --   Filed                a table of n ids in which each id that passes a test was entered with the bucket b: what a search by bucket b asks
 use Prim.Native.Nat.{ℕ, suc, _+_, _-_, _≤_, _<_}
 use mathlib.Core.Path.{_≡_}
@@ -22,8 +22,8 @@ pub record Linked (h : ℕ → ℕ) (m : List ℕ) (at nb n : ℕ) : Type 0 wher
 abbrev pub linkPlace : ℕ → ℕ → ℕ → ℕ → ℕ
 linkPlace at nb b t = cond (eqb t 0) (at + b) (at + nb + nb + (t - 1))
 
-abbrev pub entered : List ℕ → ℕ → ℕ → ℕ → ℕ → List ℕ
-entered m at nb id b =
+abbrev pub linkedIn : List ℕ → ℕ → ℕ → ℕ → ℕ → List ℕ
+linkedIn m at nb id b =
     set (set (set m (linkPlace at nb b (getD m (at + nb + b) 0)) (id + 1)) (at + nb + b) (id + 1)) (at + nb + nb + id) 0
 
 pub record Filed (m : List ℕ) (at nb n b : ℕ) (t : ℕ → Bool) : Type 0 where

@@ -2,7 +2,7 @@
 ghost use mathlib.Core.Path.{_≡_};
 ghost use Prim.Native.Nat.{_+_, _≤_, _<_, _^_};
 ghost use lib.ListN.{length, getD};
-ghost use Rattle.chains.specs.Chains.{linkPlace, entered};
+ghost use Rattle.chains.specs.Chains.{linkPlace, linkedIn};
 
 // Where the link to a new id of the bucket b goes, whose tail is t.
 fn link_place(at: usize, nb: usize, b: usize, t: u64) -> usize
@@ -22,7 +22,7 @@ pub fn enter(m: &mut [u64], at: usize, nb: usize, id: usize, b: usize)
     requires { ⌜ b < nb ⌝ }
     requires { ⌜ at + nb + nb + id < length (now m) ⌝ }
     requires { ⌜ getD (now m) (at + nb + b) 0 ≤ id ⌝ }
-    ensures { λ _. ⌜ now (m .exit) ≡ entered (now (m .entry)) at nb id b ⌝ }
+    ensures { λ _. ⌜ now (m .exit) ≡ linkedIn (now (m .entry)) at nb id b ⌝ }
 {
     let t = m[at + nb + b];
     let p = link_place(at, nb, b, t);

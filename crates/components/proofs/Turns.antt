@@ -11,7 +11,7 @@ use lib.ListN.{getD, set, length, length-set}
 use lib.Seq.{getD-set-same, getD-set-other}
 use lib.Arith.{digits-lt, digits-div}
 use borrow.Author.Count.{below-more}
-use Rattle.lists.specs.Regions.{view, Outside, Apart, Zeroed}
+use Rattle.lists.specs.Regions.{view, Outside, Apart, PartZeroed}
 use Rattle.lists.proofs.Regions.{at-set, view-length, view-at, view-same}
 use Rattle.components.specs.Joined.{Joined, one, same, back, via, SharedLabel, LeastJoined}
 use Rattle.components.specs.Table.{LabelsBelow, LabelRoom, Seen, FirstWith, ComponentNumbers, ComponentTable, size}
@@ -175,7 +175,7 @@ module _ (labels : List ℕ) (n k m at : ℕ) (k-pos : 0 < k) (long : length lab
   above : at + n ≤ p
   above = omega arith
 
-  pub swept-start : (u v w : List ℕ) → Owned u v at n → Zeroed v w (at + n) (n + m) → Swept labels n k m at w w 0
+  pub swept-start : (u v w : List ℕ) → Owned u v at n → PartZeroed v w (at + n) (n + m) → Swept labels n k m at w w 0
   swept-start u v w a b = record {
     upto = omega arith;
     long = refl;
@@ -215,7 +215,7 @@ module _ (labels : List ℕ) (n k m at : ℕ) (k-pos : 0 < k) (long : length lab
         swept-at labels n k m at w₀ v (i * k + j + 1) (i * k + (j + 1)) (omega arith)
         (record { upto = omega (arith, slot-in); long = q .long ∙ s .long; going = q .going; rest = λ x h l. q .rest x h l ∙ s .rest x h l })
 
-  pub swept-end : (u v w x y z : List ℕ) → p + m ≤ length u → Owned u v at n → Zeroed v w (at + n) (n + m) → Swept labels n k m at w x (n * k)
+  pub swept-end : (u v w x y z : List ℕ) → p + m ≤ length u → Owned u v at n → PartZeroed v w (at + n) (n + m) → Swept labels n k m at w x (n * k)
       → Flattened x y at n → SizesTallied y z at n → ComponentTable labels n k m at u z
   swept-end u v w x y z room a b s f t = record {
     long = z-long;
@@ -262,7 +262,7 @@ joining-kept u w labels n k m at g long rest = record {
 }
 
 -- what the first steps leave outside the table
-pub fresh-rest : (u v w : List ℕ) (n m at : ℕ) → Owned u v at n → Zeroed v w (at + n) (n + m) → (x : ℕ) → Outside x at (n + n + m) → getD w x 0 ≡ getD u x 0
+pub fresh-rest : (u v w : List ℕ) (n m at : ℕ) → Owned u v at n → PartZeroed v w (at + n) (n + m) → (x : ℕ) → Outside x at (n + n + m) → getD w x 0 ≡ getD u x 0
 fresh-rest u v w n m at a b x h = b .rest x (λ j l d. h (n + j) (omega arith) (omega arith)) ∙ a .rest x (λ j l d. h j (omega arith) d)
 
 -- an item's labels are entered: the table goes on from another buffer
@@ -273,7 +273,7 @@ pub swept-from : (labels : List ℕ) (n k m at : ℕ) (u w : List ℕ) (t r : �
 swept-from labels n k m at u w t r e s = swept-at labels n k m at w w t r e (record { upto = s .upto; long = refl; going = s .going; rest = λ x h l. refl })
 
 -- the sizes are still 0 when they are counted
-pub sizes-zero : (labels v w x y : List ℕ) (n k m at t : ℕ) → Zeroed v w (at + n) (n + m) → Swept labels n k m at w x t → Flattened x y at n
+pub sizes-zero : (labels v w x y : List ℕ) (n k m at t : ℕ) → PartZeroed v w (at + n) (n + m) → Swept labels n k m at w x t → Flattened x y at n
     → (r : ℕ) → r < n → getD y (at + n + r) 0 ≡ 0
 sizes-zero labels v w x y n k m at t b s f r h =
     f .kept .rest (at + n + r) (λ j l e. omega arith) ∙ s .rest (at + n + r) (λ j l e. omega arith) (λ j l e. omega arith) ∙ b .zero r (omega arith)

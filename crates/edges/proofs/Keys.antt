@@ -18,7 +18,7 @@ use Rattle.words.proofs.Packed.{pair-first, pair-second, pair-lex, lex-pair, ed
 use Rattle.sorting.specs.Sorting.{recordBefore}
 use Rattle.sorting.proofs.Comparing.{Lex, lex-before, not-lex}
 use Rattle.edges.specs.Edges.{sortedPair, samePair, pairBefore}
-use Rattle.edges.specs.Table.{keyOf}
+use Rattle.edges.specs.Table.{edgeKey}
 use Rattle.edges.proofs.Sides.{Small}
 
 abbrev pub SameEnds : ℕ × ℕ → ℕ × ℕ → Type 0
@@ -68,30 +68,30 @@ sorted-same-ends s t e =
     (cases (eqb (s .0) (t .0)))
 
 module _ (s : ℕ × ℕ) (a : Small s) where
-  pub key-first : pairFirst (keyOf s) ≡ sortedPair s .0
+  pub key-first : pairFirst (edgeKey s) ≡ sortedPair s .0
   key-first = pair-first (min (s .0) (s .1)) (max (s .0) (s .1)) (omega (arith, a .0, a .1))
 
-  pub key-second : pairSecond (keyOf s) ≡ sortedPair s .1
+  pub key-second : pairSecond (edgeKey s) ≡ sortedPair s .1
   key-second = pair-second (min (s .0) (s .1)) (max (s .0) (s .1)) (omega (arith, a .0, a .1))
 
 module _ (s t : ℕ × ℕ) (a : Small s) (b : Small t) where
-  pub same-pair-key : samePair s t ≡ eqb (keyOf s) (keyOf t)
+  pub same-pair-key : samePair s t ≡ eqb (edgeKey s) (edgeKey t)
   same-pair-key =
-      both-ways (samePair s t) (eqb (keyOf s) (keyOf t))
-      (λ h. eq-eqb (keyOf s) (keyOf t) (⊎-elim (λ (e : (s .0 ≡ t .0) × (s .1 ≡ t .1)). λ i. keyOf (e .0 i, e .1 i))
-      (λ (e : (s .0 ≡ t .1) × (s .1 ≡ t .0)). (λ i. keyOf (e .0 i, e .1 i)) ∙ edge-exchange (t .1) (t .0)) (same-pair s t h)))
-      (λ h. pair-same s t (edge-injective (s .0) (s .1) (t .0) (t .1) (a .0) (a .1) (b .0) (b .1) (eqb-true (keyOf s) (keyOf t) h)))
+      both-ways (samePair s t) (eqb (edgeKey s) (edgeKey t))
+      (λ h. eq-eqb (edgeKey s) (edgeKey t) (⊎-elim (λ (e : (s .0 ≡ t .0) × (s .1 ≡ t .1)). λ i. edgeKey (e .0 i, e .1 i))
+      (λ (e : (s .0 ≡ t .1) × (s .1 ≡ t .0)). (λ i. edgeKey (e .0 i, e .1 i)) ∙ edge-exchange (t .1) (t .0)) (same-pair s t h)))
+      (λ h. pair-same s t (edge-injective (s .0) (s .1) (t .0) (t .1) (a .0) (a .1) (b .0) (b .1) (eqb-true (edgeKey s) (edgeKey t) h)))
 
-  pub pair-before-key : pairBefore s t ≡ ltb (keyOf s) (keyOf t)
+  pub pair-before-key : pairBefore s t ≡ ltb (edgeKey s) (edgeKey t)
   unfolding pairBefore
   pair-before-key =
       let hs : max (s .0) (s .1) < 4294967296 = omega (arith, a .0, a .1) in
       let ht : max (t .0) (t .1) < 4294967296 = omega (arith, b .0, b .1) in
-      ⊎-elim (λ (h : ltb (keyOf s) (keyOf t) ≡ true).
-      lex-before (sortedPair s) (sortedPair t) (pair-lex (min (s .0) (s .1)) (max (s .0) (s .1)) (min (t .0) (t .1)) (max (t .0) (t .1)) hs ht (ltb-true (keyOf s) (keyOf t) h)) ∙
+      ⊎-elim (λ (h : ltb (edgeKey s) (edgeKey t) ≡ true).
+      lex-before (sortedPair s) (sortedPair t) (pair-lex (min (s .0) (s .1)) (max (s .0) (s .1)) (min (t .0) (t .1)) (max (t .0) (t .1)) hs ht (ltb-true (edgeKey s) (edgeKey t) h)) ∙
       sym h)
-      (λ (h : ltb (keyOf s) (keyOf t) ≡ false).
+      (λ (h : ltb (edgeKey s) (edgeKey t) ≡ false).
       not-lex (sortedPair s) (sortedPair t) (λ l.
       let k = lex-pair (min (s .0) (s .1)) (max (s .0) (s .1)) (min (t .0) (t .1)) (max (t .0) (t .1)) hs ht l in
-      never (ltb (keyOf s) (keyOf t)) (lt-ltb (keyOf s) (keyOf t) k) h) ∙ sym h)
-      (cases (ltb (keyOf s) (keyOf t)))
+      never (ltb (edgeKey s) (edgeKey t)) (lt-ltb (edgeKey s) (edgeKey t) k) h) ∙ sym h)
+      (cases (ltb (edgeKey s) (edgeKey t)))

@@ -27,7 +27,7 @@ use Rattle.lists.proofs.SortBy.{length-sortBy, ascending-sortBy, sortBy-ascendi
 use Rattle.sorting.specs.Sorting.{recordBefore, sorted}
 use Rattle.sorting.proofs.Comparing.{record-order}
 use Rattle.edges.specs.Edges.{samePair, isOpen, pairBefore}
-use Rattle.edges.specs.Table.{keyOf, recordsFrom, sideRecords, edgeTable, sideOf, bearing, sameKey, openRecords}
+use Rattle.edges.specs.Table.{edgeKey, recordsFrom, sideRecords, edgeTable, sideOf, bearing, sameRecordKey, openRecords}
 use Rattle.edges.proofs.Sides.{Small}
 use Rattle.edges.proofs.Keys.{same-pair-key, pair-before-key}
 
@@ -37,14 +37,14 @@ unfolding recordsFrom
 length-records-from k [] = refl
 length-records-from k (s ∷ l) = ap suc (length-records-from (suc k) l)
 
-pub records-from-at : (k : ℕ) (l : List (ℕ × ℕ)) (i : ℕ) → i < length l → getD (recordsFrom k l) i (0, 0) ≡ (keyOf (getD l i (0, 0)), k + i)
+pub records-from-at : (k : ℕ) (l : List (ℕ × ℕ)) (i : ℕ) → i < length l → getD (recordsFrom k l) i (0, 0) ≡ (edgeKey (getD l i (0, 0)), k + i)
 unfolding recordsFrom
 records-from-at k [] i h = absurd (omega arith)
-records-from-at k (s ∷ l) zero h = λ t. (keyOf s, start k t)
+records-from-at k (s ∷ l) zero h = λ t. (edgeKey s, start k t)
   where
     start : (k : ℕ) → k ≡ k + 0
     start k = omega arith
-records-from-at k (s ∷ l) (suc i) h = records-from-at (suc k) l i (omega arith) ∙ (λ t. (keyOf (getD l i (0, 0)), next k i t))
+records-from-at k (s ∷ l) (suc i) h = records-from-at (suc k) l i (omega arith) ∙ (λ t. (edgeKey (getD l i (0, 0)), next k i t))
   where
     next : (k i : ℕ) → suc k + i ≡ k + suc i
     next k i = omega arith
@@ -59,7 +59,7 @@ module _ (S : List (ℕ × ℕ)) (small : (i : ℕ) → Small (getD S i (0, 0)))
   pub record Row (k : ℕ) (r : ℕ × ℕ) : Type 0 where
     pub above : k ≤ r .1
     pub within : r .1 < length S
-    pub key : r .0 ≡ keyOf (sideOf S r)
+    pub key : r .0 ≡ edgeKey (sideOf S r)
 
   -- the sides from number k on
   abbrev From : ℕ → List (ℕ × ℕ) → Type 0
@@ -90,7 +90,7 @@ module _ (S : List (ℕ × ℕ)) (small : (i : ℕ) → Small (getD S i (0, 0)))
   unfolding recordsFrom
   rows-from k [] f = tt
   rows-from k (s ∷ l) f = (
-    record { above = omega arith; within = omega (arith, f .0); key = ap keyOf (sym (from-head k s l f)) },
+    record { above = omega arith; within = omega (arith, f .0); key = ap edgeKey (sym (from-head k s l f)) },
     each-map (Row (suc k)) (Row k) (row-later k) (recordsFrom (suc k) l) (rows-from (suc k) l (from-tail k s l f)),
   )
 
@@ -117,8 +117,8 @@ module _ (S : List (ℕ × ℕ)) (small : (i : ℕ) → Small (getD S i (0, 0)))
   unfolding recordsFrom
   agree-from k [] f = tt
   agree-from k (s ∷ l) f =
-      let x : Row 0 (keyOf s, k) = record { above = omega arith; within = omega (arith, f .0); key = ap keyOf (sym (from-head k s l f)) } in (
-        each-map (Row (suc k)) (Agree (sideOf S) recordBefore pairBefore (keyOf s, k)) (λ y v. row-order k (keyOf s, k) y refl x v) (recordsFrom (suc k) l)
+      let x : Row 0 (edgeKey s, k) = record { above = omega arith; within = omega (arith, f .0); key = ap edgeKey (sym (from-head k s l f)) } in (
+        each-map (Row (suc k)) (Agree (sideOf S) recordBefore pairBefore (edgeKey s, k)) (λ y v. row-order k (edgeKey s, k) y refl x v) (recordsFrom (suc k) l)
             (rows-from (suc k) l (from-tail k s l f)),
         agree-from (suc k) l (from-tail k s l f),
       )
@@ -140,8 +140,8 @@ module _ (S : List (ℕ × ℕ)) (small : (i : ℕ) → Small (getD S i (0, 0)))
   table-sides = map-sortBy (sideOf S) recordBefore pairBefore (sideRecords S) agree ∙ ap (sortBy pairBefore) (sides-from 0 S from-all)
 
   -- ---- the records of one pair
-  key-pair : (s : ℕ × ℕ) (k : ℕ) → Small s → (q : ℕ × ℕ) → Row k q → eqb (keyOf s) (q .0) ≡ samePair s (sideOf S q)
-  key-pair s k h q w = ap (eqb (keyOf s)) (w .key) ∙ sym (same-pair-key s (sideOf S q) h (small (q .1)))
+  key-pair : (s : ℕ × ℕ) (k : ℕ) → Small s → (q : ℕ × ℕ) → Row k q → eqb (edgeKey s) (q .0) ≡ samePair s (sideOf S q)
+  key-pair s k h q w = ap (eqb (edgeKey s)) (w .key) ∙ sym (same-pair-key s (sideOf S q) h (small (q .1)))
 
   numbered : (k : ℕ) (l : List (ℕ × ℕ)) → From k l → Pairwise (λ x y. x .1 < y .1) (recordsFrom k l)
   unfolding recordsFrom
@@ -169,33 +169,33 @@ module _ (S : List (ℕ × ℕ)) (small : (i : ℕ) → Small (getD S i (0, 0)))
       of-test : {a b : ℕ} → T (eqb a b) → a ≡ b
       of-test {a} {b} t = eqb→eq a b t
 
-  pub table-bearing : (s : ℕ × ℕ) → Small s → map (λ (r : ℕ × ℕ). r .1) (keep (λ r. eqb (keyOf s) (r .0)) (edgeTable S)) ≡ bearing S s
+  pub table-bearing : (s : ℕ × ℕ) → Small s → map (λ (r : ℕ × ℕ). r .1) (keep (λ r. eqb (edgeKey s) (r .0)) (edgeTable S)) ≡ bearing S s
   table-bearing s h =
-      let p : ℕ × ℕ → Bool = λ r. eqb (keyOf s) (r .0) in
+      let p : ℕ × ℕ → Bool = λ r. eqb (edgeKey s) (r .0) in
       ap (map (λ (r : ℕ × ℕ). r .1))
       (keep-sortBy recordBefore record-order p (sideRecords S)
       ∙ sortBy-ascending recordBefore (keep p (sideRecords S))
-      (one-key (keyOf s) (keep p (sideRecords S)) (keys-kept (keyOf s) (sideRecords S)) (pairwise-keep p (λ x y. x .1 < y .1) (sideRecords S) (numbered 0 S from-all))))
+      (one-key (edgeKey s) (keep p (sideRecords S)) (keys-kept (edgeKey s) (sideRecords S)) (pairwise-keep p (λ x y. x .1 < y .1) (sideRecords S) (numbered 0 S from-all))))
       ∙ map-keep (λ (r : ℕ × ℕ). r .1) p (λ i. samePair s (getD S i (0, 0))) (sideRecords S)
       (each-map (Row 0) (λ r. p r ≡ samePair s (sideOf S r)) (key-pair s 0 h) (sideRecords S) rows)
       ∙ ap (keep (λ i. samePair s (getD S i (0, 0)))) (numbers-from 0 S)
 
   -- ---- those that stand once
-  bearers-records : (r : ℕ × ℕ) → Row 0 r → count (sameKey r) (sideRecords S) ≡ count (samePair (sideOf S r)) S
+  bearers-records : (r : ℕ × ℕ) → Row 0 r → count (sameRecordKey r) (sideRecords S) ≡ count (samePair (sideOf S r)) S
   bearers-records r u =
-      sym (length-map (keep (sameKey r) (sideRecords S)) (sideOf S))
-      ∙ ap (length {A = ℕ × ℕ}) (map-keep (sideOf S) (sameKey r) (samePair (sideOf S r)) (sideRecords S)
-      (each-map (Row 0) (λ q. sameKey r q ≡ samePair (sideOf S r) (sideOf S q))
+      sym (length-map (keep (sameRecordKey r) (sideRecords S)) (sideOf S))
+      ∙ ap (length {A = ℕ × ℕ}) (map-keep (sideOf S) (sameRecordKey r) (samePair (sideOf S r)) (sideRecords S)
+      (each-map (Row 0) (λ q. sameRecordKey r q ≡ samePair (sideOf S r) (sideOf S q))
       (λ q w. ap (λ (n : ℕ). eqb n (q .0)) (u .key) ∙ key-pair (sideOf S r) 0 (small (r .1)) q w) (sideRecords S) rows))
       ∙ ap (count (samePair (sideOf S r))) (sides-from 0 S from-all)
 
   pub table-open : map (sideOf S) (openRecords (edgeTable S)) ≡ sortBy pairBefore (keep (isOpen S) S)
   unfolding openRecords
   table-open =
-      let p : ℕ × ℕ → Bool = λ r. eqb (count (sameKey r) (sideRecords S)) 1 in
+      let p : ℕ × ℕ → Bool = λ r. eqb (count (sameRecordKey r) (sideRecords S)) 1 in
       ap (map (sideOf S))
-      (keep-same (λ (r : ℕ × ℕ). eqb (count (sameKey r) (edgeTable S)) 1) p (edgeTable S)
-      (λ r m. ap (λ (n : ℕ). eqb n 1) (count-sortBy recordBefore (sameKey r) (sideRecords S)))
+      (keep-same (λ (r : ℕ × ℕ). eqb (count (sameRecordKey r) (edgeTable S)) 1) p (edgeTable S)
+      (λ r m. ap (λ (n : ℕ). eqb n 1) (count-sortBy recordBefore (sameRecordKey r) (sideRecords S)))
       ∙ keep-sortBy recordBefore record-order p (sideRecords S))
       ∙ map-sortBy (sideOf S) recordBefore pairBefore (keep p (sideRecords S)) (pairwise-keep p (Agree (sideOf S) recordBefore pairBefore) (sideRecords S) agree)
       ∙ ap (sortBy pairBefore)
@@ -205,4 +205,4 @@ module _ (S : List (ℕ × ℕ)) (small : (i : ℕ) → Small (getD S i (0, 0)))
 
   pub open-rows : Each (Row 0) (openRecords (edgeTable S))
   unfolding openRecords
-  open-rows = each-keep (λ r. eqb (count (sameKey r) (edgeTable S)) 1) (Row 0) (edgeTable S) table-rows
+  open-rows = each-keep (λ r. eqb (count (sameRecordKey r) (edgeTable S)) 1) (Row 0) (edgeTable S) table-rows

@@ -20,7 +20,7 @@ use Rattle.sorting.proofs.ByRuns.{run-at, runs-nil}
 use Rattle.sorting.proofs.Records.{length-records-at, records-at-same, records-at-snoc, records-take, length-records, records-get, put-length, put-same, put-other}
 use Rattle.geometry.specs.Triangles.{threes}
 use Rattle.edges.specs.Edges.{sides}
-use Rattle.edges.specs.Table.{keyOf, sideRecords, openRecords, SideRecords, KeptOpen}
+use Rattle.edges.specs.Table.{edgeKey, sideRecords, openRecords, SideRecords, KeptOpen}
 use Rattle.edges.proofs.Sides.{length-sides}
 use Rattle.edges.proofs.Rows.{length-records-from, records-from-at}
 use Rattle.edges.proofs.Lone.{single, runs-open}
@@ -37,7 +37,7 @@ module _ (f w₀ : List ℕ) where
   listing-start = record { within = omega arith; same = refl; done = λ j h. absurd (omega arith); rest = λ x h. refl }
 
   module _ (whole : length f % 3 ≡ 0) (room : 2 * length f ≤ length w₀) (w : List ℕ) (side : ℕ) (l : Listing w side) where
-    pub listing-turn : (key : ℕ) → side < length f → key ≡ keyOf (getD (sides (threes f)) side (0, 0)) → Listing (putRecord w (2 * side) (key, side)) (side + 1)
+    pub listing-turn : (key : ℕ) → side < length f → key ≡ edgeKey (getD (sides (threes f)) side (0, 0)) → Listing (putRecord w (2 * side) (key, side)) (side + 1)
     listing-turn key h e =
         record {
           within = omega arith;

@@ -27,7 +27,7 @@ use Rattle.sorting.proofs.Records.{length-records-at, records-at-get, records-t
 use Rattle.sorting.proofs.Sorting.{at-most-key}
 use Rattle.geometry.specs.Triangles.{threes}
 use Rattle.edges.specs.Edges.{sides, samePair, bearers, pairBefore}
-use Rattle.edges.specs.Table.{keyOf, sideOf, edgeTable, bearing, EdgeTable}
+use Rattle.edges.specs.Table.{edgeKey, sideOf, edgeTable, bearing, EdgeTable}
 use Rattle.edges.proofs.Sides.{Small, length-sides, sides-small}
 use Rattle.edges.proofs.Rows.{Row, table-rows, table-ascends, table-sides, table-bearing}
 
@@ -131,7 +131,7 @@ module _ (f w w′ : List ℕ) (whole : length f % 3 ≡ 0) (bound : (i : ℕ) �
       subst (Row S small 0) (at i h)
       (each-at (Row S small 0) (0, 0) R i (subst (Each (Row S small 0)) (sym (t .table)) (table-rows S small)) (omega (arith, many)))
 
-  pub row-key : (i : ℕ) → i < length f → getD w′ (2 * i) 0 ≡ keyOf (getD S (getD w′ (2 * i + 1) 0) (0, 0))
+  pub row-key : (i : ℕ) → i < length f → getD w′ (2 * i) 0 ≡ edgeKey (getD S (getD w′ (2 * i + 1) 0) (0, 0))
   row-key i h = row i h .key
 
   pub row-number : (i : ℕ) → i < length f → getD w′ (2 * i + 1) 0 < length f

@@ -10,7 +10,7 @@ use native.Mathlib.Omega.{arith}
 use lib.ListN.{length, getD, take, drop, replicate, length-drop, length-map, getD-replicate, List·getD-map}
 use lib.Seq.{ext-getD, getD-take, getD-drop}
 use Rattle.lists.specs.Order.{Ascending}
-use Rattle.lists.specs.Regions.{Zeroed}
+use Rattle.lists.specs.Regions.{PartZeroed}
 use Rattle.lists.proofs.Mapped.{of-each}
 use Rattle.lists.proofs.Members.{getD-mem}
 use Rattle.lists.proofs.SortBy.{ascending-sortBy}
@@ -20,7 +20,7 @@ use Rattle.sorting.proofs.Merging.{le-or-lt}
 use Rattle.sorting.proofs.Records.{records-at-same, records-take, length-records, records-get}
 use Rattle.geometry.specs.Triangles.{threes}
 use Rattle.edges.specs.Edges.{sides, openEdges}
-use Rattle.edges.specs.Table.{keyOf, sideOf, sideRecords, edgeTable, openRecords, SideRecords, EdgeTable, KeptOpen, OpenEdges}
+use Rattle.edges.specs.Table.{edgeKey, sideOf, sideRecords, edgeTable, openRecords, SideRecords, EdgeTable, KeptOpen, OpenEdges}
 use Rattle.edges.proofs.Sides.{Small, length-sides, sides-small}
 use Rattle.edges.proofs.Rows.{Row, table-open, open-rows}
 
@@ -49,7 +49,7 @@ getD-any (x ∷ l) zero d e h = refl
 getD-any (x ∷ l) (suc i) d e h = getD-any l i d e (omega arith)
 
 module _ (f w w₁ w₂ w₃ : List ℕ) (k : ℕ) (whole : length f % 3 ≡ 0) (room : 4 * length f ≤ length w) (bound : (i : ℕ) → getD f i 0 < 4294967296)
-    (t : EdgeTable f w w₁) (o : KeptOpen w₁ w₂ (length f) k) (z : Zeroed w₂ w₃ (2 * k) (2 * (length f - k))) where
+    (t : EdgeTable f w w₁) (o : KeptOpen w₁ w₂ (length f) k) (z : PartZeroed w₂ w₃ (2 * k) (2 * (length f - k))) where
   abbrev S : List (ℕ × ℕ)
   S = sides (threes f)
 
@@ -118,7 +118,7 @@ module _ (f w w₁ w₂ w₃ : List ℕ) (k : ℕ) (whole : length f % 3 ≡ 0) 
         within = o .within;
         result = result;
         ends = ends;
-        key = λ i h. row i h .key ∙ ap keyOf (side i h);
+        key = λ i h. row i h .key ∙ ap edgeKey (side i h);
         number = λ i h. omega (arith, row i h .within, length-sides f whole);
         side = side;
         zeros = cleared;

@@ -4,7 +4,7 @@ ghost use Prim.Native.Nat.{_<_, _%_};
 ghost use lib.ListN.{length, getD};
 ghost use Rattle.geometry.specs.Triangles.{threes};
 ghost use Rattle.edges.specs.Edges.{sides};
-ghost use Rattle.edges.specs.Table.{nextSide, keyOf};
+ghost use Rattle.edges.specs.Table.{nextSide, edgeKey};
 
 // The side of the same facet that begins where this one ends.
 pub fn next_side(side: usize) -> usize
@@ -32,7 +32,7 @@ pub fn edge_to(facets: &[u32], side: usize) -> u32
 // Both ends in one word, the same for a side that runs back.
 pub fn side_key(facets: &[u32], side: usize) -> u64
     requires { ⌜ (length (now facets) % 3 ≡ 0) × (side < length (now facets)) ⌝ }
-    ensures { λ r. ⌜ r ≡ keyOf (getD (sides (threes (now (facets .entry)))) side (0, 0)) ⌝ }
+    ensures { λ r. ⌜ r ≡ edgeKey (getD (sides (threes (now (facets .entry)))) side (0, 0)) ⌝ }
 {
     let from = edge_from(facets, side);
     let to = edge_to(facets, side);

@@ -11,7 +11,7 @@ use Rattle.root.specs.Root.{rootable}
 use Rattle.root.proofs.Bounds.{square-plus, add-plus}
 use Rattle.root.proofs.Powers.{sub-pow, mul-pow, add-pow, three-squares, three-rootable}
 use Rattle.geometry.specs.declared.point.Point.{Point}
-use Rattle.geometry.specs.Points.{minus, dot, cross, norm2}
+use Rattle.geometry.specs.Points.{difference, dot, cross, norm2}
 
 -- every coordinate is at most 2 ^ k in size
 pub record PointWithin (k : ℕ) (p : Point) : Type 0 where
@@ -19,8 +19,8 @@ pub record PointWithin (k : ℕ) (p : Point) : Type 0 where
   pub y : Within (2 ^ k) (p .y)
   pub z : Within (2 ^ k) (p .z)
 
-pub minus-within : (k : ℕ) → suc k ≤ 1023 → {p q : Point} → PointWithin k p → PointWithin k q → PointWithin (suc k) (minus p q)
-unfolding minus
+pub minus-within : (k : ℕ) → suc k ≤ 1023 → {p q : Point} → PointWithin k p → PointWithin k q → PointWithin (suc k) (difference p q)
+unfolding difference
 minus-within k room h g = record { x = sub-pow k room (h .x) (g .x); y = sub-pow k room (h .y) (g .y); z = sub-pow k room (h .z) (g .z) }
 
 product : (k : ℕ) → suc (k + k) ≤ 1023 → {a b c d : Float} → Within (2 ^ k) a → Within (2 ^ k) b → Within (2 ^ k) c → Within (2 ^ k) d →

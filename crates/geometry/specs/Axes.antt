@@ -12,18 +12,18 @@ use Rattle.lists.specs.Lists.{upTo}
 use Rattle.root.specs.Doubles.{_⊕_, _⊖_, _⊗_, _⊘_, larger}
 use Rattle.rounding.specs.Rounding as rounding
 use Rattle.geometry.specs.declared.aabb.AABB.{AABB}
-use Rattle.geometry.specs.Boxes.{low, high}
+use Rattle.geometry.specs.Boxes.{lowest, highest}
 
 module _ (box : AABB) (eps : Float) (resolution : ℕ → Float) where
   -- the length over max(resolution, eps), rounded up, and at least 1
   unfoldable pub segments : ℕ → ℕ
-  segments k = rounding.segments (high box k ⊖ low box k) (larger (resolution k) eps)
+  segments k = rounding.segments (highest box k ⊖ lowest box k) (larger (resolution k) eps)
 
   -- the last point is max itself, so that it has max's bits
   unfoldable pub gridLine : ℕ → ℕ → Float
   gridLine k i =
-      cond (eqb i (segments k)) (high box k)
-      (low box k ⊕ (high box k ⊖ low box k) ⊗ (ofInt binary64 (pos i) ⊘ ofInt binary64 (pos (segments k))))
+      cond (eqb i (segments k)) (highest box k)
+      (lowest box k ⊕ (highest box k ⊖ lowest box k) ⊗ (ofInt binary64 (pos i) ⊘ ofInt binary64 (pos (segments k))))
 
   unfoldable pub axisPoints : ℕ → List Float
   axisPoints k = map (gridLine k) (upTo (segments k + 1))

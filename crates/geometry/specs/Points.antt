@@ -1,7 +1,7 @@
 -- Points (document 01, module 1; geometry/point.rs, and `normal` and `area2` of geometry/triangle.rs), each operation rounded. Assumes nothing.
 --   pt, origin     a point by its coordinates; (0, 0, 0)
 --   along, onAxes  a point's coordinate on axis 0, 1, 2; a point given by a coordinate for each axis
---   minus          `Point::sub`: "componentwise difference"       dot    "(x + y) + z"
+--   difference          `Point::sub`: "componentwise difference"       dot    "(x + y) + z"
 --   cross          the Rust's cross product                       norm2, norm   dot with itself, and its root
 --   normal, area2  of a triangle: (b - a) × (c - a), and its length, twice the area
 use Prim.Native.Nat.{ℕ, zero, suc}
@@ -25,8 +25,8 @@ along p (suc (suc k)) = p .z
 abbrev pub onAxes : (ℕ → Float) → Point
 onAxes f = pt (f 0) (f 1) (f 2)
 
-unfoldable pub minus : Point → Point → Point
-minus p q = pt (p .x ⊖ q .x) (p .y ⊖ q .y) (p .z ⊖ q .z)
+unfoldable pub difference : Point → Point → Point
+difference p q = pt (p .x ⊖ q .x) (p .y ⊖ q .y) (p .z ⊖ q .z)
 
 unfoldable pub dot : Point → Point → Float
 dot p q = p .x ⊗ q .x ⊕ p .y ⊗ q .y ⊕ p .z ⊗ q .z
@@ -41,7 +41,7 @@ abbrev pub norm : Point → Float
 norm p = root (norm2 p)
 
 abbrev pub normal : Triangle Point → Point
-normal t = cross (minus (t .b) (t .a)) (minus (t .c) (t .a))
+normal t = cross (difference (t .b) (t .a)) (difference (t .c) (t .a))
 
 abbrev pub area2 : Triangle Point → Float
 area2 t = norm (normal t)

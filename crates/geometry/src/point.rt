@@ -3,7 +3,7 @@
 ghost use mathlib.Core.Path.{_≡_};
 ghost use lib.Dec.{T};
 ghost use Rattle.root.specs.Root.{rootable};
-ghost use Rattle.geometry.specs.Points.{minus, dot, cross, norm2, norm};
+ghost use Rattle.geometry.specs.Points.{difference, dot, cross, norm2, norm};
 use root::sqrt;
 
 pub struct Point {
@@ -14,7 +14,7 @@ pub struct Point {
 
 impl Point {
     pub fn sub(self, other: Point) -> Point
-        ensures { λ r. ⌜ r ≡ minus self other ⌝ }
+        ensures { λ r. ⌜ r ≡ difference self other ⌝ }
     {
         Point {
             x: self.x - other.x,

@@ -12,10 +12,10 @@ use Rattle.lists.specs.Regions.{view}
 use Rattle.lists.proofs.Regions.{view-length, view-at}
 use Rattle.components.specs.Table.{LabelsBelow}
 use Rattle.chains.specs.Links.{linkTo}
-use Rattle.leaf_exports.specs.Exports.{BelowUpTo, Answers}
+use Rattle.leaf_exports.specs.Exports.{BelowUpTo, LinksFound}
 
-pub answers-more : (keys asked found : List ℕ) (i v : ℕ) → i < length found → Answers keys asked found i → v ≡ linkTo (eqb (getD asked i 0)) keys
-    → Answers keys asked (set found i v) (i + 1)
+pub answers-more : (keys asked found : List ℕ) (i v : ℕ) → i < length found → LinksFound keys asked found i → v ≡ linkTo (eqb (getD asked i 0)) keys
+    → LinksFound keys asked (set found i v) (i + 1)
 answers-more keys asked found i v h f e j l = go (ℕ-discrete j i)
   where
     go : Dec (j ≡ i) → getD (set found i v) j 0 ≡ linkTo (eqb (getD asked j 0)) keys

@@ -1,7 +1,7 @@
 -- Words of the test exports' contracts. Assumes nothing.
 --   RootOr x r    r is the root of x where x has one, else x itself
 --   BelowUpTo   the first e words from `at` on are below m
---   Answers     the first n words of `found` are the links of the words asked for
+--   LinksFound     the first n words of `found` are the links of the words asked for
 use Prim.Native.Nat.{ℕ, _+_, _<_}
 use mathlib.Core.Bool.{not}
 use mathlib.Core.List.{List}
@@ -19,5 +19,5 @@ pub record RootOr (x r : Float) : Type 0 where
 abbrev pub BelowUpTo : List ℕ → ℕ → ℕ → ℕ → Type 0
 BelowUpTo w at e m = (t : ℕ) → t < e → getD w (at + t) 0 < m
 
-abbrev pub Answers : List ℕ → List ℕ → List ℕ → ℕ → Type 0
-Answers keys asked found n = (i : ℕ) → i < n → getD found i 0 ≡ linkTo (eqb (getD asked i 0)) keys
+abbrev pub LinksFound : List ℕ → List ℕ → List ℕ → ℕ → Type 0
+LinksFound keys asked found n = (i : ℕ) → i < n → getD found i 0 ≡ linkTo (eqb (getD asked i 0)) keys

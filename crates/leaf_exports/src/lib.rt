@@ -9,7 +9,7 @@ ghost use Rattle.chains.specs.ByWord.{wordBucket};
 ghost use Rattle.chains.specs.Chains.{Linked};
 ghost use Rattle.chains.specs.Links.{linkTo};
 ghost use Rattle.components.specs.Table.{ComponentTable};
-ghost use Rattle.leaf_exports.specs.Exports.{Answers, BelowUpTo, RootOr};
+ghost use Rattle.leaf_exports.specs.Exports.{LinksFound, BelowUpTo, RootOr};
 ghost use Rattle.lists.specs.Regions.{view};
 ghost use Rattle.rounding.specs.Rounding.{halfAway, key};
 ghost use Rattle.sorting.specs.Sorting.{SortedRecords};
@@ -107,7 +107,7 @@ fn answer(m: &[u64], nb: usize, keys: &[u64], asked: &[u64], found: &mut [u64])
     requires { ⌜ nb ≤ 4294967296 ⌝ }
     requires { ⌜ Linked (wordBucket (now keys) nb) (now m) 0 nb (length (now keys)) ⌝ }
     requires { ⌜ length (now asked) ≤ length (now found) ⌝ }
-    ensures { λ _. ⌜ Answers (now (keys .entry)) (now (asked .entry)) (now (found .exit)) (length (now (asked .entry))) ⌝ }
+    ensures { λ _. ⌜ LinksFound (now (keys .entry)) (now (asked .entry)) (now (found .exit)) (length (now (asked .entry))) ⌝ }
 {
     let mut i = 0;
     while i < asked.len() {
@@ -125,7 +125,7 @@ pub extern "C" fn table_words(
     asked: &[u64],
     found: &mut [u64],
 ) -> bool
-    ensures { λ r. ⌜ (r ≡ true → Answers (now (keys .entry)) (now (asked .entry)) (now (found .exit)) (length (now (asked .entry)))) ×
+    ensures { λ r. ⌜ (r ≡ true → LinksFound (now (keys .entry)) (now (asked .entry)) (now (found .exit)) (length (now (asked .entry)))) ×
         (r ≡ false → now (found .exit) ≡ now (found .entry)) ⌝ }
 {
     if nb == 0 {

@@ -18,7 +18,7 @@ use Rattle.lists.proofs.Regions.{view-length}
 use Rattle.words.specs.Overlay.{overlay}
 use Rattle.words.proofs.Overlay.{overlay-whole}
 use Rattle.geometry.specs.Triangles.{flat}
-use Rattle.geometry.specs.Meshes.{Mesh, coordinates}
+use Rattle.geometry.specs.Meshes.{Mesh, coordinates, vertexOf}
 use Rattle.geometry.proofs.Meshes.{length-coordinates}
 use Rattle.refusals.specs.declared.refusal.Refusal.{Refusal}
 use Rattle.refusals.specs.declared.refusal.Refusal.the-variants.{BadNumber, NoWorkRoom, KeyRange, NoRoom}
@@ -33,11 +33,10 @@ use Rattle.refusals.specs.Front.{ceiling, listTests, inRange, epsInRange, workN
 use Rattle.refusals.proofs.Refusals.{holds, passes, none-left, row-passed, row-refused}
 use Rattle.refusals.proofs.Replies.{head-passed, tail-passed, row-front, row-rest, listed}
 use Rattle.refusals.proofs.Answers.{short, done-two, answered}
-use Rattle.mesh_weld.specs.Room.{vertexOf}
 use Rattle.mesh_compact.specs.declared.compact.Staged.{Staged}
 use Rattle.mesh_compact.proofs.Statuses.{rule}
 use Rattle.mesh_cleanup.specs.Clean.{cleanTests, cleanResult, Cleaned}
-use Rattle.mesh_cleanup.specs.Steps.{Ready, Staging}
+use Rattle.mesh_cleanup.specs.Steps.{CleanReady, Staging}
 
 -- ---- the tests in front, one after the other
 
@@ -86,7 +85,7 @@ module _ (vs : List Float) (fs : List ℕ) (eps : Float) (lent : ℕ) where
         pub all-passed : farKeys eps vs ≡ false → Passed ≡ firstRefusal (cleanTests vs fs eps lent)
         all-passed g = sym (after-room ∙ passes (farKeys eps vs) KeyRange [] g ∙ none-left)
 
-  pub ready : firstRefusal (cleanTests vs fs eps lent) ≡ Passed → Ready vs fs eps lent
+  pub ready : firstRefusal (cleanTests vs fs eps lent) ≡ Passed → CleanReady vs fs eps lent
   unfolding cleanTests workNeed
   ready e =
       let n = 128 * (length vs / 3 + length fs / 3 + 0 + 0) + 1024 in

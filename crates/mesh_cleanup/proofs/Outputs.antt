@@ -13,10 +13,9 @@ use Rattle.words.specs.Overlay.{overlay}
 use Rattle.words.proofs.Overlay.{Writing, writing-start, writing-turn, writing-end}
 use Rattle.geometry.specs.declared.point.Point.{Point}
 use Rattle.geometry.specs.Points.{origin}
-use Rattle.geometry.specs.Meshes.{coordinates}
+use Rattle.geometry.specs.Meshes.{coordinates, vertexOf}
 use Rattle.geometry.proofs.Meshes.{length-coordinates}
 use Rattle.geometry.proofs.Threes.{three-set}
-use Rattle.mesh_weld.specs.Room.{vertexOf}
 
 -- the coordinates of point k
 coordinates-at : (l : List Point) (k : ℕ) (z : Float) → k < length l

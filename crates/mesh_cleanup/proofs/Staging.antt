@@ -15,13 +15,13 @@ use Rattle.lists.proofs.Sequences.{at-map}
 use Rattle.geometry.specs.declared.point.Point.{Point}
 use Rattle.geometry.specs.Points.{origin}
 use Rattle.geometry.specs.Triangles.{Triangle, mapped, vertices, threes, flat}
-use Rattle.geometry.specs.Meshes.{Mesh, pointsOf, vertex}
+use Rattle.geometry.specs.Meshes.{Mesh, pointsOf, vertex, vertexOf}
 use Rattle.geometry.proofs.Meshes.{length-pointsOf, vertex-at}
 use Rattle.rounding.specs.Rounding.{farKey}
 use Rattle.refusals.specs.Front.{badIndex, farKeys}
 use Rattle.mesh_weld.specs.Weld.{Welded, weld}
 use Rattle.mesh_weld.specs.Cells.{cells}
-use Rattle.mesh_weld.specs.Room.{vertexOf, KeyIn, KeysIn, Welds}
+use Rattle.mesh_weld.specs.Room.{KeyIn, KeysIn, Welds}
 use Rattle.mesh_weld.proofs.Rule.{lawful}
 use Rattle.mesh_weld.proofs.Numbers.{Numbers, weld-numbers}
 use Rattle.mesh_filter.specs.declared.corners.WeldedAt.{WeldedAt}
@@ -34,9 +34,9 @@ use Rattle.mesh_compact.specs.Room.{StagedMesh, Source, Lent, MeshCompacted}
 use Rattle.mesh_compact.proofs.Statuses.{passed-low}
 use Rattle.mesh_compact.proofs.Shared.{label-at}
 use Rattle.mesh_cleanup.specs.Clean.{weldedMesh, cleanedMesh, cleanResult}
-use Rattle.mesh_cleanup.specs.Steps.{Ready, Staging}
+use Rattle.mesh_cleanup.specs.Steps.{CleanReady, Staging}
 
-module _ (vs : List Float) (fs : List ℕ) (eps : Float) (lent : ℕ) (R : Ready vs fs eps lent) where
+module _ (vs : List Float) (fs : List ℕ) (eps : Float) (lent : ℕ) (R : CleanReady vs fs eps lent) where
   abbrev nv : ℕ
   nv = length vs / 3
 

@@ -1,5 +1,5 @@
 -- What the inner functions do once every test but 12 has passed. Contracts of inner functions cite this; the product promises nothing by it. Assumes nothing.
---   Ready       what is known once those tests have passed
+--   CleanReady       what is known once those tests have passed
 --   Staging     the cleaned mesh stands in the work room
 use Prim.Native.Nat.{ℕ, _+_, _*_, _/_, _≤_}
 use mathlib.Core.Path.{_≡_}
@@ -7,13 +7,12 @@ use mathlib.Core.Bool.{false}
 use mathlib.Core.List.{List}
 use lib.ListN.{length}
 use lib.Ieee.{Float}
-use Rattle.geometry.specs.Meshes.{Mesh}
+use Rattle.geometry.specs.Meshes.{Mesh, vertexOf}
 use Rattle.refusals.specs.Front.{ceiling, farKeys, ListsPass}
-use Rattle.mesh_weld.specs.Room.{vertexOf}
 use Rattle.mesh_compact.specs.declared.compact.Staged.{Staged}
 use Rattle.mesh_compact.specs.Room.{StagedMesh}
 
-pub record Ready (vs : List Float) (fs : List ℕ) (eps : Float) (lent : ℕ) : Type 0 where
+pub record CleanReady (vs : List Float) (fs : List ℕ) (eps : Float) (lent : ℕ) : Type 0 where
   pub lists : ListsPass ceiling vs fs
   pub near : farKeys eps vs ≡ false
   pub room : 128 * (length vs / 3 + length fs / 3) + 1024 ≤ lent

@@ -5,12 +5,11 @@ ghost use Prim.Native.Nat.{ℕ, _+_, _*_, _/_, _≤_, _<_};
 ghost use lib.ListN.{length, getD};
 ghost use Rattle.lists.specs.Regions.{view};
 ghost use Rattle.words.specs.Overlay.{overlay};
-ghost use Rattle.geometry.specs.Meshes.{coordinates};
+ghost use Rattle.geometry.specs.Meshes.{coordinates, vertexOf};
 ghost use Rattle.refusals.specs.Refusals.{documentedReply, firstRefusal};
 ghost use Rattle.refusals.specs.Answers.{meshOutputs, Answer};
-ghost use Rattle.mesh_weld.specs.Room.{vertexOf};
 ghost use Rattle.mesh_cleanup.specs.Clean.{cleanTests, cleanResult, Cleaned};
-ghost use Rattle.mesh_cleanup.specs.Steps.{Ready, Staging};
+ghost use Rattle.mesh_cleanup.specs.Steps.{CleanReady, Staging};
 use geometry::numbers::MeshVertexId;
 use geometry::vertices::vertex_at;
 use geometry::vertices::write_point;
@@ -58,7 +57,7 @@ fn check(vertices: &[f64], facets: &[u32], eps: f64, lent: usize) -> Checked
 
 // The cleaned mesh in the work room: 14 words a vertex for welding, 14 a facet for the filter, then 2 a vertex and 8 a facet for components and numbers.
 fn stage(vertices: &[f64], facets: &[u32], eps: f64, work: &mut [u64]) -> Staged
-    requires { ⌜ Ready (now vertices) (now facets) eps (length (now work)) ⌝ }
+    requires { ⌜ CleanReady (now vertices) (now facets) eps (length (now work)) ⌝ }
     ensures { λ r. ⌜ Staging (now (vertices .entry)) (cleanResult (now (vertices .entry)) (now (facets .entry)) eps) r (now (work .exit)) ⌝ }
 {
     let nv = vertices.len() / 3;
@@ -117,7 +116,7 @@ fn clean_checked(
     out_vertices: &mut [f64],
     out_facets: &mut [u32],
 ) -> Reply
-    requires { ⌜ Ready (now vertices) (now facets) eps (length (now work)) ⌝ }
+    requires { ⌜ CleanReady (now vertices) (now facets) eps (length (now work)) ⌝ }
     ensures { λ r. ⌜ Answer []
         (meshOutputs (cleanResult (now (vertices .entry)) (now (facets .entry)) eps) (now («out_vertices» .entry)) (now («out_vertices» .exit)) (now («out_facets» .entry))
         (now («out_facets» .exit))) (documentedReply r) ⌝ }

@@ -9,7 +9,7 @@ use lib.Dec.{leb}
 use lib.ListN.{length, getD, replicate, length-replicate, getD-replicate}
 use lib.Seq.{ext-getD}
 use Rattle.lists.specs.Lists.{keep, upFrom, upTo}
-use Rattle.lists.specs.Regions.{view, Zeroed}
+use Rattle.lists.specs.Regions.{view, PartZeroed}
 use Rattle.lists.proofs.Regions.{view-length, view-at}
 use Rattle.lists.proofs.Counts.{keep-append}
 use Rattle.lists.proofs.Sequences.{up-snoc}
@@ -166,7 +166,7 @@ module _ (kept facets parts k at n : ℕ) (m v : List ℕ) (R : RenumberRoom kep
 
 -- ---- the first facet
 
-pub going-start : (kept facets parts k at n least : ℕ) (m v : List ℕ) → at + n ≤ length m → Zeroed m v at n → NumberedSoFar kept facets parts k at n least 0
+pub going-start : (kept facets parts k at n least : ℕ) (m v : List ℕ) → at + n ≤ length m → PartZeroed m v at n → NumberedSoFar kept facets parts k at n least 0
     (record { vertices = 0; corners = 0 }) v v
 unfolding numbering keep upFrom flatMap
 going-start kept facets parts k at n least m v room z =

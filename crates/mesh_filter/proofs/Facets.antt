@@ -16,10 +16,9 @@ use Rattle.lists.proofs.Sequences.{at-map}
 use Rattle.root.specs.Doubles.{_⊗_}
 use Rattle.geometry.specs.Points.{origin, norm2, normal}
 use Rattle.geometry.specs.Triangles.{Triangle, tri, mapped, threes}
-use Rattle.geometry.specs.Meshes.{vertex}
+use Rattle.geometry.specs.Meshes.{vertex, vertexOf}
 use Rattle.geometry.proofs.Threes.{length-threes, threes-at}
 use Rattle.chains.specs.Links.{linkTo}
-use Rattle.mesh_weld.specs.Room.{vertexOf}
 use Rattle.chains.proofs.Firsts.{link-found, link-absent, link-map}
 use Rattle.mesh_filter.specs.declared.corners.WeldedAt.{WeldedAt}
 use Rattle.mesh_filter.specs.Filters.{facetAt, isFlat, sameCorners, isDuplicate}

@@ -7,16 +7,16 @@ use mathlib.Core.List.{List, [], _∷_, _++_, map, map-append, flatMap}
 use lib.ListN.{length, getD, set, length-set}
 use lib.Seq.{getD-set-same, getD-set-other}
 use lib.Ieee.{Float}
-use Rattle.lists.specs.Regions.{view, Outside, Zeroed}
+use Rattle.lists.specs.Regions.{view, Outside, PartZeroed}
 use Rattle.lists.proofs.Regions.{view-at, view-same, view-more}
 use Rattle.geometry.specs.declared.point.Point.{Point}
 use Rattle.geometry.specs.Triangles.{Triangle, vertices, mapped, threes, flat}
 use Rattle.geometry.proofs.Threes.{flat-append}
-use Rattle.chains.specs.Chains.{Linked, entered}
+use Rattle.chains.specs.Chains.{Linked, linkedIn}
 use Rattle.chains.specs.Hash.{mixed, InBucket, bucketOf}
 use Rattle.chains.specs.ByWord.{wordBucket}
 use Rattle.chains.proofs.Entering.{linked-none, linked-cong, linked-same, linked-more, tail-le, entered-length, entered-rest}
-use Rattle.mesh_weld.specs.Room.{vertexOf}
+use Rattle.geometry.specs.Meshes.{vertexOf}
 use Rattle.mesh_filter.specs.declared.corners.WeldedAt.{WeldedAt}
 use Rattle.mesh_filter.specs.Filters.{facetAt, passes, passed}
 use Rattle.mesh_filter.specs.Room.{cornersKey, pointsInRoom, facetsInRoom, keptInRoom, numbersInRoom, CornersNumbered, FilteredSoFar, FacetFiltered, Filtered}
@@ -55,7 +55,7 @@ module _ (eps : Float) (points : List Point) (facets : List (Triangle ℕ)) (at 
 
   module _ (b key : ℕ) (t : Triangle ℕ) (T : t ≡ facetAt facets f) (K : key ≡ cornersKey t) (B : InBucket (mixed key 0 0) (4 * n) b) where
     m₁ : List ℕ
-    m₁ = entered m at (4 * n) count b
+    m₁ = linkedIn m at (4 * n) count b
 
     s₁ : List ℕ
     unfolding m₁
@@ -208,7 +208,7 @@ module _ (eps : Float) (points : List Point) (facets : List (Triangle ℕ)) (at 
 
     pub through : passes eps points facets (passed eps points facets f) (facetAt facets f) ≡ true
         → FacetFiltered eps points facets at n (f + 1) (count + 1) m
-        (set (set (set (set (set (entered m at (4 * n) count b) (at + 9 * n + count) key) (at + 10 * n + count) f) (at + 11 * n + 3 * count) (t .a)) (at + 11 * n + 3 * count + 1)
+        (set (set (set (set (set (linkedIn m at (4 * n) count b) (at + 9 * n + count) key) (at + 10 * n + count) f) (at + 11 * n + 3 * count) (t .a)) (at + 11 * n + 3 * count + 1)
         (t .b)) (at + 11 * n + 3 * count + 2) (t .c))
     unfolding v s₄ s₃ s₂ s₁ m₁ flatMap
     through e =
@@ -236,7 +236,7 @@ module _ (eps : Float) (points : List Point) (facets : List (Triangle ℕ)) (at 
 
 -- ---- the first facet and the last
 
-pub going-start : (eps : Float) (points : List Point) (facets : List (Triangle ℕ)) (at n : ℕ) (m v : List ℕ) → at + 14 * n ≤ length m → Zeroed m v at (8 * n) → FacetFiltered eps
+pub going-start : (eps : Float) (points : List Point) (facets : List (Triangle ℕ)) (at n : ℕ) (m v : List ℕ) → at + 14 * n ≤ length m → PartZeroed m v at (8 * n) → FacetFiltered eps
     points facets at n 0 0 m v
 unfolding passed flatMap
 going-start eps points facets at n m v room z =

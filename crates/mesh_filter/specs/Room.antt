@@ -17,7 +17,7 @@ use Rattle.geometry.specs.declared.point.Point.{Point}
 use Rattle.geometry.specs.Triangles.{Triangle, tri, mapped, threes, flat}
 use Rattle.chains.specs.Chains.{Linked}
 use Rattle.chains.specs.ByWord.{wordBucket}
-use Rattle.mesh_weld.specs.Room.{vertexOf}
+use Rattle.geometry.specs.Meshes.{vertexOf}
 use Rattle.mesh_filter.specs.declared.corners.WeldedAt.{WeldedAt}
 use Rattle.mesh_filter.specs.Filters.{facetAt, passed}
 

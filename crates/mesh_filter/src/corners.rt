@@ -7,7 +7,7 @@ ghost use Rattle.root.specs.Doubles.{_⊗_};
 ghost use Rattle.geometry.specs.Triangles.{mapped};
 ghost use Rattle.geometry.specs.Numbers.{meshVerticesOf};
 ghost use Rattle.geometry.specs.Points.{norm2, normal};
-ghost use Rattle.mesh_weld.specs.Room.{vertexOf};
+ghost use Rattle.geometry.specs.Meshes.{vertexOf};
 ghost use Rattle.mesh_filter.specs.Filters.{hasRepeatedCorner};
 ghost use Rattle.mesh_filter.specs.Room.{rawFacet, cornersKey, Below};
 use geometry::numbers::MeshVertexId;

@@ -18,7 +18,7 @@ use Rattle.lists.proofs.Places.{of-up}
 use Rattle.lists.proofs.Sequences.{flat-map, flat-same, at-map}
 use Rattle.geometry.specs.declared.point.Point.{Point}
 use Rattle.geometry.specs.Points.{origin}
-use Rattle.geometry.specs.Meshes.{vertex}
+use Rattle.geometry.specs.Meshes.{vertex, vertexOf}
 use Rattle.chains.specs.Links.{linkOf, linkTo}
 use Rattle.chains.specs.Chains.{Filed}
 use Rattle.chains.specs.Hash.{bucketAt}
@@ -27,7 +27,7 @@ use Rattle.chains.proofs.Cells.{cell-link, cells-hit, cells-miss, cells-one}
 use Rattle.chains.proofs.Walking.{filed-by-key}
 use Rattle.mesh_weld.specs.declared.cells.Cell.{Cell}
 use Rattle.mesh_weld.specs.Cells.{Key, keyOf, near, inCell, around, sameKey, cells}
-use Rattle.mesh_weld.specs.Room.{vertexOf, word, wordsOf, cellAt, sameCell, keptPoints, inCellAt, foundIn, cellBucket, HashOf, Index, KeysIn, CellOf, block}
+use Rattle.mesh_weld.specs.Room.{cellWord, wordsOf, cellAt, sameCell, keptPoints, inCellAt, foundIn, cellBucket, HashOf, Index, KeysIn, CellOf, block}
 use Rattle.mesh_weld.proofs.Words.{same-words, ReachKey, key-reach, around-reach, block-is}
 
 -- ---- tests of cells
@@ -114,8 +114,8 @@ module _ (vs : List Float) (eps : Float) (n count : ℕ) (m : List ℕ) (I : Ind
           ∙ sym (same-words (keyOf eps (vertexOf vs (getD m (9 * n + k) 0))) c (key-reach eps (vertexOf vs (getD m (9 * n + k) 0)) (K (getD m (9 * n + k) 0) (I .low k h))) r)
           ∙ ap (λ (q : Point). sameKey (keyOf eps q) c) (kept-at k h)
 
-  found-is : (p : Point) → KeysIn vs eps n → 1 ≤ word (keyOf eps p .x) → 1 ≤ word (keyOf eps p .y) → 1 ≤ word (keyOf eps p .z)
-      → foundIn vs eps n count m p (block (record { x = word (keyOf eps p .x) - 1; y = word (keyOf eps p .y) - 1; z = word (keyOf eps p .z) - 1 }))
+  found-is : (p : Point) → KeysIn vs eps n → 1 ≤ cellWord (keyOf eps p .x) → 1 ≤ cellWord (keyOf eps p .y) → 1 ≤ cellWord (keyOf eps p .z)
+      → foundIn vs eps n count m p (block (record { x = cellWord (keyOf eps p .x) - 1; y = cellWord (keyOf eps p .y) - 1; z = cellWord (keyOf eps p .z) - 1 }))
       ≡ linkOf (cells eps .find p (keptPoints vs n count m))
   unfolding cells foundIn
   found-is p K hx hy hz =

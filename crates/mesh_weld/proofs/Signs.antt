@@ -14,7 +14,7 @@ use borrow.Author.Tests.{ltb-true}
 use Rattle.rounding.specs.Rounding.{key, beyond, farKey}
 use Rattle.geometry.specs.declared.point.Point.{Point}
 use Rattle.mesh_weld.specs.Cells.{keyOf}
-use Rattle.mesh_weld.specs.Room.{word, WordOfKey, CellOf}
+use Rattle.mesh_weld.specs.Room.{cellWord, WordOfKey, CellOf}
 use Rattle.mesh_weld.proofs.Words.{abs-low, beyond-word}
 
 -- ---- a key within range fits a signed word
@@ -40,7 +40,7 @@ negative-low : (k : ℤ) → beyond k ≡ false → ltZ k (pos 0) ≡ true → n
 negative-low (pos n) h t = absurd (omega (arith, ltb-true n 0 t))
 negative-low (negsuc n) h t = let l = abs-low (negsuc n) h in omega arith
 
-negative-word : (k : ℤ) → beyond k ≡ false → ltZ k (pos 0) ≡ true → 4611686018427387905 - natAbs (pos 0 -ℤ k) ≡ word k
+negative-word : (k : ℤ) → beyond k ≡ false → ltZ k (pos 0) ≡ true → 4611686018427387905 - natAbs (pos 0 -ℤ k) ≡ cellWord k
 negative-word (pos n) h t = absurd (omega (arith, ltb-true n 0 t))
 negative-word (negsuc n) h t = omega arith
 
@@ -51,7 +51,7 @@ positive-cast (negsuc n) h t = absurd (true≢false t)
 positive-fits : (k : ℤ) → beyond k ≡ false → Fits w64 (4611686018427387905 + natAbs k)
 positive-fits k h = let l = abs-low k h in omega arith
 
-positive-word : (k : ℤ) → ltZ k (pos 0) ≡ false → 4611686018427387905 + natAbs k ≡ word k
+positive-word : (k : ℤ) → ltZ k (pos 0) ≡ false → 4611686018427387905 + natAbs k ≡ cellWord k
 positive-word (pos n) t = refl
 positive-word (negsuc n) t = absurd (true≢false t)
 

@@ -10,7 +10,7 @@ use lib.Ieee as Ieee
 use lib.Ieee.{Float, nan, inf, fin, binary64, round, sum, add, sub, mul, neg, odd, size, nearest, up, down, low, emax, prec}
 use borrow.Author.Tests.{ltb-true, ltb-false}
 use Rattle.geometry.specs.declared.point.Point.{Point}
-use Rattle.geometry.specs.Points.{minus, dot}
+use Rattle.geometry.specs.Points.{difference, dot}
 use Rattle.mesh_weld.specs.Cells.{near}
 
 cases : (b : Bool) → (b ≡ true) ⊎ (b ≡ false)
@@ -106,5 +106,5 @@ sq-sub (fin s m e) (fin t n d) =
     ∙ ap (λ (k : ℕ). sq (sum binary64 t (n * up d * down e) (not s) (m * up e * down d) k)) (mul-comm (down e) (down d))
 
 pub near-sym : (eps : Float) (p q : Point) → near eps p q ≡ near eps q p
-unfolding near minus dot
+unfolding near difference dot
 near-sym eps p q = rw (sq-sub (p .x) (q .x), sq-sub (p .y) (q .y), sq-sub (p .z) (q .z))

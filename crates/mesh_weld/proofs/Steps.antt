@@ -9,9 +9,9 @@ use mathlib.Core.Option.{Option, none, some}
 use lib.ListN.{length, getD, set, length-set}
 use lib.Seq.{getD-set-same, getD-set-other}
 use lib.Ieee.{Float}
-use Rattle.lists.specs.Regions.{view, Zeroed}
+use Rattle.lists.specs.Regions.{view, PartZeroed}
 use Rattle.lists.proofs.Regions.{view-same, view-more}
-use Rattle.chains.specs.Chains.{Linked, entered}
+use Rattle.chains.specs.Chains.{Linked, linkedIn}
 use Rattle.chains.specs.Links.{linkOf}
 use Rattle.chains.specs.Hash.{mixed, InBucket}
 use Rattle.chains.proofs.Firsts.{link-none, link-some}
@@ -19,7 +19,8 @@ use Rattle.chains.proofs.Entering.{linked-none, linked-cong, linked-same, linke
 use Rattle.mesh_weld.specs.declared.cells.Cell.{Cell}
 use Rattle.mesh_weld.specs.Weld.{Welded, welding, weldNext, weld}
 use Rattle.mesh_weld.specs.Cells.{keyOf, cells}
-use Rattle.mesh_weld.specs.Room.{vertexOf, wordsOf, cellAt, keptPoints, cellBucket, Index, CellOf, WeldedSoFar, Welds}
+use Rattle.geometry.specs.Meshes.{vertexOf}
+use Rattle.mesh_weld.specs.Room.{wordsOf, cellAt, keptPoints, cellBucket, Index, CellOf, WeldedSoFar, Welds}
 use Rattle.mesh_weld.proofs.Searching.{kept-long}
 
 pub cell-same : (m v : List ℕ) (o : ℕ) → getD v o 0 ≡ getD m o 0 → getD v (o + 1) 0 ≡ getD m (o + 1) 0 → getD v (o + 2) 0 ≡ getD m (o + 2) 0 → cellAt v o ≡ cellAt m o
@@ -98,7 +99,7 @@ module _ (vs : List Float) (eps : Float) (n i count : ℕ) (m : List ℕ) (G : W
 
   module _ (b : ℕ) (c : Cell) (C : CellOf eps (vertexOf vs i) c) (B : InBucket (mixed (c .x) (c .y) (c .z)) (4 * n) b) where
     m₁ : List ℕ
-    m₁ = entered m 0 (4 * n) count b
+    m₁ = linkedIn m 0 (4 * n) count b
 
     s₁ : List ℕ
     unfolding m₁
@@ -224,7 +225,7 @@ module _ (vs : List Float) (eps : Float) (n i count : ℕ) (m : List ℕ) (G : W
             linked-more hash m 0 (4 * n) count b (B .is ∙ ap (cellBucket n) (sym cell-new)) (B .low) (omega (arith, I .room, few))
             (linked-cong (λ k. cellBucket n (cellAt m (11 * n + 3 * k))) hash m 0 (4 * n) count (λ k lt. ap (cellBucket n) (sym (cell-old k lt))) (I .linked))
 
-    pub kept-new : (r : ℕ) → Answers r → r ≡ 0 → WeldedSoFar vs eps n (i + 1) (count + 1) (stored (entered m 0 (4 * n) count b) c)
+    pub kept-new : (r : ℕ) → Answers r → r ≡ 0 → WeldedSoFar vs eps n (i + 1) (count + 1) (stored (linkedIn m 0 (4 * n) count b) c)
     unfolding v s₄ s₃ s₂ s₁ m₁
     kept-new r e z =
         record {
@@ -268,7 +269,7 @@ module _ (vs : List Float) (eps : Float) (n i count : ℕ) (m : List ℕ) (G : W
 
 -- ---- the first vertex and the last
 
-pub going-start : (vs : List Float) (eps : Float) (n : ℕ) (m v : List ℕ) → 0 < n → n < 268435456 → 3 * n ≤ length vs → 14 * n ≤ length m → Zeroed m v 0 (8 * n) → WeldedSoFar vs eps
+pub going-start : (vs : List Float) (eps : Float) (n : ℕ) (m v : List ℕ) → 0 < n → n < 268435456 → 3 * n ≤ length vs → 14 * n ≤ length m → PartZeroed m v 0 (8 * n) → WeldedSoFar vs eps
     n 0 0 v
 unfolding weld
 going-start vs eps n m v any small size room z =

@@ -13,7 +13,7 @@ use Rattle.rounding.specs.Rounding.{key, beyond, farKey}
 use Rattle.geometry.specs.declared.point.Point.{Point}
 use Rattle.mesh_weld.specs.declared.cells.Cell.{Cell}
 use Rattle.mesh_weld.specs.Cells.{Key, keyOf, same, sameKey, beside, around}
-use Rattle.mesh_weld.specs.Room.{word, wordsOf, sameCell, InReach, KeyIn, block}
+use Rattle.mesh_weld.specs.Room.{cellWord, wordsOf, sameCell, InReach, KeyIn, block}
 use Rattle.lists.proofs.Mapped.{Each}
 use Rattle.lists.proofs.Sequences.{each-append}
 
@@ -31,11 +31,11 @@ agree : (a b c d : ℕ) → (a ≡ b → c ≡ d) → (c ≡ d → a ≡ b) → 
 agree a b c d f g =
     ⊎-elim (λ e. e ∙ sym (eq-eqb c d (f (eqb-true a b e)))) (λ e. e ∙ sym (ne-eqb c d (λ q. eqb-false a b e (g q)))) (cases (eqb a b))
 
-pub same-word : (a b : ℤ) → Reach a → Reach b → same a b ≡ eqb (word a) (word b)
-same-word (pos a) (pos b) p q = agree a b (word (pos a)) (word (pos b)) (λ e. omega arith) (λ e. omega arith)
-same-word (pos a) (negsuc b) p q = sym (ne-eqb (word (pos a)) (word (negsuc b)) (λ e. omega arith))
-same-word (negsuc a) (pos b) p q = sym (ne-eqb (word (negsuc a)) (word (pos b)) (λ e. omega arith))
-same-word (negsuc a) (negsuc b) p q = agree a b (word (negsuc a)) (word (negsuc b)) (λ e. omega arith) (λ e. omega arith)
+pub same-word : (a b : ℤ) → Reach a → Reach b → same a b ≡ eqb (cellWord a) (cellWord b)
+same-word (pos a) (pos b) p q = agree a b (cellWord (pos a)) (cellWord (pos b)) (λ e. omega arith) (λ e. omega arith)
+same-word (pos a) (negsuc b) p q = sym (ne-eqb (cellWord (pos a)) (cellWord (negsuc b)) (λ e. omega arith))
+same-word (negsuc a) (pos b) p q = sym (ne-eqb (cellWord (negsuc a)) (cellWord (pos b)) (λ e. omega arith))
+same-word (negsuc a) (negsuc b) p q = agree a b (cellWord (negsuc a)) (cellWord (negsuc b)) (λ e. omega arith) (λ e. omega arith)
 
 pub record ReachKey (k : Key) : Type 0 where
   pub x : Reach (k .x)
@@ -57,7 +57,7 @@ pub beyond-reach : (k : ℤ) → beyond k ≡ false → Reach k
 beyond-reach (pos n) h = tt
 beyond-reach (negsuc n) h = let l = abs-low (negsuc n) h in omega arith
 
-pub beyond-word : (k : ℤ) → beyond k ≡ false → InReach (word k)
+pub beyond-word : (k : ℤ) → beyond k ≡ false → InReach (cellWord k)
 beyond-word (pos n) h = let l = abs-low (pos n) h in record { low = omega arith; high = omega arith }
 beyond-word (negsuc n) h = let l = abs-low (negsuc n) h in record { low = omega arith; high = omega arith }
 
@@ -66,29 +66,29 @@ unfolding keyOf farKey
 key-reach eps p h = record { x = beyond-reach (key eps (p .x)) (h .x); y = beyond-reach (key eps (p .y)) (h .y); z = beyond-reach (key eps (p .z)) (h .z) }
 
 -- ---- the keys beside one
-pub pred-reach : (k : ℤ) → 1 ≤ word k → Reach (predℤ k)
+pub pred-reach : (k : ℤ) → 1 ≤ cellWord k → Reach (predℤ k)
 pred-reach (pos zero) h = omega arith
 pred-reach (pos (suc n)) h = tt
 pred-reach (negsuc n) h = omega arith
 
-pub self-reach : (k : ℤ) → 1 ≤ word k → Reach k
+pub self-reach : (k : ℤ) → 1 ≤ cellWord k → Reach k
 self-reach (pos n) h = tt
 self-reach (negsuc n) h = omega arith
 
-pub suc-reach : (k : ℤ) → 1 ≤ word k → Reach (sucℤ k)
+pub suc-reach : (k : ℤ) → 1 ≤ cellWord k → Reach (sucℤ k)
 suc-reach (pos n) h = tt
 suc-reach (negsuc zero) h = tt
 suc-reach (negsuc (suc n)) h = omega arith
 
-word-pred : (k : ℤ) → 1 ≤ word k → word k - 1 ≡ word (predℤ k)
+word-pred : (k : ℤ) → 1 ≤ cellWord k → cellWord k - 1 ≡ cellWord (predℤ k)
 word-pred (pos zero) h = omega arith
 word-pred (pos (suc n)) h = omega arith
 word-pred (negsuc n) h = omega arith
 
-word-self : (k : ℤ) → 1 ≤ word k → word k - 1 + 1 ≡ word k
+word-self : (k : ℤ) → 1 ≤ cellWord k → cellWord k - 1 + 1 ≡ cellWord k
 word-self k h = omega arith
 
-word-suc : (k : ℤ) → 1 ≤ word k → word k - 1 + 2 ≡ word (sucℤ k)
+word-suc : (k : ℤ) → 1 ≤ cellWord k → cellWord k - 1 + 2 ≡ cellWord (sucℤ k)
 word-suc (pos n) h = omega arith
 word-suc (negsuc zero) h = omega arith
 word-suc (negsuc (suc n)) h = omega arith
@@ -98,10 +98,10 @@ unfolding flatMap
 all-flat Q P f h [] q = tt
 all-flat Q P f h (x ∷ xs) q = each-append P (f x) (flatMap f xs) (h x (q .0)) (all-flat Q P f h xs (q .1))
 
-beside-reach : (k : ℤ) → 1 ≤ word k → Each Reach (beside k)
+beside-reach : (k : ℤ) → 1 ≤ cellWord k → Each Reach (beside k)
 beside-reach k h = (pred-reach k h, (self-reach k h, (suc-reach k h, tt)))
 
-pub around-reach : (k : Key) → 1 ≤ word (k .x) → 1 ≤ word (k .y) → 1 ≤ word (k .z) → Each ReachKey (around k)
+pub around-reach : (k : Key) → 1 ≤ cellWord (k .x) → 1 ≤ cellWord (k .y) → 1 ≤ cellWord (k .z) → Each ReachKey (around k)
 unfolding around
 around-reach k hx hy hz =
     all-flat Reach ReachKey (λ x. flatMap (λ y. flatMap (λ z. record { x = x; y = y; z = z } ∷ []) (beside (k .z))) (beside (k .y)))
@@ -123,8 +123,8 @@ cube : ℕ → ℕ → ℕ → ℕ → ℕ → ℕ → ℕ → ℕ → ℕ → L
 unfolding layers
 cube x₀ x₁ x₂ y₀ y₁ y₂ z₀ z₁ z₂ = layers x₀ y₀ y₁ y₂ z₀ z₁ z₂ ++ (layers x₁ y₀ y₁ y₂ z₀ z₁ z₂ ++ layers x₂ y₀ y₁ y₂ z₀ z₁ z₂)
 
-pub block-is : (k : Key) → 1 ≤ word (k .x) → 1 ≤ word (k .y) → 1 ≤ word (k .z)
-    → block (record { x = word (k .x) - 1; y = word (k .y) - 1; z = word (k .z) - 1 }) ≡ map wordsOf (around k)
+pub block-is : (k : Key) → 1 ≤ cellWord (k .x) → 1 ≤ cellWord (k .y) → 1 ≤ cellWord (k .z)
+    → block (record { x = cellWord (k .x) - 1; y = cellWord (k .y) - 1; z = cellWord (k .z) - 1 }) ≡ map wordsOf (around k)
 unfolding around cube layers lines flatMap
 block-is k hx hy hz = λ i.
     cube (word-pred (k .x) hx i) (word-self (k .x) hx i) (word-suc (k .x) hx i)

@@ -17,7 +17,7 @@ use Rattle.lists.specs.Lists.{first, keep, upTo}
 use Rattle.root.specs.Doubles.{_⊗_}
 use Rattle.rounding.specs.Rounding.{key}
 use Rattle.geometry.specs.declared.point.Point.{Point}
-use Rattle.geometry.specs.Points.{minus, norm2}
+use Rattle.geometry.specs.Points.{difference, norm2}
 use Rattle.geometry.specs.Meshes.{vertex}
 use Rattle.mesh_weld.specs.Joining.{Joining}
 
@@ -47,7 +47,7 @@ around k =
     flatMap (λ x. flatMap (λ y. flatMap (λ z. record { x = x; y = y; z = z } ∷ []) (beside (k .z))) (beside (k .y))) (beside (k .x))
 
 unfoldable pub near : Float → Point → Point → Bool
-near eps p q = le (norm2 (minus p q)) (eps ⊗ eps)
+near eps p q = le (norm2 (difference p q)) (eps ⊗ eps)
 
 -- the kept vertices in the cell c, "in order of entry"
 abbrev pub inCell : Float → List Point → Key → List ℕ

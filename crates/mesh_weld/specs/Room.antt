@@ -1,7 +1,6 @@
 -- What the functions of welding keep in the work room, of which the outer contract does not speak. For n vertices: 4 n heads, 4 n tails and n nexts (crate chains), the kept
 -- vertices from 9 n on, the new numbers from 10 n on, and the cells of the kept from 11 n on, three words each. A key stands as a word, 2 ^ 62 + 1 more than it. Assumes nothing.
---   vertexOf             vertex v of a list of coordinates
---   word, wordsOf        a key as a word, a cell as three           cellAt    three words of the room as a cell
+--   cellWord, wordsOf        a key as a word, a cell as three           cellAt    three words of the room as a cell
 --   sameCell             two cells are one                             keptPoints   the points of the vertices kept
 --   foundIn              the link to the first kept vertex of some cells that is near p
 --   row, layer, block    3, 9 and 27 cells from one up
@@ -30,18 +29,15 @@ use Rattle.mesh_weld.specs.declared.cells.Cell.{Cell}
 use Rattle.mesh_weld.specs.Weld.{weld}
 use Rattle.mesh_weld.specs.Cells.{Key, keyOf, near, cells}
 
-abbrev pub vertexOf : List Float → ℕ → Point
-vertexOf vs v = vertex (pointsOf vs) v
-
 -- ---- cells in words
 
 -- 2 ^ 62 + 1 is 4611686018427387905
-abbrev pub word : ℤ → ℕ
-word (pos n) = 4611686018427387905 + n
-word (negsuc n) = 4611686018427387904 - n
+abbrev pub cellWord : ℤ → ℕ
+cellWord (pos n) = 4611686018427387905 + n
+cellWord (negsuc n) = 4611686018427387904 - n
 
 abbrev pub wordsOf : Key → Cell
-wordsOf k = record { x = word (k .x); y = word (k .y); z = word (k .z) }
+wordsOf k = record { x = cellWord (k .x); y = cellWord (k .y); z = cellWord (k .z) }
 
 abbrev pub cellAt : List ℕ → ℕ → Cell
 cellAt m o = record { x = getD m o 0; y = getD m (o + 1) 0; z = getD m (o + 2) 0 }
@@ -91,7 +87,7 @@ pub record InReach (r : ℕ) : Type 0 where
   pub high : r ≤ 9223372036854775809
 
 pub record WordOfKey (k : ℤ) (r : ℕ) : Type 0 where
-  pub is : r ≡ word k
+  pub is : r ≡ cellWord k
   pub reach : InReach r
 
 pub record Inner (c : Cell) : Type 0 where

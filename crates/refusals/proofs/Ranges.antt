@@ -11,7 +11,7 @@ use Rattle.root.specs.Doubles.{2^30}
 use Rattle.root.specs.Bounds.{Within}
 use Rattle.root.proofs.Powers.{in-range}
 use Rattle.geometry.specs.declared.aabb.AABB.{AABB}
-use Rattle.geometry.specs.Boxes.{low, high}
+use Rattle.geometry.specs.Boxes.{lowest, highest}
 use Rattle.refusals.specs.Front.{inRange, boxInRange, epsInRange}
 
 pub in-range-within : (x : Float) → inRange x ≡ true → Within (2 ^ 30) x
@@ -21,30 +21,30 @@ in-range-within x e =
 
 -- both corners on the axes 0, 1, 2
 pub record CornersWithin (b : AABB) (k : ℕ) : Type 0 where
-  pub low-within : Within (2 ^ 30) (low b k)
-  pub high-within : Within (2 ^ 30) (high b k)
+  pub low-within : Within (2 ^ 30) (lowest b k)
+  pub high-within : Within (2 ^ 30) (highest b k)
 
 pub record BoxWithin (b : AABB) : Type 0 where
   pub x : CornersWithin b 0
   pub y : CornersWithin b 1
   pub z : CornersWithin b 2
 
-corners : (b : AABB) (k : ℕ) → (inRange (low b k) && inRange (high b k)) ≡ true → CornersWithin b k
+corners : (b : AABB) (k : ℕ) → (inRange (lowest b k) && inRange (highest b k)) ≡ true → CornersWithin b k
 corners b k e =
     record {
-      low-within = in-range-within (low b k) (and-left (inRange (low b k)) (inRange (high b k)) e);
-      high-within = in-range-within (high b k) (and-right (inRange (low b k)) (inRange (high b k)) e);
+      low-within = in-range-within (lowest b k) (and-left (inRange (lowest b k)) (inRange (highest b k)) e);
+      high-within = in-range-within (highest b k) (and-right (inRange (lowest b k)) (inRange (highest b k)) e);
     }
 
 pub box-within : (b : AABB) → boxInRange b ≡ true → BoxWithin b
 unfolding boxInRange every
 box-within b e =
-    let rest = and-right (inRange (low b 0) && inRange (high b 0)) _ e in
-    let last = and-right (inRange (low b 1) && inRange (high b 1)) _ rest in
+    let rest = and-right (inRange (lowest b 0) && inRange (highest b 0)) _ e in
+    let last = and-right (inRange (lowest b 1) && inRange (highest b 1)) _ rest in
     record {
-      x = corners b 0 (and-left (inRange (low b 0) && inRange (high b 0)) _ e);
-      y = corners b 1 (and-left (inRange (low b 1) && inRange (high b 1)) _ rest);
-      z = corners b 2 (and-left (inRange (low b 2) && inRange (high b 2)) _ last);
+      x = corners b 0 (and-left (inRange (lowest b 0) && inRange (highest b 0)) _ e);
+      y = corners b 1 (and-left (inRange (lowest b 1) && inRange (highest b 1)) _ rest);
+      z = corners b 2 (and-left (inRange (lowest b 2) && inRange (highest b 2)) _ last);
     }
 
 -- an eps in range is a number: it has bits

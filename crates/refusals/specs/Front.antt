@@ -16,7 +16,7 @@ use Rattle.lists.specs.Lists.{every, some}
 use Rattle.root.specs.Doubles.{zeroF, oneF, 2^30}
 use Rattle.rounding.specs.Rounding.{farKey}
 use Rattle.geometry.specs.declared.aabb.AABB.{AABB}
-use Rattle.geometry.specs.Boxes.{low, high, axes}
+use Rattle.geometry.specs.Boxes.{lowest, highest, axes}
 use Rattle.geometry.specs.Axes.{segments}
 use Rattle.refusals.specs.declared.refusal.Refusal.the-variants.{Ragged, TooMany, BadIndex, NoWorkRoom, NoRoom}
 use Rattle.refusals.specs.Refusals.{Test}
@@ -77,13 +77,13 @@ unfoldable pub resolutionInRange : Float → Bool
 resolutionInRange r = lt zeroF r && le r 2^30
 
 unfoldable pub boxInRange : AABB → Bool
-boxInRange b = every (λ k. inRange (low b k) && inRange (high b k)) axes
+boxInRange b = every (λ k. inRange (lowest b k) && inRange (highest b k)) axes
 
 -- ---- 5, 6
 
 -- "min < max fails on an axis"
 unfoldable pub badBox : AABB → Bool
-badBox b = some (λ k. not (lt (low b k) (high b k))) axes
+badBox b = some (λ k. not (lt (lowest b k) (highest b k))) axes
 
 abbrev pub byAxis : List Float → ℕ → Float
 byAxis resolutions k = getD resolutions k nan

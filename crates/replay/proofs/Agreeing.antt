@@ -35,9 +35,9 @@ use Rattle.replay.specs.Contents.{table, oldDoubles, oldWords, oldDouble
 use Rattle.replay.specs.Agreement.{
   SameDoubles,
   SameWords,
-  Answered,
+  AgreesWith,
   Fresh,
-  Stored,
+  ResultStored,
   ClipStored,
   CleanStored,
   CandidatesStored,
@@ -50,7 +50,7 @@ use Rattle.replay.specs.Agreement.{
   mesh,
   candidates,
   ListsStored,
-  NoNan,
+  PlainDoubles,
   ToleranceAgrees,
   ListsAgree,
   Agrees,
@@ -98,7 +98,7 @@ pub same-box : (stored : List ℕ) {a b c d e f : Float} → a ≡ doubleAt stor
     → d ≡ doubleAt stored 9 → e ≡ doubleAt stored 10 → f ≡ doubleAt stored 11 → boxOf a b c d e f ≡ boxIn stored
 same-box stored {a} {b} {c} {d} {e} {f} p q r s t u = cc
 
-pub tolerance-decides : (stored : List ℕ) (box : AABB) (number : ℕ) (values : List ℕ) (r : Bool) → length stored ≡ 24 → NoNan stored 6 6 → box ≡ boxIn stored
+pub tolerance-decides : (stored : List ℕ) (box : AABB) (number : ℕ) (values : List ℕ) (r : Bool) → length stored ≡ 24 → PlainDoubles stored 6 6 → box ≡ boxIn stored
     → Reported (toleranceReply box) number values → Decides (number ∷ values ≡ storedReply stored) r → Decides (ToleranceAgrees stored) r
 tolerance-decides stored box number values r n h e k d =
     let same : number ∷ values ≡ reported (toleranceReply (boxIn stored)) = as-reported (toleranceReply box) number values k ∙ ap (λ (b : AABB). reported (toleranceReply b)) e in
@@ -139,9 +139,9 @@ module _ (stored reply reply₀ : List ℕ) (result result₀ : Mesh) (number : 
     at-f : outputsFrom stored + length v' ≡ outputsFrom stored + getD stored 15 0
     at-f = ap (λ (n : ℕ). outputsFrom stored + n) (long ∙ fresh-vertices stored w v f fresh)
 
-    pub answer-decides : (r : Bool) → Decides (Answered stored (number ∷ values) v' f' w') r → Decides (Stored stored reply result) r
+    pub answer-decides : (r : Bool) → Decides (AgreesWith stored (number ∷ values) v' f' w') r → Decides (ResultStored stored reply result) r
     answer-decides r d =
-        ends (Stored stored reply result) d
+        ends (ResultStored stored reply result) d
         (λ a.
         record {
           replied = sym (as-reported reply number values (there .told)) ∙ a .replied;

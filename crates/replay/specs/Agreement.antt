@@ -1,18 +1,18 @@
 -- What it means that a stored answer is the definition's. Assumes nothing.
 --   SameDouble                a double that is no NaN has these bits
 --   SameDoubles, SameWords    the elements of an output are the words from `from` on
---   Answered                  a reply, two outputs and the work room after a call are as stored, and zero
+--   AgreesWith                  a reply, two outputs and the work room after a call are as stored, and zero
 --   Fresh                     work room and outputs before a call
 --   OutputsLent               four outputs are as long as the record says
---   SameOutputs, CandidatesAnswered, CandidatesFresh   the same as Answered and Fresh of the operation that writes four lists of words
+--   SameOutputs, CandidatesAnswered, CandidatesFresh   the same as AgreesWith and Fresh of the operation that writes four lists of words
 --   boxIn, epsIn, resolutionIn, askedIn, modeIn, capsIn   box, eps, resolution, all three, mode and cap list of a record
 --   clipReply, cleanReply, candidatesReply, capsReply   the definitions' replies
 --   reported                  a reply as a number and four values
---   Stored, WordsStored       the stored answer is this reply, with this mesh, or these candidates, in front of old contents
+--   ResultStored, WordsStored       the stored answer is this reply, with this mesh, or these candidates, in front of old contents
 --   ToleranceStored, ClipStored, CleanStored, CandidatesStored, CapsStored   it is that of the operation's definition, on the record's request
 --   MeshStored                the same of each operation that writes a mesh, by the record's operation
 --   AnswerStored, ListsStored   and of each operation that takes lists
---   Numbers                   box, eps, resolution and coordinates are doubles, and mode and facet numbers fit 32 bits
+--   StoredNumbers                   box, eps, resolution and coordinates are doubles, and mode and facet numbers fit 32 bits
 --   Agrees                    the record is laid out as its operation's are, and its answer is the definition's
 use Prim.Native.Nat.{ℕ, _+_, _%_}
 use mathlib.Core.Path.{_≡_}
@@ -50,7 +50,7 @@ SameDoubles stored from output = Everywhere (λ k. SameDouble (getD output k nan
 abbrev pub SameWords : List ℕ → ℕ → List ℕ → Type 0
 SameWords stored from output = Everywhere (λ k. getD output k 0 ≡ getD stored (from + k) 0) (length output)
 
-pub record Answered (stored reply : List ℕ) (vertices : List Float) (facets work : List ℕ) : Type 0 where
+pub record AgreesWith (stored reply : List ℕ) (vertices : List Float) (facets work : List ℕ) : Type 0 where
   pub replied : reply ≡ storedReply stored
   pub coordinates : SameDoubles stored (outputsFrom stored) vertices
   pub numbers : SameWords stored (outputsFrom stored + length vertices) facets
@@ -105,7 +105,7 @@ resolutionIn stored = doubleAt stored 13
 abbrev pub askedIn : List ℕ → Asked
 askedIn stored = asked (boxIn stored) (epsIn stored) (resolutionIn stored)
 
--- the low half, where `Numbers` says that the other is 0
+-- the low half, where `StoredNumbers` says that the other is 0
 abbrev pub modeIn : List ℕ → ℕ
 modeIn stored = getD stored 5 0 % 4294967296
 
@@ -116,7 +116,7 @@ capsIn stored = take (getD stored 4 0) (drop (24 + getD stored 2 0 + getD stored
 abbrev pub reported : List ℕ → List ℕ
 reported reply = getD reply 0 0 ∷ take 4 (drop 1 reply ++ replicate 4 0)
 
-pub record Stored (stored reply : List ℕ) (result : Mesh) : Type 0 where
+pub record ResultStored (stored reply : List ℕ) (result : Mesh) : Type 0 where
   pub replied : reported reply ≡ storedReply stored
   pub coords : SameDoubles stored (outputsFrom stored) (settle reply (coordinates (result .points)) (oldDoubles (getD stored 15 0)))
   pub numbers : SameWords stored (outputsFrom stored + getD stored 15 0) (settle reply (flat (result .facets)) (oldWords (getD stored 16 0)))
@@ -155,10 +155,10 @@ capsReply vs fs capList q mode lent outs = replyIn (capsCallTests vs fs capList 
 
 abbrev pub ClipStored : List ℕ → List Float → List ℕ → Type 0
 ClipStored stored vs fs =
-    Stored stored (clipReply vs fs (boxIn stored) (epsIn stored) (getD stored 14 0) (outputsIn stored)) (clipResult vs fs (boxIn stored) (epsIn stored))
+    ResultStored stored (clipReply vs fs (boxIn stored) (epsIn stored) (getD stored 14 0) (outputsIn stored)) (clipResult vs fs (boxIn stored) (epsIn stored))
 
 abbrev pub CleanStored : List ℕ → List Float → List ℕ → Type 0
-CleanStored stored vs fs = Stored stored (cleanReply vs fs (epsIn stored) (getD stored 14 0) (outputsIn stored)) (cleanResult vs fs (epsIn stored))
+CleanStored stored vs fs = ResultStored stored (cleanReply vs fs (epsIn stored) (getD stored 14 0) (outputsIn stored)) (cleanResult vs fs (epsIn stored))
 
 abbrev pub CandidatesStored : List ℕ → List Float → List ℕ → Type 0
 CandidatesStored stored vs fs =
@@ -168,7 +168,7 @@ CandidatesStored stored vs fs =
 
 abbrev pub CapsStored : List ℕ → List Float → List ℕ → Type 0
 CapsStored stored vs fs =
-    Stored stored
+    ResultStored stored
     (capsReply vs fs (capsIn stored) (askedIn stored) (modeIn stored) (getD stored 14 0) (outputsIn stored))
     (capsResult vs fs (capsIn stored) (askedIn stored) (modeOf (modeIn stored)))
 
@@ -185,23 +185,23 @@ abbrev pub ListsStored : List ℕ → Type 0
 ListsStored stored =
     AnswerStored stored (doublesIn stored 24 (getD stored 2 0)) (numbersIn stored (24 + getD stored 2 0) (getD stored 3 0))
 
-abbrev pub NoNan : List ℕ → ℕ → ℕ → Type 0
-NoNan stored from n = Everywhere (λ k. nanBits binary64 (getD stored (from + k) 0) ≡ false) n
+abbrev pub PlainDoubles : List ℕ → ℕ → ℕ → Type 0
+PlainDoubles stored from n = Everywhere (λ k. nanBits binary64 (getD stored (from + k) 0) ≡ false) n
 
-pub record Numbers (stored : List ℕ) : Type 0 where
+pub record StoredNumbers (stored : List ℕ) : Type 0 where
   pub mode : Few stored 5 1 4294967295
-  pub plain : NoNan stored 6 8
-  pub coordinates : NoNan stored 24 (getD stored 2 0)
+  pub plain : PlainDoubles stored 6 8
+  pub coordinates : PlainDoubles stored 24 (getD stored 2 0)
   pub narrow : Few stored (24 + getD stored 2 0) (getD stored 3 0) 4294967295
 
 pub record ListsAgree (stored : List ℕ) : Type 0 where
   pub laid : Laid stored
-  pub numbers : Numbers stored
+  pub numbers : StoredNumbers stored
   pub answer : ListsStored stored
 
 pub record ToleranceAgrees (stored : List ℕ) : Type 0 where
   pub whole : length stored ≡ 24
-  pub box : NoNan stored 6 6
+  pub box : PlainDoubles stored 6 6
   pub answer : ToleranceStored stored
 
 pub data Agrees (stored : List ℕ) : Type 0 where

@@ -1,6 +1,6 @@
 -- A whole file: its header, its records, and how many of an operation's agree. Assumes nothing.
 --   Records    a list of words is so many records, one behind the other
---   Answers    a file of stored answers: the header, then as many records as it says
+--   AnswersFile    a file of stored answers: the header, then as many records as it says
 --   Requested  a record is of this operation;   Agreeing   and its answer is the definition's
 --   OneIf      1 if a fact holds, and 0 if not
 --   Tallied    how many records from the front of a list on are of this operation, and how many of these agree
@@ -16,7 +16,7 @@ pub data Records : List ℕ → ℕ → Type 0 where
   more : {rest : List ℕ} {n : ℕ} → 0 < recordLength rest → Records (drop (recordLength rest) rest) n → Records rest (suc n)
 
 -- the first word is "yongpham", the least byte first
-pub record Answers (file : List ℕ) : Type 0 where
+pub record AnswersFile (file : List ℕ) : Type 0 where
   pub head : 4 ≤ length file
   pub magic : getD file 0 0 ≡ 7881695654855995257
   pub format : getD file 1 0 ≡ 1

@@ -6,7 +6,7 @@ ghost use lib.ListN.{length, getD};
 ghost use lib.Ieee.{nan};
 ghost use Rattle.replay.specs.Words.{Decides, Everywhere};
 ghost use Rattle.replay.specs.Layout.{storedReply, outputsFrom};
-ghost use Rattle.replay.specs.Agreement.{SameDouble, SameDoubles, SameWords, Answered};
+ghost use Rattle.replay.specs.Agreement.{SameDouble, SameDoubles, SameWords, AgreesWith};
 
 pub fn same_words(a: &[u64], b: &[u64]) -> bool
     ensures { λ r. ⌜ Decides (now (a .entry) ≡ now (b .entry)) r ⌝ }
@@ -105,7 +105,7 @@ pub fn same_answer(
 ) -> bool
     requires { ⌜ 24 ≤ length (now stored) ⌝ }
     requires { ⌜ outputsFrom (now stored) + length (now «out_vertices») + length (now «out_facets») ≤ length (now stored) ⌝ }
-    ensures { λ r. ⌜ Decides (Answered (now (stored .entry)) (number ∷ now (values .entry)) (now («out_vertices» .entry)) (now («out_facets» .entry)) (now (work .entry))) r ⌝ }
+    ensures { λ r. ⌜ Decides (AgreesWith (now (stored .entry)) (number ∷ now (values .entry)) (now («out_vertices» .entry)) (now («out_facets» .entry)) (now (work .entry))) r ⌝ }
 {
     if !same_reply(stored, number, values) {
         return false;

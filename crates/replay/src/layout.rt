@@ -7,7 +7,7 @@ ghost use lib.ListN.{length, getD, drop};
 ghost use lib.Ieee.{binary64, nanBits};
 ghost use Rattle.replay.specs.Words.{recordLength, Decides, Everywhere};
 ghost use Rattle.replay.specs.Layout.{sizeOf, Few, Laid};
-ghost use Rattle.replay.specs.Counting.{Records, Answers};
+ghost use Rattle.replay.specs.Counting.{Records, AnswersFile};
 
 // "yongpham", the least byte first
 const MAGIC: u64 = 7881695654855995257;
@@ -52,7 +52,7 @@ fn are_records(file: &[u64], count: u64) -> bool
 }
 
 pub fn are_answers(file: &[u64]) -> bool
-    ensures { λ r. ⌜ Decides (Answers (now (file .entry))) r ⌝ }
+    ensures { λ r. ⌜ Decides (AnswersFile (now (file .entry))) r ⌝ }
 {
     if file.len() < 4 {
         return false;

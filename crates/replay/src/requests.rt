@@ -3,7 +3,7 @@ ghost use mathlib.Core.Path.{_≡_};
 ghost use lib.ListN.{length, getD};
 ghost use Rattle.replay.specs.Words.{Decides};
 ghost use Rattle.replay.specs.Layout.{Laid};
-ghost use Rattle.replay.specs.Agreement.{AnswerStored, ListsStored, Numbers, ListsAgree};
+ghost use Rattle.replay.specs.Agreement.{AnswerStored, ListsStored, StoredNumbers, ListsAgree};
 use crate::candidates::candidates_answer_agrees;
 use crate::contents::read_doubles;
 use crate::contents::read_numbers;
@@ -48,7 +48,7 @@ fn with_lists(stored: &[u64]) -> bool
 // Box, eps, resolution and coordinates are doubles, and mode and facet numbers fit 32 bits.
 fn has_numbers(stored: &[u64]) -> bool
     requires { ⌜ Laid (now stored) ⌝ }
-    ensures { λ r. ⌜ Decides (Numbers (now (stored .entry))) r ⌝ }
+    ensures { λ r. ⌜ Decides (StoredNumbers (now (stored .entry))) r ⌝ }
 {
     if !are_few(stored, 5, 1, 4294967295) {
         return false;

@@ -29,7 +29,7 @@ use lib.Ieee.Fits.{round-fits}
 use lib.Ieee.Bits.{ofBits-fits}
 use lib.Ieee.Exact.{round-exact}
 use lib.Ieee.Scale.{round-same}
-use Rattle.root.specs.Doubles.{finite, negative, one, units}
+use Rattle.root.specs.Doubles.{finite, negative, one, unitsOf}
 use Rattle.root.specs.Bounds.{Nearest, Within}
 use Rattle.root.specs.Root.{rootable, IsRoot, wholeRoot, rootOfSquare, root, Rooted}
 use Rattle.root.proofs.Scaling.{shift}
@@ -55,7 +55,7 @@ large-fits = ofBits-fits binary64 (2 * 2 ^ 52 + 2 ^ 52)
 large-finite : T (finite large)
 large-finite = finite-is large false (2 ^ 52 * 2 ^ 2) large-is
 
-large-units : units large ≡ 2 ^ 54
+large-units : unitsOf large ≡ 2 ^ 54
 large-units = units-is large false (2 ^ 52 * 2 ^ 2) large-is
 
 pub root-fits : (x : Float) → T (fits binary64 (root x))
@@ -64,7 +64,7 @@ root-fits x = round-fits binary64 (negative x) _ _
 
 module _ (x : Float) (F : T (fits binary64 x)) (p : T (rootable x)) where
   abbrev n : ℕ
-  n = units x * one
+  n = unitsOf x * one
 
   abbrev w : ℕ
   w = wholeRoot 1586 n
@@ -140,13 +140,13 @@ module _ (x : Float) (F : T (fits binary64 x)) (p : T (rootable x)) where
     value = round-exact binary64 (negative x) w (2 ^ 1074) (is-double .digits) (is-double .places) (pow-pos 1074) (is-double .few)
         (lt-of-le-of-lt (le-of-eq (sym (is-double .is))) (lt-of-lt-of-le (whole-small 1586 n) (lit≤ tt))) (ap (λ (k : ℕ). k * 2 ^ 1074) (is-double .is))
 
-    pub exact : units q ≡ w
-    exact = ap units halves ∙ units-is (round binary64 (negative x) w one) (negative x) w value
+    pub exact : unitsOf q ≡ w
+    exact = ap unitsOf halves ∙ units-is (round binary64 (negative x) w one) (negative x) w value
 
   -- ---- between w and w + 1 units: all are large
   module _ (some : w * w < n) (o : c ≡ 1) where
     n-large : one ≤ n
-    n-large = elim (eq-zero-or-pos (units x)) [
+    n-large = elim (eq-zero-or-pos (unitsOf x)) [
       | inl z ↦ absurd (none n (w * w) some (ap (λ (k : ℕ). k * one) z ∙ zero-mul one))
       | inr h ↦ le-trans (le-of-eq (sym (one-mul one))) (mul-le-mul-right one h)
     ]
@@ -167,7 +167,7 @@ module _ (x : Float) (F : T (fits binary64 x)) (p : T (rootable x)) where
         up : {w : ℕ} → w < 2 ^ 54 → w + 1 ≤ 2 ^ 54
         up h = omega arith
 
-    q-large : 2 ^ 54 ≤ units q
+    q-large : 2 ^ 54 ≤ unitsOf q
     q-large =
         le-trans (le-of-eq (sym large-units)) (nearest-at-least (2 * w + c) 2 q large (lit< tt) q-nearest large-fits large-finite
         (le-trans (le-of-eq (ap (λ (z : ℕ). z * 2) large-units)) (twice w c w-large)))
@@ -175,26 +175,26 @@ module _ (x : Float) (F : T (fits binary64 x)) (p : T (rootable x)) where
         twice : (w c : ℕ) → 2 ^ 54 ≤ w → 2 ^ 54 * 2 ≤ 2 * w + c
         twice w c h = omega arith
 
-    q-even : (h : ℕ) × (units q ≡ h + h)
+    q-even : (h : ℕ) × (unitsOf q ≡ h + h)
     q-even = units-even q q-fits q-finite (le-trans (lit≤ tt) q-large)
 
     -- another double y
     module _ (y : Float) (G : T (fits binary64 y)) (f : T (finite y)) where
-      over : units q < units y → 2 * (w + 1) ≤ units q + units y
+      over : unitsOf q < unitsOf y → 2 * (w + 1) ≤ unitsOf q + unitsOf y
       over l =
           let h = units-even y G f (le-trans (lit≤ tt) (le-trans q-large (le-of-lt l))) in
-          even (units q) (units y) w c (q-even .0) (h .0) (q-nearest .above y G f l) o (q-even .1) (h .1)
+          even (unitsOf q) (unitsOf y) w c (q-even .0) (h .0) (q-nearest .above y G f l) o (q-even .1) (h .1)
         where
           even : (Q Y w c h k : ℕ) → 2 * (2 * w + c) ≤ (Q + Y) * 2 → c ≡ 1 → Q ≡ h + h → Y ≡ k + k → 2 * (w + 1) ≤ Q + Y
           even Q Y w c h k a b d e = omega arith
 
-      under : units y < units q → units q + units y ≤ 2 * w
-      under l = elim (lt-or-ge (units y) (2 ^ 53)) [
-        | inl s ↦ elim (lt-or-ge (units large) (units q)) [
-          | inl m ↦ far (units q) (units large) (units y) w c (q-nearest .below large large-fits large-finite m) o large-units s
-          | inr m ↦ near (units q) (units large) (units y) w m large-units s w-large
+      under : unitsOf y < unitsOf q → unitsOf q + unitsOf y ≤ 2 * w
+      under l = elim (lt-or-ge (unitsOf y) (2 ^ 53)) [
+        | inl s ↦ elim (lt-or-ge (unitsOf large) (unitsOf q)) [
+          | inl m ↦ far (unitsOf q) (unitsOf large) (unitsOf y) w c (q-nearest .below large large-fits large-finite m) o large-units s
+          | inr m ↦ near (unitsOf q) (unitsOf large) (unitsOf y) w m large-units s w-large
         ]
-        | inr s ↦ let h = units-even y G f s in even (units q) (units y) w c (q-even .0) (h .0) (q-nearest .below y G f l) o (q-even .1) (h .1)
+        | inr s ↦ let h = units-even y G f s in even (unitsOf q) (unitsOf y) w c (q-even .0) (h .0) (q-nearest .below y G f l) o (q-even .1) (h .1)
       ]
         where
           far : (Q L Y w c : ℕ) → (Q + L) * 2 ≤ 2 * (2 * w + c) → c ≡ 1 → L ≡ 2 ^ 54 → Y < 2 ^ 53 → Q + Y ≤ 2 * w
@@ -213,12 +213,12 @@ module _ (x : Float) (F : T (fits binary64 x)) (p : T (rootable x)) where
     is-finite = q-finite;
     sign = round-sign (negative x) (2 * w + c) (2 * one) q-finite;
     above = λ y G f l. elim which [
-      | inl e ↦ exact-above is-whole (units q + units y) (e .0) (more (units q) (units y) w (exact (e .0) (e .1)) l)
-      | inr e ↦ between-above is-whole (units q + units y) (over (e .0) (e .1) y G f l)
+      | inl e ↦ exact-above is-whole (unitsOf q + unitsOf y) (e .0) (more (unitsOf q) (unitsOf y) w (exact (e .0) (e .1)) l)
+      | inr e ↦ between-above is-whole (unitsOf q + unitsOf y) (over (e .0) (e .1) y G f l)
     ];
     below = λ y G f l. elim which [
-      | inl e ↦ exact-below is-whole (units q + units y) (e .0) (less (units q) (units y) w (exact (e .0) (e .1)) l)
-      | inr e ↦ between-below is-whole (units q + units y) (e .0) (under (e .0) (e .1) y G f l)
+      | inl e ↦ exact-below is-whole (unitsOf q + unitsOf y) (e .0) (less (unitsOf q) (unitsOf y) w (exact (e .0) (e .1)) l)
+      | inr e ↦ between-below is-whole (unitsOf q + unitsOf y) (e .0) (under (e .0) (e .1) y G f l)
     ];
   }
     where
@@ -237,10 +237,10 @@ module _ (x : Float) (F : T (fits binary64 x)) (p : T (rootable x)) where
 
   -- ---- the laws of proofs/Root.antt, of the computed root
 
-  pub computed-le : (y : Float) → T (fits binary64 y) → T (finite y) → n ≤ units y * units y → units (root x) ≤ units y
+  pub computed-le : (y : Float) → T (fits binary64 y) → T (finite y) → n ≤ unitsOf y * unitsOf y → unitsOf (root x) ≤ unitsOf y
   computed-le y G f h = root-le x (root x) y root-meets G f h
 
-  pub computed-ge : (y : Float) → T (fits binary64 y) → T (finite y) → units y * units y ≤ n → units y ≤ units (root x)
+  pub computed-ge : (y : Float) → T (fits binary64 y) → T (finite y) → unitsOf y * unitsOf y ≤ n → unitsOf y ≤ unitsOf (root x)
   computed-ge y G f h = root-ge x (root x) y root-meets G f h
 
   pub computed-within : (B : ℕ) → Held binary64 B → Within (B * B) x → Within B (root x)

@@ -28,7 +28,7 @@ use lib.Pow.{pow-pos}
 use lib.Ieee.{Float, nan, inf, fin, binary64, up, down, below, level, fits, neg, lt, le, eq, ofBits, toBits, size, isNan}
 use lib.Ieee.Bits.{ofBits-toBits, is-true, is-false}
 use lib.Ieee.Fits.{down-pos, up-pos, neg-fits, eq→eqb, and-i, and-l}
-use Rattle.root.specs.Doubles.{finite, negative, units, zeroF, oneF, magnitude, within, larger, smaller, clamped}
+use Rattle.root.specs.Doubles.{finite, negative, unitsOf, zeroF, oneF, magnitude, within, larger, smaller, clamped}
 use Rattle.root.proofs.Patterns.{pattern-of, sign-is}
 use Rattle.root.proofs.Nearest.{own}
 
@@ -174,10 +174,10 @@ module _ (s t : Bool) (m n : ℕ) (e d : ℤ) (F : T (fits binary64 (fin s m e))
   b = n * up d * down e
 
   abbrev X : ℕ
-  X = units (fin s m e)
+  X = unitsOf (fin s m e)
 
   abbrev Y : ℕ
-  Y = units (fin t n d)
+  Y = unitsOf (fin t n d)
 
   D : 0 < down e * down d
   D = mul-pos (down-pos e) (down-pos d)
@@ -209,7 +209,7 @@ module _ (s t : Bool) (m n : ℕ) (e d : ℤ) (F : T (fits binary64 (fin s m e))
       ap (λ (k : Bool). k && (Bool·beq s t || eqb a 0)) (same-eqb a b X Y (2 ^ 1074) (down e * down d) (pow-pos 1074) D left right)
       ∙ ap (λ (k : Bool). eqb X Y && (Bool·beq s t || k)) (same-eqb a 0 X 0 (2 ^ 1074) (down e * down d) (pow-pos 1074) D left none)
 
-pub lt-units : (x y : Float) → T (fits binary64 x) → T (fits binary64 y) → T (finite x) → T (finite y) → lt x y ≡ below (negative x) (units x) (negative y) (units y)
+pub lt-units : (x y : Float) → T (fits binary64 x) → T (fits binary64 y) → T (finite x) → T (finite y) → lt x y ≡ below (negative x) (unitsOf x) (negative y) (unitsOf y)
 unfolding lt
 lt-units nan y F G p q = absurd p
 lt-units (inf s) y F G p q = absurd p
@@ -217,7 +217,7 @@ lt-units (fin s m e) nan F G p q = absurd q
 lt-units (fin s m e) (inf t) F G p q = absurd q
 lt-units (fin s m e) (fin t n d) F G p q = fin-below s t m n e d F G
 
-pub eq-units : (x y : Float) → T (fits binary64 x) → T (fits binary64 y) → T (finite x) → T (finite y) → eq x y ≡ level (negative x) (units x) (negative y) (units y)
+pub eq-units : (x y : Float) → T (fits binary64 x) → T (fits binary64 y) → T (finite x) → T (finite y) → eq x y ≡ level (negative x) (unitsOf x) (negative y) (unitsOf y)
 unfolding eq
 eq-units nan y F G p q = absurd p
 eq-units (inf s) y F G p q = absurd p
@@ -225,10 +225,10 @@ eq-units (fin s m e) nan F G p q = absurd q
 eq-units (fin s m e) (inf t) F G p q = absurd q
 eq-units (fin s m e) (fin t n d) F G p q = fin-level s t m n e d F G
 
-pub le-units : (x y : Float) → T (fits binary64 x) → T (fits binary64 y) → T (finite x) → T (finite y) → le x y ≡ below (negative x) (units x) (negative y) (units y) || level
-    (negative x) (units x) (negative y) (units y)
+pub le-units : (x y : Float) → T (fits binary64 x) → T (fits binary64 y) → T (finite x) → T (finite y) → le x y ≡ below (negative x) (unitsOf x) (negative y) (unitsOf y) || level
+    (negative x) (unitsOf x) (negative y) (unitsOf y)
 unfolding le
-le-units x y F G p q = ap (λ (k : Bool). k || eq x y) (lt-units x y F G p q) ∙ ap (λ (k : Bool). below (negative x) (units x) (negative y) (units y) || k) (eq-units x y F G p q)
+le-units x y F G p q = ap (λ (k : Bool). k || eq x y) (lt-units x y F G p q) ∙ ap (λ (k : Bool). below (negative x) (unitsOf x) (negative y) (unitsOf y) || k) (eq-units x y F G p q)
 
 -- ---- |d| is at most eps exactly if d and -d are
 

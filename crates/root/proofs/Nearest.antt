@@ -48,7 +48,7 @@ use lib.Ieee.Exact.{units-val}
 use lib.Ieee.Nearest.{closest, nearest-ge}
 use lib.Ieee.Order.{kept, drop}
 use lib.Ieee.Positive.{first-pos}
-use Rattle.root.specs.Doubles.{finite, negative, one, units}
+use Rattle.root.specs.Doubles.{finite, negative, one, unitsOf}
 use Rattle.root.specs.Bounds.{Nearest}
 use Rattle.root.proofs.Grid.{lt-or-ge, next-up, next-down}
 use Rattle.root.proofs.Patterns.{Is, units-is, sign-is, on-grid, pattern-of}
@@ -237,19 +237,19 @@ round-nearest s num den D p =
     let q = kept 53 n den in
     let k = drop 53 n den in
     let r = round binary64 s num den in
-    let R : units r ≡ q * 2 ^ k = units-is r s (q * 2 ^ k) (round-is-units s num den p) in
+    let R : unitsOf r ≡ q * 2 ^ k = units-is r s (q * 2 ^ k) (round-is-units s num den p) in
     record {
       is-finite = p;
       above = λ y F f l.
           let g = on-grid y F f in
-          subst (λ (x : ℕ). 2 * n ≤ (x + units y) * den) (sym R)
+          subst (λ (x : ℕ). 2 * n ≤ (x + unitsOf y) * den) (sym R)
           (subst (λ (x : ℕ). 2 * n ≤ (q * 2 ^ k + x) * den) (sym (g .2))
-          (nearest-above n den D (g .1) (g .0) (g .3) (subst (λ (x : ℕ). x < g .1 * 2 ^ g .0) R (subst (λ (x : ℕ). units r < x) (g .2) l))));
+          (nearest-above n den D (g .1) (g .0) (g .3) (subst (λ (x : ℕ). x < g .1 * 2 ^ g .0) R (subst (λ (x : ℕ). unitsOf r < x) (g .2) l))));
       below = λ y F f l.
           let g = on-grid y F f in
-          subst (λ (x : ℕ). (x + units y) * den ≤ 2 * n) (sym R)
+          subst (λ (x : ℕ). (x + unitsOf y) * den ≤ 2 * n) (sym R)
           (subst (λ (x : ℕ). (q * 2 ^ k + x) * den ≤ 2 * n) (sym (g .2))
-          (nearest-below n den D (g .1) (g .0) (g .3) (subst (λ (x : ℕ). g .1 * 2 ^ g .0 < x) R (subst (λ (x : ℕ). x < units r) (g .2) l))));
+          (nearest-below n den D (g .1) (g .0) (g .3) (subst (λ (x : ℕ). g .1 * 2 ^ g .0 < x) R (subst (λ (x : ℕ). x < unitsOf r) (g .2) l))));
     }
 
 -- ---- the same fraction, written in another way
@@ -258,16 +258,16 @@ nearest-same n d n′ d′ r D e a = record {
   is-finite = a .is-finite;
   above =
       λ y F f l. le-of-mul-le-mul-right (le-trans (le-of-eq (mul-assoc 2 n′ d ∙ ap (λ (x : ℕ). 2 * x) (sym e) ∙ sym (mul-assoc 2 n d′)))
-      (le-trans (mul-le-mul-right d′ (a .above y F f l)) (le-of-eq (mul-right-comm (units r + units y) d d′)))) D;
+      (le-trans (mul-le-mul-right d′ (a .above y F f l)) (le-of-eq (mul-right-comm (unitsOf r + unitsOf y) d d′)))) D;
   below =
-      λ y F f l. le-of-mul-le-mul-right (le-trans (le-of-eq (mul-right-comm (units r + units y) d′ d))
+      λ y F f l. le-of-mul-le-mul-right (le-trans (le-of-eq (mul-right-comm (unitsOf r + unitsOf y) d′ d))
       (le-trans (mul-le-mul-right d′ (a .below y F f l)) (le-of-eq (mul-assoc 2 n d′ ∙ ap (λ (x : ℕ). 2 * x) e ∙ sym (mul-assoc 2 n′ d))))) D;
 }
 
 -- ---- the operations
 
 -- a finite double as its size in units, from its own fields
-pub own : (s : Bool) (m : ℕ) (e : ℤ) → T (fits binary64 (fin s m e)) → m * up e * 2 ^ 1074 ≡ units (fin s m e) * down e
+pub own : (s : Bool) (m : ℕ) (e : ℤ) → T (fits binary64 (fin s m e)) → m * up e * 2 ^ 1074 ≡ unitsOf (fin s m e) * down e
 own s m e F =
     let z = pattern-of (fin s m e) F tt in
     z .value .1 ∙ ap (λ (x : ℕ). x * down e) (sym (units-is (fin s m e) _ _ (z .value)))
@@ -276,7 +276,7 @@ product : (a b X Y c d U : ℕ) → a * U ≡ X * c → b * U ≡ Y * d → a * 
 product a b X Y c d U p q = mul-assoc (a * b) U U ∙ mul-mul-mul-comm a b U U ∙ ap (λ (x : ℕ). x * (b * U)) p ∙ ap (λ (x : ℕ). X * c * x) q ∙ mul-mul-mul-comm X c Y d
 
 -- a product is nearest to X * Y / 2 ^ 1074 units
-pub mul-nearest : (x y : Float) → T (fits binary64 x) → T (fits binary64 y) → T (finite x) → T (finite y) → T (finite (mul binary64 x y)) → Nearest (units x * units y) one
+pub mul-nearest : (x y : Float) → T (fits binary64 x) → T (fits binary64 y) → T (finite x) → T (finite y) → T (finite (mul binary64 x y)) → Nearest (unitsOf x * unitsOf y) one
     (mul binary64 x y)
 unfolding mul one
 mul-nearest nan y F G p q h = absurd p
@@ -284,9 +284,9 @@ mul-nearest (inf s) y F G p q h = absurd p
 mul-nearest (fin s m e) nan F G p q h = absurd q
 mul-nearest (fin s m e) (inf t) F G p q h = absurd q
 mul-nearest (fin s m e) (fin t n d) F G p q h =
-    nearest-same (m * up e * (n * up d) * 2 ^ 1074) (down e * down d) (units (fin s m e) * units (fin t n d)) (2 ^ 1074)
+    nearest-same (m * up e * (n * up d) * 2 ^ 1074) (down e * down d) (unitsOf (fin s m e) * unitsOf (fin t n d)) (2 ^ 1074)
     (round binary64 (unlike s t) (m * up e * (n * up d)) (down e * down d)) (mul-pos (down-pos e) (down-pos d))
-    (product (m * up e) (n * up d) (units (fin s m e)) (units (fin t n d)) (down e) (down d) (2 ^ 1074) (own s m e F) (own t n d G))
+    (product (m * up e) (n * up d) (unitsOf (fin s m e)) (unitsOf (fin t n d)) (down e) (down d) (2 ^ 1074) (own s m e F) (own t n d G))
     (round-nearest (unlike s t) (m * up e * (n * up d)) (down e * down d) (mul-pos (down-pos e) (down-pos d)) h)
 
 quotient : (a b X Y c d U : ℕ) → a * U ≡ X * c → b * U ≡ Y * d → a * d * U * Y ≡ X * U * (b * c)
@@ -294,13 +294,13 @@ quotient a b X Y c d U p q =
     let l : a * d * U * Y ≡ a * U * (Y * d) = simp (mul-assoc, mul-comm, mul-left-comm) in
     l ∙ ap (λ (x : ℕ). x * (Y * d)) p ∙ ap (λ (x : ℕ). X * c * x) (sym q) ∙ simp (mul-assoc, mul-comm, mul-left-comm)
 
-not-zero : (s : Bool) (n : ℕ) (d : ℤ) → T (fits binary64 (fin s (suc n) d)) → 0 < units (fin s (suc n) d)
-not-zero s n d F = first-pos (units (fin s (suc n) d)) (down d) (lt-of-lt-of-le (mul-pos (mul-pos (zero-lt-suc n) (up-pos d)) (pow-pos 1074)) (le-of-eq (own s (suc n) d F)))
+not-zero : (s : Bool) (n : ℕ) (d : ℤ) → T (fits binary64 (fin s (suc n) d)) → 0 < unitsOf (fin s (suc n) d)
+not-zero s n d F = first-pos (unitsOf (fin s (suc n) d)) (down d) (lt-of-lt-of-le (mul-pos (mul-pos (zero-lt-suc n) (up-pos d)) (pow-pos 1074)) (le-of-eq (own s (suc n) d F)))
 
 -- a quotient is nearest to X * 2 ^ 1074 / Y units, where Y is not 0
-pub div-nearest : (x y : Float) → T (fits binary64 x) → T (fits binary64 y) → T (finite x) → T (finite y) → 0 < units y → T (finite (div binary64 x y)) → Nearest (units x * one)
-    (units y) (div binary64 x y)
-unfolding div units one
+pub div-nearest : (x y : Float) → T (fits binary64 x) → T (fits binary64 y) → T (finite x) → T (finite y) → 0 < unitsOf y → T (finite (div binary64 x y)) → Nearest (unitsOf x * one)
+    (unitsOf y) (div binary64 x y)
+unfolding div unitsOf one
 div-nearest nan y F G p q z h = absurd p
 div-nearest (inf s) y F G p q z h = absurd p
 div-nearest (fin s m e) nan F G p q z h = absurd q
@@ -315,9 +315,9 @@ div-nearest (fin s m e) (fin t (suc n) d) F G p q z h =
     let r = round binary64 (unlike s t) N D in
     let pos : 0 < D = mul-pos (mul-pos (zero-lt-suc n) (up-pos d)) (down-pos e) in
     let is : div binary64 (fin s m e) (fin t (suc n) d) ≡ r = ap (λ (b : Bool). cond b (cond (eqb m 0) nan (inf (unlike s t))) r) (eqb·suc-zero n) in
-    subst (λ (v : Float). Nearest (units (fin s m e) * 2 ^ 1074) (units (fin t (suc n) d)) v) (sym is)
-    (nearest-same (N * 2 ^ 1074) D (units (fin s m e) * 2 ^ 1074) (units (fin t (suc n) d)) r pos
-    (quotient (m * up e) (suc n * up d) (units (fin s m e)) (units (fin t (suc n) d)) (down e) (down d) (2 ^ 1074) (own s m e F) (own t (suc n) d G))
+    subst (λ (v : Float). Nearest (unitsOf (fin s m e) * 2 ^ 1074) (unitsOf (fin t (suc n) d)) v) (sym is)
+    (nearest-same (N * 2 ^ 1074) D (unitsOf (fin s m e) * 2 ^ 1074) (unitsOf (fin t (suc n) d)) r pos
+    (quotient (m * up e) (suc n * up d) (unitsOf (fin s m e)) (unitsOf (fin t (suc n) d)) (down e) (down d) (2 ^ 1074) (own s m e F) (own t (suc n) d G))
     (round-nearest (unlike s t) N D pos (subst (λ (v : Float). T (finite v)) is h)))
 
 -- ---- the sum, of a / c and b / c, which are X and Y units
@@ -389,51 +389,51 @@ shared′ a X e d U p = shared a X e d U p ∙ ap (λ (x : ℕ). X * x) (mul-com
 
 -- a sum is nearest to X + Y units where the signs are the same, and to the difference where they are not
 pub add-same : (x y : Float) → T (fits binary64 x) → T (fits binary64 y) → T (finite x) → T (finite y) → negative x ≡ negative y → T (finite (add binary64 x y)) → Nearest
-    (units x + units y) 1 (add binary64 x y)
+    (unitsOf x + unitsOf y) 1 (add binary64 x y)
 unfolding add
 add-same nan y F G p q e h = absurd p
 add-same (inf s) y F G p q e h = absurd p
 add-same (fin s m a) nan F G p q e h = absurd q
 add-same (fin s m a) (inf t) F G p q e h = absurd q
 add-same (fin s m a) (fin t n d) F G p q e h =
-    sum-same s t (m * up a * down d) (n * up d * down a) (down a * down d) (units (fin s m a)) (units (fin t n d)) (mul-pos (down-pos a) (down-pos d))
-    (shared (m * up a) (units (fin s m a)) (down a) (down d) (2 ^ 1074) (own s m a F)) (shared′ (n * up d) (units (fin t n d)) (down d) (down a) (2 ^ 1074) (own t n d G)) e h
+    sum-same s t (m * up a * down d) (n * up d * down a) (down a * down d) (unitsOf (fin s m a)) (unitsOf (fin t n d)) (mul-pos (down-pos a) (down-pos d))
+    (shared (m * up a) (unitsOf (fin s m a)) (down a) (down d) (2 ^ 1074) (own s m a F)) (shared′ (n * up d) (unitsOf (fin t n d)) (down d) (down a) (2 ^ 1074) (own t n d G)) e h
 
 pub add-differ : (x y : Float) → T (fits binary64 x) → T (fits binary64 y) → T (finite x) → T (finite y) → negative y ≡ not (negative x) → T (finite (add binary64 x y)) → Nearest
-    (units x - units y + (units y - units x)) 1 (add binary64 x y)
+    (unitsOf x - unitsOf y + (unitsOf y - unitsOf x)) 1 (add binary64 x y)
 unfolding add
 add-differ nan y F G p q e h = absurd p
 add-differ (inf s) y F G p q e h = absurd p
 add-differ (fin s m a) nan F G p q e h = absurd q
 add-differ (fin s m a) (inf t) F G p q e h = absurd q
 add-differ (fin s m a) (fin t n d) F G p q e h =
-    sum-differ s t (m * up a * down d) (n * up d * down a) (down a * down d) (units (fin s m a)) (units (fin t n d)) (mul-pos (down-pos a) (down-pos d))
-    (shared (m * up a) (units (fin s m a)) (down a) (down d) (2 ^ 1074) (own s m a F)) (shared′ (n * up d) (units (fin t n d)) (down d) (down a) (2 ^ 1074) (own t n d G)) e h
+    sum-differ s t (m * up a * down d) (n * up d * down a) (down a * down d) (unitsOf (fin s m a)) (unitsOf (fin t n d)) (mul-pos (down-pos a) (down-pos d))
+    (shared (m * up a) (unitsOf (fin s m a)) (down a) (down d) (2 ^ 1074) (own s m a F)) (shared′ (n * up d) (unitsOf (fin t n d)) (down d) (down a) (2 ^ 1074) (own t n d G)) e h
 
 -- ---- what follows from `Nearest` alone: a double at or above n / d is at or above r, one at or below is at or below, and one that is n / d is r
 
 two-times : (a d : ℕ) → 2 * (a * d) ≡ (a + a) * d
 two-times a d = simp add-mul (omega arith)
 
-pub nearest-le : (n d : ℕ) (r y : Float) → 0 < d → Nearest n d r → T (fits binary64 y) → T (finite y) → n ≤ units y * d → units r ≤ units y
-nearest-le n d r y D a F p h = elim (lt-or-ge (units y) (units r)) [
-  | inl l ↦ absurd (lt-irrefl (2 * n) (lt-of-le-of-lt (le-trans (mul-le-mul-left 2 h) (le-of-eq (two-times (units y) d)))
-      (lt-of-lt-of-le (mul-lt-mul-of-pos-right (more (units y) (units r) l) D) (a .below y F p l))))
+pub nearest-le : (n d : ℕ) (r y : Float) → 0 < d → Nearest n d r → T (fits binary64 y) → T (finite y) → n ≤ unitsOf y * d → unitsOf r ≤ unitsOf y
+nearest-le n d r y D a F p h = elim (lt-or-ge (unitsOf y) (unitsOf r)) [
+  | inl l ↦ absurd (lt-irrefl (2 * n) (lt-of-le-of-lt (le-trans (mul-le-mul-left 2 h) (le-of-eq (two-times (unitsOf y) d)))
+      (lt-of-lt-of-le (mul-lt-mul-of-pos-right (more (unitsOf y) (unitsOf r) l) D) (a .below y F p l))))
   | inr l ↦ l
 ]
   where
     more : (a b : ℕ) → a < b → a + a < b + a
     more a b l = omega arith
 
-pub nearest-at-least : (n d : ℕ) (r y : Float) → 0 < d → Nearest n d r → T (fits binary64 y) → T (finite y) → units y * d ≤ n → units y ≤ units r
-nearest-at-least n d r y D a F p h = elim (lt-or-ge (units r) (units y)) [
+pub nearest-at-least : (n d : ℕ) (r y : Float) → 0 < d → Nearest n d r → T (fits binary64 y) → T (finite y) → unitsOf y * d ≤ n → unitsOf y ≤ unitsOf r
+nearest-at-least n d r y D a F p h = elim (lt-or-ge (unitsOf r) (unitsOf y)) [
   | inl l ↦ absurd (lt-irrefl (2 * n) (lt-of-le-of-lt (a .above y F p l)
-      (lt-of-lt-of-le (mul-lt-mul-of-pos-right (more (units y) (units r) l) D) (le-trans (le-of-eq (sym (two-times (units y) d))) (mul-le-mul-left 2 h)))))
+      (lt-of-lt-of-le (mul-lt-mul-of-pos-right (more (unitsOf y) (unitsOf r) l) D) (le-trans (le-of-eq (sym (two-times (unitsOf y) d))) (mul-le-mul-left 2 h)))))
   | inr l ↦ l
 ]
   where
     more : (a b : ℕ) → b < a → b + a < a + a
     more a b l = omega arith
 
-pub nearest-exact : (n d : ℕ) (r y : Float) → 0 < d → Nearest n d r → T (fits binary64 y) → T (finite y) → units y * d ≡ n → units r ≡ units y
+pub nearest-exact : (n d : ℕ) (r y : Float) → 0 < d → Nearest n d r → T (fits binary64 y) → T (finite y) → unitsOf y * d ≡ n → unitsOf r ≡ unitsOf y
 nearest-exact n d r y D a F p h = le-antisymm (nearest-le n d r y D a F p (le-of-eq (sym h))) (nearest-at-least n d r y D a F p (le-of-eq h))

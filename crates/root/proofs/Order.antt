@@ -11,7 +11,7 @@ use lib.Pow.{pow-pos}
 use lib.Ieee.{Float, nan, inf, fin, binary64, below, level, fits, lt, eq, toBits, isNan}
 use lib.Ieee.Bits.{is-true, is-false}
 use lib.Ieee.Fits.{eq→eqb}
-use Rattle.root.specs.Doubles.{finite, negative, units}
+use Rattle.root.specs.Doubles.{finite, negative, unitsOf}
 use Rattle.root.specs.Patterns.{fieldUnits, patternUnits}
 use Rattle.root.proofs.Grid.{lt-or-ge, finer}
 use Rattle.root.proofs.Patterns.{pattern-of, pattern-is, units-is}
@@ -137,7 +137,7 @@ level-patterns s t a b =
 abbrev pub unsigned : Float → ℕ
 unsigned x = toBits binary64 x % 2 ^ 63
 
-pub finite-unsigned : (x : Float) → T (fits binary64 x) → T (finite x) → units x ≡ patternUnits (unsigned x)
+pub finite-unsigned : (x : Float) → T (fits binary64 x) → T (finite x) → unitsOf x ≡ patternUnits (unsigned x)
 finite-unsigned x F p = units-is x _ _ (pattern-of x F p .value)
 
 pub inf-unsigned : (s : Bool) → unsigned (inf s) ≡ 2047 * 2 ^ 52
@@ -155,13 +155,13 @@ finite-less x F p = under (unsigned x) (pattern-of x F p .field)
 module _ (x y : Float) (F : T (fits binary64 x)) (G : T (fits binary64 y)) (p : T (finite x)) (q : T (finite y)) where
   finite-lt : lt x y ≡ below (negative x) (unsigned x) (negative y) (unsigned y)
   finite-lt =
-      lt-units x y F G p q ∙ ap (λ (k : ℕ). below (negative x) k (negative y) (units y)) (finite-unsigned x F p)
+      lt-units x y F G p q ∙ ap (λ (k : ℕ). below (negative x) k (negative y) (unitsOf y)) (finite-unsigned x F p)
       ∙ ap (λ (k : ℕ). below (negative x) (patternUnits (unsigned x)) (negative y) k) (finite-unsigned y G q)
       ∙ below-patterns (negative x) (negative y) (unsigned x) (unsigned y)
 
   finite-eq : eq x y ≡ level (negative x) (unsigned x) (negative y) (unsigned y)
   finite-eq =
-      eq-units x y F G p q ∙ ap (λ (k : ℕ). level (negative x) k (negative y) (units y)) (finite-unsigned x F p)
+      eq-units x y F G p q ∙ ap (λ (k : ℕ). level (negative x) k (negative y) (unitsOf y)) (finite-unsigned x F p)
       ∙ ap (λ (k : ℕ). level (negative x) (patternUnits (unsigned x)) (negative y) k) (finite-unsigned y G q)
       ∙ level-patterns (negative x) (negative y) (unsigned x) (unsigned y)
 

@@ -14,7 +14,7 @@ use lib.Ieee.Bits.{ofBits-toBits, toBits-lt, nanBits-is, is-false, cond-no}
 use lib.Ieee.Fits.{down-pos}
 use lib.Ieee.Exact.{HasValue, odd-sign}
 use Rattle.root.proofs.Scaling.{shift}
-use Rattle.root.specs.Doubles.{finite, negative, one, units}
+use Rattle.root.specs.Doubles.{finite, negative, one, unitsOf}
 use Rattle.root.specs.Patterns.{fieldUnits, patternUnits}
 
 abbrev pub U : ℕ
@@ -26,8 +26,8 @@ Is x s a = HasValue x s a U
 
 -- ---- from a value to its size in units
 
-pub units-is : (x : Float) (s : Bool) (a : ℕ) → Is x s a → units x ≡ a
-unfolding units one
+pub units-is : (x : Float) (s : Bool) (a : ℕ) → Is x s a → unitsOf x ≡ a
+unfolding unitsOf one
 units-is nan s a v = absurd v
 units-is (inf t) s a v = absurd v
 units-is (fin t m e) s a v = ap (λ (z : ℕ). z / down e) (v .1) ∙ mul-div-cancel a (down-pos e)
@@ -128,14 +128,14 @@ pattern-of x F p =
 
 -- ---- a finite double is its sign and its units
 
-signed-pattern : (s t : Bool) (m n : ℕ) (e d : ℤ) → s ≡ t → units (fin s m e) ≡ units (fin t n d) → toBits binary64 (fin s m e) ≡ toBits binary64 (fin t n d)
-unfolding units one toBits
+signed-pattern : (s t : Bool) (m n : ℕ) (e d : ℤ) → s ≡ t → unitsOf (fin s m e) ≡ unitsOf (fin t n d) → toBits binary64 (fin s m e) ≡ toBits binary64 (fin t n d)
+unfolding unitsOf one toBits
 signed-pattern s t m n e d h k = ap (λ (z : Bool). coded z (m * up e * 2 ^ 1074 / down e)) h ∙ ap (coded t) k
   where
     coded : Bool → ℕ → ℕ
     coded z u = cond z (2 ^ 63) 0 + (size u - 53) * 2 ^ 52 + u / 2 ^ (size u - 53)
 
-pub same-units : (x y : Float) → T (fits binary64 x) → T (fits binary64 y) → T (finite x) → T (finite y) → negative x ≡ negative y → units x ≡ units y → x ≡ y
+pub same-units : (x y : Float) → T (fits binary64 x) → T (fits binary64 y) → T (finite x) → T (finite y) → negative x ≡ negative y → unitsOf x ≡ unitsOf y → x ≡ y
 same-units nan y F G p q h k = absurd p
 same-units (inf s) y F G p q h k = absurd p
 same-units (fin s m e) nan F G p q h k = absurd q
@@ -150,7 +150,7 @@ unfolding fieldUnits
 grid zero t h = (0, t, sym (mul-one t), omega arith)
 grid (suc j) t h = (j, 2 ^ 52 + t, refl, omega arith)
 
-pub on-grid : (y : Float) → T (fits binary64 y) → T (finite y) → (k : ℕ) × (q : ℕ) × (units y ≡ q * 2 ^ k) × (q < 2 ^ 53)
+pub on-grid : (y : Float) → T (fits binary64 y) → T (finite y) → (k : ℕ) × (q : ℕ) × (unitsOf y ≡ q * 2 ^ k) × (q < 2 ^ 53)
 on-grid y F p =
     let b = toBits binary64 y in
     let z = pattern-of y F p in
@@ -169,7 +169,7 @@ field-small (suc j) t h l = lt-of-lt-of-le (shl-lt 53 j (lead t l)) (pow-mono (r
     room : (j : ℕ) → suc j < 2047 → 53 + j ≤ 2098
     room j h = omega arith
 
-pub units-small : (x : Float) → T (fits binary64 x) → T (finite x) → units x < 2 ^ 2098
+pub units-small : (x : Float) → T (fits binary64 x) → T (finite x) → unitsOf x < 2 ^ 2098
 units-small x F p =
     let b = toBits binary64 x in
     let z = pattern-of x F p in
@@ -177,8 +177,8 @@ units-small x F p =
     lt-of-le-of-lt (le-of-eq (units-is x (leb (2 ^ 63) b) (patternUnits c) (z .value) ∙ pattern-is c)) (field-small (c / 2 ^ 52) (c % 2 ^ 52) (z .field) (mod-lt c (pow-pos 52)))
 
 -- from 2 ^ 53 units on they are even
-pub units-even : (x : Float) → T (fits binary64 x) → T (finite x) → 2 ^ 53 ≤ units x → (h : ℕ) × (units x ≡ h + h)
-units-even x F p l = let g = on-grid x F p in go (units x) (g .0) (g .1) (g .2) (g .3) l
+pub units-even : (x : Float) → T (fits binary64 x) → T (finite x) → 2 ^ 53 ≤ unitsOf x → (h : ℕ) × (unitsOf x ≡ h + h)
+units-even x F p l = let g = on-grid x F p in go (unitsOf x) (g .0) (g .1) (g .2) (g .3) l
   where
     no : (u q : ℕ) → u ≡ q * 1 → q < 2 ^ 53 → 2 ^ 53 ≤ u → ⊥
     no u q e a b = omega arith

@@ -10,7 +10,7 @@ use lib.Dec.{T, leb, eqb, eqb→eq, nleb→lt}
 use lib.Ieee.{Float, nan, inf, fin, binary64, up, down, level, eq, fits, ofBits, toBits}
 use lib.Ieee.Bits.{ofBits-toBits}
 use lib.Ieee.Fits.{and-l}
-use Rattle.root.specs.Doubles.{finite, negative, one, units}
+use Rattle.root.specs.Doubles.{finite, negative, one, unitsOf}
 use Rattle.root.specs.Root.{rootable, IsRoot}
 use Rattle.root.specs.Patterns.{patternUnits}
 use Rattle.root.specs.Digits.{RootAt}
@@ -49,8 +49,8 @@ tidy n d h = sym (mul-one n) ∙ h ∙ zero-mul d
 none : (d : ℕ) → 0 * 2 ^ 1074 / d ≡ 0
 none d = zero-div d
 
-size-of : (x : Float) → T (eq x (fin false 0 (pos 0))) → units x ≡ 0
-unfolding eq units one
+size-of : (x : Float) → T (eq x (fin false 0 (pos 0))) → unitsOf x ≡ 0
+unfolding eq unitsOf one
 size-of nan h = refl
 size-of (inf s) h = refl
 size-of (fin s m e) h =
@@ -58,7 +58,7 @@ size-of (fin s m e) h =
     (and-l (eqb (m * up e * 1) (0 * 1 * down e)) (Bool·beq s false || eqb (m * up e * 1) 0) h)) in
     ap (λ (a : ℕ). a * 2 ^ 1074 / down e) z ∙ none (down e)
 
-zero-size : (x : Float) → eq x (ofBits binary64 0) ≡ true → units x ≡ 0
+zero-size : (x : Float) → eq x (ofBits binary64 0) ≡ true → unitsOf x ≡ 0
 zero-size x h = size-of x (yes (ap (λ (z : Float). eq x z) (sym zero-is) ∙ h))
 
 pub zero-root : (x : Float) → T (rootable x) → eq x (ofBits binary64 0) ≡ true → IsRoot x x
@@ -68,8 +68,8 @@ zero-root x p h =
     record {
       is-finite = rootable-finite x p;
       sign = refl;
-      above = λ y F q l. small (units x) (units y) z l;
-      below = λ y F q l. absurd (no (units x) (units y) z l);
+      above = λ y F q l. small (unitsOf x) (unitsOf y) z l;
+      below = λ y F q l. absurd (no (unitsOf x) (unitsOf y) z l);
     }
   where
     no : (a b : ℕ) → a ≡ 0 → b < a → ⊥
@@ -108,7 +108,7 @@ module _ (x : Float) (F : T (fits binary64 x)) (p : T (rootable x)) (n : eq x (o
   same : b % 2 ^ 63 ≡ b
   same = mod-eq-of-lt small
 
-  size : units x ≡ patternUnits b
+  size : unitsOf x ≡ patternUnits b
   size = units-is x (leb (2 ^ 63) b) (patternUnits (b % 2 ^ 63)) (z .value) ∙ ap patternUnits same
 
   some : 0 < b
@@ -138,21 +138,21 @@ is-root x F p n r s =
     let v = ofBits binary64 r in
     let a = s .q * 2 ^ s .h in
     let i : Is v false a = result-is s in
-    let R : units v ≡ a = units-is v false a i in
-    let N : units x * 2 ^ 1074 ≡ s .m * 2 ^ (s .h + s .h) = ap (λ (k : ℕ). k * 2 ^ 1074) (size x F p n) ∙ s .scaled in
+    let R : unitsOf v ≡ a = units-is v false a i in
+    let N : unitsOf x * 2 ^ 1074 ≡ s .m * 2 ^ (s .h + s .h) = ap (λ (k : ℕ). k * 2 ^ 1074) (size x F p n) ∙ s .scaled in
     record {
       is-finite = finite-is v false a i;
       sign = sign-is v false a i ∙ sym (clear x p n);
       above = λ y G q l.
           let g = on-grid y G q in
-          subst (λ (k : ℕ). 4 * k < (units v + units y) * (units v + units y)) (sym N)
-          (subst (λ (k : ℕ). 4 * (s .m * 2 ^ (s .h + s .h)) < (k + units y) * (k + units y)) (sym R)
+          subst (λ (k : ℕ). 4 * k < (unitsOf v + unitsOf y) * (unitsOf v + unitsOf y)) (sym N)
+          (subst (λ (k : ℕ). 4 * (s .m * 2 ^ (s .h + s .h)) < (k + unitsOf y) * (k + unitsOf y)) (sym R)
           (subst (λ (k : ℕ). 4 * (s .m * 2 ^ (s .h + s .h)) < (a + k) * (a + k)) (sym (g .2))
-          (over (s .m) (s .q) (s .h) (g .1) (g .0) (s .digits) (s .low) (g .3) (subst (λ (k : ℕ). k < g .1 * 2 ^ g .0) R (subst (λ (k : ℕ). units v < k) (g .2) l)))));
+          (over (s .m) (s .q) (s .h) (g .1) (g .0) (s .digits) (s .low) (g .3) (subst (λ (k : ℕ). k < g .1 * 2 ^ g .0) R (subst (λ (k : ℕ). unitsOf v < k) (g .2) l)))));
       below = λ y G q l.
           let g = on-grid y G q in
-          subst (λ (k : ℕ). (units v + units y) * (units v + units y) < 4 * k) (sym N)
-          (subst (λ (k : ℕ). (k + units y) * (k + units y) < 4 * (s .m * 2 ^ (s .h + s .h))) (sym R)
+          subst (λ (k : ℕ). (unitsOf v + unitsOf y) * (unitsOf v + unitsOf y) < 4 * k) (sym N)
+          (subst (λ (k : ℕ). (k + unitsOf y) * (k + unitsOf y) < 4 * (s .m * 2 ^ (s .h + s .h))) (sym R)
           (subst (λ (k : ℕ). (a + k) * (a + k) < 4 * (s .m * 2 ^ (s .h + s .h))) (sym (g .2))
-          (under (s .m) (s .q) (s .h) (g .1) (g .0) (s .digits) (s .low) (g .3) (subst (λ (k : ℕ). g .1 * 2 ^ g .0 < k) R (subst (λ (k : ℕ). k < units v) (g .2) l)))));
+          (under (s .m) (s .q) (s .h) (g .1) (g .0) (s .digits) (s .low) (g .3) (subst (λ (k : ℕ). g .1 * 2 ^ g .0 < k) R (subst (λ (k : ℕ). k < unitsOf v) (g .2) l)))));
     }

@@ -8,7 +8,7 @@ use Prim.Native.Nat.{ℕ, _+_, _*_, _≤_, _<_}
 use lib.Dec.{T}
 use lib.Ieee.{Float, binary64, fits}
 use lib.Ieee.Positive.{num, den}
-use Rattle.root.specs.Doubles.{finite, units}
+use Rattle.root.specs.Doubles.{finite, unitsOf}
 
 -- `num` / `den` is the size of a finite number, as lib.Ieee writes it: m * 2 ^ e as a fraction
 pub record Within (B : ℕ) (x : Float) : Type 0 where
@@ -28,5 +28,5 @@ pub record Ratio (B : ℕ) (x y : Float) : Type 0 where
 -- Of two doubles r is no further from n / d than y where n / d lies on r's side of the middle between them, or on it.
 pub record Nearest (n d : ℕ) (r : Float) : Type 0 where
   pub is-finite : T (finite r)
-  pub above : (y : Float) → T (fits binary64 y) → T (finite y) → units r < units y → 2 * n ≤ (units r + units y) * d
-  pub below : (y : Float) → T (fits binary64 y) → T (finite y) → units y < units r → (units r + units y) * d ≤ 2 * n
+  pub above : (y : Float) → T (fits binary64 y) → T (finite y) → unitsOf r < unitsOf y → 2 * n ≤ (unitsOf r + unitsOf y) * d
+  pub below : (y : Float) → T (fits binary64 y) → T (finite y) → unitsOf y < unitsOf r → (unitsOf r + unitsOf y) * d ≤ 2 * n

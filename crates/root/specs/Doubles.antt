@@ -6,7 +6,7 @@
 --   clamped                 `clamp(0.0, 1.0)`
 --   finite, negative        no NaN and no infinity; the sign bit
 --   before                  `total_cmp` says Less, of numbers that are no NaN
---   one, units              how many units of 2 ^ -1074 make 1, and how many a finite double's size is
+--   one, unitsOf              how many units of 2 ^ -1074 make 1, and how many a finite double's size is
 use Prim.Native.Nat.{ℕ, _*_, _/_, _^_}
 use mathlib.Core.Bool.{Bool, true, false, cond, not, _&&_, _||_}
 use lib.Ieee.{Float, nan, inf, fin, binary64, up, down, ofBits, add, sub, mul, div, neg, lt, le, eq}
@@ -91,7 +91,7 @@ unfoldable pub one : ℕ
 one = 2 ^ 1074
 
 -- of a double this division leaves nothing
-unfoldable pub units : Float → ℕ
-units nan = 0
-units (inf s) = 0
-units (fin s m e) = m * up e * one / down e
+unfoldable pub unitsOf : Float → ℕ
+unitsOf nan = 0
+unitsOf (inf s) = 0
+unitsOf (fin s m e) = m * up e * one / down e

@@ -9,20 +9,20 @@ use mathlib.Core.Path.{_≡_}
 use mathlib.Core.Bool.{Bool, false, cond, not, _||_}
 use lib.Dec.{T, leb, eqb}
 use lib.Ieee.{Float, nan, inf, fin, binary64, round, fits}
-use Rattle.root.specs.Doubles.{finite, negative, one, units}
+use Rattle.root.specs.Doubles.{finite, negative, one, unitsOf}
 
 abbrev pub rootable : Float → Bool
 rootable nan = false
 rootable (inf s) = false
 rootable (fin s m e) = not s || eqb m 0
 
--- In units the square of the root is units x * one. The root is nearer to r than to y where it lies on r's side of the middle between them,
--- which is (units r + units y) / 2: so "no tie" is part of what is said. Squared, no root is left.
+-- In units the square of the root is unitsOf x * one. The root is nearer to r than to y where it lies on r's side of the middle between them,
+-- which is (unitsOf r + unitsOf y) / 2: so "no tie" is part of what is said. Squared, no root is left.
 pub record IsRoot (x r : Float) : Type 0 where
   pub is-finite : T (finite r)
   pub sign : negative r ≡ negative x
-  pub above : (y : Float) → T (fits binary64 y) → T (finite y) → units r < units y → 4 * (units x * one) < (units r + units y) * (units r + units y)
-  pub below : (y : Float) → T (fits binary64 y) → T (finite y) → units y < units r → (units r + units y) * (units r + units y) < 4 * (units x * one)
+  pub above : (y : Float) → T (fits binary64 y) → T (finite y) → unitsOf r < unitsOf y → 4 * (unitsOf x * one) < (unitsOf r + unitsOf y) * (unitsOf r + unitsOf y)
+  pub below : (y : Float) → T (fits binary64 y) → T (finite y) → unitsOf y < unitsOf r → (unitsOf r + unitsOf y) * (unitsOf r + unitsOf y) < 4 * (unitsOf x * one)
 
 -- for an n below 4 ^ k: a binary digit of the root for every two of n
 unfoldable pub wholeRoot : ℕ → ℕ → ℕ
@@ -35,7 +35,7 @@ unfoldable pub rootOfSquare : Bool → ℕ → Float
 rootOfSquare s n = let r = wholeRoot 1586 n in round binary64 s (2 * r + cond (eqb (r * r) n) 0 1) (2 * one)
 
 unfoldable pub root : Float → Float
-root x = rootOfSquare (negative x) (units x * one)
+root x = rootOfSquare (negative x) (unitsOf x * one)
 
 pub record Rooted (x r : Float) : Type 0 where
   pub nearest : IsRoot x r

@@ -5,7 +5,7 @@ use Prim.Native.Nat.{_-_, _^_}
 use lib.IntN.{pos, negsuc}
 use lib.Ieee.{lt, div, ofBits}
 use Rattle.root.specs.Doubles.{bits, larger}
-use Rattle.rounding.specs.Rounding.{halfUp, rounded, key, beyond, farKey, ceil, wholeUp, segments}
+use Rattle.rounding.specs.Rounding.{halfUp, rounded, key, beyond, farKey, ceil, wholeUp, segmentsOver}
 
 -- 0.49999999999999994 gives 0, a half 1, its negative -1, 2 ^ 52 + 1 itself, and what no `i64` holds the end of the range
 under-half : rounded (bits 0x3fdf_ffff_ffff_ffff) ≡ pos 0
@@ -38,14 +38,14 @@ unfolding farKey beyond key rounded halfUp larger lt div ofBits
 over-limit = refl
 
 -- an axis of 8 in segments of 4, of 0.5 in segments of 4, and of 0.6000000000000001 in segments of 0.2
-two : segments (bits 0x4020_0000_0000_0000) (bits 0x4010_0000_0000_0000) ≡ 2
-unfolding segments wholeUp ceil div ofBits
+two : segmentsOver (bits 0x4020_0000_0000_0000) (bits 0x4010_0000_0000_0000) ≡ 2
+unfolding segmentsOver wholeUp ceil div ofBits
 two = refl
 
-one : segments (bits 0x3fe0_0000_0000_0000) (bits 0x4010_0000_0000_0000) ≡ 1
-unfolding segments wholeUp ceil div ofBits
+one : segmentsOver (bits 0x3fe0_0000_0000_0000) (bits 0x4010_0000_0000_0000) ≡ 1
+unfolding segmentsOver wholeUp ceil div ofBits
 one = refl
 
-four : segments (bits 0x3fe3_3333_3333_3334) (bits 0x3fc9_9999_9999_999a) ≡ 4
-unfolding segments wholeUp ceil div ofBits
+four : segmentsOver (bits 0x3fe3_3333_3333_3334) (bits 0x3fc9_9999_9999_999a) ≡ 4
+unfolding segmentsOver wholeUp ceil div ofBits
 four = refl

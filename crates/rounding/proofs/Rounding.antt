@@ -18,7 +18,7 @@ use lib.Ieee.Back.{round-whole, whole-unique}
 use mir.Syntax.{w64}
 use mir.Val.{SFits, toZ, ofZ}
 use mir.ValLaws.{toZ-pos, toZ-ofZ}
-use Rattle.root.specs.Doubles.{finite, negative, one, units}
+use Rattle.root.specs.Doubles.{finite, negative, one, unitsOf}
 use Rattle.root.specs.Patterns.{patternUnits}
 use Rattle.root.proofs.Grid.{lt-or-ge}
 use Rattle.root.proofs.Patterns.{Is, to-units, pattern-of, units-is, sign-is, finite-is, same-units, units-small}
@@ -72,15 +72,15 @@ minus x F n h = bit-is x F n ∙ is-true (leb (2 ^ 63) (toBits binary64 x)) (le�
 
 -- ---- a number's own fraction, and its units
 
-pub half-units : (s : Bool) (m : ℕ) (e : ℤ) → T (fits binary64 (fin s m e)) → halfUp (m * up e) (down e) ≡ halfUp (units (fin s m e)) one
+pub half-units : (s : Bool) (m : ℕ) (e : ℤ) → T (fits binary64 (fin s m e)) → halfUp (m * up e) (down e) ≡ halfUp (unitsOf (fin s m e)) one
 unfolding one
 half-units s m e F =
     sym (half-scaled (m * up e) (down e) (2 ^ 1074) (pow-pos 1074))
     ∙ ap (λ (a : ℕ). halfUp a (down e * 2 ^ 1074)) (own s m e F)
-    ∙ ap (λ (a : ℕ). halfUp (units (fin s m e) * down e) a) (mul-comm (down e) (2 ^ 1074))
-    ∙ half-scaled (units (fin s m e)) (2 ^ 1074) (down e) (down-pos e)
+    ∙ ap (λ (a : ℕ). halfUp (unitsOf (fin s m e) * down e) a) (mul-comm (down e) (2 ^ 1074))
+    ∙ half-scaled (unitsOf (fin s m e)) (2 ^ 1074) (down e) (down-pos e)
 
-away-units : (x : Float) → T (fits binary64 x) → T (finite x) → halfAway x ≡ round binary64 (negative x) (halfUp (units x) one) 1
+away-units : (x : Float) → T (fits binary64 x) → T (finite x) → halfAway x ≡ round binary64 (negative x) (halfUp (unitsOf x) one) 1
 unfolding halfAway
 away-units nan F p = absurd p
 away-units (inf s) F p = absurd p
@@ -91,8 +91,8 @@ from-units : (x : Float) (s : Bool) (n : ℕ) → HasValue x s n 1 → Is x s (n
 unfolding one
 from-units x s n v = to-units x s n (2 ^ 1074) v
 
-rounded-units : (x : Float) → T (fits binary64 x) → T (finite x) → rounded x ≡ cond (negative x) (negℤ (pos (min (2 ^ 63) (halfUp (units x) one))))
-    (pos (min (2 ^ 63 - 1) (halfUp (units x) one)))
+rounded-units : (x : Float) → T (fits binary64 x) → T (finite x) → rounded x ≡ cond (negative x) (negℤ (pos (min (2 ^ 63) (halfUp (unitsOf x) one))))
+    (pos (min (2 ^ 63 - 1) (halfUp (unitsOf x) one)))
 unfolding rounded
 rounded-units nan F p = absurd p
 rounded-units (inf s) F p = absurd p
@@ -137,9 +137,9 @@ module _ (x : Float) (F : T (fits binary64 x)) (p : T (finite x)) where
   c = toBits binary64 x % 2 ^ 63
 
   abbrev n : ℕ
-  n = halfUp (units x) one
+  n = halfUp (unitsOf x) one
 
-  pub size : units x ≡ patternUnits c
+  pub size : unitsOf x ≡ patternUnits c
   size = units-is x _ _ (pattern-of x F p .value)
 
   pub whole-is : halfUp (patternUnits c) one ≡ n
@@ -153,7 +153,7 @@ module _ (x : Float) (F : T (fits binary64 x)) (p : T (finite x)) where
     abbrev k : ℕ
     k = c / 2 ^ 52 - 1075
 
-    pub whole-size : units x ≡ q * 2 ^ k * one
+    pub whole-size : unitsOf x ≡ q * 2 ^ k * one
     whole-size = size ∙ whole-units c (omega arith)
 
     pub whole-n : n ≡ q * 2 ^ k
@@ -229,7 +229,7 @@ neg-round n h =
     (round-fits binary64 true n 1) (neg-value (round binary64 false n 1) n (round-whole binary64 false n h)) (round-whole binary64 true n h)
 
 module _ (x : Float) (F : T (fits binary64 x)) (p : T (finite x)) (n : ℕ) (e : n ≡ halfUp (patternUnits (toBits binary64 x % 2 ^ 63)) one) where
-  right : n ≡ halfUp (units x) one
+  right : n ≡ halfUp (unitsOf x) one
   right = e ∙ whole-is x F p
 
   signed : (s : Bool) → negative x ≡ s → round binary64 s n 1 ≡ halfAway x
@@ -248,7 +248,7 @@ module _ (x : Float) (F : T (fits binary64 x)) (p : T (finite x)) (n : ℕ) (e :
   pub cast-plus : n < 2 ^ 63 → negative x ≡ false → toZ w64 n ≡ rounded x
   cast-plus h g =
       toZ-pos w64 n h ∙ ap pos (sym (min-eq-right (le-of n h)) ∙ ap (min (2 ^ 63 - 1)) right) ∙ ap
-      (λ (z : Bool). cond z (negℤ (pos (min (2 ^ 63) (halfUp (units x) one)))) (pos (min (2 ^ 63 - 1) (halfUp (units x) one)))) (sym g) ∙ sym (rounded-is x F p)
+      (λ (z : Bool). cond z (negℤ (pos (min (2 ^ 63) (halfUp (unitsOf x) one)))) (pos (min (2 ^ 63 - 1) (halfUp (unitsOf x) one)))) (sym g) ∙ sym (rounded-is x F p)
     where
       le-of : (n : ℕ) → n < 2 ^ 63 → n ≤ 2 ^ 63 - 1
       le-of n h = omega arith
@@ -256,7 +256,7 @@ module _ (x : Float) (F : T (fits binary64 x)) (p : T (finite x)) (n : ℕ) (e :
   pub cast-minus : n < 2 ^ 63 → negative x ≡ true → toZ w64 (ofZ w64 (pos 0 -ℤ toZ w64 n)) ≡ rounded x
   cast-minus h g =
       turned-is n h ∙ ap (λ (k : ℕ). negℤ (pos k)) (sym (min-eq-right (le-of-lt h)) ∙ ap (min (2 ^ 63)) right) ∙ ap
-      (λ (z : Bool). cond z (negℤ (pos (min (2 ^ 63) (halfUp (units x) one)))) (pos (min (2 ^ 63 - 1) (halfUp (units x) one)))) (sym g) ∙ sym (rounded-is x F p)
+      (λ (z : Bool). cond z (negℤ (pos (min (2 ^ 63) (halfUp (unitsOf x) one)))) (pos (min (2 ^ 63 - 1) (halfUp (unitsOf x) one)))) (sym g) ∙ sym (rounded-is x F p)
 
 pub nan-rounded : (x : Float) → ne x x ≡ true → pos 0 ≡ rounded x
 unfolding rounded
@@ -264,7 +264,7 @@ nan-rounded x h = ap rounded (sym (is-nan x h))
 
 -- ---- from 2 ^ 63 on: the ends of the range
 
-reaches : (x : Float) (F : T (fits binary64 x)) (p : T (finite x)) → 1086 * 2 ^ 52 ≤ toBits binary64 x % 2 ^ 63 → 2 ^ 63 ≤ halfUp (units x) one
+reaches : (x : Float) (F : T (fits binary64 x)) (p : T (finite x)) → 1086 * 2 ^ 52 ≤ toBits binary64 x % 2 ^ 63 → 2 ^ 63 ≤ halfUp (unitsOf x) one
 reaches x F p h =
     let c = toBits binary64 x % 2 ^ 63 in
     le-trans (mul-le-mul (lead c) (pow-mono (room c h))) (le-of-eq (sym (whole-n x F p (low c h))))
@@ -294,7 +294,7 @@ unfolding isNan rounded
 far nan F n h = absurd n
 far (inf true) F n h = refl
 far (inf false) F n h = refl
-far (fin s m e) F n h = rounded-is (fin s m e) F tt ∙ far-ends s (halfUp (units (fin s m e)) one) (reaches (fin s m e) F tt h)
+far (fin s m e) F n h = rounded-is (fin s m e) F tt ∙ far-ends s (halfUp (unitsOf (fin s m e)) one) (reaches (fin s m e) F tt h)
 
 pub far-plus : (x : Float) → T (fits binary64 x) → T (not (isNan x)) → 1086 * 2 ^ 52 ≤ toBits binary64 x % 2 ^ 63 → negative x ≡ false → pos (2 ^ 63 - 1) ≡ rounded x
 far-plus x F n h g = sym (far x F n h ∙ ap ends g)

@@ -29,13 +29,13 @@ use lib.Pow.{pow-pos, pow-add, pow-mono, shl-exact}
 use lib.Ieee.{Float, nan, inf, fin, binary64, up, down, fits, lt, ofBits, toBits, isNan, below}
 use lib.Ieee.Bits.{ofBits-fits}
 use lib.Ieee.Fits.{down-pos}
-use Rattle.root.specs.Doubles.{_⊘_, negative, one, units, oneF}
+use Rattle.root.specs.Doubles.{_⊘_, negative, one, unitsOf, oneF}
 use Rattle.root.specs.Patterns.{fieldUnits, patternUnits}
 use Rattle.root.proofs.Patterns.{pattern-is, at}
 use Rattle.root.proofs.Nearest.{own}
 use Rattle.root.proofs.Doubles.{plus-small, same-test}
 use Rattle.root.proofs.Order.{unsigned, finite-unsigned, lt-patterns}
-use Rattle.rounding.specs.Rounding.{ceil, wholeUp, segments}
+use Rattle.rounding.specs.Rounding.{ceil, wholeUp, segmentsOver}
 
 -- ---- n / d up to a whole number
 
@@ -70,13 +70,13 @@ ceil-scaled n d p D P =
       least = lt-of-le-of-lt (le-of-eq (sym (mul-assoc c d p))) (lt-of-lt-of-le (mul-lt-mul-of-pos-right (h .least) P) (le-of-eq (add-mul n d p)));
     })
 
-pub ceil-units : (s : Bool) (m : ℕ) (e : ℤ) → T (fits binary64 (fin s m e)) → ceil (m * up e) (down e) ≡ ceil (units (fin s m e)) one
+pub ceil-units : (s : Bool) (m : ℕ) (e : ℤ) → T (fits binary64 (fin s m e)) → ceil (m * up e) (down e) ≡ ceil (unitsOf (fin s m e)) one
 unfolding one
 ceil-units s m e F =
     sym (ceil-scaled (m * up e) (down e) (2 ^ 1074) (down-pos e) (pow-pos 1074))
     ∙ ap (λ (a : ℕ). ceil a (down e * 2 ^ 1074)) (own s m e F)
-    ∙ ap (λ (a : ℕ). ceil (units (fin s m e) * down e) a) (mul-comm (down e) (2 ^ 1074))
-    ∙ ceil-scaled (units (fin s m e)) (2 ^ 1074) (down e) (pow-pos 1074) (down-pos e)
+    ∙ ap (λ (a : ℕ). ceil (unitsOf (fin s m e) * down e) a) (mul-comm (down e) (2 ^ 1074))
+    ∙ ceil-scaled (unitsOf (fin s m e)) (2 ^ 1074) (down e) (pow-pos 1074) (down-pos e)
 
 -- ---- of a pattern, from 1 to 256
 
@@ -254,8 +254,8 @@ capped-over n = same-test (ltb 256 (min n 257)) (ltb 256 n) (λ t. lt→ltb 256 
 pub capped-same : (n : ℕ) → min n 257 ≤ 256 → min n 257 ≡ n
 capped-same n h = omega arith
 
-pub segments-some : (length spacing : Float) → 1 ≤ segments length spacing
-unfolding segments
+pub segments-some : (length spacing : Float) → 1 ≤ segmentsOver length spacing
+unfolding segmentsOver
 segments-some length spacing = at-least (wholeUp (length ⊘ spacing))
   where
     at-least : (k : ℕ) → 1 ≤ max 1 k

@@ -7,14 +7,14 @@
 --   keyWord         a 64-bit key as a word without a sign, in the same order
 --   ceil            n / d up to a whole number
 --   wholeUp         `ceil() as usize`
---   segments        how many segments of at most `spacing` an axis of a given length needs
+--   segmentsOver        how many segments of at most `spacing` an axis of a given length needs
 use Prim.Native.Nat.{ℕ, _+_, _*_, _-_, _/_, _^_, min, max}
 use mathlib.Core.Path.{_≡_}
 use mathlib.Core.Bool.{Bool, cond}
 use lib.Dec.{T, ltb}
 use lib.IntN.{ℤ, pos, negsuc, negℤ, natAbs}
 use lib.Ieee.{Float, nan, inf, fin, binary64, up, down, round}
-use Rattle.root.specs.Doubles.{_⊘_, 1e-12, larger, finite, negative, one, units}
+use Rattle.root.specs.Doubles.{_⊘_, 1e-12, larger, finite, negative, one, unitsOf}
 
 -- "Rounding is half away from zero", of a magnitude: n / d + 1 / 2, cut to a whole number
 unfoldable pub halfUp : ℕ → ℕ → ℕ
@@ -30,7 +30,7 @@ halfAway (fin s m e) = round binary64 s (halfUp (m * up e) (down e)) 1
 pub record IsRounded (x r : Float) : Type 0 where
   pub is-finite : T (finite r)
   pub sign : negative r ≡ negative x
-  pub size : units r ≡ halfUp (units x) one * one
+  pub size : unitsOf r ≡ halfUp (unitsOf x) one * one
 
 -- "`as i64` saturates in Rust", and a NaN gives 0
 unfoldable pub rounded : Float → ℤ
@@ -63,5 +63,5 @@ wholeUp (inf s) = cond s 0 (2 ^ 64 - 1)
 wholeUp (fin s m e) = cond s 0 (min (2 ^ 64 - 1) (ceil (m * up e) (down e)))
 
 -- at least one
-unfoldable pub segments : Float → Float → ℕ
-segments length spacing = max 1 (wholeUp (length ⊘ spacing))
+unfoldable pub segmentsOver : Float → Float → ℕ
+segmentsOver length spacing = max 1 (wholeUp (length ⊘ spacing))

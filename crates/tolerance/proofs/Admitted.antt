@@ -20,22 +20,22 @@ use Rattle.refusals.specs.declared.refusal.Refusal.{Refusal}
 use Rattle.refusals.specs.Refusals.{documented}
 use Rattle.refusals.specs.Front.{boxInRange, badBox, epsInRange}
 use Rattle.tolerance.specs.declared.Tolerance.the-variants.{Of, Refused}
-use Rattle.tolerance.specs.Tolerance.{sides, tolerance, toleranceReply, Tolerated}
+use Rattle.tolerance.specs.Tolerance.{boxLengths, tolerance, toleranceReply, Tolerated}
 use Rattle.tolerance.proofs.Replies.{sides-within, reply-done}
 
-norm2-fits : (b : AABB) → T (fits binary64 (norm2 (sides b)))
+norm2-fits : (b : AABB) → T (fits binary64 (norm2 (boxLengths b)))
 unfolding dot
 norm2-fits b = add-fits binary64 _ _
 
 module _ (b : AABB) (e : boxInRange b ≡ true) where
-  diagonal-within : Within (2 ^ 32) (norm (sides b))
+  diagonal-within : Within (2 ^ 32) (norm (boxLengths b))
   diagonal-within =
-      computed-within (norm2 (sides b)) (norm2-fits b) (norm2-rootable 31 (lit≤ tt) (sides-within b e)) (2 ^ 32) (held-pow 32 (lit≤ tt))
+      computed-within (norm2 (boxLengths b)) (norm2-fits b) (norm2-rootable 31 (lit≤ tt) (sides-within b e)) (2 ^ 32) (held-pow 32 (lit≤ tt))
       (norm2-within 31 (lit≤ tt) (sides-within b e))
 
-  diagonal-plus : negative (norm (sides b)) ≡ false
+  diagonal-plus : negative (norm (boxLengths b)) ≡ false
   diagonal-plus =
-      root-meets (norm2 (sides b)) (norm2-fits b) (norm2-rootable 31 (lit≤ tt) (sides-within b e)) .sign
+      root-meets (norm2 (boxLengths b)) (norm2-fits b) (norm2-rootable 31 (lit≤ tt) (sides-within b e)) .sign
       ∙ norm2-plus 31 (lit≤ tt) (sides-within b e)
 
 -- both choices of `larger` are within 2 ^ 32 and have no sign
@@ -50,13 +50,13 @@ pick-plus true d h = refl
 pick-plus false d h = h
 
 module _ (b : AABB) (e : boxInRange b ≡ true) where
-  most : Within (2 ^ 32) (larger (norm (sides b)) oneF)
+  most : Within (2 ^ 32) (larger (norm (boxLengths b)) oneF)
   unfolding larger
-  most = pick-within (lt (norm (sides b)) oneF) (norm (sides b)) (diagonal-within b e)
+  most = pick-within (lt (norm (boxLengths b)) oneF) (norm (boxLengths b)) (diagonal-within b e)
 
-  plus : negative (larger (norm (sides b)) oneF) ≡ false
+  plus : negative (larger (norm (boxLengths b)) oneF) ≡ false
   unfolding larger
-  plus = pick-plus (lt (norm (sides b)) oneF) (norm (sides b)) (diagonal-plus b e)
+  plus = pick-plus (lt (norm (boxLengths b)) oneF) (norm (boxLengths b)) (diagonal-plus b e)
 
   -- 1e-10 times 2 ^ 32 is below 1
   within-one : Within 1 (tolerance b)
@@ -65,7 +65,7 @@ module _ (b : AABB) (e : boxInRange b ≡ true) where
 
   no-sign : negative (tolerance b) ≡ false
   unfolding tolerance ofBits
-  no-sign = mul-plus binary64 1e-10 (larger (norm (sides b)) oneF) tt (most .is-finite) refl plus
+  no-sign = mul-plus binary64 1e-10 (larger (norm (boxLengths b)) oneF) tt (most .is-finite) refl plus
 
   pub tolerance-admitted : epsInRange (tolerance b) ≡ true
   unfolding epsInRange ofBits
@@ -84,5 +84,5 @@ tolerated b eps h e f =
     record {
       replied = ap (λ (d : Float). 0 ∷ toBits binary64 d ∷ []) h ∙ reply-done b e f;
       admitted = λ d k. ap epsInRange (let same : d ≡ tolerance b = cc in same) ∙ tolerance-admitted b e;
-      rooted = λ d k. root-meets (norm2 (sides b)) (norm2-fits b) (norm2-rootable 31 (lit≤ tt) (sides-within b e));
+      rooted = λ d k. root-meets (norm2 (boxLengths b)) (norm2-fits b) (norm2-rootable 31 (lit≤ tt) (sides-within b e));
     }

@@ -17,9 +17,9 @@ use Rattle.refusals.specs.Refusals.{documented, numbered}
 use Rattle.refusals.specs.Front.{boxInRange, badBox}
 use Rattle.refusals.proofs.Refusals.{holds, passes, none-left}
 use Rattle.refusals.proofs.Ranges.{BoxWithin, box-within}
-use Rattle.tolerance.specs.Tolerance.{sides, tolerance, toleranceTests, toleranceReply}
+use Rattle.tolerance.specs.Tolerance.{boxLengths, tolerance, toleranceTests, toleranceReply}
 
-pub sides-within : (b : AABB) → boxInRange b ≡ true → PointWithin 31 (sides b)
+pub sides-within : (b : AABB) → boxInRange b ≡ true → PointWithin 31 (boxLengths b)
 sides-within b e =
     let h = box-within b e in
     record {
@@ -28,7 +28,7 @@ sides-within b e =
       z = sub-pow 30 (lit≤ tt) (h .z .high-within) (h .z .low-within);
     }
 
-pub sides-rootable : (b : AABB) → boxInRange b ≡ true → T (rootable (norm2 (sides b)))
+pub sides-rootable : (b : AABB) → boxInRange b ≡ true → T (rootable (norm2 (boxLengths b)))
 sides-rootable b e = norm2-rootable 31 (lit≤ tt) (sides-within b e)
 
 -- ---- the reply: 4 before 5

@@ -13,7 +13,7 @@ use Rattle.root.specs.Doubles.{_⊖_, _⊗_, oneF, 1e-10, larger}
 use Rattle.root.specs.Root.{IsRoot}
 use Rattle.geometry.specs.declared.aabb.AABB.{AABB}
 use Rattle.geometry.specs.declared.point.Point.{Point}
-use Rattle.geometry.specs.Boxes.{low, high}
+use Rattle.geometry.specs.Boxes.{lowest, highest}
 use Rattle.geometry.specs.Points.{onAxes, norm2, norm}
 use Rattle.refusals.specs.declared.refusal.Refusal.the-variants.{BadNumber, BadBox}
 use Rattle.refusals.specs.Refusals.{documented, Test, replyTo}
@@ -21,11 +21,11 @@ use Rattle.refusals.specs.Front.{boxInRange, badBox, epsInRange}
 use Rattle.tolerance.specs.declared.Tolerance.{Tolerance}
 use Rattle.tolerance.specs.declared.Tolerance.the-variants.{Of, Refused}
 
-abbrev pub sides : AABB → Point
-sides b = onAxes (λ k. high b k ⊖ low b k)
+abbrev pub boxLengths : AABB → Point
+boxLengths b = onAxes (λ k. highest b k ⊖ lowest b k)
 
 unfoldable pub tolerance : AABB → Float
-tolerance b = 1e-10 ⊗ larger (norm (sides b)) oneF
+tolerance b = 1e-10 ⊗ larger (norm (boxLengths b)) oneF
 
 abbrev pub toleranceTests : AABB → List Test
 toleranceTests b = (not (boxInRange b), BadNumber) ∷ (badBox b, BadBox) ∷ []
@@ -40,4 +40,4 @@ documentedTolerance (Refused r) = documented r
 pub record Tolerated (b : AABB) (r : Tolerance) : Type 0 where
   pub replied : documentedTolerance r ≡ toleranceReply b
   pub admitted : (eps : Float) → r ≡ Of eps → epsInRange eps ≡ true
-  pub rooted : (eps : Float) → r ≡ Of eps → IsRoot (norm2 (sides b)) (norm (sides b))
+  pub rooted : (eps : Float) → r ≡ Of eps → IsRoot (norm2 (boxLengths b)) (norm (boxLengths b))

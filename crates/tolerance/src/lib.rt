@@ -1,6 +1,6 @@
 // The tolerance of a box (document 01, module 2; `bbox_eps` of aabb_clipping.rs).
 ghost use mathlib.Core.Path.{_≡_};
-ghost use Rattle.tolerance.specs.Tolerance.{sides, Tolerated};
+ghost use Rattle.tolerance.specs.Tolerance.{boxLengths, Tolerated};
 use geometry::aabb::AABB;
 use geometry::point::Point;
 use refusals::boxes::box_in_range;
@@ -14,8 +14,8 @@ pub enum Tolerance {
     Refused(Refusal),
 }
 
-fn sides(extents: AABB) -> Point
-    ensures { λ r. ⌜ r ≡ sides extents ⌝ }
+fn boxLengths(extents: AABB) -> Point
+    ensures { λ r. ⌜ r ≡ boxLengths extents ⌝ }
 {
     Point {
         x: extents.max_corner[0] - extents.min_corner[0],
@@ -34,6 +34,6 @@ pub fn bbox_eps(extents: AABB) -> Tolerance
     if is_bad_box(extents) {
         return Tolerance::Refused(Refusal::BadBox);
     }
-    let diag = sides(extents).norm();
+    let diag = boxLengths(extents).norm();
     Tolerance::Of(1.0e-10 * max(diag, 1.0))
 }

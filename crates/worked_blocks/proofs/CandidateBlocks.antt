@@ -24,7 +24,7 @@ use Rattle.box_faces.specs.Sides.{faceSides, betweenEnds, alongSide, onSide}
 use Rattle.candidate_pool.specs.OpenEdges.{openEdgeWords}
 use Rattle.candidate_pool.specs.Pool.{byKey, renewed, listed, numberFor, insert}
 use Rattle.candidate_grids.specs.Grid.{gridPoint, skipped, gridAt, faceGrid, grid}
-use Rattle.candidate_constraints.specs.Constraints.{constraintWords, neighbours, sideOrder, edgePlaces, faceConstraints}
+use Rattle.candidate_constraints.specs.Constraints.{constraintWords, consecutive, sideOrder, edgePlaces, faceConstraints}
 use Rattle.candidate_edges.specs.Surface.{enterEdge, edgeSurface, cornerVertices, meshPool}
 use Rattle.boundary_closure.specs.Candidates.{candidates, candidateWords, listWords}
 use Rattle.boundary_closure.specs.Asked.{asked}
@@ -139,6 +139,6 @@ pub computed : WorkedBlocks
 unfolding every some keep place insertBy sortBy distinctFrom upFrom flatMap magnitude within larger clamped before halfUp rounded key beyond farKey ceil wholeUp
     rounding.segments along threes segments gridLine gridSize first keyOf sameKey samePair pairBefore openEdges documented firstRefusal ragged tooMany badIndex inRange
     epsInRange resolutionInRange boxInRange badBox gridTooFine workNeed farKeys roomTests project faceBits onFace facesOf faceSides betweenEnds alongSide onSide byKey renewed
-    listed numberFor insert gridPoint skipped gridAt faceGrid grid neighbours sideOrder edgePlaces faceConstraints enterEdge edgeSurface cornerVertices meshPool candidates
+    listed numberFor insert gridPoint skipped gridAt faceGrid grid consecutive sideOrder edgePlaces faceConstraints enterEdge edgeSurface cornerVertices meshPool candidates
     candidateWords listWords closureTests strayEdge edgeTests noTwoEnds candidatesResult ofBits toBits ofInt round add sub mul div neg lt le eq
 computed = record { c9 = refl; c10 = refl; c13 = refl; c3b-first = refl; c3b-edges = refl; c3b = refl; infinite = refl; few = refl; downward = refl; c15 = refl }

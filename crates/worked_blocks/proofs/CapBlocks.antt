@@ -6,12 +6,12 @@ use mathlib.Core.List.{List, [], _∷_, _++_, flatMap}
 use lib.ListN.{replicate}
 use lib.Ieee.{Float, ofBits, ofInt, round, add, sub, mul, div, neg, lt, le, eq}
 use Rattle.lists.specs.Lists.{every, some, first, keep, place, insertBy, sortBy, distinctFrom, upFrom}
-use Rattle.root.specs.Doubles.{bits, magnitude, within, larger, clamped, before, one, units, 1e-10}
+use Rattle.root.specs.Doubles.{bits, magnitude, within, larger, clamped, before, one, unitsOf, 1e-10}
 use Rattle.root.specs.Root.{root, rootOfSquare, wholeRoot}
 use Rattle.rounding.specs.Rounding as rounding
 use Rattle.rounding.specs.Rounding.{halfUp, rounded, key, beyond, farKey, ceil, wholeUp}
 use Rattle.geometry.specs.declared.aabb.AABB.{AABB}
-use Rattle.geometry.specs.Points.{along, minus, dot, cross}
+use Rattle.geometry.specs.Points.{along, difference, dot, cross}
 use Rattle.geometry.specs.Triangles.{threes, flat, containsOrientedEdge, sortedVertices}
 use Rattle.geometry.specs.Meshes.{Mesh, coordinates, enter}
 use Rattle.geometry.specs.Axes.{segments, gridLine, gridSize}
@@ -172,8 +172,8 @@ pub record Rules : Type 0 where
   few-reply : reply (+0 ∷ +0 ∷ +0 ∷ +0 ∷ +1 ∷ +0 ∷ +0 ∷ +0 ∷ 0·01 ∷ []) lone [] (boxTo 0·1 0·1 0·1) +1 +1 CloseNegative ≡ 0 ∷ 9 ∷ 3 ∷ []
 
 pub computed : WorkedBlocks
-unfolding every some keep place insertBy sortBy distinctFrom upFrom flatMap magnitude within larger clamped before one units root rootOfSquare wholeRoot halfUp rounded key
-    beyond farKey ceil wholeUp rounding.segments along minus dot cross threes containsOrientedEdge sortedVertices enter segments gridLine gridSize first components keyOf
+unfolding every some keep place insertBy sortBy distinctFrom upFrom flatMap magnitude within larger clamped before one unitsOf root rootOfSquare wholeRoot halfUp rounded key
+    beyond farKey ceil wholeUp rounding.segments along difference dot cross threes containsOrientedEdge sortedVertices enter segments gridLine gridSize first components keyOf
     sameKey sameCorners samePair pairBefore openEdges documented firstRefusal ragged tooMany badIndex inRange epsInRange resolutionInRange boxInRange badBox gridTooFine
     workNeed farKeys roomTests project onFace facesOf byKey renewed listed numberFor insert gridPoint skipped gridAt faceGrid grid enterEdge edgeSurface cornerVertices
     meshPool candidates closureTests strayEdge edgeTests noTwoEnds capsOf signedArea outward isSeed isOpenPair shareEdge selected badCap badCapPlace missingEdge missingPlace
@@ -181,8 +181,8 @@ unfolding every some keep place insertBy sortBy distinctFrom upFrom flatMap magn
 computed = record { c10 = refl; c9 = refl; c13 = refl; c14-near = refl; c14-far = refl; c15-positive = refl; c15-points = refl; c15-negative = refl; c15-above = refl }
 
 pub rules : Rules
-unfolding every some keep place insertBy sortBy distinctFrom upFrom flatMap magnitude within larger clamped before one units root rootOfSquare wholeRoot halfUp rounded key
-    beyond farKey ceil wholeUp rounding.segments along minus dot cross threes containsOrientedEdge sortedVertices enter segments gridLine gridSize first components keyOf
+unfolding every some keep place insertBy sortBy distinctFrom upFrom flatMap magnitude within larger clamped before one unitsOf root rootOfSquare wholeRoot halfUp rounded key
+    beyond farKey ceil wholeUp rounding.segments along difference dot cross threes containsOrientedEdge sortedVertices enter segments gridLine gridSize first components keyOf
     sameKey sameCorners samePair pairBefore openEdges documented firstRefusal ragged tooMany badIndex inRange epsInRange resolutionInRange boxInRange badBox gridTooFine
     workNeed farKeys roomTests project onFace facesOf byKey renewed listed numberFor insert gridPoint skipped gridAt faceGrid grid enterEdge edgeSurface cornerVertices
     meshPool candidates closureTests strayEdge edgeTests noTwoEnds capsOf signedArea outward isSeed isOpenPair shareEdge selected badCap badCapPlace missingEdge missingPlace

@@ -8,14 +8,14 @@ use mathlib.Core.Option.{orElse}
 use lib.Ieee.{Float, ofBits, ofInt, round, add, sub, mul, div, neg, lt, le, eq}
 use lib.IntN.{ℤ, pos, negsuc}
 use Rattle.lists.specs.Lists.{every, some, first, keep, place, insertBy, sortBy, distinctFrom, upFrom}
-use Rattle.root.specs.Doubles.{bits, 1e-10, magnitude, within, larger, one, units}
+use Rattle.root.specs.Doubles.{bits, 1e-10, magnitude, within, larger, one, unitsOf}
 use Rattle.root.specs.Root.{root, rootOfSquare, wholeRoot}
 use Rattle.rounding.specs.Rounding as rounding
 use Rattle.rounding.specs.Rounding.{ceil, wholeUp, halfUp, rounded, key, beyond, farKey}
 use Rattle.geometry.specs.declared.aabb.AABB.{AABB}
 use Rattle.geometry.specs.declared.fraction.Fraction.{Fraction}
 use Rattle.geometry.specs.declared.fraction.Fraction.the-variants.{Nothing}
-use Rattle.geometry.specs.Points.{pt, along, minus, dot, cross, norm}
+use Rattle.geometry.specs.Points.{pt, along, difference, dot, cross, norm}
 use Rattle.geometry.specs.Triangles.{threes, sortedVertices}
 use Rattle.geometry.specs.Meshes.{Mesh, meshOf, meshLengths, enter}
 use Rattle.refusals.specs.Refusals.{documented, firstRefusal}
@@ -118,7 +118,7 @@ points1 = -1/2048 ∷ +0 ∷ +0 ∷ +1/2048 ∷ +0 ∷ +0 ∷ []
 abbrev pub c1 : Row
 c1 =
     row {A = List ℤ × Float × List ℕ × Mesh}
-    (map (key 1/1024) (-1/2048 ∷ +1/2048 ∷ []), norm (minus (pt -1/2048 +0 +0) (pt +1/2048 +0 +0)), cleanReply points1 [] 1/1024 1280 (6 ∷ 0 ∷ []), cleanResult points1 [] 1/1024)
+    (map (key 1/1024) (-1/2048 ∷ +1/2048 ∷ []), norm (difference (pt -1/2048 +0 +0) (pt +1/2048 +0 +0)), cleanReply points1 [] 1/1024 1280 (6 ∷ 0 ∷ []), cleanResult points1 [] 1/1024)
     (negsuc 0 ∷ pos 1 ∷ [], 1/1024, 0 ∷ 6 ∷ 0 ∷ [], meshOf points1 [])
 
 -- C3: "the same eps, (±3/8192 on all axes, equal signs): cleaning keeps two, though both have key (0,0,0)"
@@ -208,9 +208,9 @@ of-all a {r} (List·Memᴰ·tail {x} {xs} m) = of-all (a .1) m
 computed : All starred
 unfolding every some distinctFrom upFrom threes magnitude within inside snapTo snapped crossing interpolated onPlane crossed sideClipped walk clipToPlane clipPolygon along
     enter fan fanned insideBox sharedNumber shareOnce sharing clipFacet clipFacets clipped flatMap firstRefusal documented ragged tooMany badIndex inRange epsInRange
-    boxInRange badBox workNeed roomTests clipTests clipResult keep place insertBy sortBy halfUp rounded key beyond farKey farKeys minus dot cross keyOf sameKey around near
+    boxInRange badBox workNeed roomTests clipTests clipResult keep place insertBy sortBy halfUp rounded key beyond farKey farKeys difference dot cross keyOf sameKey around near
     neighbours cells first weldNext weld hasRepeatedCorner isFlat sortedVertices sameCorners isDuplicate filtered passedNext passed components shareVertex isAlone status
-    orElse keptFacets renumbered compacted weldedMesh cleanedMesh cleanResult cleanTests larger one units root rootOfSquare wholeRoot wholeUp ceil rounding.segments segments
+    orElse keptFacets renumbered compacted weldedMesh cleanedMesh cleanResult cleanTests larger one unitsOf root rootOfSquare wholeRoot wholeUp ceil rounding.segments segments
     gridLine axisPoints gridSize resolutionInRange gridTooFine samePair pairBefore openEdges onFace facesOf closureTests strayEdge edgeTests ofBits ofInt round add sub mul div
     neg lt le eq
 computed = (refl, (refl, (refl, (refl, (refl, (refl, (refl, (refl, (refl, (refl, tt))))))))))

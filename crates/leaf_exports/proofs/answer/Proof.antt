@@ -4,7 +4,7 @@ use Prim.Native.Nat.{ℕ, _+_, _*_, _≤_, _<_, _-_, _/_}
 use native.Mathlib.Omega.{arith}
 use lib.ListN.{getD, length, length-set}
 use native.Mathlib.Nat.{not-suc-le-zero}
-use Rattle.leaf_exports.specs.Exports.{Answers}
+use Rattle.leaf_exports.specs.Exports.{LinksFound}
 use Rattle.leaf_exports.proofs.Answering.{answers-more}
 use Rattle.leaf_exports.proofs.answer.Statement.{statement}
 use Rattle.leaf_exports.proofs.answer.Tie as tie
@@ -13,7 +13,7 @@ use Rattle.leaf_exports.proofs.answer.Lts as lts
 use Rattle.chains.proofs.find_word.Reads as find-word-reads
 
 abbrev Inv-loop : tie.InvT-loop
-Inv-loop m nb keys asked found₀ i₀ found i = (i ≤ length asked) × (length found ≡ length found₀) × Answers keys asked found i
+Inv-loop m nb keys asked found₀ i₀ found i = (i ≤ length asked) × (length found ≡ length found₀) × LinksFound keys asked found i
 
 abbrev μ-loop : tie.MeasureT-loop
 μ-loop m nb keys asked found₀ i₀ found i = length asked - i

@@ -1,9 +1,8 @@
-use Rattle.mesh_weld.specs.Room.{vertexOf}
 use Rattle.lists.specs.Regions.{view}
 use mathlib.Core.List.{map}
 use Rattle.mesh_cleanup.proofs.Outputs.{vertices-start, vertex-room, vertices-turn, vertices-end}
 use Rattle.words.proofs.Overlay.{Writing}
-use Rattle.geometry.specs.Meshes.{coordinates}
+use Rattle.geometry.specs.Meshes.{coordinates, vertexOf}
 use lib.Ieee.{Float}
 use mathlib.Core.List.{List}
 use native.Mathlib.Omega.{arith}

@@ -1,7 +1,7 @@
 use mathlib.Core.Path.{_∙_}
 use lib.Ieee.{binary64, div}
 use lib.Ieee.Fits.{div-fits}
-use Rattle.rounding.specs.Rounding.{segments}
+use Rattle.rounding.specs.Rounding.{segmentsOver}
 use Rattle.rounding.proofs.Segments.{Counted, many, single, counted}
 use Rattle.rounding.proofs.axis_segments.Statement.{statement}
 use Rattle.rounding.proofs.axis_segments.Tie as tie
@@ -13,7 +13,7 @@ few c =
     counted (div binary64 (a .length) (a .spacing)) (div-fits binary64 (a .length) (a .spacing)) (c .if2 .taken) (c .before .if1 .left)
 
 returns : tie.Need-returns
-unfolding segments
+unfolding segmentsOver
 returns c = many (div binary64 (c .before .args .length) (c .before .args .spacing)) (c .if1 .taken)
 
 float-to-bits-ceil-of-bits : tie.Need-float-to-bits-ceil-of-bits
@@ -23,11 +23,11 @@ ceil-of-bits-requires : tie.Need-ceil-of-bits-requires
 ceil-of-bits-requires c κs = (few c .low, few c .high)
 
 returns-2 : tie.Need-returns-2
-unfolding segments
+unfolding segmentsOver
 returns-2 c = c .ceil-of-bits .ensures ∙ few (c .before) .same
 
 returns-3 : tie.Need-returns-3
-unfolding segments
+unfolding segmentsOver
 returns-3 c = single (div binary64 (c .before .before .args .length) (c .before .before .args .spacing)) (c .if2 .left)
 
 pub axis-segments-spec : {M : Type 1} → statement M

@@ -1,4 +1,4 @@
-use Rattle.aabb_facets.specs.Rooms.{Room, words}
+use Rattle.aabb_facets.specs.Rooms.{Room, markWords}
 use Rattle.aabb_facets.specs.Clipped.{clipped}
 use borrow.Author.Needs.{needs}
 use mathlib.Core.List.{[]}
@@ -14,7 +14,7 @@ clip-pass-requires : tie.Need-clip-pass-requires
 clip-pass-requires c κs =
     let s = c .before .before .before .before .before .before .before .before .before .before .before .before in
     let a = s .args in
-    (s .pre .0, (s .pre .1 .0, c .before .before .before .before .before .mark-all .ensures ∙ ap (λ (k : ℕ). words (a .vertices .now) (a .extents) (a .eps) k []) (s .pre .1 .1)))
+    (s .pre .0, (s .pre .1 .0, c .before .before .before .before .before .mark-all .ensures ∙ ap (λ (k : ℕ). markWords (a .vertices .now) (a .extents) (a .eps) k []) (s .pre .1 .1)))
 
 same-length : tie.Need-same-length
 same-length c = search needs

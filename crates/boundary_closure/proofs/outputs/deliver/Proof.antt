@@ -9,7 +9,7 @@ use Prim.Native.Nat.{ℕ, _+_, _*_}
 use mathlib.Core.List.{map}
 use mathlib.Core.Path.{sym, ap, _∙_}
 use native.Mathlib.Omega.{arith}
-use Rattle.boundary_closure.specs.Steps.{standing}
+use Rattle.boundary_closure.specs.Steps.{candidatesStanding}
 use Rattle.boundary_closure.proofs.Lengths.{candidates-long, all-lists-long, constraints-long, edges-long, edges-few}
 use Rattle.boundary_closure.proofs.Delivery.{short-candidates, short-lists, short-constraints, short-edges, done}
 use borrow.Author.Needs.{needs}
@@ -42,7 +42,7 @@ returns : tie.Need-returns
 returns c =
     let a = c .before .before .before .before .before .before .before .before .args in
     let w = a .w .now in
-    short-candidates (standing (a .n) (a .nf) (a .k) (a .total) w) (5 * getD w 6 0) (6 + c .before .listed-numbers .result) (3 * a .total) (3 * a .listed)
+    short-candidates (candidatesStanding (a .n) (a .nf) (a .k) (a .total) w) (5 * getD w 6 0) (6 + c .before .listed-numbers .result) (3 * a .total) (3 * a .listed)
     (candidates-long (a .n) (a .nf) (a .k) (a .listed) (a .total) w (c .before .before .before .before .before .before .before .before .pre))
     (all-lists-long (a .n) (a .nf) (a .k) (a .listed) (a .total) w (c .before .before .before .before .before .before .before .before .pre) _
     (c .before .listed-numbers .ensures .0)) (constraints-long (a .n) (a .nf) (a .k) (a .listed) (a .total) w
@@ -54,7 +54,7 @@ returns-2 : tie.Need-returns-2
 returns-2 c =
     let a = c .before .before .before .before .before .before .before .before .before .args in
     let w = a .w .now in
-    short-lists (standing (a .n) (a .nf) (a .k) (a .total) w) (5 * getD w 6 0) (6 + c .before .before .listed-numbers .result) (3 * a .total) (3 * a .listed)
+    short-lists (candidatesStanding (a .n) (a .nf) (a .k) (a .total) w) (5 * getD w 6 0) (6 + c .before .before .listed-numbers .result) (3 * a .total) (3 * a .listed)
     (candidates-long (a .n) (a .nf) (a .k) (a .listed) (a .total) w (c .before .before .before .before .before .before .before .before .before .pre))
     (all-lists-long (a .n) (a .nf) (a .k) (a .listed) (a .total) w (c .before .before .before .before .before .before .before .before .before .pre) _
     (c .before .before .listed-numbers .ensures .0)) (constraints-long (a .n) (a .nf) (a .k) (a .listed) (a .total) w
@@ -66,7 +66,7 @@ returns-3 : tie.Need-returns-3
 returns-3 c =
     let a = c .before .before .before .before .before .before .before .before .before .before .args in
     let w = a .w .now in
-    short-constraints (standing (a .n) (a .nf) (a .k) (a .total) w) (5 * getD w 6 0) (6 + c .before .before .before .listed-numbers .result) (3 * a .total) (3 * a .listed)
+    short-constraints (candidatesStanding (a .n) (a .nf) (a .k) (a .total) w) (5 * getD w 6 0) (6 + c .before .before .before .listed-numbers .result) (3 * a .total) (3 * a .listed)
     (candidates-long (a .n) (a .nf) (a .k) (a .listed) (a .total) w (c .before .before .before .before .before .before .before .before .before .before .pre))
     (all-lists-long (a .n) (a .nf) (a .k) (a .listed) (a .total) w (c .before .before .before .before .before .before .before .before .before .before .pre) _
     (c .before .before .before .listed-numbers .ensures .0)) (constraints-long (a .n) (a .nf) (a .k) (a .listed) (a .total) w
@@ -78,7 +78,7 @@ returns-4 : tie.Need-returns-4
 returns-4 c =
     let a = c .before .before .before .before .before .before .before .before .before .before .before .args in
     let w = a .w .now in
-    short-edges (standing (a .n) (a .nf) (a .k) (a .total) w) (5 * getD w 6 0) (6 + c .before .before .before .before .listed-numbers .result) (3 * a .total) (3 * a .listed)
+    short-edges (candidatesStanding (a .n) (a .nf) (a .k) (a .total) w) (5 * getD w 6 0) (6 + c .before .before .before .before .listed-numbers .result) (3 * a .total) (3 * a .listed)
     (candidates-long (a .n) (a .nf) (a .k) (a .listed) (a .total) w (c .before .before .before .before .before .before .before .before .before .before .before .pre))
     (all-lists-long (a .n) (a .nf) (a .k) (a .listed) (a .total) w (c .before .before .before .before .before .before .before .before .before .before .before .pre) _
     (c .before .before .before .before .listed-numbers .ensures .0))
@@ -162,7 +162,7 @@ returns-5 c =
     let a = c .before .before .before .before .before .before .before .before .before .before .before .before .before .before .before .before .before .before .before .before
     .before .before .before .before .before .before .before .before .before .args in
     let w = a .w .now in
-    done (standing (a .n) (a .nf) (a .k) (a .total) w) (5 * getD w 6 0)
+    done (candidatesStanding (a .n) (a .nf) (a .k) (a .total) w) (5 * getD w 6 0)
     (6 + c .before .before .before .before .before .before .before .before .before .before .before .before .before .before .before .before .before .before .before .before .before
     .before .listed-numbers .result) (3 * a .total) (3 * a .listed)
     (candidates-long (a .n) (a .nf) (a .k) (a .listed) (a .total) w

@@ -4,7 +4,7 @@ use Rattle.root.specs.Root.{rootable}
 use Rattle.root.specs.Doubles.{_⊕_, _⊗_, larger, oneF}
 use Rattle.box_faces.specs.declared.uv.Uv.{Uv}
 use Rattle.box_faces.specs.Segments.{segmentLength, segmentBound}
-use Rattle.box_faces.specs.Segments.{segmentBound, minus}
+use Rattle.box_faces.specs.Segments.{segmentBound, uvDifference}
 use mathlib.Core.Path.{_≡_, refl, sym, ap, _∙_}
 use borrow.Author.Needs.{needs}
 use Rattle.box_faces.proofs.segments.segment_bound.Statement.{statement}

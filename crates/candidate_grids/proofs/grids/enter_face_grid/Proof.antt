@@ -6,13 +6,13 @@ use mathlib.Core.List.{flatMap}
 use lib.Ieee.{Float}
 use Rattle.lists.specs.Lists.{upTo}
 use Rattle.root.specs.Bounds.{Within}
-use Rattle.geometry.specs.Boxes.{low, high, axis}
+use Rattle.geometry.specs.Boxes.{lowest, highest, axis}
 use Rattle.geometry.specs.Axes.{segments}
 use Rattle.refusals.specs.Front.{byAxis}
 use Rattle.box_faces.specs.Faces.{uAxis, vAxis}
 use Rattle.box_faces.specs.Lines.{lineAt}
 use Rattle.candidate_pool.specs.Standing.{countAt}
-use Rattle.candidate_grids.specs.Steps.{skipsNear, rowCell, rowAt, Entered}
+use Rattle.candidate_grids.specs.Steps.{skipsNear, rowCell, rowAt, PointsEntered}
 use Rattle.candidate_grids.proofs.Entries.{entered-none, entered-more}
 use Rattle.candidate_grids.proofs.Edged.{edges-ready}
 use Rattle.candidate_grids.proofs.Facing.{parts-is, parts-in, face-room, near-ready, row-ready, row-is, turn-size, face-line-in, gathered-holds, gathered-count, face-end}
@@ -22,7 +22,7 @@ use Rattle.candidate_grids.proofs.grids.enter_face_grid.Tie as tie
 abbrev Inv-loop : tie.InvT-loop
 Inv-loop w₀ n nf k face extents eps axis last last-v at tolerance count near i₀ w i =
     (i ≤ last + 1)
-    × Entered eps n (flatMap (λ x. flatMap (rowCell (skipsNear w₀ near) extents face (rowAt extents face at last x) last-v) (upTo (last-v + 1))) (upTo i)) (i * (last-v + 1)) w₀ w
+    × PointsEntered eps n (flatMap (λ x. flatMap (rowCell (skipsNear w₀ near) extents face (rowAt extents face at last x) last-v) (upTo (last-v + 1))) (upTo i)) (i * (last-v + 1)) w₀ w
 
 abbrev μ-loop : tie.MeasureT-loop
 μ-loop w₀ n nf k face extents eps axis last last-v at tolerance count near i₀ w i = last + 1 - i
@@ -86,12 +86,12 @@ room c =
 -- ---- and in a turn
 
 along-u : (c : tie.After-grid-line Inv-loop μ-loop) → c .grid-line .result
-    ≡ lineAt (low (start (c .before .before .before) .args .extents) (uAxis (start (c .before .before .before) .args .face)))
-    (high (start (c .before .before .before) .args .extents) (uAxis (start (c .before .before .before) .args .face))) (last (c .before .before .before))
+    ≡ lineAt (lowest (start (c .before .before .before) .args .extents) (uAxis (start (c .before .before .before) .args .face)))
+    (highest (start (c .before .before .before) .args .extents) (uAxis (start (c .before .before .before) .args .face))) (last (c .before .before .before))
     (c .before .before .loop .i)
 along-u c =
     let k = c .before .before .before in
-    c .grid-line .ensures ∙ ap (λ (a : ℕ). lineAt (low (start k .args .extents) a) (high (start k .args .extents) a) (last k) (c .before .before .loop .i))
+    c .grid-line .ensures ∙ ap (λ (a : ℕ). lineAt (lowest (start k .args .extents) a) (highest (start k .args .extents) a) (last k) (c .before .before .loop .i))
     (k .before .before .before .before .before .before .before .before .before .before .u-axis .ensures .1)
 
 -- ---- the needs

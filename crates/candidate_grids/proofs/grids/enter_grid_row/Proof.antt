@@ -5,17 +5,17 @@ use mathlib.Core.Path.{_≡_, refl, ap, subst, _∙_}
 use mathlib.Core.List.{flatMap}
 use borrow.Author.Needs.{needs}
 use Rattle.lists.specs.Lists.{upTo}
-use Rattle.geometry.specs.Boxes.{low, high}
+use Rattle.geometry.specs.Boxes.{lowest, highest}
 use Rattle.box_faces.specs.Faces.{vAxis}
 use Rattle.box_faces.specs.Lines.{lineAt}
-use Rattle.candidate_grids.specs.Steps.{skipsNear, rowCell, Entered}
+use Rattle.candidate_grids.specs.Steps.{skipsNear, rowCell, PointsEntered}
 use Rattle.candidate_grids.proofs.Bounded.{point-in}
 use Rattle.candidate_grids.proofs.Entries.{entered-none, entered-more, row-line-in, row-point-ready, row-cell}
 use Rattle.candidate_grids.proofs.grids.enter_grid_row.Statement.{statement}
 use Rattle.candidate_grids.proofs.grids.enter_grid_row.Tie as tie
 
 abbrev Inv-loop : tie.InvT-loop
-Inv-loop w₀ n near face row extents last eps axis j₀ w j = (j ≤ last + 1) × Entered eps n (flatMap (rowCell (skipsNear w₀ near) extents face row last) (upTo j)) j w₀ w
+Inv-loop w₀ n near face row extents last eps axis j₀ w j = (j ≤ last + 1) × PointsEntered eps n (flatMap (rowCell (skipsNear w₀ near) extents face row last) (upTo j)) j w₀ w
 
 abbrev μ-loop : tie.MeasureT-loop
 μ-loop w₀ n near face row extents last eps axis j₀ w j = last + 1 - j
@@ -27,11 +27,11 @@ v-low : (c : tie.In-loop Inv-loop μ-loop) → vAxis (start c .args .face) < 3
 v-low c = subst (λ (a : ℕ). a < 3) (c .before .before .v-axis .ensures .1) (c .before .before .v-axis .ensures .0)
 
 along-v : (c : tie.After-grid-line Inv-loop μ-loop) → c .grid-line .result
-    ≡ lineAt (low (start (c .before) .args .extents) (vAxis (start (c .before) .args .face))) (high (start (c .before) .args .extents) (vAxis (start (c .before) .args .face)))
+    ≡ lineAt (lowest (start (c .before) .args .extents) (vAxis (start (c .before) .args .face))) (highest (start (c .before) .args .extents) (vAxis (start (c .before) .args .face)))
     (start (c .before) .args .last) (c .before .before .loop .j)
 along-v c =
     let s = start (c .before) in
-    c .grid-line .ensures ∙ ap (λ (a : ℕ). lineAt (low (s .args .extents) a) (high (s .args .extents) a) (s .args .last) (c .before .before .loop .j))
+    c .grid-line .ensures ∙ ap (λ (a : ℕ). lineAt (lowest (s .args .extents) a) (highest (s .args .extents) a) (s .args .last) (c .before .before .loop .j))
     (c .before .before .before .v-axis .ensures .1)
 
 v-axis-requires : tie.Need-v-axis-requires Inv-loop μ-loop
@@ -94,7 +94,7 @@ returns c =
     let a = c .before .loop .inv .0 in
     let b = c .loop-test .left in
     let e : c .before .loop .j ≡ s .args .last + 1 = omega arith in
-    subst (λ (x : ℕ). Entered (s .args .eps) (s .args .n) (flatMap
+    subst (λ (x : ℕ). PointsEntered (s .args .eps) (s .args .n) (flatMap
     (rowCell (skipsNear (s .args .w .now) (s .args .near)) (s .args .extents) (s .args .face) (s .args .row) (s .args .last)) (upTo x)) x (s .args .w .now)
     (c .before .loop .w))
     e (c .before .loop .inv .1)

@@ -3,13 +3,13 @@ use Prim.Native.Nat.{ℕ, _+_, _-_, _≤_}
 use mathlib.Core.Path.{_≡_, sym, subst}
 use native.Mathlib.Omega.{arith}
 use lib.ListN.{set}
-use Rattle.cap_closing.specs.Steps.{placeIn, Marked}
+use Rattle.cap_closing.specs.Steps.{placeIn, FirstsMarked}
 use Rattle.cap_closing.proofs.Marks.{bit-is, place-same, marked-none, marked-more, marked-few}
 use Rattle.cap_closing.proofs.firsts.mark_firsts.Statement.{statement}
 use Rattle.cap_closing.proofs.firsts.mark_firsts.Tie as tie
 
 abbrev Inv-loop : tie.InvT-loop
-Inv-loop w₀ records firsts left count₀ i₀ w count i = Marked records firsts left i count w₀ w × (i ≤ left)
+Inv-loop w₀ records firsts left count₀ i₀ w count i = FirstsMarked records firsts left i count w₀ w × (i ≤ left)
 
 abbrev μ-loop : tie.MeasureT-loop
 μ-loop w₀ records firsts left count₀ i₀ w count i = left - i
@@ -208,7 +208,7 @@ loop-again c =
     let h = c .before .before .before .loop-test .taken in
     let k = c .before .before .before .before .before .slice-known .given in
     let e = bit-is (c .before .is-start .result) in (
-      subst (λ (v : ℕ). Marked (a .records) (a .firsts) (a .left) (c .before .before .before .before .loop .i + 1) (c .before .before .before .before .loop .count + v) (a .w .now)
+      subst (λ (v : ℕ). FirstsMarked (a .records) (a .firsts) (a .left) (c .before .before .before .before .loop .i + 1) (c .before .before .before .before .loop .count + v) (a .w .now)
           (set (c .before .before .before .before .loop .w) (a .firsts + placeIn (c .before .before .before .before .loop .w) (a .records)
           (c .before .before .before .before .loop .i)) v)) (sym e) (marked-more (a .w .now) (a .records) (a .firsts) (a .left) (R .0) (R .1) (s .pre .1 .0) (s .pre .1 .1)
           (c .before .before .before .before .loop .i) (c .before .before .before .before .loop .count) (c .before .before .before .before .loop .w) h M (c .before .is-start .result)
@@ -227,7 +227,7 @@ returns c =
     let x = R .0 in
     let y = R .1 in
     let l : c .before .loop .i ≡ a .left = (let x = c .before .loop .inv .1 in let y = c .loop-test .left in omega arith) in
-    subst (λ (k : ℕ). Marked (a .records) (a .firsts) (a .left) k (c .before .loop .count) (a .w .now) (c .before .loop .w)) l (c .before .loop .inv .0)
+    subst (λ (k : ℕ). FirstsMarked (a .records) (a .firsts) (a .left) k (c .before .loop .count) (a .w .now) (c .before .loop .w)) l (c .before .loop .inv .0)
 
 pub mark-firsts-spec : {M : Type 1} → statement M
 mark-firsts-spec =

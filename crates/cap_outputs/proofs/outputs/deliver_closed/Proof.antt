@@ -1,4 +1,4 @@
-use Rattle.cap_outputs.specs.Written.{standing}
+use Rattle.cap_outputs.specs.Written.{closedMeshIn}
 use Rattle.cap_outputs.proofs.Delivery.{
   short-vertices,
   short-facets,
@@ -61,7 +61,7 @@ add-f c =
 returns : tie.Need-returns
 returns c =
     let a = c .before .before .before .before .before .before .before .before .args in
-    short-vertices (standing (a .vertices .now) (a .facets .now) (a .n) (a .nc) (a .positive) (a .left) (a .w .now))
+    short-vertices (closedMeshIn (a .vertices .now) (a .facets .now) (a .n) (a .nc) (a .positive) (a .left) (a .w .now))
     (3 * getD (a .w .now) (c .before .before .vertices-at .result) 0) (length (a .facets .now) + 3 * a .caps)
     (vertices-long (a .vertices .now) (a .facets .now) (a .n) (a .nc) (a .left) (a .caps) (a .positive) (a .w .now)
     (c .before .before .before .before .before .before .before .before .pre) (c .before .before .vertices-at .result) (c .before .before .vertices-at .ensures))
@@ -71,7 +71,7 @@ returns c =
 returns-2 : tie.Need-returns-2
 returns-2 c =
     let a = c .before .before .before .before .before .before .before .before .before .args in
-    short-facets (standing (a .vertices .now) (a .facets .now) (a .n) (a .nc) (a .positive) (a .left) (a .w .now))
+    short-facets (closedMeshIn (a .vertices .now) (a .facets .now) (a .n) (a .nc) (a .positive) (a .left) (a .w .now))
     (3 * getD (a .w .now) (c .before .before .before .vertices-at .result) 0) (length (a .facets .now) + 3 * a .caps)
     (vertices-long (a .vertices .now) (a .facets .now) (a .n) (a .nc) (a .left) (a .caps) (a .positive) (a .w .now)
     (c .before .before .before .before .before .before .before .before .before .pre) (c .before .before .before .vertices-at .result)
@@ -183,7 +183,7 @@ returns-3 : tie.Need-returns-3
 returns-3 c =
     let a = c .before .before .before .before .before .before .before .before .before .before .before .before .before .before .before .before .before .before .before .before
     .before .before .before .before .before .before .before .before .args in
-    done (standing (a .vertices .now) (a .facets .now) (a .n) (a .nc) (a .positive) (a .left) (a .w .now))
+    done (closedMeshIn (a .vertices .now) (a .facets .now) (a .n) (a .nc) (a .positive) (a .left) (a .w .now))
     (3 * getD (a .w .now) (c .before .before .before .before .before .before .before .before .before .before .before .before .before .before .before .before .before .before .before
     .before .before .before .vertices-at .result) 0) (length (a .facets .now) + 3 * a .caps)
     (vertices-long (a .vertices .now) (a .facets .now) (a .n) (a .nc) (a .left) (a .caps) (a .positive) (a .w .now)

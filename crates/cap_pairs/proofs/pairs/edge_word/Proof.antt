@@ -1,5 +1,5 @@
 -- `edge_word` meets its contract: an edge with a face is packed by its two candidates, and one without gets the word of no side. Assumes nothing.
-use Rattle.edges.specs.Table.{keyOf}
+use Rattle.edges.specs.Table.{edgeKey}
 use Rattle.lists.proofs.Bools.{cond-true, cond-false}
 use borrow.Author.Tests.{eq-eqb, ne-eqb}
 use mathlib.Core.Path.{refl, sym, ap, _∙_}
@@ -23,7 +23,7 @@ returns : tie.Need-returns
 returns c =
     let a = c .before .before .before .args in
     let branch = c .if1 in
-    sym (ap keyOf (cond-true (eqb (getD (a .w .now) (a .at + 2) 0) 0) (0, 0) (getD (a .w .now) (a .at) 0, getD (a .w .now) (a .at + 1) 0) (0, 0)
+    sym (ap edgeKey (cond-true (eqb (getD (a .w .now) (a .at + 2) 0) 0) (0, 0) (getD (a .w .now) (a .at) 0, getD (a .w .now) (a .at + 1) 0) (0, 0)
     (eq-eqb (getD (a .w .now) (a .at + 2) 0) 0 (branch .taken)) refl))
 
 mul-pack-edge : tie.Need-mul-pack-edge
@@ -49,7 +49,7 @@ returns-2 c =
     let a = c .before .before .before .before .before .before .args in
     let branch = c .before .before .before .if1 in
     let pack-edge′ = c .pack-edge in
-    pack-edge′ .ensures ∙ sym (ap keyOf (cond-false (eqb (getD (a .w .now) (a .at + 2) 0) 0) (0, 0) (getD (a .w .now) (a .at) 0, getD (a .w .now) (a .at + 1) 0)
+    pack-edge′ .ensures ∙ sym (ap edgeKey (cond-false (eqb (getD (a .w .now) (a .at + 2) 0) 0) (0, 0) (getD (a .w .now) (a .at) 0, getD (a .w .now) (a .at + 1) 0)
     (getD (a .w .now) (a .at) 0, getD (a .w .now) (a .at + 1) 0) (ne-eqb (getD (a .w .now) (a .at + 2) 0) 0 (branch .left)) refl))
 
 pub edge-word-spec : {M : Type 1} → statement M

@@ -3,7 +3,7 @@ use Prim.Native.Nat.{ℕ, _/_}
 use mathlib.Core.Path.{subst}
 use borrow.Author.Needs.{needs}
 use lib.ListN.{length}
-use Rattle.lists.specs.Regions.{Zeroed}
+use Rattle.lists.specs.Regions.{PartZeroed}
 use Rattle.cap_selection.proofs.Opening.{sides-numbered}
 use Rattle.cap_selection.proofs.Choosing.{markable, chosen}
 use Rattle.cap_selection.proofs.seeds.select_caps.Statement.{statement}
@@ -27,7 +27,7 @@ mark-seeds-requires c κs =
     let s = z .args in
     let u = c .before .before .before .before .before .before .before .before .join-caps in
     let v = c .before .before .before .zero-part in
-    let e = subst (λ (x : ℕ). Zeroed (u .last .0) (v .last .0) x (length (s .cap-list .now) / 4)) (c .before .before .before .before .seeded-at .ensures) (v .ensures) in
+    let e = subst (λ (x : ℕ). PartZeroed (u .last .0) (v .last .0) x (length (s .cap-list .now) / 4)) (c .before .before .before .before .seeded-at .ensures) (v .ensures) in
     markable (s .n) (s .nf) (s .k) (s .cap-list .now) (s .w .now) (u .last .0) (v .last .0) (z .pre .0) (z .pre .1) (u .ensures) e
 
 same-length : tie.Need-same-length
@@ -39,7 +39,7 @@ returns c =
     let s = z .args in
     let u = c .before .before .before .before .before .before .before .before .before .before .before .join-caps in
     let v = c .before .before .before .before .before .before .zero-part in
-    let e = subst (λ (x : ℕ). Zeroed (u .last .0) (v .last .0) x (length (s .cap-list .now) / 4)) (c .before .before .before .before .before .before .before .seeded-at .ensures)
+    let e = subst (λ (x : ℕ). PartZeroed (u .last .0) (v .last .0) x (length (s .cap-list .now) / 4)) (c .before .before .before .before .before .before .before .seeded-at .ensures)
     (v .ensures) in
     chosen (s .n) (s .nf) (s .k) (s .cap-list .now) (s .w .now) (u .last .0) (v .last .0) (z .pre .0) (z .pre .1) (u .ensures) e (c .before .before .mark-seeds .last .0)
     (c .before .before .mark-seeds .ensures)

@@ -1,6 +1,6 @@
 use Rattle.caps.proofs.Ordering.{edges-refused, edges-passed}
 use Rattle.caps.proofs.Fitting.{tabled-room, listable-same}
-use Rattle.boundary_closure.specs.Steps.{most}
+use Rattle.boundary_closure.specs.Steps.{mostCandidates}
 use Rattle.boundary_closure.proofs.Fitting.{mesh-fits, most-small}
 use native.Mathlib.Omega.{arith}
 use mathlib.Core.Path.{sym, _∙_}
@@ -24,7 +24,7 @@ table-edges-requires c κs =
               (arith, (c .before .before .before .before .before .before .before .before .pre .0) .lists .few-facets),
         ),
         let q = tabled-room (a .vertices .now) (a .facets .now)
-            (a .cap-list .now) (most (a .vertices .now) (asked (a .extents) (a .eps) (a .resolution))) (a .w .now)
+            (a .cap-list .now) (mostCandidates (a .vertices .now) (asked (a .extents) (a .eps) (a .resolution))) (a .w .now)
             (c .before .before .before .before .before .before .before .before .pre .1) in omega (arith, q, (c .before .most-candidates .ensures)),
       ),
     )
@@ -35,7 +35,7 @@ check-edges-requires c κs =
       mesh-fits (a .vertices .now) (a .facets .now) (asked (a .extents) (a .eps) (a .resolution))
           (c .before .before .before .before .before .before .before .before .before .before .before .before .pre .0) (c .before .before .before .before .before .most-candidates .result)
           (c .before .before .before .table-edges .last .1 .0) (c .before .before .before .before .before .most-candidates .ensures)
-          (let q = tabled-room (a .vertices .now) (a .facets .now) (a .cap-list .now) (most (a .vertices .now) (asked (a .extents) (a .eps) (a .resolution))) (a .w .now)
+          (let q = tabled-room (a .vertices .now) (a .facets .now) (a .cap-list .now) (mostCandidates (a .vertices .now) (asked (a .extents) (a .eps) (a .resolution))) (a .w .now)
           (c .before .before .before .before .before .before .before .before .before .before .before .before .pre .1) in omega
           (arith, q, (c .before .before .before .table-edges .kept .1 .0))),
       c .before .before .before .table-edges .ensures,
@@ -55,13 +55,13 @@ cap-edges-requires c κs =
               (c .before .before .before .before .before .before .before .before .before .before .before .most-candidates .result)
               (c .before .before .before .before .before .before .before .before .before .table-edges .last .1 .0)
               (c .before .before .before .before .before .before .before .before .before .before .before .most-candidates .ensures)
-              (let q = tabled-room (a .vertices .now) (a .facets .now) (a .cap-list .now) (most (a .vertices .now) (asked (a .extents) (a .eps) (a .resolution))) (a .w .now)
+              (let q = tabled-room (a .vertices .now) (a .facets .now) (a .cap-list .now) (mostCandidates (a .vertices .now) (asked (a .extents) (a .eps) (a .resolution))) (a .w .now)
               (c .before .before .before .before .before .before .before .before .before .before .before .before .before .before .before .before .before .before .pre .1) in omega
               (arith, q, (c .before .before .before .before .before .before .before .before .before .table-edges .kept .1 .0))),
           (c .before .before .before .before .before .before .before .before .before .before .before .most-candidates .ensures),
         ),
         (
-          listable-same (a .vertices .now) (a .facets .now) (a .cap-list .now) (most (a .vertices .now) (asked (a .extents) (a .eps) (a .resolution)))
+          listable-same (a .vertices .now) (a .facets .now) (a .cap-list .now) (mostCandidates (a .vertices .now) (asked (a .extents) (a .eps) (a .resolution)))
               (c .before .before .before .before .before .before .before .before .before .before .before .most-candidates .result) (a .w .now)
               (c .before .before .before .before .before .before .before .before .before .table-edges .last .1 .0)
               (c .before .before .before .before .before .before .before .before .before .before .before .most-candidates .ensures)

@@ -1,5 +1,5 @@
 use mathlib.Core.Path.{_≡_, sym, ap}
-use Rattle.cases.specs.Halves.{pointAt}
+use Rattle.cases.specs.Halves.{halfPoint}
 use Rattle.cases.proofs.Turned.{last-point}
 use Rattle.cases.proofs.halves.point.Statement.{statement}
 use Rattle.cases.proofs.halves.point.Tie as tie
@@ -7,48 +7,48 @@ use Rattle.cases.proofs.halves.point.Reads as reads
 use Rattle.cases.proofs.halves.point.Lts as lts
 
 returns : tie.Need-returns
-unfolding pointAt
-returns c = ap pointAt (sym (c .match .keys1))
+unfolding halfPoint
+returns c = ap halfPoint (sym (c .match .keys1))
 
 returns-2 : tie.Need-returns-2
-unfolding pointAt
-returns-2 c = ap pointAt (sym (c .match .keys2))
+unfolding halfPoint
+returns-2 c = ap halfPoint (sym (c .match .keys2))
 
 returns-3 : tie.Need-returns-3
-unfolding pointAt
-returns-3 c = ap pointAt (sym (c .match .keys3))
+unfolding halfPoint
+returns-3 c = ap halfPoint (sym (c .match .keys3))
 
 returns-4 : tie.Need-returns-4
-unfolding pointAt
-returns-4 c = ap pointAt (sym (c .match .keys4))
+unfolding halfPoint
+returns-4 c = ap halfPoint (sym (c .match .keys4))
 
 returns-5 : tie.Need-returns-5
-unfolding pointAt
-returns-5 c = ap pointAt (sym (c .match .keys5))
+unfolding halfPoint
+returns-5 c = ap halfPoint (sym (c .match .keys5))
 
 returns-6 : tie.Need-returns-6
-unfolding pointAt
-returns-6 c = ap pointAt (sym (c .match .keys6))
+unfolding halfPoint
+returns-6 c = ap halfPoint (sym (c .match .keys6))
 
 returns-7 : tie.Need-returns-7
-unfolding pointAt
-returns-7 c = ap pointAt (sym (c .match .keys7))
+unfolding halfPoint
+returns-7 c = ap halfPoint (sym (c .match .keys7))
 
 returns-8 : tie.Need-returns-8
-unfolding pointAt
-returns-8 c = ap pointAt (sym (c .match .keys8))
+unfolding halfPoint
+returns-8 c = ap halfPoint (sym (c .match .keys8))
 
 returns-9 : tie.Need-returns-9
-unfolding pointAt
-returns-9 c = ap pointAt (sym (c .match .keys9))
+unfolding halfPoint
+returns-9 c = ap halfPoint (sym (c .match .keys9))
 
 returns-10 : tie.Need-returns-10
-unfolding pointAt
-returns-10 c = ap pointAt (sym (c .match .keys10))
+unfolding halfPoint
+returns-10 c = ap halfPoint (sym (c .match .keys10))
 
 returns-11 : tie.Need-returns-11
-unfolding pointAt
-returns-11 c = ap pointAt (sym (c .match .keys11))
+unfolding halfPoint
+returns-11 c = ap halfPoint (sym (c .match .keys11))
 
 returns-12 : tie.Need-returns-12
 returns-12 c =

@@ -1,5 +1,6 @@
 use Rattle.mesh_weld.proofs.Searching.{differ-x, differ-y, differ-z, differ-no}
-use Rattle.mesh_weld.specs.Room.{vertexOf, cellAt}
+use Rattle.geometry.specs.Meshes.{vertexOf}
+use Rattle.mesh_weld.specs.Room.{cellAt}
 use Rattle.mesh_weld.specs.Cells.{near}
 use lib.ListN.{getD}
 use Prim.Native.Nat.{_+_, _*_}

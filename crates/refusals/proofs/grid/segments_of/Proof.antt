@@ -1,5 +1,5 @@
 use Rattle.geometry.specs.Axes.{segments}
-use Rattle.geometry.specs.Boxes.{low, high}
+use Rattle.geometry.specs.Boxes.{lowest, highest}
 use Rattle.rounding.specs.Rounding as defined
 use Rattle.root.specs.Doubles.{_⊖_}
 use lib.Ieee.{Float}
