@@ -17,7 +17,7 @@ use Rattle.geometry.specs.Boxes.{lowest, highest}
 module _ (box : AABB) (eps : Float) (resolution : ℕ → Float) where
   -- the length over max(resolution, eps), rounded up, and at least 1
   unfoldable pub segments : ℕ → ℕ
-  segments k = rounding.segments (highest box k ⊖ lowest box k) (larger (resolution k) eps)
+  segments k = rounding.segmentsOver (highest box k ⊖ lowest box k) (larger (resolution k) eps)
 
   -- the last point is max itself, so that it has max's bits
   unfoldable pub gridLine : ℕ → ℕ → Float

@@ -185,14 +185,14 @@ div-within f {B = B} {x = fin s m e} {y = fin t (suc n) d} P R h =
     (round-within f (m * up e * down d) (suc n * up d * down e) B (mul-pos (h .some) (down-pos e)) P (h .size) R (unlike s t))
 
 -- ---- the bound in units, both ways
-pub within-units : (B : ℕ) (x : Float) → Within B x → spec.units x ≤ B * spec.one
-unfolding spec.units spec.one
+pub within-units : (B : ℕ) (x : Float) → Within B x → spec.unitsOf x ≤ B * spec.one
+unfolding spec.unitsOf spec.one
 within-units B nan h = absurd (h .is-finite)
 within-units B (inf s) h = absurd (h .is-finite)
 within-units B (fin s m e) h =
     div-le-of-le-mul (down e) (le-trans (mul-le-mul-right (2 ^ 1074) (h .size)) (le-of-eq (ap (λ (a : ℕ). a * 2 ^ 1074) (mul-comm B (down e)) ∙ mul-assoc (down e) B (2 ^ 1074))))
 
-pub units-within : (B : ℕ) (x : Float) → T (fits binary64 x) → T (finite x) → spec.units x ≤ B * spec.one → Within B x
+pub units-within : (B : ℕ) (x : Float) → T (fits binary64 x) → T (finite x) → spec.unitsOf x ≤ B * spec.one → Within B x
 unfolding spec.one
 units-within B x F p h =
     let z = pattern-of x F p in

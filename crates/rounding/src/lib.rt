@@ -176,7 +176,7 @@ pub fn order_key(x: f64) -> u64
 // How many segments an axis needs, or 257 where it needs more than 256: `axis_grid_coordinates` of boundary_closure.rs, for a spacing of
 // max(resolution, eps). The quotient may be infinite, so it is compared before it is converted.
 pub fn axis_segments(length: f64, spacing: f64) -> u64
-    ensures { λ r. ⌜ r ≡ Nat.min (defined.segments length spacing) 257 ⌝ }
+    ensures { λ r. ⌜ r ≡ Nat.min (defined.segmentsOver length spacing) 257 ⌝ }
 {
     let q: f64 = length / spacing;
     if 256.0 < q {

@@ -137,7 +137,7 @@ pub record WorkedBlocks : Type 0 where
 
 pub computed : WorkedBlocks
 unfolding every some keep place insertBy sortBy distinctFrom upFrom flatMap magnitude within larger clamped before halfUp rounded key beyond farKey ceil wholeUp
-    rounding.segments along threes segments gridLine gridSize first keyOf sameKey samePair pairBefore openEdges documented firstRefusal ragged tooMany badIndex inRange
+    rounding.segmentsOver along threes segments gridLine gridSize first keyOf sameKey samePair pairBefore openEdges documented firstRefusal ragged tooMany badIndex inRange
     epsInRange resolutionInRange boxInRange badBox gridTooFine workNeed farKeys roomTests project faceBits onFace facesOf faceSides betweenEnds alongSide onSide byKey renewed
     listed numberFor insert gridPoint skipped gridAt faceGrid grid consecutive sideOrder edgePlaces faceConstraints enterEdge edgeSurface cornerVertices meshPool candidates
     candidateWords listWords closureTests strayEdge edgeTests noTwoEnds candidatesResult ofBits toBits ofInt round add sub mul div neg lt le eq

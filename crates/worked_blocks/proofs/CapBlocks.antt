@@ -173,7 +173,7 @@ pub record Rules : Type 0 where
 
 pub computed : WorkedBlocks
 unfolding every some keep place insertBy sortBy distinctFrom upFrom flatMap magnitude within larger clamped before one unitsOf root rootOfSquare wholeRoot halfUp rounded key
-    beyond farKey ceil wholeUp rounding.segments along difference dot cross threes containsOrientedEdge sortedVertices enter segments gridLine gridSize first components keyOf
+    beyond farKey ceil wholeUp rounding.segmentsOver along difference dot cross threes containsOrientedEdge sortedVertices enter segments gridLine gridSize first components keyOf
     sameKey sameCorners samePair pairBefore openEdges documented firstRefusal ragged tooMany badIndex inRange epsInRange resolutionInRange boxInRange badBox gridTooFine
     workNeed farKeys roomTests project onFace facesOf byKey renewed listed numberFor insert gridPoint skipped gridAt faceGrid grid enterEdge edgeSurface cornerVertices
     meshPool candidates closureTests strayEdge edgeTests noTwoEnds capsOf signedArea outward isSeed isOpenPair shareEdge selected badCap badCapPlace missingEdge missingPlace
@@ -182,7 +182,7 @@ computed = record { c10 = refl; c9 = refl; c13 = refl; c14-near = refl; c14-far 
 
 pub rules : Rules
 unfolding every some keep place insertBy sortBy distinctFrom upFrom flatMap magnitude within larger clamped before one unitsOf root rootOfSquare wholeRoot halfUp rounded key
-    beyond farKey ceil wholeUp rounding.segments along difference dot cross threes containsOrientedEdge sortedVertices enter segments gridLine gridSize first components keyOf
+    beyond farKey ceil wholeUp rounding.segmentsOver along difference dot cross threes containsOrientedEdge sortedVertices enter segments gridLine gridSize first components keyOf
     sameKey sameCorners samePair pairBefore openEdges documented firstRefusal ragged tooMany badIndex inRange epsInRange resolutionInRange boxInRange badBox gridTooFine
     workNeed farKeys roomTests project onFace facesOf byKey renewed listed numberFor insert gridPoint skipped gridAt faceGrid grid enterEdge edgeSurface cornerVertices
     meshPool candidates closureTests strayEdge edgeTests noTwoEnds capsOf signedArea outward isSeed isOpenPair shareEdge selected badCap badCapPlace missingEdge missingPlace

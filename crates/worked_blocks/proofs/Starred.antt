@@ -210,7 +210,7 @@ unfolding every some distinctFrom upFrom threes magnitude within inside snapTo s
     enter fan fanned insideBox sharedNumber shareOnce sharing clipFacet clipFacets clipped flatMap firstRefusal documented ragged tooMany badIndex inRange epsInRange
     boxInRange badBox workNeed roomTests clipTests clipResult keep place insertBy sortBy halfUp rounded key beyond farKey farKeys difference dot cross keyOf sameKey around near
     neighbours cells first weldNext weld hasRepeatedCorner isFlat sortedVertices sameCorners isDuplicate filtered passedNext passed components shareVertex isAlone status
-    orElse keptFacets renumbered compacted weldedMesh cleanedMesh cleanResult cleanTests larger one unitsOf root rootOfSquare wholeRoot wholeUp ceil rounding.segments segments
+    orElse keptFacets renumbered compacted weldedMesh cleanedMesh cleanResult cleanTests larger one unitsOf root rootOfSquare wholeRoot wholeUp ceil rounding.segmentsOver segments
     gridLine axisPoints gridSize resolutionInRange gridTooFine samePair pairBefore openEdges onFace facesOf closureTests strayEdge edgeTests ofBits ofInt round add sub mul div
     neg lt le eq
 computed = (refl, (refl, (refl, (refl, (refl, (refl, (refl, (refl, (refl, (refl, tt))))))))))
