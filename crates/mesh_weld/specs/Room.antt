@@ -21,7 +21,7 @@ use Rattle.lists.specs.Lists.{first, keep, upTo}
 use Rattle.lists.specs.Regions.{view}
 use Rattle.rounding.specs.Rounding.{farKey}
 use Rattle.geometry.specs.declared.point.Point.{Point}
-use Rattle.geometry.specs.Meshes.{vertex, pointsOf}
+use Rattle.geometry.specs.Meshes.{vertex, vertexOf}
 use Rattle.chains.specs.Hash.{prime, mixed, bucketOf}
 use Rattle.chains.specs.Chains.{Linked}
 use Rattle.chains.specs.Links.{linkOf}
