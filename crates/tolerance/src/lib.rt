@@ -14,7 +14,7 @@ pub enum Tolerance {
     Refused(Refusal),
 }
 
-fn boxLengths(extents: AABB) -> Point
+fn sides(extents: AABB) -> Point
     ensures { λ r. ⌜ r ≡ boxLengths extents ⌝ }
 {
     Point {
@@ -34,6 +34,6 @@ pub fn bbox_eps(extents: AABB) -> Tolerance
     if is_bad_box(extents) {
         return Tolerance::Refused(Refusal::BadBox);
     }
-    let diag = boxLengths(extents).norm();
+    let diag = sides(extents).norm();
     Tolerance::Of(1.0e-10 * max(diag, 1.0))
 }
