@@ -19,7 +19,7 @@ use cap_closing::room::fresh_at;
 use cap_closing::room::left_at;
 use cap_closing::room::vertices_at;
 use geometry::numbers::CandidateVertexId;
-use geometry::point::Point;
+use geometry::vertices::write_point;
 use refusals::refusal::Refusal;
 use refusals::reply::Reply;
 use words::copy_doubles;
@@ -46,15 +46,6 @@ pub fn deliver_mesh(
     copy_doubles(vertices, out_vertices);
     copy_numbers(facets, out_facets);
     Reply::DoneTwo(vertices.len(), facets.len())
-}
-
-fn write_point(out: &mut [f64], at: usize, p: Point)
-    requires { ⌜ at + 2 < length (now out) ⌝ }
-    ensures { λ _. ⌜ now (out .exit) ≡ sets (now (out .entry)) at (p .x ∷ p .y ∷ p .z ∷ []) ⌝ }
-{
-    out[at] = p.x;
-    out[at + 1] = p.y;
-    out[at + 2] = p.z;
 }
 
 fn write_three(out: &mut [u32], at: usize, a: u32, b: u32, c: u32)
