@@ -1,9 +1,2 @@
-pub mod Checking
-pub mod Runs
-pub mod Blocks
-pub mod Lengths
 pub mod Delivery
-pub mod Frames
-pub mod Fitting
-pub mod Completing
 pub mod Listing

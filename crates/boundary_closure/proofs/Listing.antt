@@ -1,7 +1,7 @@
 -- Laws of the last steps: what stands in the room is the definition's. Assumes nothing.
 --   no-ends-left, ends-left   "if no open edge keeps two ends"
 --   readable, standing-is     once the constraints are in, the four results can be written out, and they are the definition's
-use Prim.Native.Nat.{ℕ, _+_, _*_, _/_, _≤_}
+use Prim.Native.Nat.{ℕ, _/_, _≤_}
 use native.Mathlib.Omega.{arith}
 use mathlib.Core.Bool.{true, false}
 use mathlib.Core.Path.{_≡_, sym, ap, _∙_}
@@ -9,7 +9,6 @@ use mathlib.Core.List.{List, flatMap}
 use borrow.Author.Tests.{eq-eqb, ne-eqb}
 use lib.ListN.{length}
 use lib.Ieee.{Float}
-use Rattle.geometry.specs.declared.aabb.AABB.{AABB}
 use Rattle.geometry.specs.Boxes.{faces}
 use Rattle.geometry.specs.Meshes.{meshOf}
 use Rattle.candidate_pool.specs.Offsets.{openEdgesAt}
@@ -21,11 +20,11 @@ use Rattle.candidate_edges.specs.Surface.{edgeSurface}
 use Rattle.candidate_edges.specs.Steps.{MeshFits}
 use Rattle.candidate_constraints.specs.Constraints.{faceConstraints}
 use Rattle.candidate_constraints.specs.Steps.{Constrained}
-use Rattle.boundary_closure.specs.Candidates.{candidates}
-use Rattle.boundary_closure.specs.Asked.{Asked, setting}
-use Rattle.boundary_closure.specs.Operation.{noTwoEnds}
-use Rattle.boundary_closure.specs.Steps.{Completed, candidatesStanding, Readable}
-use Rattle.boundary_closure.proofs.Frames.{words-same}
+use Rattle.candidate_surface.specs.Candidates.{candidates, noTwoEnds}
+use Rattle.candidate_surface.specs.Asked.{Asked, setting}
+use Rattle.candidate_surface.specs.Steps.{Completed}
+use Rattle.candidate_outputs.specs.Written.{candidatesStanding, Readable}
+use Rattle.candidate_outputs.proofs.Blocks.{words-same}
 
 module _ (vs : List Float) (fs : List ℕ) (q : Asked) (listed : ℕ) (el : listed ≡ length (edgeSurface (q .box) (q .eps) (byKey (q .eps)) (meshOf vs fs) .edges)) where
   pub no-ends-left : listed ≡ 0 → noTwoEnds vs fs q ≡ true

@@ -1,5 +1,3 @@
-pub mod Asked
-pub mod Candidates
 pub mod Operation
 -- What the inner functions do: no part of what the product promises.
 pub mod Steps

@@ -1,7 +1,5 @@
-// Candidates for the corners of caps (document 01, module 5; boundary_closure.rs).
+// The operation candidates (document 01, module 5; `cap_mesh_to_aabb` of boundary_closure.rs as far as `build_face_cdts`, which is left to whoever calls).
+// What `CandidateCapSurface` does stands in candidate_surface and the candidate crates before it, the tests in closure_tests, the outputs in candidate_outputs.
 mod front;
-pub mod outputs;
-pub mod surface;
-pub mod tests;
 
 pub use front::cap_candidates;

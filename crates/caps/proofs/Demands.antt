@@ -18,7 +18,7 @@ use Rattle.refusals.specs.Answers.{meshOutputs, Answer}
 use Rattle.refusals.proofs.Answers.{answer-done}
 use Rattle.candidate_pool.specs.OpenEdges.{OpenEdge}
 use Rattle.candidate_pool.specs.Pool.{Pool, pointOf}
-use Rattle.boundary_closure.specs.Asked.{Asked}
+use Rattle.candidate_surface.specs.Asked.{Asked}
 use Rattle.cap_triangles.specs.Selection.{Cap, capsOf, outwardCaps, selected, Selects}
 use Rattle.cap_triangles.proofs.Selecting.{selected-selects, selects-unique}
 use Rattle.caps.specs.declared.mode.BoundaryClosure.{BoundaryClosure}

@@ -16,11 +16,11 @@ use Rattle.refusals.specs.Refusals.{Passes}
 use Rattle.refusals.specs.Front.{ceiling}
 use Rattle.refusals.proofs.Replies.{cap-listed}
 use Rattle.candidate_pool.specs.Pool.{Pool, noCandidate}
-use Rattle.boundary_closure.specs.Asked.{Asked, setting}
-use Rattle.boundary_closure.specs.Operation.{closureTests}
-use Rattle.boundary_closure.specs.Steps.{Sound, mostCandidates, Surfaced, fullPool, Completed}
-use Rattle.boundary_closure.proofs.Checking.{room-passed, lists-passed}
-use Rattle.boundary_closure.proofs.Fitting.{vertices-in}
+use Rattle.candidate_surface.specs.Asked.{Asked, setting}
+use Rattle.closure_tests.specs.Tests.{closureTests}
+use Rattle.candidate_surface.specs.Steps.{Sound, mostCandidates, Surfaced, fullPool, Completed}
+use Rattle.closure_tests.proofs.Checking.{room-passed, lists-passed}
+use Rattle.candidate_surface.proofs.Fitting.{vertices-in}
 use Rattle.cap_triangles.specs.Room.{turnedAt}
 use Rattle.caps.specs.Steps.{CapsChecked, Listable, Closable}
 use Rattle.caps.proofs.Numbering.{full-low, words-low, words-kept}

@@ -29,8 +29,8 @@ use Rattle.candidate_pool.specs.Setting.{Setting}
 use Rattle.candidate_pool.specs.Standing.{countAt, candidateAt, poolAt}
 use Rattle.candidate_edges.specs.Surface.{meshCandidate, edgeFaces, cornerVertices, edgeSurface, meshPool}
 use Rattle.candidate_grids.specs.Grid.{gridPoint, interior, skipped, gridAt, faceGrid, grid, segmentsOf}
-use Rattle.boundary_closure.specs.Asked.{Asked, setting}
-use Rattle.boundary_closure.specs.Steps.{fullPool}
+use Rattle.candidate_surface.specs.Asked.{Asked, setting}
+use Rattle.candidate_surface.specs.Steps.{fullPool}
 use Rattle.cap_triangles.specs.Room.{Above}
 use Rattle.cap_closing.specs.Entering.{MeshWords}
 

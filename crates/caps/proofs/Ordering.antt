@@ -29,10 +29,10 @@ use Rattle.refusals.proofs.Reports.{reply-zero}
 use Rattle.candidate_pool.specs.Pool.{byKey}
 use Rattle.candidate_pool.specs.Standing.{poolAt}
 use Rattle.candidate_edges.specs.Surface.{edgeSurface}
-use Rattle.boundary_closure.specs.Asked.{Asked}
-use Rattle.boundary_closure.specs.Candidates.{candidates}
-use Rattle.boundary_closure.specs.Operation.{edgeTests, noFacet, noTwoEnds}
-use Rattle.boundary_closure.specs.Steps.{Completed}
+use Rattle.candidate_surface.specs.Asked.{Asked}
+use Rattle.candidate_surface.specs.Candidates.{candidates, noFacet, noTwoEnds}
+use Rattle.closure_tests.specs.Tests.{edgeTests}
+use Rattle.candidate_surface.specs.Steps.{Completed}
 use Rattle.cap_triangles.specs.Selection.{capsOf}
 use Rattle.cap_triangles.specs.Room.{turnedAt, Above, Pooled}
 use Rattle.cap_triangles.proofs.Kept.{pool-kept, edges-kept}

@@ -23,9 +23,9 @@ use Rattle.refusals.specs.Refusals.{documentedReply, turnedDown, Test, unless}
 use Rattle.refusals.specs.Answers.{meshOutputs, Answered}
 use Rattle.candidate_pool.specs.OpenEdges.{OpenEdge}
 use Rattle.candidate_pool.specs.Pool.{Pool}
-use Rattle.boundary_closure.specs.Asked.{Asked, setting}
-use Rattle.boundary_closure.specs.Candidates.{Candidates, candidates}
-use Rattle.boundary_closure.specs.Operation.{closureTests, edgeTests, noFacet, noTwoEnds}
+use Rattle.candidate_surface.specs.Asked.{Asked, setting}
+use Rattle.candidate_surface.specs.Candidates.{Candidates, candidates, noFacet, noTwoEnds}
+use Rattle.closure_tests.specs.Tests.{closureTests, edgeTests}
 use Rattle.cap_triangles.specs.Selection.{Cap, capsOf, outwardCaps, selected}
 use Rattle.cap_triangles.specs.Listed.{badCapPlace, missingPlace}
 use Rattle.caps.specs.declared.mode.BoundaryClosure.{BoundaryClosure}

@@ -21,8 +21,8 @@ use Rattle.candidate_pool.specs.OpenEdges.{OpenEdge}
 use Rattle.candidate_pool.specs.Pool.{Pool}
 use Rattle.candidate_pool.specs.Standing.{poolAt, edgesAt}
 use Rattle.candidate_edges.specs.Steps.{VerticesIn}
-use Rattle.boundary_closure.specs.Asked.{Asked}
-use Rattle.boundary_closure.specs.Operation.{noTwoEnds}
+use Rattle.candidate_surface.specs.Asked.{Asked}
+use Rattle.candidate_surface.specs.Candidates.{noTwoEnds}
 use Rattle.cap_triangles.specs.Selection.{Cap, capsOf, outwardCaps, selected}
 use Rattle.cap_triangles.specs.Room.{turnedAt, capsEnd, Above, CapReady}
 use Rattle.cap_pairs.specs.Pairs.{PairsKnown}

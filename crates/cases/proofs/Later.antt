@@ -18,8 +18,8 @@ use Rattle.lists.proofs.Places.{length-up, at-up}
 use Rattle.lists.proofs.Sequences.{place-is, place-all}
 use Rattle.geometry.specs.declared.aabb.AABB.{AABB}
 use Rattle.refusals.specs.Refusals.{settle}
-use Rattle.boundary_closure.specs.Candidates.{candidateWords}
-use Rattle.boundary_closure.specs.Asked.{asked}
+use Rattle.candidate_outputs.specs.Outputs.{candidateWords}
+use Rattle.candidate_surface.specs.Asked.{asked}
 use Rattle.boundary_closure.specs.Operation.{candidatesResult}
 use Rattle.cases.specs.Comparing.{standsAt, free, FirstWhere, placeOf}
 use Rattle.cases.specs.Cleaning.{valuesOf}

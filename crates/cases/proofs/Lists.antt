@@ -14,9 +14,9 @@ use Rattle.refusals.specs.Refusals.{documentedReply, settle}
 use Rattle.refusals.specs.Answers.{replyIn, Answered}
 use Rattle.refusals.specs.Reports.{Reported}
 use Rattle.refusals.proofs.Reports.{same-reply}
-use Rattle.boundary_closure.specs.Asked.{Asked, asked}
-use Rattle.boundary_closure.specs.Candidates.{candidateWords}
-use Rattle.boundary_closure.specs.Operation.{candidatesTests, candidatesResult, candidateLengths, candidateOutputs}
+use Rattle.candidate_surface.specs.Asked.{Asked, asked}
+use Rattle.candidate_outputs.specs.Outputs.{candidateWords, candidateLengths, candidateOutputs}
+use Rattle.boundary_closure.specs.Operation.{candidatesTests, candidatesResult}
 use Rattle.cases.specs.Closing.{listReply, Listing, facetReply}
 use Rattle.cases.specs.Cleaning.{valuesOf}
 

@@ -20,9 +20,9 @@ use Rattle.refusals.specs.Refusals.{settle}
 use Rattle.refusals.specs.Answers.{replyIn}
 use Rattle.refusals.specs.Reports.{Reported}
 use Rattle.refusals.specs.Front.{byAxis}
-use Rattle.boundary_closure.specs.Candidates.{candidateWords}
-use Rattle.boundary_closure.specs.Asked.{Asked, asked}
-use Rattle.boundary_closure.specs.Operation.{candidatesTests, candidatesResult, candidateLengths}
+use Rattle.candidate_outputs.specs.Outputs.{candidateWords, candidateLengths}
+use Rattle.candidate_surface.specs.Asked.{Asked, asked}
+use Rattle.boundary_closure.specs.Operation.{candidatesTests, candidatesResult}
 use Rattle.cases.specs.Cleaning.{valuesOf}
 use Rattle.cases.specs.Comparing.{placeOf, free}
 

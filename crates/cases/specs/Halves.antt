@@ -21,7 +21,7 @@ use Rattle.refusals.specs.Refusals.{settle}
 use Rattle.caps.specs.declared.mode.BoundaryClosure.{BoundaryClosure}
 use Rattle.caps.specs.declared.mode.BoundaryClosure.the-variants.{ClosePositive, CloseNegative}
 use Rattle.refusals.specs.Answers.{replyIn}
-use Rattle.boundary_closure.specs.Asked.{asked}
+use Rattle.candidate_surface.specs.Asked.{asked}
 use Rattle.caps.specs.Operation.{capsTests, capsResult}
 use Rattle.cases.specs.Comparing.{bitsOf, begins, sameBits, placeOf}
 use Rattle.cases.specs.Cleaning.{valuesOf, twoFacets}

@@ -2,7 +2,7 @@
 ghost use mathlib.Core.Path.{_≡_};
 ghost use lib.ListN.{length};
 ghost use Rattle.refusals.specs.Reports.{Reported};
-ghost use Rattle.boundary_closure.specs.Asked.{asked};
+ghost use Rattle.candidate_surface.specs.Asked.{asked};
 ghost use Rattle.cases.specs.Closing.{boxTo, Listing, facetReply, isLater, c3bHolds, c10Holds, c13Holds};
 use crate::listed::is_alone;
 use crate::listed::place_of;

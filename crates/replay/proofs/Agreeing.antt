@@ -26,7 +26,7 @@ use Rattle.refusals.specs.Reports.{Reported}
 use Rattle.tolerance.specs.Tolerance.{toleranceReply}
 use Rattle.aabb_clipping.specs.Clip.{clipResult}
 use Rattle.mesh_cleanup.specs.Clean.{cleanResult}
-use Rattle.boundary_closure.specs.Asked.{asked}
+use Rattle.candidate_surface.specs.Asked.{asked}
 use Rattle.caps.specs.Operation.{capsResult}
 use Rattle.yongpham.specs.Calls.{boxOf, modeOf}
 use Rattle.replay.specs.Words.{Everywhere, Decides}

@@ -13,11 +13,12 @@ use Rattle.geometry.specs.declared.aabb.AABB.{AABB}
 use Rattle.refusals.specs.Refusals.{Test, settle, Zeroed}
 use Rattle.refusals.specs.Answers.{replyIn, Called}
 use Rattle.refusals.specs.Reports.{Reported}
-use Rattle.boundary_closure.specs.Asked.{asked}
+use Rattle.candidate_surface.specs.Asked.{asked}
 use Rattle.candidate_pool.specs.OpenEdges.{openEdgeWords}
 use Rattle.candidate_constraints.specs.Constraints.{constraintWords}
-use Rattle.boundary_closure.specs.Candidates.{Candidates, candidateWords, listWords}
-use Rattle.boundary_closure.specs.Operation.{candidatesResult, candidateLengths, candidateOutputs}
+use Rattle.candidate_surface.specs.Candidates.{Candidates}
+use Rattle.candidate_outputs.specs.Outputs.{candidateWords, listWords, candidateLengths, candidateOutputs}
+use Rattle.boundary_closure.specs.Operation.{candidatesResult}
 use Rattle.replay.specs.Words.{Decides}
 use Rattle.replay.specs.Layout.{outputsFrom}
 use Rattle.replay.specs.Contents.{oldWords}

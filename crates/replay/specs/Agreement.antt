@@ -31,9 +31,10 @@ use Rattle.aabb_clipping.specs.Clip.{clipTests, clipResult}
 use Rattle.mesh_cleanup.specs.Clean.{cleanTests, cleanResult}
 use Rattle.candidate_pool.specs.OpenEdges.{openEdgeWords}
 use Rattle.candidate_constraints.specs.Constraints.{constraintWords}
-use Rattle.boundary_closure.specs.Candidates.{Candidates, candidateWords, listWords}
-use Rattle.boundary_closure.specs.Asked.{Asked, asked}
-use Rattle.boundary_closure.specs.Operation.{candidatesTests, candidatesResult, candidateLengths}
+use Rattle.candidate_surface.specs.Candidates.{Candidates}
+use Rattle.candidate_outputs.specs.Outputs.{candidateWords, listWords, candidateLengths}
+use Rattle.candidate_surface.specs.Asked.{Asked, asked}
+use Rattle.boundary_closure.specs.Operation.{candidatesTests, candidatesResult}
 use Rattle.caps.specs.Operation.{capsResult}
 use Rattle.yongpham.specs.Calls.{boxOf, modeOf, capsCallTests}
 use Rattle.replay.specs.Words.{Everywhere}

@@ -26,9 +26,11 @@ use Rattle.candidate_pool.specs.Pool.{byKey, renewed, listed, numberFor, insert
 use Rattle.candidate_grids.specs.Grid.{gridPoint, skipped, gridAt, faceGrid, grid}
 use Rattle.candidate_constraints.specs.Constraints.{constraintWords, consecutive, sideOrder, edgePlaces, faceConstraints}
 use Rattle.candidate_edges.specs.Surface.{enterEdge, edgeSurface, cornerVertices, meshPool}
-use Rattle.boundary_closure.specs.Candidates.{candidates, candidateWords, listWords}
-use Rattle.boundary_closure.specs.Asked.{asked}
-use Rattle.boundary_closure.specs.Operation.{closureTests, strayEdge, edgeTests, noTwoEnds, candidatesTests, candidatesResult, candidateOutputs}
+use Rattle.candidate_surface.specs.Candidates.{candidates, noTwoEnds}
+use Rattle.candidate_outputs.specs.Outputs.{candidateWords, listWords, candidateOutputs}
+use Rattle.candidate_surface.specs.Asked.{asked}
+use Rattle.closure_tests.specs.Tests.{closureTests, strayEdge, edgeTests}
+use Rattle.boundary_closure.specs.Operation.{candidatesTests, candidatesResult}
 
 abbrev +0 : Float
 +0 = bits 0x0000_0000_0000_0000

@@ -25,14 +25,14 @@ use Rattle.box_faces.specs.Faces.{project, onFace, facesOf}
 use Rattle.candidate_pool.specs.Pool.{byKey, renewed, listed, numberFor, insert}
 use Rattle.candidate_grids.specs.Grid.{gridPoint, skipped, gridAt, faceGrid, grid}
 use Rattle.candidate_edges.specs.Surface.{enterEdge, edgeSurface, cornerVertices, meshPool}
-use Rattle.boundary_closure.specs.Candidates.{candidates}
-use Rattle.boundary_closure.specs.Operation.{closureTests, strayEdge, edgeTests, noTwoEnds}
+use Rattle.candidate_surface.specs.Candidates.{candidates, noTwoEnds}
+use Rattle.closure_tests.specs.Tests.{closureTests, strayEdge, edgeTests}
 use Rattle.cap_triangles.specs.Selection.{capsOf, signedArea, outward, isSeed, isOpenPair, shareEdge, selected}
 use Rattle.cap_triangles.specs.Listed.{badCap, badCapPlace, missingEdge, missingPlace}
 use Rattle.caps.specs.declared.mode.BoundaryClosure.{BoundaryClosure}
 use Rattle.caps.specs.declared.mode.BoundaryClosure.the-variants.{None, ClosePositive, CloseNegative}
 use Rattle.cap_closing.specs.Closing.{taken, entered, isLarge, capFacets, ownFacets, closed}
-use Rattle.boundary_closure.specs.Asked.{asked}
+use Rattle.candidate_surface.specs.Asked.{asked}
 use Rattle.refusals.specs.Answers.{meshOutputs, replyWith}
 use Rattle.caps.specs.Operation.{surface, capTests, capsTests, capsResult}
 

@@ -34,8 +34,10 @@ use Rattle.aabb_clipping.specs.Clip.{clipTests, clipResult}
 use Rattle.geometry.specs.Axes.{segments, gridLine, axisPoints, gridSize}
 use Rattle.edges.specs.Edges.{samePair, pairBefore, openEdges}
 use Rattle.box_faces.specs.Faces.{onFace, facesOf}
-use Rattle.boundary_closure.specs.Asked.{Asked, asked}
-use Rattle.boundary_closure.specs.Operation.{closureTests, strayEdge, edgeTests, candidatesTests, candidatesResult, candidateLengths}
+use Rattle.candidate_surface.specs.Asked.{Asked, asked}
+use Rattle.closure_tests.specs.Tests.{closureTests, strayEdge, edgeTests}
+use Rattle.candidate_outputs.specs.Outputs.{candidateLengths}
+use Rattle.boundary_closure.specs.Operation.{candidatesTests, candidatesResult}
 
 -- ---- the document's numbers, by their bits
 

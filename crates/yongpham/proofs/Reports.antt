@@ -28,7 +28,7 @@ use Rattle.refusals.proofs.Reports.{same-reply}
 use Rattle.tolerance.specs.declared.Tolerance.{Tolerance}
 use Rattle.tolerance.specs.declared.Tolerance.the-variants.{Of, Refused}
 use Rattle.tolerance.specs.Tolerance.{toleranceReply, documentedTolerance, Tolerated}
-use Rattle.boundary_closure.specs.Asked.{Asked}
+use Rattle.candidate_surface.specs.Asked.{Asked}
 use Rattle.caps.specs.declared.mode.BoundaryClosure.{BoundaryClosure}
 use Rattle.caps.specs.declared.mode.BoundaryClosure.the-variants.{None, ClosePositive, CloseNegative}
 use Rattle.caps.specs.Operation.{capsTests, capsResult, unchanged, Closes, Capped}

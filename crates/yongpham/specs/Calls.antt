@@ -15,7 +15,7 @@ use Rattle.refusals.specs.declared.refusal.Refusal.the-variants.{BadNumber}
 use Rattle.refusals.specs.Refusals.{Test}
 use Rattle.refusals.specs.Answers.{meshOutputs, Called}
 use Rattle.refusals.specs.Front.{ceiling, listTests}
-use Rattle.boundary_closure.specs.Asked.{Asked}
+use Rattle.candidate_surface.specs.Asked.{Asked}
 use Rattle.caps.specs.declared.mode.BoundaryClosure.{BoundaryClosure}
 use Rattle.caps.specs.declared.mode.BoundaryClosure.the-variants.{None, ClosePositive, CloseNegative}
 use Rattle.caps.specs.Operation.{capsTests, capsResult, unchanged, Closes}

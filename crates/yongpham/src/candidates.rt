@@ -1,7 +1,8 @@
 ghost use lib.ListN.{length};
 ghost use Rattle.refusals.specs.Answers.{Called};
-ghost use Rattle.boundary_closure.specs.Asked.{asked};
-ghost use Rattle.boundary_closure.specs.Operation.{candidatesTests, candidatesResult, candidateOutputs};
+ghost use Rattle.candidate_surface.specs.Asked.{asked};
+ghost use Rattle.candidate_outputs.specs.Outputs.{candidateOutputs};
+ghost use Rattle.boundary_closure.specs.Operation.{candidatesTests, candidatesResult};
 ghost use Rattle.yongpham.specs.Calls.{boxOf};
 use boundary_closure::cap_candidates;
 use geometry::aabb::AABB;

@@ -6,7 +6,7 @@ ghost use Rattle.refusals.specs.declared.refusal.Refusal.the-variants.{BadNumbe
 ghost use Rattle.refusals.specs.Refusals.{replyTo};
 ghost use Rattle.refusals.specs.Front.{ceiling, listTests};
 ghost use Rattle.refusals.specs.Reports.{Reported};
-ghost use Rattle.boundary_closure.specs.Asked.{asked};
+ghost use Rattle.candidate_surface.specs.Asked.{asked};
 ghost use Rattle.yongpham.specs.Calls.{boxOf, modeOf, CapsCalled};
 use caps::cap_mesh_to_aabb;
 use caps::mode::BoundaryClosure;

@@ -1,11 +1,11 @@
 use mathlib.Core.Path.{sym, _∙_}
 use borrow.Author.Tests.{eq-eqb, ne-eqb}
 use lib.ListN.{length}
-use Rattle.boundary_closure.specs.Operation.{closureTests}
-use Rattle.boundary_closure.specs.Asked.{asked}
+use Rattle.closure_tests.specs.Tests.{closureTests}
+use Rattle.candidate_surface.specs.Asked.{asked}
 use Rattle.boundary_closure.proofs.Delivery.{refused-before, no-facet, some-facet}
-use Rattle.boundary_closure.proofs.Fitting.{room-for}
-use Rattle.boundary_closure.proofs.Checking.{sound, room-passed}
+use Rattle.candidate_surface.proofs.Fitting.{room-for}
+use Rattle.closure_tests.proofs.Checking.{sound, room-passed}
 use borrow.Author.Needs.{needs}
 use Rattle.boundary_closure.proofs.front.candidates_lent.Statement.{statement}
 use Rattle.boundary_closure.proofs.front.candidates_lent.Tie as tie

@@ -1,9 +1,9 @@
 use native.Mathlib.Omega.{arith}
-use Rattle.boundary_closure.specs.Asked.{asked}
+use Rattle.candidate_surface.specs.Asked.{asked}
 use Rattle.boundary_closure.proofs.Listing.{no-ends-left, ends-left, readable, standing-is}
 use Rattle.boundary_closure.proofs.Delivery.{no-ends, some-ends}
-use Rattle.boundary_closure.proofs.Fitting.{vertices-in, most-small}
-use Rattle.boundary_closure.proofs.Completing.{fits-same}
+use Rattle.candidate_surface.proofs.Fitting.{vertices-in, most-small}
+use Rattle.candidate_surface.proofs.Completing.{fits-same}
 use borrow.Author.Needs.{needs}
 use Rattle.boundary_closure.proofs.front.list_candidates.Statement.{statement}
 use Rattle.boundary_closure.proofs.front.list_candidates.Tie as tie

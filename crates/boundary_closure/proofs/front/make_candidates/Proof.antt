@@ -1,10 +1,11 @@
 use mathlib.Core.Path.{refl, sym, _∙_}
 use Rattle.boundary_closure.specs.Steps.{surfaceResult}
 use Rattle.refusals.proofs.Answers.{refused, behind}
-use Rattle.boundary_closure.specs.Operation.{edgeTests, candidateOutputs}
-use Rattle.boundary_closure.specs.Asked.{asked}
-use Rattle.boundary_closure.proofs.Fitting.{mesh-fits}
-use Rattle.boundary_closure.proofs.Completing.{fits-same}
+use Rattle.closure_tests.specs.Tests.{edgeTests}
+use Rattle.candidate_outputs.specs.Outputs.{candidateOutputs}
+use Rattle.candidate_surface.specs.Asked.{asked}
+use Rattle.candidate_surface.proofs.Fitting.{mesh-fits}
+use Rattle.candidate_surface.proofs.Completing.{fits-same}
 use borrow.Author.Needs.{needs}
 use Rattle.boundary_closure.proofs.front.make_candidates.Statement.{statement}
 use Rattle.boundary_closure.proofs.front.make_candidates.Tie as tie

@@ -2,13 +2,13 @@ use Rattle.caps.specs.Steps.{closedMesh}
 use Rattle.caps.proofs.Ordering.{no-ends-left, ends-left, tests-are, closed-is, no-ends, ends-refused, ends-closed}
 use Rattle.caps.proofs.Fitting.{closable}
 use Rattle.caps.proofs.Listing.{pooled, supplied}
-use Rattle.boundary_closure.proofs.Completing.{fits-same}
-use Rattle.boundary_closure.proofs.Fitting.{vertices-in, most-small}
+use Rattle.candidate_surface.proofs.Completing.{fits-same}
+use Rattle.candidate_surface.proofs.Fitting.{vertices-in, most-small}
 use Rattle.refusals.specs.Refusals.{firstRefusal}
 use native.Mathlib.Omega.{arith}
 use lib.ListN.{length}
 use mathlib.Core.Path.{sym, ap, _∙_}
-use Rattle.boundary_closure.specs.Asked.{asked}
+use Rattle.candidate_surface.specs.Asked.{asked}
 use borrow.Author.Needs.{needs}
 use Rattle.caps.proofs.front.cap_edges.Statement.{statement}
 use Rattle.caps.proofs.front.cap_edges.Tie as tie

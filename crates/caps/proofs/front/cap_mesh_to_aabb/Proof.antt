@@ -1,5 +1,5 @@
 use Rattle.caps.proofs.Ordering.{capped}
-use Rattle.boundary_closure.specs.Asked.{asked}
+use Rattle.candidate_surface.specs.Asked.{asked}
 use borrow.Author.Needs.{needs}
 use Rattle.caps.proofs.front.cap_mesh_to_aabb.Statement.{statement}
 use Rattle.caps.proofs.front.cap_mesh_to_aabb.Tie as tie

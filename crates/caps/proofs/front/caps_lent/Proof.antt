@@ -1,11 +1,11 @@
 use Rattle.caps.proofs.Ordering.{front-refused, handed-back, gone-on, over-open, over-none, over-neither}
 use Rattle.caps.proofs.Fitting.{listable}
-use Rattle.boundary_closure.proofs.Checking.{sound}
-use Rattle.boundary_closure.specs.Operation.{closureTests}
+use Rattle.closure_tests.proofs.Checking.{sound}
+use Rattle.closure_tests.specs.Tests.{closureTests}
 use native.Mathlib.Omega.{arith}
 use lib.ListN.{length}
 use mathlib.Core.Path.{sym, _∙_}
-use Rattle.boundary_closure.specs.Asked.{asked}
+use Rattle.candidate_surface.specs.Asked.{asked}
 use borrow.Author.Needs.{needs}
 use Rattle.caps.proofs.front.caps_lent.Statement.{statement}
 use Rattle.caps.proofs.front.caps_lent.Tie as tie

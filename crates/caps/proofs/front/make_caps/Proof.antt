@@ -1,10 +1,10 @@
 use Rattle.caps.proofs.Ordering.{edges-refused, edges-passed}
 use Rattle.caps.proofs.Fitting.{tabled-room, listable-same}
-use Rattle.boundary_closure.specs.Steps.{mostCandidates}
-use Rattle.boundary_closure.proofs.Fitting.{mesh-fits, most-small}
+use Rattle.candidate_surface.specs.Steps.{mostCandidates}
+use Rattle.candidate_surface.proofs.Fitting.{mesh-fits, most-small}
 use native.Mathlib.Omega.{arith}
 use mathlib.Core.Path.{sym, _∙_}
-use Rattle.boundary_closure.specs.Asked.{asked}
+use Rattle.candidate_surface.specs.Asked.{asked}
 use borrow.Author.Needs.{needs}
 use Rattle.caps.proofs.front.make_caps.Statement.{statement}
 use Rattle.caps.proofs.front.make_caps.Tie as tie
