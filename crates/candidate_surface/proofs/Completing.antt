@@ -3,7 +3,7 @@
 --   table-left              the table of open edges is left by the clearing of the pool
 --   surfaced                what stands in the room once the ends of open edges are in
 --   grids-ready, completed  grids, once the corner vertices are in too
-use Prim.Native.Nat.{ℕ, _*_, _/_, _≤_}
+use Prim.Native.Nat.{ℕ, _*_, _/_, _≤_, _^_}
 use native.Mathlib.Omega.{arith}
 use mathlib.Core.Path.{_≡_, ap, _∙_}
 use mathlib.Core.List.{List, [], _∷_, foldl}
@@ -11,6 +11,7 @@ use lib.ListN.{length}
 use lib.Ieee.{Float}
 use Rattle.lists.specs.Lists.{has}
 use Rattle.root.specs.Doubles.{_⊗_, 1e-9}
+use Rattle.root.specs.Bounds.{Within}
 use Rattle.geometry.specs.declared.aabb.AABB.{AABB}
 use Rattle.geometry.specs.Meshes.{meshOf}
 use Rattle.candidate_pool.specs.Offsets.{openEdgesAt, edgeTableAt}
@@ -20,10 +21,10 @@ use Rattle.candidate_pool.proofs.Edges.{edges-same, held-kept}
 use Rattle.candidate_edges.specs.Surface.{edgeSurface, cornerVertices, meshPool}
 use Rattle.candidate_edges.specs.Steps.{TableAt, MeshFits, EdgesEntered, CornersEntered}
 use Rattle.candidate_grids.specs.Grid.{grid}
-use Rattle.candidate_grids.specs.Steps.{GridReady, Gridded}
-use Rattle.candidate_surface.specs.Asked.{asked, setting}
+use Rattle.candidate_grids.specs.Steps.{byAxes, GridReady, Gridded}
+use Rattle.candidate_surface.specs.Asked.{asked}
 use Rattle.candidate_surface.specs.Steps.{Sound, mostCandidates, Tabled, Surfaced, Completed}
-use Rattle.candidate_surface.proofs.Fitting.{skips-within}
+use Rattle.candidate_surface.proofs.Fitting.{each-within}
 use Rattle.candidate_surface.proofs.Frames.{table-kept, all-grown}
 
 pub fits-same : (vs : List Float) (fs : List ℕ) (n : ℕ) (w w' : List ℕ) → length w' ≡ length w → MeshFits vs fs n w → MeshFits vs fs n w'
@@ -66,14 +67,12 @@ module _ (vs : List Float) (fs : List ℕ) (box : AABB) (eps : Float) (n k : ℕ
         held-kept w w' edgesFrom k (λ x h l. C .rest x (omega arith)) (poolAt n w) (poolAt n w')
         (λ f c l h. ap (λ (p : Pool). has (faceList p f) c) (C .pool) ∙ all-grown (byKey eps) (cornerVertices box eps (meshOf vs [])) (poolAt n w) f c l h) (F .held)
 
-    abbrev skip : List Float
-    skip = resolution ⊗ 1e-9 ∷ resolution ⊗ 1e-9 ∷ resolution ⊗ 1e-9 ∷ []
+    abbrev each : Float → List Float
+    each x = x ∷ x ∷ x ∷ []
 
-    abbrev each : List Float
-    each = resolution ∷ resolution ∷ resolution ∷ []
-
-    pub grids-ready : GridReady box eps each skip n (length fs / 3) k w'
-    grids-ready =
+    -- the grids can be entered with any tolerance in range ..
+    pub grids-ready : (skip : Float) → Within (2 ^ 48) skip → GridReady box eps (each resolution) (each skip) n (length fs / 3) k w'
+    grids-ready skip skip-in =
         record {
           holds = C .holds;
           held = corner-held;
@@ -84,14 +83,16 @@ module _ (vs : List Float) (fs : List ℕ) (box : AABB) (eps : Float) (n k : ℕ
           box-in = S .box-in;
           box-good = S .box-good;
           coarse = S .coarse;
-          skips = skips-within resolution (S .resolution-in);
+          skips = each-within skip skip-in;
         }
 
-    pub completed : (w'' : List ℕ) → Gridded box eps each skip n (length fs / 3) k w' w'' → Completed vs fs (asked box eps resolution) n k w''
-    completed w'' G =
+    -- .. and are document 01's with its own
+    pub completed : (skip : Float) → skip ≡ resolution ⊗ 1e-9 → (w'' : List ℕ) → Gridded box eps (each resolution) (each skip) n (length fs / 3) k w' w''
+        → Completed vs fs (asked box eps resolution) n k w''
+    completed skip e w'' G =
         record {
           pool = G .pool
-              ∙ (λ t. foldl (insert (byKey eps)) (corner-pool t) (grid (setting (asked box eps resolution)) (corner-edges t) (corner-pool t)));
+              ∙ (λ t. foldl (insert (byKey eps)) (corner-pool t) (grid (byAxes box eps (each resolution) (each (e t))) (corner-edges t) (corner-pool t)));
           edges = edges-same w' w'' edgesFrom k (λ x h l. G .rest x (omega arith) (let e = edges-here in omega arith)) ∙ corner-edges;
           holds = G .holds;
           held = G .held;

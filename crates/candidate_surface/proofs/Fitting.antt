@@ -1,5 +1,5 @@
 -- What the tests before 8 give to the functions behind them: bounds of numbers, and room. Assumes nothing.
---   resolution-within, skip-within, skips-within   a resolution, and the tolerance made of it, on each axis
+--   resolution-within, skip-within, each-within   a resolution, a tolerance made of it, and one tolerance on each axis
 --   vertices-in      every vertex is a point of no NaN and no infinity
 --   grid-small, most-small   how many grid points and how many candidates there may be at most
 --   mesh-fits        the mesh and the room that the functions ask for      room-for   the room for it, of what was lent
@@ -7,26 +7,26 @@ use Prim.Native.Nat.{ℕ, zero, suc, _+_, _*_, _/_, _≤_, _<_, _^_}
 use native.Mathlib.Omega.{arith}
 use mathlib.Core.Bool.{true, false, not}
 use mathlib.Core.Path.{_≡_, sym, subst}
-use mathlib.Core.List.{List, [], _∷_}
+use mathlib.Core.List.{List}
 use borrow.Author.Tests.{ltb-true, lt-ltb, not-false}
-use lib.Dec.{T, ltb, lit≤}
+use lib.Dec.{T, ltb}
 use lib.ListN.{length, getD}
 use lib.Ieee.{Float, nan, inf, fin, ofBits, neg, up, down, lt, le, eq}
 use Rattle.lists.proofs.Bools.{and-left, and-right, or-stop}
 use Rattle.lists.proofs.Every.{every-at, none-at}
-use Rattle.root.specs.Doubles.{_⊗_, zeroF, 1e-9, 2^30}
+use Rattle.root.specs.Doubles.{_⊗_, zeroF, 2^30}
 use Rattle.root.specs.Bounds.{Within}
 use Rattle.root.proofs.Powers.{in-range, within-pow, mul-pow}
 use Rattle.geometry.specs.declared.aabb.AABB.{AABB}
 use Rattle.geometry.specs.Axes.{segments, gridSize}
 use Rattle.geometry.proofs.Meshes.{vertex-at}
-use Rattle.refusals.specs.Front.{badIndex, inRange, resolutionInRange, byAxis, gridTooFine}
+use Rattle.refusals.specs.Front.{badIndex, inRange, resolutionInRange, gridTooFine}
 use Rattle.refusals.proofs.Ranges.{in-range-within}
 use Rattle.refusals.proofs.Grids.{not-too-fine, small-product}
 use Rattle.candidate_pool.specs.Offsets.{roomEnd}
 use Rattle.candidate_pool.specs.Standing.{PointIn}
 use Rattle.candidate_edges.specs.Steps.{VerticesIn, MeshFits}
-use Rattle.candidate_surface.specs.Asked.{Asked, oneResolution}
+use Rattle.candidate_surface.specs.Asked.{Asked, onEach, oneResolution}
 use Rattle.candidate_surface.specs.Steps.{Sound, mostCandidates}
 
 -- ---- numbers
@@ -51,18 +51,15 @@ resolution-within r h =
     let b = and-right (lt zeroF r) (le r 2^30) h in
     in-range r (subst T (sym (above r a b)) tt) (subst T (sym b) tt)
 
-factor-within : Within (2 ^ 0) 1e-9
-unfolding ofBits
-factor-within = record { is-finite = tt; size = lit≤ tt }
+-- whatever the factor is, if it is at most 1
+pub skip-within : (r factor : Float) → resolutionInRange r ≡ true → Within (2 ^ 0) factor → Within (2 ^ 48) (r ⊗ factor)
+skip-within r factor h g = within-pow 30 48 (omega arith) (mul-pow 30 0 (omega arith) (resolution-within r h) g)
 
-pub skip-within : (r : Float) → resolutionInRange r ≡ true → Within (2 ^ 48) (r ⊗ 1e-9)
-skip-within r h = within-pow 30 48 (omega arith) (mul-pow 30 0 (omega arith) (resolution-within r h) factor-within)
-
-pub skips-within : (r : Float) → resolutionInRange r ≡ true → (a : ℕ) → a < 3 → Within (2 ^ 48) (byAxis (r ⊗ 1e-9 ∷ r ⊗ 1e-9 ∷ r ⊗ 1e-9 ∷ []) a)
-skips-within r h zero l = skip-within r h
-skips-within r h (suc zero) l = skip-within r h
-skips-within r h (suc (suc zero)) l = skip-within r h
-skips-within r h (suc (suc (suc a))) l = absurd (omega arith)
+pub each-within : (s : Float) → Within (2 ^ 48) s → (a : ℕ) → a < 3 → Within (2 ^ 48) (onEach s a)
+each-within s h zero l = h
+each-within s h (suc zero) l = h
+each-within s h (suc (suc zero)) l = h
+each-within s h (suc (suc (suc a))) l = absurd (omega arith)
 
 -- ---- the mesh and the room
 
