@@ -16,7 +16,6 @@ use lib.Seq.{sets}
 use lib.Ieee.{Float}
 use Rattle.lists.specs.Lists.{every}
 use Rattle.words.proofs.Overlay.{sets-overlay}
-use Rattle.geometry.specs.declared.aabb.AABB.{AABB}
 use Rattle.geometry.specs.Triangles.{flat}
 use Rattle.geometry.specs.Meshes.{Mesh, meshOf, pointsOf, coordinates}
 use Rattle.geometry.proofs.Threes.{length-threes}
@@ -35,7 +34,7 @@ use Rattle.refusals.proofs.Replies.{head-passed, tail-passed, row-front, row-re
 use Rattle.refusals.proofs.Answers.{short, done-two}
 use Rattle.aabb_facets.specs.Clipped.{insideBox}
 use Rattle.aabb_facets.proofs.Bounds.{most, inside-most}
-use Rattle.aabb_clipping.specs.Clip.{clipTests, clipResult}
+use Rattle.aabb_clipping.specs.Clip.{ClipAsked, clipTests, clipResult}
 use Rattle.aabb_clipping.specs.Steps.{Fits}
 
 pub none-front : {A : Type 0} (e old : List A) → length e ≡ 0 → e ++ old ≡ old
@@ -43,17 +42,17 @@ none-front [] old h = refl
 none-front (x ∷ xs) old h = absurd (omega arith)
 
 -- ---- ample outputs
-module _ (vs : List Float) (fs : List ℕ) (box : AABB) (eps : Float) (a b : ℕ) where
-  pub ample : 84 * (length fs / 3) ≤ a → 78 * (length fs / 3) ≤ b → Fits (clipResult vs fs box eps) a b
+module _ (vs : List Float) (fs : List ℕ) (q : ClipAsked) (a b : ℕ) where
+  pub ample : 84 * (length fs / 3) ≤ a → 78 * (length fs / 3) ≤ b → Fits (clipResult vs fs q) a b
   unfolding clipResult
   ample h g =
-      let k = most box eps (meshOf vs fs) in
+      let k = most (q .box) (q .eps) (meshOf vs fs) in
       let t = length-threes fs in
       record { vertices = omega (arith, k .0, t); facets = omega (arith, k .1, t) }
 
-  pub inside : badIndex (length vs / 3) fs ≡ false → length vs ≤ a → length fs ≤ b → every (insideBox box eps) (pointsOf vs) ≡ true → Fits (clipResult vs fs box eps) a b
+  pub inside : badIndex (length vs / 3) fs ≡ false → length vs ≤ a → length fs ≤ b → every (insideBox (q .box) (q .eps)) (pointsOf vs) ≡ true → Fits (clipResult vs fs q) a b
   unfolding clipResult
-  inside e h g w = let k = inside-most box eps vs fs e w in record { vertices = omega (arith, k .0); facets = omega (arith, k .1) }
+  inside e h g w = let k = inside-most (q .box) (q .eps) vs fs e w in record { vertices = omega (arith, k .0); facets = omega (arith, k .1) }
 
 -- ---- test 12, and the writing. The counts k of vertices and j of facet numbers are the mesh's
 module _ (m : Mesh) (v v' : List Float) (f f' : List ℕ) (k j : ℕ) (ek : k ≡ length (m .points)) (ej : j ≡ length (flat (m .facets))) where
@@ -91,60 +90,60 @@ pub record Ready (vs : List Float) (fs : List ℕ) (lent : ℕ) : Type 0 where
   pub below : badIndex (length vs / 3) fs ≡ false
   pub room : length vs / 3 ≤ lent
 
-pub ready : (vs : List Float) (fs : List ℕ) (box : AABB) (eps : Float) (lent : ℕ) → firstRefusal (clipTests vs fs box eps lent) ≡ Passed → Ready vs fs lent
+pub ready : (vs : List Float) (fs : List ℕ) (q : ClipAsked) (lent : ℕ) → firstRefusal (clipTests vs fs q lent) ≡ Passed → Ready vs fs lent
 unfolding clipTests workNeed
-ready vs fs box eps lent e =
+ready vs fs q lent e =
     let need = 128 * (length vs / 3 + length fs / 3 + 0 + 0) + 1024 in
     let lists = listTests ceiling vs fs 0 in
     let room : Test = (ltb lent need, NoWorkRoom need) in
-    let bad : Test = (badBox box, BadBox) in
-    let number = not (every inRange vs && (boxInRange box && epsInRange eps)) in
+    let bad : Test = (badBox (q .box), BadBox) in
+    let number = not (every inRange vs && (boxInRange (q .box) && epsInRange (q .eps))) in
     let l = listed ceiling vs fs 0 (row-front lists ((number, BadNumber) ∷ bad ∷ room ∷ []) e) in
     let e4 = row-rest lists ((number, BadNumber) ∷ bad ∷ room ∷ []) e in
     let e5 = tail-passed number BadNumber (bad ∷ room ∷ []) e4 in
-    let e7 = tail-passed (badBox box) BadBox (room ∷ []) e5 in
+    let e7 = tail-passed (badBox (q .box)) BadBox (room ∷ []) e5 in
     let h = ltb-false lent need (head-passed (ltb lent need) (NoWorkRoom need) [] e7) in
     record { few = (l .few-vertices, l .few-facets); below = l .below; room = omega arith }
 
 -- ---- the tests in front, one after the other
-module _ (vs : List Float) (fs : List ℕ) (box : AABB) (eps : Float) (lent : ℕ) where
+module _ (vs : List Float) (fs : List ℕ) (q : ClipAsked) (lent : ℕ) where
   abbrev lists : List Test
   lists = listTests ceiling vs fs 0
 
   abbrev badNumber : Bool
-  badNumber = not (every inRange vs && (boxInRange box && epsInRange eps))
+  badNumber = not (every inRange vs && (boxInRange (q .box) && epsInRange (q .eps)))
 
   abbrev need : ℕ
   need = workNeed (length vs / 3) (length fs / 3) 0 0
 
   abbrev rest : List Test
-  rest = (badNumber, BadNumber) ∷ (badBox box, BadBox) ∷ (ltb lent need, NoWorkRoom need) ∷ []
+  rest = (badNumber, BadNumber) ∷ (badBox (q .box), BadBox) ∷ (ltb lent need, NoWorkRoom need) ∷ []
 
-  pub lists-refused : (x : Checked) (r : Refusal) → x ≡ firstRefusal lists → x ≡ Refused r → x ≡ firstRefusal (clipTests vs fs box eps lent)
+  pub lists-refused : (x : Checked) (r : Refusal) → x ≡ firstRefusal lists → x ≡ Refused r → x ≡ firstRefusal (clipTests vs fs q lent)
   unfolding clipTests
   lists-refused x r e f = f ∙ sym (row-refused lists rest r (sym e ∙ f))
 
   module _ (e : firstRefusal lists ≡ Passed) where
-    pub number-refused : badNumber ≡ true → Refused BadNumber ≡ firstRefusal (clipTests vs fs box eps lent)
+    pub number-refused : badNumber ≡ true → Refused BadNumber ≡ firstRefusal (clipTests vs fs q lent)
     unfolding clipTests
-    number-refused h = sym (row-passed lists rest e ∙ holds badNumber BadNumber ((badBox box, BadBox) ∷ (ltb lent need, NoWorkRoom need) ∷ []) h)
+    number-refused h = sym (row-passed lists rest e ∙ holds badNumber BadNumber ((badBox (q .box), BadBox) ∷ (ltb lent need, NoWorkRoom need) ∷ []) h)
 
     module _ (h : badNumber ≡ false) where
-      after-numbers : firstRefusal (clipTests vs fs box eps lent) ≡ firstRefusal ((badBox box, BadBox) ∷ (ltb lent need, NoWorkRoom need) ∷ [])
+      after-numbers : firstRefusal (clipTests vs fs q lent) ≡ firstRefusal ((badBox (q .box), BadBox) ∷ (ltb lent need, NoWorkRoom need) ∷ [])
       unfolding clipTests
-      after-numbers = row-passed lists rest e ∙ passes badNumber BadNumber ((badBox box, BadBox) ∷ (ltb lent need, NoWorkRoom need) ∷ []) h
+      after-numbers = row-passed lists rest e ∙ passes badNumber BadNumber ((badBox (q .box), BadBox) ∷ (ltb lent need, NoWorkRoom need) ∷ []) h
 
-      pub box-refused : badBox box ≡ true → Refused BadBox ≡ firstRefusal (clipTests vs fs box eps lent)
-      box-refused g = sym (after-numbers ∙ holds (badBox box) BadBox ((ltb lent need, NoWorkRoom need) ∷ []) g)
+      pub box-refused : badBox (q .box) ≡ true → Refused BadBox ≡ firstRefusal (clipTests vs fs q lent)
+      box-refused g = sym (after-numbers ∙ holds (badBox (q .box)) BadBox ((ltb lent need, NoWorkRoom need) ∷ []) g)
 
-      module _ (g : badBox box ≡ false) (n : ℕ) (en : n ≡ need) where
-        after-box : firstRefusal (clipTests vs fs box eps lent) ≡ firstRefusal ((ltb lent n, NoWorkRoom n) ∷ [])
+      module _ (g : badBox (q .box) ≡ false) (n : ℕ) (en : n ≡ need) where
+        after-box : firstRefusal (clipTests vs fs q lent) ≡ firstRefusal ((ltb lent n, NoWorkRoom n) ∷ [])
         after-box =
-            after-numbers ∙ passes (badBox box) BadBox ((ltb lent need, NoWorkRoom need) ∷ []) g
+            after-numbers ∙ passes (badBox (q .box)) BadBox ((ltb lent need, NoWorkRoom need) ∷ []) g
             ∙ ap (λ (k : ℕ). firstRefusal ((ltb lent k, NoWorkRoom k) ∷ [])) (sym en)
 
-        pub room-refused : lent < n → Refused (NoWorkRoom n) ≡ firstRefusal (clipTests vs fs box eps lent)
+        pub room-refused : lent < n → Refused (NoWorkRoom n) ≡ firstRefusal (clipTests vs fs q lent)
         room-refused k = sym (after-box ∙ holds (ltb lent n) (NoWorkRoom n) [] (lt-ltb lent n k))
 
-        pub all-passed : n ≤ lent → Passed ≡ firstRefusal (clipTests vs fs box eps lent)
+        pub all-passed : n ≤ lent → Passed ≡ firstRefusal (clipTests vs fs q lent)
         all-passed k = sym (after-box ∙ passes (ltb lent n) (NoWorkRoom n) [] (le-ltb lent n k) ∙ none-left)

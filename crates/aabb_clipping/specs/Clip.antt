@@ -1,5 +1,6 @@
 -- The operation clip (document 01, the table of refusals, module 3 and "Agreement"): its tests in the table's order, and the mesh that it writes. With `Answered` of crate
 -- refusals that is all it promises. Assumes nothing.
+--   ClipAsked, clipAsked   what is asked beside the mesh: the box and eps
 --   clipTests     1, 2, 3, 4, 5, 7                  clipResult    the mesh clipped
 use Prim.Native.Nat.{ℕ, _/_}
 use mathlib.Core.Bool.{not, _&&_}
@@ -14,14 +15,21 @@ use Rattle.refusals.specs.Refusals.{Test}
 use Rattle.refusals.specs.Front.{ceiling, listTests, inRange, epsInRange, boxInRange, badBox, workNeed, workTest}
 use Rattle.aabb_facets.specs.Clipped.{clipped}
 
-module _ (vs : List Float) (fs : List ℕ) (box : AABB) (eps : Float) where
+pub record ClipAsked : Type 0 where
+  pub box : AABB
+  pub eps : Float
+
+abbrev pub clipAsked : AABB → Float → ClipAsked
+clipAsked box eps = record { box = box; eps = eps }
+
+module _ (vs : List Float) (fs : List ℕ) (q : ClipAsked) where
   -- for so many words of work room lent; there is no cap list and no grid
   unfoldable pub clipTests : ℕ → List Test
   clipTests lent =
       listTests ceiling vs fs 0
-      ++ (not (every inRange vs && (boxInRange box && epsInRange eps)), BadNumber)
-      ∷ (badBox box, BadBox)
+      ++ (not (every inRange vs && (boxInRange (q .box) && epsInRange (q .eps))), BadNumber)
+      ∷ (badBox (q .box), BadBox)
       ∷ workTest (workNeed (length vs / 3) (length fs / 3) 0 0) lent ∷ []
 
   unfoldable pub clipResult : Mesh
-  clipResult = clipped box eps (meshOf vs fs)
+  clipResult = clipped (q .box) (q .eps) (meshOf vs fs)

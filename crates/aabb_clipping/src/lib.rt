@@ -8,7 +8,7 @@ ghost use lib.ListN.{length};
 ghost use Rattle.refusals.specs.Front.{badIndex};
 ghost use Rattle.refusals.specs.Refusals.{documentedReply, firstRefusal};
 ghost use Rattle.refusals.specs.Answers.{meshOutputs, Answer, Answered};
-ghost use Rattle.aabb_clipping.specs.Clip.{clipTests, clipResult};
+ghost use Rattle.aabb_clipping.specs.Clip.{clipAsked, clipTests, clipResult};
 ghost use Rattle.aabb_clipping.specs.Steps.{Fits};
 use aabb_facets::marks::wholly_inside;
 use aabb_facets::passes::run_pass;
@@ -26,7 +26,7 @@ use words::zero_front;
 
 // Tests 1, 2, 3, 4, 5 and 7, in that order.
 fn check(vertices: &[f64], facets: &[u32], extents: AABB, eps: f64, lent: usize) -> Checked
-    ensures { λ r. ⌜ r ≡ firstRefusal (clipTests (now (vertices .entry)) (now (facets .entry)) extents eps lent) ⌝ }
+    ensures { λ r. ⌜ r ≡ firstRefusal (clipTests (now (vertices .entry)) (now (facets .entry)) (clipAsked extents eps) lent) ⌝ }
 {
     let lists = check_lists(65536, vertices, facets, 0);
     if let Checked::Refused(_) = lists {
@@ -63,7 +63,7 @@ fn is_ample(
 ) -> bool
     requires { ⌜ (length (now vertices) / 3 ≤ 65536) × (length (now facets) / 3 ≤ 65536) ⌝ }
     requires { ⌜ badIndex (length (now vertices) / 3) (now facets) ≡ false ⌝ }
-    ensures { λ r. ⌜ (r ≡ true → Fits (clipResult (now (vertices .entry)) (now (facets .entry)) extents eps) «vertex_room» «facet_room») ⌝ }
+    ensures { λ r. ⌜ (r ≡ true → Fits (clipResult (now (vertices .entry)) (now (facets .entry)) (clipAsked extents eps)) «vertex_room» «facet_room») ⌝ }
 {
     let n = facets.len() / 3;
     if 84 * n <= vertex_room {
@@ -94,7 +94,7 @@ fn clip_counted(
     requires { ⌜ badIndex (length (now vertices) / 3) (now facets) ≡ false ⌝ }
     requires { ⌜ length (now ids) ≡ length (now vertices) / 3 ⌝ }
     ensures { λ r. ⌜ Answer []
-        (meshOutputs (clipResult (now (vertices .entry)) (now (facets .entry)) extents eps) (now («out_vertices» .entry)) (now («out_vertices» .exit)) (now («out_facets» .entry))
+        (meshOutputs (clipResult (now (vertices .entry)) (now (facets .entry)) (clipAsked extents eps)) (now («out_vertices» .entry)) (now («out_vertices» .exit)) (now («out_facets» .entry))
         (now («out_facets» .exit))) (documentedReply r) ⌝ }
 {
     let need = run_pass(
@@ -140,7 +140,7 @@ fn clip_checked(
     requires { ⌜ badIndex (length (now vertices) / 3) (now facets) ≡ false ⌝ }
     requires { ⌜ length (now ids) ≡ length (now vertices) / 3 ⌝ }
     ensures { λ r. ⌜ Answer []
-        (meshOutputs (clipResult (now (vertices .entry)) (now (facets .entry)) extents eps) (now («out_vertices» .entry)) (now («out_vertices» .exit)) (now («out_facets» .entry))
+        (meshOutputs (clipResult (now (vertices .entry)) (now (facets .entry)) (clipAsked extents eps)) (now («out_vertices» .entry)) (now («out_vertices» .exit)) (now («out_facets» .entry))
         (now («out_facets» .exit))) (documentedReply r) ⌝ }
 {
     if !is_ample(
@@ -184,9 +184,9 @@ fn clip_or_refuse(
     out_vertices: &mut [f64],
     out_facets: &mut [u32],
 ) -> Reply
-    requires { ⌜ found ≡ firstRefusal (clipTests (now vertices) (now facets) extents eps (length (now work))) ⌝ }
-    ensures { λ r. ⌜ Answer (clipTests (now (vertices .entry)) (now (facets .entry)) extents eps (length (now (work .entry))))
-        (meshOutputs (clipResult (now (vertices .entry)) (now (facets .entry)) extents eps) (now («out_vertices» .entry)) (now («out_vertices» .exit)) (now («out_facets» .entry))
+    requires { ⌜ found ≡ firstRefusal (clipTests (now vertices) (now facets) (clipAsked extents eps) (length (now work))) ⌝ }
+    ensures { λ r. ⌜ Answer (clipTests (now (vertices .entry)) (now (facets .entry)) (clipAsked extents eps) (length (now (work .entry))))
+        (meshOutputs (clipResult (now (vertices .entry)) (now (facets .entry)) (clipAsked extents eps)) (now («out_vertices» .entry)) (now («out_vertices» .exit)) (now («out_facets» .entry))
         (now («out_facets» .exit))) (documentedReply r) ⌝ }
 {
     match found {
@@ -215,8 +215,8 @@ pub fn clip_mesh_to_aabb(
     out_vertices: &mut [f64],
     out_facets: &mut [u32],
 ) -> Reply
-    ensures { λ r. ⌜ Answered (clipTests (now (vertices .entry)) (now (facets .entry)) extents eps (length (now (work .entry))))
-        (meshOutputs (clipResult (now (vertices .entry)) (now (facets .entry)) extents eps) (now («out_vertices» .entry)) (now («out_vertices» .exit)) (now («out_facets» .entry))
+    ensures { λ r. ⌜ Answered (clipTests (now (vertices .entry)) (now (facets .entry)) (clipAsked extents eps) (length (now (work .entry))))
+        (meshOutputs (clipResult (now (vertices .entry)) (now (facets .entry)) (clipAsked extents eps)) (now («out_vertices» .entry)) (now («out_vertices» .exit)) (now («out_facets» .entry))
         (now («out_facets» .exit))) (now (work .entry)) (now (work .exit)) (documentedReply r) ⌝ }
 {
     let lent = work.len();

@@ -12,26 +12,26 @@ use Rattle.geometry.specs.Meshes.{coordinates, meshLengths}
 use Rattle.refusals.specs.declared.reply.Reply.{Reply}
 use Rattle.refusals.specs.Refusals.{documentedReply, settle}
 use Rattle.refusals.specs.Answers.{replyIn}
-use Rattle.mesh_cleanup.specs.Clean.{cleanTests, cleanResult, Cleaned}
+use Rattle.mesh_cleanup.specs.Clean.{CleanAsked, cleanTests, cleanResult, Cleaned}
 use Rattle.cases.specs.Cleaning.{isMesh, isKeyRange, replyInRoom, cleansTo, hasFarKey}
 
-module _ (vs : List Float) (fs : List ℕ) (eps : Float) (reply : Reply) (w w' : List ℕ) (v' : List Float) (f' : List ℕ) (long : length w ≡ 2048) where
-  answer : Cleaned vs fs eps reply w w' (replicate 12 zeroF) v' (replicate 6 0) f' → documentedReply reply ≡ replyInRoom vs fs eps
-  answer h = h .answered .answer .replied ∙ ap (λ (n : ℕ). replyIn (cleanTests vs fs eps n) (meshLengths (cleanResult vs fs eps)) (12 ∷ 6 ∷ [])) long
+module _ (vs : List Float) (fs : List ℕ) (q : CleanAsked) (reply : Reply) (w w' : List ℕ) (v' : List Float) (f' : List ℕ) (long : length w ≡ 2048) where
+  answer : Cleaned vs fs q reply w w' (replicate 12 zeroF) v' (replicate 6 0) f' → documentedReply reply ≡ replyInRoom vs fs q
+  answer h = h .answered .answer .replied ∙ ap (λ (n : ℕ). replyIn (cleanTests vs fs q n) (meshLengths (cleanResult vs fs q)) (12 ∷ 6 ∷ [])) long
 
-  pub cleaned-to : Cleaned vs fs eps reply w w' (replicate 12 zeroF) v' (replicate 6 0) f' → (statedVs : List Float) (statedFs : List ℕ)
-      → isMesh (documentedReply reply) v' f' statedVs statedFs ≡ cleansTo vs fs eps statedVs statedFs
+  pub cleaned-to : Cleaned vs fs q reply w w' (replicate 12 zeroF) v' (replicate 6 0) f' → (statedVs : List Float) (statedFs : List ℕ)
+      → isMesh (documentedReply reply) v' f' statedVs statedFs ≡ cleansTo vs fs q statedVs statedFs
   unfolding cleansTo
   cleaned-to h statedVs statedFs =
       ap₂ (λ (a : List Float) (b : List ℕ). isMesh (documentedReply reply) a b statedVs statedFs) (h .answered .answer .settled .0) (h .answered .answer .settled .1 .0)
       ∙ ap
       (λ (d : List ℕ).
       isMesh d
-      (settle d (coordinates (cleanResult vs fs eps .points)) (replicate 12 zeroF))
-      (settle d (flat (cleanResult vs fs eps .facets)) (replicate 6 0))
+      (settle d (coordinates (cleanResult vs fs q .points)) (replicate 12 zeroF))
+      (settle d (flat (cleanResult vs fs q .facets)) (replicate 6 0))
       statedVs statedFs)
       (answer h)
 
-  pub cleaned-key : Cleaned vs fs eps reply w w' (replicate 12 zeroF) v' (replicate 6 0) f' → isKeyRange (documentedReply reply) ≡ hasFarKey vs fs eps
+  pub cleaned-key : Cleaned vs fs q reply w w' (replicate 12 zeroF) v' (replicate 6 0) f' → isKeyRange (documentedReply reply) ≡ hasFarKey vs fs q
   unfolding hasFarKey
   cleaned-key h = ap isKeyRange (answer h)

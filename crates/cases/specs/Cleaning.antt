@@ -14,7 +14,7 @@ use Rattle.geometry.specs.Triangles.{flat}
 use Rattle.geometry.specs.Meshes.{coordinates, meshLengths}
 use Rattle.refusals.specs.Refusals.{settle}
 use Rattle.refusals.specs.Answers.{replyIn}
-use Rattle.mesh_cleanup.specs.Clean.{cleanTests, cleanResult}
+use Rattle.mesh_cleanup.specs.Clean.{CleanAsked, cleanAsked, cleanTests, cleanResult}
 use Rattle.cases.specs.Comparing.{begins, sameBits}
 
 abbrev pub valuesOf : List ℕ → List ℕ
@@ -29,15 +29,15 @@ isMesh reply vs fs statedVs statedFs =
 abbrev pub isKeyRange : List ℕ → Bool
 isKeyRange reply = eqb (getD reply 0 0) 8
 
-module _ (vs : List Float) (fs : List ℕ) (eps : Float) where
+module _ (vs : List Float) (fs : List ℕ) (q : CleanAsked) where
   abbrev pub replyInRoom : List ℕ
-  replyInRoom = replyIn (cleanTests vs fs eps 2048) (meshLengths (cleanResult vs fs eps)) (12 ∷ 6 ∷ [])
+  replyInRoom = replyIn (cleanTests vs fs q 2048) (meshLengths (cleanResult vs fs q)) (12 ∷ 6 ∷ [])
 
   unfoldable pub cleansTo : List Float → List ℕ → Bool
   cleansTo statedVs statedFs =
       isMesh replyInRoom
-      (settle replyInRoom (coordinates (cleanResult vs fs eps .points)) (replicate 12 zeroF))
-      (settle replyInRoom (flat (cleanResult vs fs eps .facets)) (replicate 6 0))
+      (settle replyInRoom (coordinates (cleanResult vs fs q .points)) (replicate 12 zeroF))
+      (settle replyInRoom (flat (cleanResult vs fs q .facets)) (replicate 6 0))
       statedVs statedFs
 
   unfoldable pub hasFarKey : Bool
@@ -57,7 +57,7 @@ abbrev pub farPlace : Float
 farPlace = bits 4706709772185894912
 
 abbrev pub c2Holds : Bool
-c2Holds = cleansTo (zeroF ∷ zeroF ∷ zeroF ∷ eps ∷ zeroF ∷ zeroF ∷ []) [] eps (zeroF ∷ zeroF ∷ zeroF ∷ []) []
+c2Holds = cleansTo (zeroF ∷ zeroF ∷ zeroF ∷ eps ∷ zeroF ∷ zeroF ∷ []) [] (cleanAsked eps) (zeroF ∷ zeroF ∷ zeroF ∷ []) []
 
 abbrev pub square : List Float
 square = zeroF ∷ zeroF ∷ zeroF ∷ oneF ∷ zeroF ∷ zeroF ∷ oneF ∷ oneF ∷ zeroF ∷ zeroF ∷ oneF ∷ zeroF ∷ []
@@ -66,8 +66,8 @@ abbrev pub twoFacets : List ℕ
 twoFacets = 0 ∷ 1 ∷ 2 ∷ 0 ∷ 2 ∷ 3 ∷ []
 
 abbrev pub c8Holds : Bool
-c8Holds = cleansTo square twoFacets fine square twoFacets
+c8Holds = cleansTo square twoFacets (cleanAsked fine) square twoFacets
 
 abbrev pub c14Holds : Bool
 c14Holds =
-    cleansTo (nearPlace ∷ zeroF ∷ zeroF ∷ []) [] zeroF (nearPlace ∷ zeroF ∷ zeroF ∷ []) [] && hasFarKey (farPlace ∷ zeroF ∷ zeroF ∷ []) [] zeroF
+    cleansTo (nearPlace ∷ zeroF ∷ zeroF ∷ []) [] (cleanAsked zeroF) (nearPlace ∷ zeroF ∷ zeroF ∷ []) [] && hasFarKey (farPlace ∷ zeroF ∷ zeroF ∷ []) [] (cleanAsked zeroF)

@@ -1,6 +1,7 @@
 // C2, C8 and C14: the operation clean.
 ghost use mathlib.Core.Path.{_≡_};
 ghost use Rattle.refusals.specs.Refusals.{documentedReply};
+ghost use Rattle.mesh_cleanup.specs.Clean.{cleanAsked};
 ghost use Rattle.cases.specs.Cleaning.{isMesh, isKeyRange, cleansTo, hasFarKey, c2Holds, c8Holds, c14Holds};
 use crate::bits::begins_with;
 use crate::bits::begins_with_numbers;
@@ -55,7 +56,7 @@ fn cleans_to(
     stated_vertices: &[f64],
     stated_facets: &[u32],
 ) -> bool
-    ensures { λ r. ⌜ r ≡ cleansTo (now (vertices .entry)) (now (facets .entry)) eps (now («stated_vertices» .entry)) (now («stated_facets» .entry)) ⌝ }
+    ensures { λ r. ⌜ r ≡ cleansTo (now (vertices .entry)) (now (facets .entry)) (cleanAsked eps) (now («stated_vertices» .entry)) (now («stated_facets» .entry)) ⌝ }
 {
     let mut work = [0u64; 2048];
     let mut out_vertices = [0.0; 12];
@@ -78,7 +79,7 @@ fn cleans_to(
 }
 
 fn has_far_key(vertices: &[f64], facets: &[u32], eps: f64) -> bool
-    ensures { λ r. ⌜ r ≡ hasFarKey (now (vertices .entry)) (now (facets .entry)) eps ⌝ }
+    ensures { λ r. ⌜ r ≡ hasFarKey (now (vertices .entry)) (now (facets .entry)) (cleanAsked eps) ⌝ }
 {
     let mut work = [0u64; 2048];
     let mut out_vertices = [0.0; 12];

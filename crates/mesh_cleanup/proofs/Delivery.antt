@@ -35,57 +35,57 @@ use Rattle.refusals.proofs.Replies.{head-passed, tail-passed, row-front, row-re
 use Rattle.refusals.proofs.Answers.{short, done-two, answered}
 use Rattle.mesh_compact.specs.declared.compact.Staged.{Staged}
 use Rattle.mesh_compact.proofs.Statuses.{rule}
-use Rattle.mesh_cleanup.specs.Clean.{cleanTests, cleanResult, Cleaned}
+use Rattle.mesh_cleanup.specs.Clean.{CleanAsked, cleanTests, cleanResult, Cleaned}
 use Rattle.mesh_cleanup.specs.Steps.{CleanReady, Staging}
 
 -- ---- the tests in front, one after the other
 
-module _ (vs : List Float) (fs : List ℕ) (eps : Float) (lent : ℕ) where
+module _ (vs : List Float) (fs : List ℕ) (q : CleanAsked) (lent : ℕ) where
   abbrev lists : List Test
   lists = listTests ceiling vs fs 0
 
   abbrev badNumber : Bool
-  badNumber = not (every inRange vs && epsInRange eps)
+  badNumber = not (every inRange vs && epsInRange (q .eps))
 
   abbrev need : ℕ
   need = workNeed (length vs / 3) (length fs / 3) 0 0
 
   abbrev keys : List Test
-  keys = (farKeys eps vs, KeyRange) ∷ []
+  keys = (farKeys (q .eps) vs, KeyRange) ∷ []
 
   abbrev rest : List Test
-  rest = (badNumber, BadNumber) ∷ (ltb lent need, NoWorkRoom need) ∷ (farKeys eps vs, KeyRange) ∷ []
+  rest = (badNumber, BadNumber) ∷ (ltb lent need, NoWorkRoom need) ∷ (farKeys (q .eps) vs, KeyRange) ∷ []
 
-  pub lists-refused : (x : Checked) (r : Refusal) → x ≡ firstRefusal lists → x ≡ Refused r → x ≡ firstRefusal (cleanTests vs fs eps lent)
+  pub lists-refused : (x : Checked) (r : Refusal) → x ≡ firstRefusal lists → x ≡ Refused r → x ≡ firstRefusal (cleanTests vs fs q lent)
   unfolding cleanTests
   lists-refused x r e f = f ∙ sym (row-refused lists rest r (sym e ∙ f))
 
   module _ (e : firstRefusal lists ≡ Passed) where
-    pub number-refused : badNumber ≡ true → Refused BadNumber ≡ firstRefusal (cleanTests vs fs eps lent)
+    pub number-refused : badNumber ≡ true → Refused BadNumber ≡ firstRefusal (cleanTests vs fs q lent)
     unfolding cleanTests
     number-refused h = sym (row-passed lists rest e ∙ holds badNumber BadNumber ((ltb lent need, NoWorkRoom need) ∷ keys) h)
 
     module _ (h : badNumber ≡ false) (n : ℕ) (en : n ≡ need) where
-      after-numbers : firstRefusal (cleanTests vs fs eps lent) ≡ firstRefusal ((ltb lent n, NoWorkRoom n) ∷ keys)
+      after-numbers : firstRefusal (cleanTests vs fs q lent) ≡ firstRefusal ((ltb lent n, NoWorkRoom n) ∷ keys)
       unfolding cleanTests
       after-numbers =
           row-passed lists rest e ∙ passes badNumber BadNumber ((ltb lent need, NoWorkRoom need) ∷ keys) h
           ∙ ap (λ (k : ℕ). firstRefusal ((ltb lent k, NoWorkRoom k) ∷ keys)) (sym en)
 
-      pub room-refused : lent < n → Refused (NoWorkRoom n) ≡ firstRefusal (cleanTests vs fs eps lent)
+      pub room-refused : lent < n → Refused (NoWorkRoom n) ≡ firstRefusal (cleanTests vs fs q lent)
       room-refused k = sym (after-numbers ∙ holds (ltb lent n) (NoWorkRoom n) keys (lt-ltb lent n k))
 
       module _ (k : n ≤ lent) where
-        after-room : firstRefusal (cleanTests vs fs eps lent) ≡ firstRefusal keys
+        after-room : firstRefusal (cleanTests vs fs q lent) ≡ firstRefusal keys
         after-room = after-numbers ∙ passes (ltb lent n) (NoWorkRoom n) keys (le-ltb lent n k)
 
-        pub key-refused : farKeys eps vs ≡ true → Refused KeyRange ≡ firstRefusal (cleanTests vs fs eps lent)
-        key-refused g = sym (after-room ∙ holds (farKeys eps vs) KeyRange [] g)
+        pub key-refused : farKeys (q .eps) vs ≡ true → Refused KeyRange ≡ firstRefusal (cleanTests vs fs q lent)
+        key-refused g = sym (after-room ∙ holds (farKeys (q .eps) vs) KeyRange [] g)
 
-        pub all-passed : farKeys eps vs ≡ false → Passed ≡ firstRefusal (cleanTests vs fs eps lent)
-        all-passed g = sym (after-room ∙ passes (farKeys eps vs) KeyRange [] g ∙ none-left)
+        pub all-passed : farKeys (q .eps) vs ≡ false → Passed ≡ firstRefusal (cleanTests vs fs q lent)
+        all-passed g = sym (after-room ∙ passes (farKeys (q .eps) vs) KeyRange [] g ∙ none-left)
 
-  pub ready : firstRefusal (cleanTests vs fs eps lent) ≡ Passed → CleanReady vs fs eps lent
+  pub ready : firstRefusal (cleanTests vs fs q lent) ≡ Passed → CleanReady vs fs q lent
   unfolding cleanTests workNeed
   ready e =
       let n = 128 * (length vs / 3 + length fs / 3 + 0 + 0) + 1024 in
@@ -97,7 +97,7 @@ module _ (vs : List Float) (fs : List ℕ) (eps : Float) (lent : ℕ) where
       let h = ltb-false lent n (head-passed (ltb lent n) (NoWorkRoom n) keys e7) in
       record {
         lists = l;
-        near = head-passed (farKeys eps vs) KeyRange [] e8;
+        near = head-passed (farKeys (q .eps) vs) KeyRange [] e8;
         room = omega arith;
       }
 
@@ -142,12 +142,12 @@ module _ (vs : List Float) (m : Mesh) (s : Staged) (w : List ℕ) (S : Staging v
 
 -- ---- the work room cleared
 
-pub cleaned-up : (vs : List Float) (fs : List ℕ) (eps : Float) (r : Reply) (w u w' : List ℕ) (v v' : List Float) (f f' : List ℕ)
-    → Answer (cleanTests vs fs eps (length w)) (meshOutputs (cleanResult vs fs eps) v v' f f') (documentedReply r) → length u ≡ length w → w' ≡ overlay (replicate (length u) 0) u
-    → Cleaned vs fs eps r w w' v v' f f'
-cleaned-up vs fs eps r w u w' v v' f f' a e z =
+pub cleaned-up : (vs : List Float) (fs : List ℕ) (q : CleanAsked) (r : Reply) (w u w' : List ℕ) (v v' : List Float) (f f' : List ℕ)
+    → Answer (cleanTests vs fs q (length w)) (meshOutputs (cleanResult vs fs q) v v' f f') (documentedReply r) → length u ≡ length w → w' ≡ overlay (replicate (length u) 0) u
+    → Cleaned vs fs q r w w' v v' f f'
+cleaned-up vs fs q r w u w' v v' f f' a e z =
     record {
-      answered = answered (cleanTests vs fs eps (length w)) (meshOutputs (cleanResult vs fs eps) v v' f f') w u w' (documentedReply r) a e
+      answered = answered (cleanTests vs fs q (length w)) (meshOutputs (cleanResult vs fs q) v v' f f') w u w' (documentedReply r) a e
           (z ∙ overlay-whole (replicate (length u) 0) u (omega (arith, length-replicate {A = ℕ} (length u) 0)));
-      rule = rule eps _ _ 2;
+      rule = rule (q .eps) _ _ 2;
     }

@@ -33,10 +33,13 @@ use Rattle.mesh_compact.specs.Compact.{compacted}
 use Rattle.mesh_compact.specs.Room.{StagedMesh, Source, Lent, MeshCompacted}
 use Rattle.mesh_compact.proofs.Statuses.{passed-low}
 use Rattle.mesh_compact.proofs.Shared.{label-at}
-use Rattle.mesh_cleanup.specs.Clean.{weldedMesh, cleanedMesh, cleanResult}
+use Rattle.mesh_cleanup.specs.Clean.{CleanAsked, weldedMesh, cleanedMesh, cleanResult}
 use Rattle.mesh_cleanup.specs.Steps.{CleanReady, Staging}
 
-module _ (vs : List Float) (fs : List ℕ) (eps : Float) (lent : ℕ) (R : CleanReady vs fs eps lent) where
+module _ (vs : List Float) (fs : List ℕ) (q : CleanAsked) (lent : ℕ) (R : CleanReady vs fs q lent) where
+  abbrev eps : Float
+  eps = q .eps
+
   abbrev nv : ℕ
   nv = length vs / 3
 
@@ -164,7 +167,7 @@ module _ (vs : List Float) (fs : List ℕ) (eps : Float) (lent : ℕ) (R : Clean
           view-long = view-length m₁ (9 * nv) r (let a = R .room in let b = W .few in omega arith)
 
       -- the welded mesh in the room is the one defined
-      result-is : compacted eps 2 P F ≡ cleanResult vs fs eps
+      result-is : compacted eps 2 P F ≡ cleanResult vs fs q
       unfolding cleanResult cleanedMesh weldedMesh
       result-is = λ i.
           compacted eps 2 (map (vertexOf vs) ((W .kept ∙ again .0) i)) (map (mapped (λ v. getD ((W .oldToNew ∙ again .1) i) v 0)) (threes fs))
@@ -175,7 +178,7 @@ module _ (vs : List Float) (fs : List ℕ) (eps : Float) (lent : ℕ) (R : Clean
               let e = sym (length-pointsOf vs) in
               (ap (λ (n : ℕ). weld (cells eps) (vertexOf vs) n .kept) e, ap (λ (n : ℕ). weld (cells eps) (vertexOf vs) n .oldToNew) e)
 
-      pub staged : (s : Staged) (m₃ : List ℕ) → MeshCompacted (9 * nv) r (14 * nv + 11 * nf) p 2 s m₂ m₃ → Staging vs (cleanResult vs fs eps) s m₃
+      pub staged : (s : Staged) (m₃ : List ℕ) → MeshCompacted (9 * nv) r (14 * nv + 11 * nf) p 2 s m₂ m₃ → Staging vs (cleanResult vs fs q) s m₃
       staged s m₃ C =
           record {
             vertices-in = C .vertices-in;

@@ -3,6 +3,7 @@
 --   weldedMesh, weldedPoints, weldedFacets   the mesh after welding by a joining rule
 --   cleanedMesh          the cleaned mesh, for a joining rule and the least number of facets of a component
 --   minComponentFacets   "fewer than two facets" are dropped
+--   CleanAsked, cleanAsked   what is asked beside the mesh: eps
 --   cleanResult          document 01's: the rule by cells, and two facets
 --   cleanTests           1, 2, 3, 4, 7, 8
 --   Cleaned              what the operation promises: the answer, and the rule for a kept facet without its computing
@@ -43,23 +44,29 @@ cleanedMesh rule eps m mesh =
 abbrev pub minComponentFacets : ℕ
 minComponentFacets = 2
 
-module _ (vs : List Float) (fs : List ℕ) (eps : Float) where
+pub record CleanAsked : Type 0 where
+  pub eps : Float
+
+abbrev pub cleanAsked : Float → CleanAsked
+cleanAsked eps = record { eps = eps }
+
+module _ (vs : List Float) (fs : List ℕ) (q : CleanAsked) where
   unfoldable pub cleanResult : Mesh
-  cleanResult = cleanedMesh (cells eps) eps minComponentFacets (meshOf vs fs)
+  cleanResult = cleanedMesh (cells (q .eps)) (q .eps) minComponentFacets (meshOf vs fs)
 
   -- for so many words of work room lent; there is no cap list and no grid
   unfoldable pub cleanTests : ℕ → List Test
   cleanTests lent =
       listTests ceiling vs fs 0
-      ++ (not (every inRange vs && epsInRange eps), BadNumber)
+      ++ (not (every inRange vs && epsInRange (q .eps)), BadNumber)
       ∷ workTest (workNeed (length vs / 3) (length fs / 3) 0 0) lent
-      ∷ (farKeys eps vs, KeyRange) ∷ []
+      ∷ (farKeys (q .eps) vs, KeyRange) ∷ []
 
   -- the facets kept are exactly those that stay
   abbrev pub KeptRule : Type 0
   KeptRule =
-      let w = weldedMesh (cells eps) (meshOf vs fs) in
-      Rule eps (weldedPoints w (meshOf vs fs .points)) (weldedFacets w (meshOf vs fs .facets)) minComponentFacets
+      let w = weldedMesh (cells (q .eps)) (meshOf vs fs) in
+      Rule (q .eps) (weldedPoints w (meshOf vs fs .points)) (weldedFacets w (meshOf vs fs .facets)) minComponentFacets
 
   -- from work room w and outputs v and f to w', v' and f', with the reply r
   pub record Cleaned (r : Reply) (w w' : List ℕ) (v v' : List Float) (f f' : List ℕ) : Type 0 where

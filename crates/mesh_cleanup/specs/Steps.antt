@@ -11,10 +11,11 @@ use Rattle.geometry.specs.Meshes.{Mesh, vertexOf}
 use Rattle.refusals.specs.Front.{ceiling, farKeys, ListsPass}
 use Rattle.mesh_compact.specs.declared.compact.Staged.{Staged}
 use Rattle.mesh_compact.specs.Room.{StagedMesh}
+use Rattle.mesh_cleanup.specs.Clean.{CleanAsked}
 
-pub record CleanReady (vs : List Float) (fs : List ℕ) (eps : Float) (lent : ℕ) : Type 0 where
+pub record CleanReady (vs : List Float) (fs : List ℕ) (q : CleanAsked) (lent : ℕ) : Type 0 where
   pub lists : ListsPass ceiling vs fs
-  pub near : farKeys eps vs ≡ false
+  pub near : farKeys (q .eps) vs ≡ false
   pub room : 128 * (length vs / 3 + length fs / 3) + 1024 ≤ lent
 
 pub record Staging (vs : List Float) (mesh : Mesh) (s : Staged) (m : List ℕ) : Type 0 where

@@ -8,7 +8,7 @@ ghost use Rattle.words.specs.Overlay.{overlay};
 ghost use Rattle.geometry.specs.Meshes.{coordinates, vertexOf};
 ghost use Rattle.refusals.specs.Refusals.{documentedReply, firstRefusal};
 ghost use Rattle.refusals.specs.Answers.{meshOutputs, Answer};
-ghost use Rattle.mesh_cleanup.specs.Clean.{cleanTests, cleanResult, Cleaned};
+ghost use Rattle.mesh_cleanup.specs.Clean.{cleanAsked, cleanTests, cleanResult, Cleaned};
 ghost use Rattle.mesh_cleanup.specs.Steps.{CleanReady, Staging};
 use geometry::numbers::MeshVertexId;
 use geometry::vertices::vertex_at;
@@ -33,7 +33,7 @@ const MIN_COMPONENT_FACETS: u64 = 2;
 
 // Tests 1, 2, 3, 4, 7 and 8, in that order.
 fn check(vertices: &[f64], facets: &[u32], eps: f64, lent: usize) -> Checked
-    ensures { λ r. ⌜ r ≡ firstRefusal (cleanTests (now (vertices .entry)) (now (facets .entry)) eps lent) ⌝ }
+    ensures { λ r. ⌜ r ≡ firstRefusal (cleanTests (now (vertices .entry)) (now (facets .entry)) (cleanAsked eps) lent) ⌝ }
 {
     let lists = check_lists(65536, vertices, facets, 0);
     if let Checked::Refused(_) = lists {
@@ -57,8 +57,8 @@ fn check(vertices: &[f64], facets: &[u32], eps: f64, lent: usize) -> Checked
 
 // The cleaned mesh in the work room: 14 words a vertex for welding, 14 a facet for the filter, then 2 a vertex and 8 a facet for components and numbers.
 fn stage(vertices: &[f64], facets: &[u32], eps: f64, work: &mut [u64]) -> Staged
-    requires { ⌜ CleanReady (now vertices) (now facets) eps (length (now work)) ⌝ }
-    ensures { λ r. ⌜ Staging (now (vertices .entry)) (cleanResult (now (vertices .entry)) (now (facets .entry)) eps) r (now (work .exit)) ⌝ }
+    requires { ⌜ CleanReady (now vertices) (now facets) (cleanAsked eps) (length (now work)) ⌝ }
+    ensures { λ r. ⌜ Staging (now (vertices .entry)) (cleanResult (now (vertices .entry)) (now (facets .entry)) (cleanAsked eps)) r (now (work .exit)) ⌝ }
 {
     let nv = vertices.len() / 3;
     let nf = facets.len() / 3;
@@ -116,9 +116,9 @@ fn clean_checked(
     out_vertices: &mut [f64],
     out_facets: &mut [u32],
 ) -> Reply
-    requires { ⌜ CleanReady (now vertices) (now facets) eps (length (now work)) ⌝ }
+    requires { ⌜ CleanReady (now vertices) (now facets) (cleanAsked eps) (length (now work)) ⌝ }
     ensures { λ r. ⌜ Answer []
-        (meshOutputs (cleanResult (now (vertices .entry)) (now (facets .entry)) eps) (now («out_vertices» .entry)) (now («out_vertices» .exit)) (now («out_facets» .entry))
+        (meshOutputs (cleanResult (now (vertices .entry)) (now (facets .entry)) (cleanAsked eps)) (now («out_vertices» .entry)) (now («out_vertices» .exit)) (now («out_facets» .entry))
         (now («out_facets» .exit))) (documentedReply r) ⌝ }
 {
     let s = stage(vertices, facets, eps, work);
@@ -147,8 +147,8 @@ fn clean_lent(
     out_vertices: &mut [f64],
     out_facets: &mut [u32],
 ) -> Reply
-    ensures { λ r. ⌜ Answer (cleanTests (now (vertices .entry)) (now (facets .entry)) eps (length (now (work .entry))))
-        (meshOutputs (cleanResult (now (vertices .entry)) (now (facets .entry)) eps) (now («out_vertices» .entry)) (now («out_vertices» .exit)) (now («out_facets» .entry))
+    ensures { λ r. ⌜ Answer (cleanTests (now (vertices .entry)) (now (facets .entry)) (cleanAsked eps) (length (now (work .entry))))
+        (meshOutputs (cleanResult (now (vertices .entry)) (now (facets .entry)) (cleanAsked eps)) (now («out_vertices» .entry)) (now («out_vertices» .exit)) (now («out_facets» .entry))
         (now («out_facets» .exit))) (documentedReply r) ⌝ }
 {
     match check(vertices, facets, eps, work.len()) {
@@ -166,7 +166,7 @@ pub fn clean_mesh(
     out_vertices: &mut [f64],
     out_facets: &mut [u32],
 ) -> Reply
-    ensures { λ r. ⌜ Cleaned (now (vertices .entry)) (now (facets .entry)) eps r (now (work .entry)) (now (work .exit)) (now («out_vertices» .entry))
+    ensures { λ r. ⌜ Cleaned (now (vertices .entry)) (now (facets .entry)) (cleanAsked eps) r (now (work .entry)) (now (work .exit)) (now («out_vertices» .entry))
         (now («out_vertices» .exit)) (now («out_facets» .entry)) (now («out_facets» .exit)) ⌝ }
 {
     let reply = clean_lent(vertices, facets, eps, work, out_vertices, out_facets);

@@ -24,8 +24,8 @@ use Rattle.refusals.specs.Refusals.{Test, settle, Zeroed}
 use Rattle.refusals.specs.Answers.{meshOutputs, replyIn, Called}
 use Rattle.refusals.specs.Reports.{Reported}
 use Rattle.tolerance.specs.Tolerance.{toleranceReply}
-use Rattle.aabb_clipping.specs.Clip.{clipResult}
-use Rattle.mesh_cleanup.specs.Clean.{cleanResult}
+use Rattle.aabb_clipping.specs.Clip.{clipAsked, clipResult}
+use Rattle.mesh_cleanup.specs.Clean.{cleanAsked, cleanResult}
 use Rattle.candidate_surface.specs.Asked.{asked}
 use Rattle.caps.specs.Operation.{capsResult}
 use Rattle.yongpham.specs.Calls.{boxOf, modeOf}
@@ -60,6 +60,8 @@ use Rattle.replay.specs.Agreement.{
   boxIn,
   epsIn,
   resolutionIn,
+  clipAskedIn,
+  cleanAskedIn,
   askedIn,
   modeIn,
   capsIn,
@@ -168,14 +170,14 @@ module _ (stored w : List ℕ) (v : List Float) (f : List ℕ) (fresh : Fresh st
       ∙ ap₂ (λ (n m : ℕ). reply (getD stored 14 0) (n ∷ m ∷ [])) (fresh-vertices stored w v f fresh) (fresh-facets stored w v f fresh)
 
   pub clip-reply : (vs : List Float) (fs : List ℕ) {box : AABB} {eps : Float} → box ≡ boxIn stored → eps ≡ epsIn stored
-      → clipReply vs fs box eps (length w) (length v ∷ length f ∷ []) ≡ clipReply vs fs (boxIn stored) (epsIn stored) (getD stored 14 0) (outputsIn stored)
+      → clipReply vs fs (clipAsked box eps) (length w) (length v ∷ length f ∷ []) ≡ clipReply vs fs (clipAskedIn stored) (getD stored 14 0) (outputsIn stored)
   clip-reply vs fs b e =
-      ap₂ (λ (x : AABB) (y : Float). clipReply vs fs x y (length w) (length v ∷ length f ∷ [])) b e ∙ same-lengths (clipReply vs fs (boxIn stored) (epsIn stored))
+      (λ t. clipReply vs fs (clipAsked (b t) (e t)) (length w) (length v ∷ length f ∷ [])) ∙ same-lengths (clipReply vs fs (clipAskedIn stored))
 
   pub clean-reply : (vs : List Float) (fs : List ℕ) {eps : Float} → eps ≡ epsIn stored
-      → cleanReply vs fs eps (length w) (length v ∷ length f ∷ []) ≡ cleanReply vs fs (epsIn stored) (getD stored 14 0) (outputsIn stored)
+      → cleanReply vs fs (cleanAsked eps) (length w) (length v ∷ length f ∷ []) ≡ cleanReply vs fs (cleanAskedIn stored) (getD stored 14 0) (outputsIn stored)
   clean-reply vs fs e =
-      ap (λ (y : Float). cleanReply vs fs y (length w) (length v ∷ length f ∷ [])) e ∙ same-lengths (cleanReply vs fs (epsIn stored))
+      (λ t. cleanReply vs fs (cleanAsked (e t)) (length w) (length v ∷ length f ∷ [])) ∙ same-lengths (cleanReply vs fs (cleanAskedIn stored))
 
   pub caps-reply : (vs : List Float) (fs : List ℕ) {capList : List ℕ} {box : AABB} {eps resolution : Float} {mode : ℕ}
       → capList ≡ capsIn stored → box ≡ boxIn stored → eps ≡ epsIn stored → resolution ≡ resolutionIn stored → mode ≡ modeIn stored
@@ -186,11 +188,11 @@ module _ (stored w : List ℕ) (v : List Float) (f : List ℕ) (fresh : Fresh st
       ∙ same-lengths (capsReply vs fs (capsIn stored) (askedIn stored) (modeIn stored))
 
 pub clip-result : (stored : List ℕ) (vs : List Float) (fs : List ℕ) {box : AABB} {eps : Float} → box ≡ boxIn stored → eps ≡ epsIn stored
-    → clipResult vs fs box eps ≡ clipResult vs fs (boxIn stored) (epsIn stored)
-clip-result stored vs fs b e = ap₂ (clipResult vs fs) b e
+    → clipResult vs fs (clipAsked box eps) ≡ clipResult vs fs (clipAskedIn stored)
+clip-result stored vs fs b e = λ t. clipResult vs fs (clipAsked (b t) (e t))
 
-pub clean-result : (stored : List ℕ) (vs : List Float) (fs : List ℕ) {eps : Float} → eps ≡ epsIn stored → cleanResult vs fs eps ≡ cleanResult vs fs (epsIn stored)
-clean-result stored vs fs e = ap (cleanResult vs fs) e
+pub clean-result : (stored : List ℕ) (vs : List Float) (fs : List ℕ) {eps : Float} → eps ≡ epsIn stored → cleanResult vs fs (cleanAsked eps) ≡ cleanResult vs fs (cleanAskedIn stored)
+clean-result stored vs fs e = λ t. cleanResult vs fs (cleanAsked (e t))
 
 pub caps-result : (stored : List ℕ) (vs : List Float) (fs : List ℕ) {capList : List ℕ} {box : AABB} {eps resolution : Float} {mode : ℕ}
     → capList ≡ capsIn stored → box ≡ boxIn stored → eps ≡ epsIn stored → resolution ≡ resolutionIn stored → mode ≡ modeIn stored

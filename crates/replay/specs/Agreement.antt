@@ -5,7 +5,8 @@
 --   Fresh                     work room and outputs before a call
 --   OutputsLent               four outputs are as long as the record says
 --   SameOutputs, CandidatesAnswered, CandidatesFresh   the same as AgreesWith and Fresh of the operation that writes four lists of words
---   boxIn, epsIn, resolutionIn, askedIn, modeIn, capsIn   box, eps, resolution, all three, mode and cap list of a record
+--   boxIn, epsIn, resolutionIn, modeIn, capsIn   box, eps, resolution, mode and cap list of a record
+--   clipAskedIn, cleanAskedIn, askedIn   what is asked of clip, of clean, and of candidates and caps
 --   clipReply, cleanReply, candidatesReply, capsReply   the definitions' replies
 --   reported                  a reply as a number and four values
 --   ResultStored, WordsStored       the stored answer is this reply, with this mesh, or these candidates, in front of old contents
@@ -27,8 +28,8 @@ use Rattle.geometry.specs.Meshes.{Mesh, coordinates, meshLengths}
 use Rattle.refusals.specs.Refusals.{settle}
 use Rattle.refusals.specs.Answers.{replyIn}
 use Rattle.tolerance.specs.Tolerance.{toleranceReply}
-use Rattle.aabb_clipping.specs.Clip.{clipTests, clipResult}
-use Rattle.mesh_cleanup.specs.Clean.{cleanTests, cleanResult}
+use Rattle.aabb_clipping.specs.Clip.{ClipAsked, clipAsked, clipTests, clipResult}
+use Rattle.mesh_cleanup.specs.Clean.{CleanAsked, cleanAsked, cleanTests, cleanResult}
 use Rattle.candidate_pool.specs.OpenEdges.{openEdgeWords}
 use Rattle.candidate_constraints.specs.Constraints.{constraintWords}
 use Rattle.candidate_surface.specs.Candidates.{Candidates}
@@ -103,6 +104,12 @@ epsIn stored = doubleAt stored 12
 abbrev pub resolutionIn : List ℕ → Float
 resolutionIn stored = doubleAt stored 13
 
+abbrev pub clipAskedIn : List ℕ → ClipAsked
+clipAskedIn stored = clipAsked (boxIn stored) (epsIn stored)
+
+abbrev pub cleanAskedIn : List ℕ → CleanAsked
+cleanAskedIn stored = cleanAsked (epsIn stored)
+
 abbrev pub askedIn : List ℕ → Asked
 askedIn stored = asked (boxIn stored) (epsIn stored) (resolutionIn stored)
 
@@ -142,11 +149,11 @@ abbrev pub fourIn : List ℕ → List ℕ
 fourIn stored = getD stored 15 0 ∷ getD stored 16 0 ∷ getD stored 17 0 ∷ getD stored 18 0 ∷ []
 
 -- the definitions' replies, for so many words of work room lent and outputs of these lengths
-abbrev pub clipReply : List Float → List ℕ → AABB → Float → ℕ → List ℕ → List ℕ
-clipReply vs fs box eps lent outs = replyIn (clipTests vs fs box eps lent) (meshLengths (clipResult vs fs box eps)) outs
+abbrev pub clipReply : List Float → List ℕ → ClipAsked → ℕ → List ℕ → List ℕ
+clipReply vs fs q lent outs = replyIn (clipTests vs fs q lent) (meshLengths (clipResult vs fs q)) outs
 
-abbrev pub cleanReply : List Float → List ℕ → Float → ℕ → List ℕ → List ℕ
-cleanReply vs fs eps lent outs = replyIn (cleanTests vs fs eps lent) (meshLengths (cleanResult vs fs eps)) outs
+abbrev pub cleanReply : List Float → List ℕ → CleanAsked → ℕ → List ℕ → List ℕ
+cleanReply vs fs q lent outs = replyIn (cleanTests vs fs q lent) (meshLengths (cleanResult vs fs q)) outs
 
 abbrev pub candidatesReply : List Float → List ℕ → Asked → ℕ → List ℕ → List ℕ
 candidatesReply vs fs q lent outs = replyIn (candidatesTests vs fs q lent) (candidateLengths (candidatesResult vs fs q)) outs
@@ -156,10 +163,10 @@ capsReply vs fs capList q mode lent outs = replyIn (capsCallTests vs fs capList 
 
 abbrev pub ClipStored : List ℕ → List Float → List ℕ → Type 0
 ClipStored stored vs fs =
-    ResultStored stored (clipReply vs fs (boxIn stored) (epsIn stored) (getD stored 14 0) (outputsIn stored)) (clipResult vs fs (boxIn stored) (epsIn stored))
+    ResultStored stored (clipReply vs fs (clipAskedIn stored) (getD stored 14 0) (outputsIn stored)) (clipResult vs fs (clipAskedIn stored))
 
 abbrev pub CleanStored : List ℕ → List Float → List ℕ → Type 0
-CleanStored stored vs fs = ResultStored stored (cleanReply vs fs (epsIn stored) (getD stored 14 0) (outputsIn stored)) (cleanResult vs fs (epsIn stored))
+CleanStored stored vs fs = ResultStored stored (cleanReply vs fs (cleanAskedIn stored) (getD stored 14 0) (outputsIn stored)) (cleanResult vs fs (cleanAskedIn stored))
 
 abbrev pub CandidatesStored : List ℕ → List Float → List ℕ → Type 0
 CandidatesStored stored vs fs =

@@ -27,10 +27,10 @@ use Rattle.mesh_weld.specs.Cells.{keyOf, sameKey, around, near, neighbours, cel
 use Rattle.mesh_filter.specs.Filters.{hasRepeatedCorner, isFlat, sameCorners, isDuplicate, filtered, passedNext, passed}
 use Rattle.mesh_compact.specs.Status.{shareVertex, isAlone, status, keptFacets}
 use Rattle.mesh_compact.specs.Compact.{renumbered, compacted}
-use Rattle.mesh_cleanup.specs.Clean.{weldedMesh, cleanedMesh, cleanResult, cleanTests}
+use Rattle.mesh_cleanup.specs.Clean.{CleanAsked, cleanAsked, weldedMesh, cleanedMesh, cleanResult, cleanTests}
 use Rattle.aabb_polygons.specs.Polygons.{inside, snapTo, snapped, crossing, interpolated, onPlane, crossed, sideClipped, walk, clipToPlane, clipPolygon}
 use Rattle.aabb_facets.specs.Clipped.{sharedNumber, fan, fanned, insideBox, shareOnce, sharing, clipFacet, clipFacets, clipped}
-use Rattle.aabb_clipping.specs.Clip.{clipTests, clipResult}
+use Rattle.aabb_clipping.specs.Clip.{ClipAsked, clipAsked, clipTests, clipResult}
 use Rattle.geometry.specs.Axes.{segments, gridLine, axisPoints, gridSize}
 use Rattle.edges.specs.Edges.{samePair, pairBefore, openEdges}
 use Rattle.box_faces.specs.Faces.{onFace, facesOf}
@@ -103,11 +103,11 @@ abbrev pub row : {A : Type 0} → A → A → Row
 row g s = record { Result = _; given = g; stated = s }
 
 -- the replies of operations, for so many words of work room lent and outputs of these lengths
-abbrev pub clipReply : List Float → List ℕ → AABB → Float → ℕ → List ℕ → List ℕ
-clipReply vs fs box eps lent outs = replyIn (clipTests vs fs box eps lent) (meshLengths (clipResult vs fs box eps)) outs
+abbrev pub clipReply : List Float → List ℕ → ClipAsked → ℕ → List ℕ → List ℕ
+clipReply vs fs q lent outs = replyIn (clipTests vs fs q lent) (meshLengths (clipResult vs fs q)) outs
 
-abbrev pub cleanReply : List Float → List ℕ → Float → ℕ → List ℕ → List ℕ
-cleanReply vs fs eps lent outs = replyIn (cleanTests vs fs eps lent) (meshLengths (cleanResult vs fs eps)) outs
+abbrev pub cleanReply : List Float → List ℕ → CleanAsked → ℕ → List ℕ → List ℕ
+cleanReply vs fs q lent outs = replyIn (cleanTests vs fs q lent) (meshLengths (cleanResult vs fs q)) outs
 
 abbrev pub candidatesReply : List Float → List ℕ → Asked → ℕ → List ℕ → List ℕ
 candidatesReply vs fs q lent outs = replyIn (candidatesTests vs fs q lent) (candidateLengths (candidatesResult vs fs q)) outs
@@ -120,7 +120,7 @@ points1 = -1/2048 ∷ +0 ∷ +0 ∷ +1/2048 ∷ +0 ∷ +0 ∷ []
 abbrev pub c1 : Row
 c1 =
     row {A = List ℤ × Float × List ℕ × Mesh}
-    (map (key 1/1024) (-1/2048 ∷ +1/2048 ∷ []), norm (difference (pt -1/2048 +0 +0) (pt +1/2048 +0 +0)), cleanReply points1 [] 1/1024 1280 (6 ∷ 0 ∷ []), cleanResult points1 [] 1/1024)
+    (map (key 1/1024) (-1/2048 ∷ +1/2048 ∷ []), norm (difference (pt -1/2048 +0 +0) (pt +1/2048 +0 +0)), cleanReply points1 [] (cleanAsked 1/1024) 1280 (6 ∷ 0 ∷ []), cleanResult points1 [] (cleanAsked 1/1024))
     (negsuc 0 ∷ pos 1 ∷ [], 1/1024, 0 ∷ 6 ∷ 0 ∷ [], meshOf points1 [])
 
 -- C3: "the same eps, (±3/8192 on all axes, equal signs): cleaning keeps two, though both have key (0,0,0)"
@@ -129,7 +129,7 @@ points3 = -3/8192 ∷ -3/8192 ∷ -3/8192 ∷ +3/8192 ∷ +3/8192 ∷ +3/8192 �
 
 abbrev pub c3 : Row
 c3 =
-    row {A = List ℤ × List ℕ × Mesh} (map (key 1/1024) points3, cleanReply points3 [] 1/1024 1280 (6 ∷ 0 ∷ []), cleanResult points3 [] 1/1024)
+    row {A = List ℤ × List ℕ × Mesh} (map (key 1/1024) points3, cleanReply points3 [] (cleanAsked 1/1024) 1280 (6 ∷ 0 ∷ []), cleanResult points3 [] (cleanAsked 1/1024))
     (pos 0 ∷ pos 0 ∷ pos 0 ∷ pos 0 ∷ pos 0 ∷ pos 0 ∷ [], 0 ∷ 6 ∷ 0 ∷ [], meshOf points3 [])
 
 -- C4: "XMin 1, eps 0.75 × 2^-53, from x = 1 - 2^-53 to x = 0: inside differs, crossing nothing"
@@ -153,7 +153,7 @@ points5 = +0 ∷ +0 ∷ +0 ∷ +4 ∷ +0 ∷ +0 ∷ +0 ∷ +4 ∷ +0 ∷ []
 abbrev pub c5 : Row
 c5 =
     row {A = List ℕ × Mesh}
-    (clipReply points5 (0 ∷ 1 ∷ 2 ∷ []) box5 2^-20 1536 (12 ∷ 6 ∷ []), clipResult points5 (0 ∷ 1 ∷ 2 ∷ []) box5 2^-20)
+    (clipReply points5 (0 ∷ 1 ∷ 2 ∷ []) (clipAsked box5 2^-20) 1536 (12 ∷ 6 ∷ []), clipResult points5 (0 ∷ 1 ∷ 2 ∷ []) (clipAsked box5 2^-20))
     (0 ∷ 12 ∷ 6 ∷ [], meshOf (+0 ∷ +0 ∷ +0 ∷ +2 ∷ +0 ∷ +0 ∷ +2 ∷ +2 ∷ +0 ∷ +0 ∷ +4 ∷ +0 ∷ []) (0 ∷ 1 ∷ 2 ∷ 0 ∷ 2 ∷ 3 ∷ []))
 
 -- C6: "one sound facet cleaned: no vertex, no facet". C7: "facet 0 1 2 and facet 2 1 0: the same". With no room in the outputs
@@ -162,12 +162,12 @@ points6 = +0 ∷ +0 ∷ +0 ∷ +1 ∷ +0 ∷ +0 ∷ +0 ∷ +1 ∷ +0 ∷ []
 
 abbrev pub c6 : Row
 c6 =
-    row {A = List ℕ × Mesh} (cleanReply points6 (0 ∷ 1 ∷ 2 ∷ []) 2^-20 1536 (0 ∷ 0 ∷ []), cleanResult points6 (0 ∷ 1 ∷ 2 ∷ []) 2^-20)
+    row {A = List ℕ × Mesh} (cleanReply points6 (0 ∷ 1 ∷ 2 ∷ []) (cleanAsked 2^-20) 1536 (0 ∷ 0 ∷ []), cleanResult points6 (0 ∷ 1 ∷ 2 ∷ []) (cleanAsked 2^-20))
     (0 ∷ 0 ∷ 0 ∷ [], meshOf [] [])
 
 abbrev pub c7 : Row
 c7 =
-    row {A = List ℕ × Mesh} (cleanReply points6 (0 ∷ 1 ∷ 2 ∷ 2 ∷ 1 ∷ 0 ∷ []) 2^-20 1664 (0 ∷ 0 ∷ []), cleanResult points6 (0 ∷ 1 ∷ 2 ∷ 2 ∷ 1 ∷ 0 ∷ []) 2^-20)
+    row {A = List ℕ × Mesh} (cleanReply points6 (0 ∷ 1 ∷ 2 ∷ 2 ∷ 1 ∷ 0 ∷ []) (cleanAsked 2^-20) 1664 (0 ∷ 0 ∷ []), cleanResult points6 (0 ∷ 1 ∷ 2 ∷ 2 ∷ 1 ∷ 0 ∷ []) (cleanAsked 2^-20))
     (0 ∷ 0 ∷ 0 ∷ [], meshOf [] [])
 
 -- C9: "box (0,0,0) to (2,2,2), resolution 2, eps 1e-10, facet (0,0,1), (1,0,1), (0,1,1): refusal 9, pair 1, 2". The operation's reply, with just enough work room

@@ -1,6 +1,6 @@
 ghost use lib.ListN.{length};
 ghost use Rattle.refusals.specs.Answers.{meshOutputs, Called};
-ghost use Rattle.aabb_clipping.specs.Clip.{clipTests, clipResult};
+ghost use Rattle.aabb_clipping.specs.Clip.{clipAsked, clipTests, clipResult};
 ghost use Rattle.yongpham.specs.Calls.{boxOf};
 use aabb_clipping::clip_mesh_to_aabb;
 use geometry::aabb::AABB;
@@ -24,8 +24,8 @@ pub extern "C" fn yongpham_clip(
     values: &mut [u64; 4],
 ) -> u32
     ensures { λ r. ⌜ Called
-        (clipTests (now (vertices .entry)) (now (facets .entry)) (boxOf «min_x» «min_y» «min_z» «max_x» «max_y» «max_z») eps (length (now (work .entry))))
-        (meshOutputs (clipResult (now (vertices .entry)) (now (facets .entry)) (boxOf «min_x» «min_y» «min_z» «max_x» «max_y» «max_z») eps) (now («out_vertices» .entry))
+        (clipTests (now (vertices .entry)) (now (facets .entry)) (clipAsked (boxOf «min_x» «min_y» «min_z» «max_x» «max_y» «max_z») eps) (length (now (work .entry))))
+        (meshOutputs (clipResult (now (vertices .entry)) (now (facets .entry)) (clipAsked (boxOf «min_x» «min_y» «min_z» «max_x» «max_y» «max_z») eps)) (now («out_vertices» .entry))
         (now («out_vertices» .exit)) (now («out_facets» .entry)) (now («out_facets» .exit))) (now (work .entry)) (now (work .exit)) r (now (values .exit)) ⌝ }
 {
     let extents = AABB {

@@ -1,5 +1,5 @@
 use Rattle.aabb_clipping.proofs.Delivery.{done}
-use Rattle.aabb_clipping.specs.Clip.{clipResult}
+use Rattle.aabb_clipping.specs.Clip.{clipAsked, clipResult}
 use borrow.Author.Tests.{not-false}
 use native.Mathlib.Omega.{arith}
 use borrow.Author.Needs.{needs}
@@ -49,7 +49,7 @@ returns-2 c =
     let a = s .args in
     let p = run-pass in
     let fits = is-ample .ensures (not-false _ (if1 .left)) in
-    let m = clipResult (a .vertices .now) (a .facets .now) (a .extents) (a .eps) in
+    let m = clipResult (a .vertices .now) (a .facets .now) (clipAsked (a .extents) (a .eps)) in
     done m (a .out-vertices .now) _ (a .out-facets .now) _ (p .result .vertices) (p .result .numbers) (p .ensures .0 .count) (p .ensures .0 .numbers) (omega (
       arith,
       p .ensures .0 .count,

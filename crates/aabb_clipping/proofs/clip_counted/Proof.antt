@@ -1,5 +1,5 @@
 use Rattle.aabb_clipping.proofs.Delivery.{none-front, short-vertices, short-facets, done}
-use Rattle.aabb_clipping.specs.Clip.{clipResult}
+use Rattle.aabb_clipping.specs.Clip.{clipAsked, clipResult}
 use Rattle.geometry.specs.Meshes.{coordinates}
 use Rattle.geometry.specs.Triangles.{flat}
 use lib.Ieee.{Float}
@@ -49,7 +49,7 @@ returns c =
     let p = run-pass in
     let nv = none-front (p .last .1 .1 .1 .1 .1 .0) (a .out-vertices .now) (p .kept .1 .1 .1 .1 .1 .0) in
     let nf = none-front (p .last .1 .1 .1 .1 .1 .1 .0) (a .out-facets .now) (p .kept .1 .1 .1 .1 .1 .1 .0) in
-    let m = clipResult (a .vertices .now) (a .facets .now) (a .extents) (a .eps) in
+    let m = clipResult (a .vertices .now) (a .facets .now) (clipAsked (a .extents) (a .eps)) in
     short-vertices m (a .out-vertices .now) _ (a .out-facets .now) _ (p .result .vertices) (p .result .numbers) (p .ensures .0 .count) (p .ensures .0 .numbers) (omega
     (arith, c .if1 .taken, ap length nv)) nv nf
 
@@ -70,7 +70,7 @@ returns-2 c =
     let p = c .before .before .before .before .before .before .before .before .before .run-pass in
     let nv = none-front (p .last .1 .1 .1 .1 .1 .0) (a .out-vertices .now) (p .kept .1 .1 .1 .1 .1 .0) in
     let nf = none-front (p .last .1 .1 .1 .1 .1 .1 .0) (a .out-facets .now) (p .kept .1 .1 .1 .1 .1 .1 .0) in
-    let m = clipResult (a .vertices .now) (a .facets .now) (a .extents) (a .eps) in
+    let m = clipResult (a .vertices .now) (a .facets .now) (clipAsked (a .extents) (a .eps)) in
     short-facets m (a .out-vertices .now) _ (a .out-facets .now) _ (p .result .vertices) (p .result .numbers) (p .ensures .0 .count) (p .ensures .0 .numbers)
     (omega (arith, c .before .if1 .left, ap length nv)) (omega (arith, c .if2 .taken, ap length nf)) nv nf
 
@@ -104,7 +104,7 @@ returns-3 c =
     let p = run-pass in
     let nv = none-front (p .last .1 .1 .1 .1 .1 .0) (a .out-vertices .now) (p .kept .1 .1 .1 .1 .1 .0) in
     let nf = none-front (p .last .1 .1 .1 .1 .1 .1 .0) (a .out-facets .now) (p .kept .1 .1 .1 .1 .1 .1 .0) in
-    let m = clipResult (a .vertices .now) (a .facets .now) (a .extents) (a .eps) in
+    let m = clipResult (a .vertices .now) (a .facets .now) (clipAsked (a .extents) (a .eps)) in
     let w = run-pass2 in
     done m (a .out-vertices .now) _ (a .out-facets .now) _ (p .result .vertices) (p .result .numbers) (p .ensures .0 .count) (p .ensures .0 .numbers) (omega (
       arith,

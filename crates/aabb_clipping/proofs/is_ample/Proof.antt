@@ -1,4 +1,5 @@
 use Rattle.aabb_clipping.proofs.Delivery.{ample, inside}
+use Rattle.aabb_clipping.specs.Clip.{clipAsked}
 use Rattle.lists.proofs.Orders.{never}
 use mathlib.Core.Bool.{false}
 use mathlib.Core.Path.{refl, sym, _∙_}
@@ -16,7 +17,7 @@ returns : tie.Need-returns
 returns c =
     let s = c .before .before .before .before in
     let a = s .args in
-    λ e. ample (a .vertices .now) (a .facets .now) (a .extents) (a .eps) (a .vertex-room) (a .facet-room) (c .before .if1 .taken) (c .if2 .taken)
+    λ e. ample (a .vertices .now) (a .facets .now) (clipAsked (a .extents) (a .eps)) (a .vertex-room) (a .facet-room) (c .before .if1 .taken) (c .if2 .taken)
 
 returns-2 : tie.Need-returns-2
 returns-2 c = λ e. absurd (never false e refl)
@@ -33,7 +34,7 @@ returns-4 c =
     let if4 = c .before .if4 in
     let s = c .before .before .before .before .before .before in
     let a = s .args in
-    λ e. inside (a .vertices .now) (a .facets .now) (a .extents) (a .eps) (a .vertex-room) (a .facet-room) (s .pre .1) (if3 .left) (if4 .left) (sym
+    λ e. inside (a .vertices .now) (a .facets .now) (clipAsked (a .extents) (a .eps)) (a .vertex-room) (a .facet-room) (s .pre .1) (if3 .left) (if4 .left) (sym
     (c .wholly-inside .ensures) ∙ e)
 
 pub is-ample-spec : {M : Type 1} → statement M

@@ -1,4 +1,4 @@
-use Rattle.mesh_cleanup.specs.Clean.{cleanResult}
+use Rattle.mesh_cleanup.specs.Clean.{cleanAsked, cleanResult}
 use Rattle.mesh_cleanup.proofs.Delivery.{short-vertices, short-facets, done}
 use native.Mathlib.Omega.{arith}
 use mathlib.Core.Path.{refl}
@@ -19,7 +19,7 @@ returns : tie.Need-returns
 returns c =
     let s = c .before .before .before .before .before .before .before .before .before .before in
     let a = s .args in
-    short-vertices (a .vertices .now) (cleanResult (a .vertices .now) (a .facets .now) (a .eps)) (c .before .before .before .stage .result)
+    short-vertices (a .vertices .now) (cleanResult (a .vertices .now) (a .facets .now) (cleanAsked (a .eps))) (c .before .before .before .stage .result)
     (c .before .before .before .stage .last .1 .1 .1 .0) (c .before .before .before .stage .ensures) (a .out-vertices .now) (a .out-vertices .now) (a .out-facets .now)
     (a .out-facets .now) (c .if1 .taken) refl refl
 
@@ -30,7 +30,7 @@ returns-2 : tie.Need-returns-2
 returns-2 c =
     let s = c .before .before .before .before .before .before .before .before .before .before .before in
     let a = s .args in
-    short-facets (a .vertices .now) (cleanResult (a .vertices .now) (a .facets .now) (a .eps)) (c .before .before .before .before .stage .result)
+    short-facets (a .vertices .now) (cleanResult (a .vertices .now) (a .facets .now) (cleanAsked (a .eps))) (c .before .before .before .before .stage .result)
     (c .before .before .before .before .stage .last .1 .1 .1 .0) (c .before .before .before .before .stage .ensures) (a .out-vertices .now) (a .out-vertices .now)
     (a .out-facets .now) (a .out-facets .now) (omega (arith, c .before .if1 .left)) (c .if2 .taken) refl refl
 
@@ -54,7 +54,7 @@ returns-3 c =
     let s = c .before .before .before .before .before .before .before .before .before .before .before .before .before .before .before .before .before .before .before .before
     .before in
     let a = s .args in
-    done (a .vertices .now) (cleanResult (a .vertices .now) (a .facets .now) (a .eps))
+    done (a .vertices .now) (cleanResult (a .vertices .now) (a .facets .now) (cleanAsked (a .eps)))
     (c .before .before .before .before .before .before .before .before .before .before .before .before .before .before .stage .result)
     (c .before .before .before .before .before .before .before .before .before .before .before .before .before .before .stage .last .1 .1 .1 .0)
     (c .before .before .before .before .before .before .before .before .before .before .before .before .before .before .stage .ensures) (a .out-vertices .now)

@@ -1,4 +1,5 @@
 use Rattle.mesh_cleanup.proofs.Delivery.{cleaned-up}
+use Rattle.mesh_cleanup.specs.Clean.{cleanAsked}
 use borrow.Author.Needs.{needs}
 use Rattle.mesh_cleanup.proofs.clean_mesh.Statement.{statement}
 use Rattle.mesh_cleanup.proofs.clean_mesh.Tie as tie
@@ -22,7 +23,7 @@ returns : tie.Need-returns
 returns c =
     let s = c .before .before .before .before .before .before .before .before .before .before .before .before .before .before .before .before .before .before .before in
     let a = s .args in
-    cleaned-up (a .vertices .now) (a .facets .now) (a .eps) (c .before .before .before .before .before .before .before .before .before .before .clean-lent .result) (a .work .now)
+    cleaned-up (a .vertices .now) (a .facets .now) (cleanAsked (a .eps)) (c .before .before .before .before .before .before .before .before .before .before .clean-lent .result) (a .work .now)
     (c .before .before .before .before .before .before .before .before .before .before .clean-lent .last .1 .1 .1 .0) (c .before .before .zero-front .last .0)
     (a .out-vertices .now) (c .before .before .before .before .before .before .before .before .before .before .clean-lent .last .1 .1 .1 .1 .0) (a .out-facets .now)
     (c .before .before .before .before .before .before .before .before .before .before .clean-lent .last .1 .1 .1 .1 .1 .0)

@@ -1,4 +1,5 @@
 use lib.ListN.{length}
+use Rattle.mesh_cleanup.specs.Clean.{cleanAsked}
 use Rattle.mesh_cleanup.proofs.Staging.{keys-in, weld-room, numbered, last-room, staged}
 use borrow.Author.Needs.{needs}
 use Rattle.mesh_cleanup.proofs.stage.Statement.{statement}
@@ -8,7 +9,7 @@ weld-requires : tie.Need-weld-requires
 weld-requires c κs =
     let s = c .before .before .before .before in
     let a = s .args in
-    (weld-room (a .vertices .now) (a .facets .now) (a .eps) (length (a .work .now)) (s .pre), keys-in (a .vertices .now) (a .facets .now) (a .eps) (length (a .work .now)) (s .pre))
+    (weld-room (a .vertices .now) (a .facets .now) (cleanAsked (a .eps)) (length (a .work .now)) (s .pre), keys-in (a .vertices .now) (a .facets .now) (cleanAsked (a .eps)) (length (a .work .now)) (s .pre))
 
 mul-filter : tie.Need-mul-filter
 mul-filter c = search needs
@@ -23,7 +24,7 @@ filter-requires : tie.Need-filter-requires
 filter-requires c κs =
     let s = c .before .before .before .before .before .before .before .before in
     let a = s .args in
-    numbered (a .vertices .now) (a .facets .now) (a .eps) (length (a .work .now)) (s .pre) (c .before .before .before .weld .last .0) (c .before .before .before .weld .kept .0)
+    numbered (a .vertices .now) (a .facets .now) (cleanAsked (a .eps)) (length (a .work .now)) (s .pre) (c .before .before .before .weld .last .0) (c .before .before .before .weld .kept .0)
     (c .before .before .before .weld .result) (c .before .before .before .weld .ensures)
 
 mul-remove-small-disconnected-components-2 : tie.Need-mul-remove-small-disconnected-components-2
@@ -51,7 +52,7 @@ remove-small-disconnected-components-requires : tie.Need-remove-small-disconnect
 remove-small-disconnected-components-requires c κs =
     let s = c .before .before .before .before .before .before .before .before .before .before .before .before in
     let a = s .args in
-    last-room (a .vertices .now) (a .facets .now) (a .eps) (length (a .work .now)) (s .pre) (c .before .before .before .before .before .before .before .weld .last .0)
+    last-room (a .vertices .now) (a .facets .now) (cleanAsked (a .eps)) (length (a .work .now)) (s .pre) (c .before .before .before .before .before .before .before .weld .last .0)
     (c .before .before .before .before .before .before .before .weld .kept .0) (c .before .before .before .before .before .before .before .weld .result)
     (c .before .before .before .before .before .before .before .weld .ensures) (c .before .before .before .filter .last .0) (c .before .before .before .filter .result)
     (c .before .before .before .filter .ensures)
@@ -63,7 +64,7 @@ returns : tie.Need-returns
 returns c =
     let s = c .before .before .before .before .before .before .before .before .before .before .before .before .before .before .before in
     let a = s .args in
-    staged (a .vertices .now) (a .facets .now) (a .eps) (length (a .work .now)) (s .pre)
+    staged (a .vertices .now) (a .facets .now) (cleanAsked (a .eps)) (length (a .work .now)) (s .pre)
     (c .before .before .before .before .before .before .before .before .before .before .weld .last .0)
     (c .before .before .before .before .before .before .before .before .before .before .weld .kept .0)
     (c .before .before .before .before .before .before .before .before .before .before .weld .result)
