@@ -24,9 +24,9 @@ use Rattle.root.specs.Doubles.{_⊕_, _⊖_, _⊘_, zeroF, oneF, magnitude, wit
 use Rattle.root.proofs.Doubles.{clamped-low, clamped-high, clamped-same}
 use Rattle.rounding.specs.Ordering.{orderKey}
 use Rattle.rounding.proofs.Ordering.{Number, before-keys}
-use Rattle.sorting.specs.Buffer.{putRecord, recordsAt}
-use Rattle.sorting.specs.Sorting.{recordBefore, sorted}
-use Rattle.sorting.proofs.Records.{records-at-split, put-same}
+use Rattle.records.specs.Buffer.{putRecord, recordsAt}
+use Rattle.records.specs.Records.{recordBefore, sorted}
+use Rattle.records.proofs.Records.{records-at-split, put-same}
 use Rattle.geometry.specs.declared.point.Point.{Point}
 use Rattle.geometry.specs.declared.fraction.Fraction.{Fraction}
 use Rattle.geometry.specs.declared.fraction.Fraction.the-variants.{At, Nothing}

@@ -10,8 +10,8 @@ use lib.ListN.{length, getD, set, length-set}
 use lib.Seq.{getD-take, getD-drop, getD-set-other}
 use Rattle.lists.specs.Regions.{view}
 use Rattle.lists.proofs.Regions.{view-same}
-use Rattle.sorting.specs.Buffer.{putRecord, recordsAt}
-use Rattle.sorting.proofs.Records.{records-at-same, put-length, put-other}
+use Rattle.records.specs.Buffer.{putRecord, recordsAt}
+use Rattle.records.proofs.Records.{records-at-same, put-length, put-other}
 use Rattle.sorting.proofs.Sorting.{SortedPart}
 use Rattle.candidate_constraints.specs.Steps.{Kept}
 

@@ -18,9 +18,9 @@ use Rattle.lists.specs.Regions.{view}
 use Rattle.lists.proofs.Mapped.{Each}
 use Rattle.lists.proofs.Members.{place-le}
 use Rattle.lists.proofs.Sequences.{flat-up, each-append, each-flat, each-any, each-mapped}
-use Rattle.sorting.specs.Buffer.{recordsAt}
-use Rattle.sorting.specs.Runs.{runs, firstKey}
-use Rattle.sorting.specs.Sorting.{sorted}
+use Rattle.records.specs.Buffer.{recordsAt}
+use Rattle.records.specs.Runs.{runs, firstKey}
+use Rattle.records.specs.Records.{sorted}
 use Rattle.sorting.proofs.Sorting.{SortedPart}
 use Rattle.geometry.specs.declared.aabb.AABB.{AABB}
 use Rattle.box_faces.specs.Sides.{faceSides}

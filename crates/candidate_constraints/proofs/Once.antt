@@ -20,11 +20,11 @@ use Rattle.lists.proofs.SortBy.{ascending-sortBy}
 use Rattle.lists.proofs.Regions.{view-put}
 use Rattle.words.specs.Packed.{triple}
 use Rattle.words.proofs.Packed.{triple-first, triple-second, triple-third, triple-injective, triple-lex, lex-triple}
-use Rattle.sorting.specs.Buffer.{recordsAt}
-use Rattle.sorting.specs.Runs.{runs, firstKey, Run}
-use Rattle.sorting.specs.Sorting.{recordBefore, sorted}
-use Rattle.sorting.proofs.ByRuns.{runs-nil, run-at, first-key, runs-distinct}
-use Rattle.sorting.proofs.Comparing.{Lex, record-order, lex-before, not-lex}
+use Rattle.records.specs.Buffer.{recordsAt}
+use Rattle.records.specs.Runs.{runs, firstKey, Run}
+use Rattle.records.specs.Records.{recordBefore, sorted}
+use Rattle.records.proofs.ByRuns.{runs-nil, run-at, first-key, runs-distinct}
+use Rattle.records.proofs.Comparing.{Lex, record-order, lex-before, not-lex}
 use Rattle.geometry.specs.Triangles.{tri}
 use Rattle.edges.specs.Edges.{sortedPair, samePair, pairBefore}
 use Rattle.edges.proofs.Edges.{same-sorted, sorted-same}

@@ -14,8 +14,8 @@ use lib.Seq.{take-all}
 use Rattle.lists.specs.Lists.{keep, has, place, upTo, upFrom}
 use Rattle.lists.proofs.Counts.{keep-append}
 use Rattle.lists.proofs.Sequences.{flat-up}
-use Rattle.sorting.specs.Buffer.{putRecord, recordsAt}
-use Rattle.sorting.proofs.Records.{length-records-at, records-at-get, put-same}
+use Rattle.records.specs.Buffer.{putRecord, recordsAt}
+use Rattle.records.proofs.Records.{length-records-at, records-at-get, put-same}
 use Rattle.geometry.specs.Boxes.{faces}
 use Rattle.box_faces.specs.Faces.{hasBit}
 use Rattle.candidate_pool.specs.OpenEdges.{OpenEdge, openEdge}

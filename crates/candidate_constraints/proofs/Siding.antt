@@ -14,9 +14,9 @@ use lib.Ieee.{Float}
 use Rattle.lists.specs.Lists.{sortBy, upFrom}
 use Rattle.lists.proofs.Mapped.{Each, each-at, each-sortBy}
 use Rattle.lists.proofs.Sequences.{each-mapped, flatMap-append}
-use Rattle.sorting.specs.Buffer.{recordsAt}
-use Rattle.sorting.specs.Sorting.{recordBefore, sorted}
-use Rattle.sorting.proofs.Records.{length-records-at, records-at-get, records-at-take}
+use Rattle.records.specs.Buffer.{recordsAt}
+use Rattle.records.specs.Records.{recordBefore, sorted}
+use Rattle.records.proofs.Records.{length-records-at, records-at-get, records-at-take}
 use Rattle.sorting.proofs.Sorting.{SortedPart}
 use Rattle.geometry.specs.declared.aabb.AABB.{AABB}
 use Rattle.geometry.specs.declared.fraction.Fraction.{Fraction}

@@ -25,8 +25,8 @@ use Rattle.lists.specs.Regions.{view}
 use Rattle.root.specs.Doubles.{before}
 use Rattle.rounding.specs.Ordering.{orderKey}
 use Rattle.words.specs.Packed.{triple, tripleFirst, tripleSecond, tripleThird}
-use Rattle.sorting.specs.Buffer.{recordsAt}
-use Rattle.sorting.specs.Runs.{runs, firstKey}
+use Rattle.records.specs.Buffer.{recordsAt}
+use Rattle.records.specs.Runs.{runs, firstKey}
 use Rattle.geometry.specs.declared.aabb.AABB.{AABB}
 use Rattle.geometry.specs.declared.fraction.Fraction.{Fraction}
 use Rattle.geometry.specs.declared.fraction.Fraction.the-variants.{At}

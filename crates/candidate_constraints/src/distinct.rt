@@ -3,7 +3,7 @@ ghost use Prim.Native.Nat.{_+_, _*_, _≤_};
 ghost use Rattle.candidate_constraints.specs.Steps.{Roomy, Distinct};
 use candidate_pool::room::constraints_at;
 use candidate_pool::room::pairs_at;
-use sorting::run_end;
+use records::run_end;
 
 // Behind `total` constraints.
 pub fn keep_distinct(w: &mut [u64], n: usize, nf: usize, c: usize, total: usize) -> usize

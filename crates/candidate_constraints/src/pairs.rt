@@ -2,7 +2,7 @@
 ghost use mathlib.Core.Path.{_≡_};
 ghost use Prim.Native.Nat.{_+_, _*_, _≤_, _<_};
 ghost use lib.ListN.{length};
-ghost use Rattle.sorting.specs.Buffer.{putRecord};
+ghost use Rattle.records.specs.Buffer.{putRecord};
 ghost use Rattle.candidate_pool.specs.Offsets.{pairsAt, openEdgesAt};
 ghost use Rattle.candidate_pool.specs.Standing.{poolAt, edgeAt, edgesAt, EdgesHeld};
 ghost use Rattle.candidate_constraints.specs.Steps.{Shown, Roomy, Placed, pairKey, pairRecord, edgePairs, Pushed};

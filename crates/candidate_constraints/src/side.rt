@@ -3,7 +3,7 @@
 ghost use mathlib.Core.List.{map};
 ghost use Prim.Native.Nat.{_+_, _*_, _≤_, _<_};
 ghost use lib.ListN.{length};
-ghost use Rattle.sorting.specs.Buffer.{recordsAt};
+ghost use Rattle.records.specs.Buffer.{recordsAt};
 ghost use Rattle.candidate_pool.specs.Offsets.{sideAt, pairsAt};
 ghost use Rattle.candidate_pool.specs.Standing.{poolAt};
 ghost use Rattle.candidate_constraints.specs.Constraints.{consecutive};

@@ -21,10 +21,10 @@ use Rattle.lists.proofs.Multiplicity.{count-sortBy}
 use Rattle.lists.proofs.Orders.{ascending-at}
 use Rattle.lists.proofs.Places.{length-up, at-up}
 use Rattle.lists.proofs.SortBy.{ascending-sortBy}
-use Rattle.sorting.specs.Sorting.{records, recordBefore}
-use Rattle.sorting.proofs.Comparing.{record-order}
-use Rattle.sorting.proofs.Records.{length-records, records-get}
-use Rattle.sorting.proofs.Sorting.{SortedPart, at-most-key, at-most-payload}
+use Rattle.records.specs.Records.{records, recordBefore}
+use Rattle.records.proofs.Comparing.{record-order, at-most-key, at-most-payload}
+use Rattle.records.proofs.Records.{length-records, records-get}
+use Rattle.sorting.proofs.Sorting.{SortedPart}
 use Rattle.lists.proofs.Pigeonhole.{pairwise-places}
 use Rattle.cap_closing.specs.Steps.{keyIn, placeIn, isStart, isFirst, bit, FirstsMarked, Found}
 use Rattle.cap_closing.proofs.Places.{first-none, first-some}

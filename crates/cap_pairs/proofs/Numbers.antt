@@ -12,7 +12,7 @@ use lib.Dec.{eqb, ltb}
 use lib.ListN.{length, getD}
 use lib.Seq.{getD-take}
 use Rattle.lists.proofs.Orders.{cases}
-use Rattle.sorting.specs.Buffer.{recordOf}
+use Rattle.records.specs.Buffer.{recordOf}
 use Rattle.sorting.proofs.Sorting.{SortedPart}
 use Rattle.edges.specs.Edges.{samePair}
 use Rattle.edges.specs.Table.{edgeKey, nextSide}

@@ -9,7 +9,7 @@ use native.Mathlib.Omega.{arith}
 use lib.Dec.{eqb}
 use lib.ListN.{length, getD}
 use Rattle.words.specs.Packed.{edge}
-use Rattle.sorting.specs.Buffer.{putRecord}
+use Rattle.records.specs.Buffer.{putRecord}
 use Rattle.edges.specs.Table.{edgeKey, nextSide}
 use Rattle.edges.proofs.Sides.{next-in}
 use Rattle.cap_triangles.specs.Room.{turnedAt, pairRecordsAt, Above}

@@ -19,7 +19,7 @@ use mathlib.Core.List.{List}
 use lib.Dec.{eqb, leb, ltb}
 use lib.ListN.{length, getD}
 use Rattle.lists.specs.Lists.{some, upTo}
-use Rattle.sorting.specs.Buffer.{recordOf}
+use Rattle.records.specs.Buffer.{recordOf}
 use Rattle.box_faces.specs.Faces.{hasBit}
 use Rattle.edges.specs.Table.{edgeKey, nextSide}
 use Rattle.cap_triangles.specs.Room.{numbersAt, upAt, downAt, heldAt, capsEnd, Above}

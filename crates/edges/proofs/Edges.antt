@@ -21,8 +21,8 @@ use Rattle.lists.proofs.Members.{keep-of, of-keep, some-of, of-some, getD-mem, 
 use Rattle.lists.proofs.Multiplicity.{more, count-cons, some-sortBy}
 use Rattle.lists.proofs.Orders.{cases, never, ascending-before}
 use Rattle.lists.proofs.SortBy.{length-sortBy, ascending-sortBy}
-use Rattle.sorting.specs.Sorting.{recordBefore}
-use Rattle.sorting.proofs.Comparing.{Lex, record-cases, record-order, lex-before}
+use Rattle.records.specs.Records.{recordBefore}
+use Rattle.records.proofs.Comparing.{Lex, record-cases, record-order, lex-before}
 use Rattle.geometry.specs.Triangles.{Triangle, threes}
 use Rattle.edges.specs.Edges.{sides, sortedPair, samePair, bearers, isOpen, pairBefore, openEdges}
 use Rattle.edges.proofs.Sides.{Small, sides-small}

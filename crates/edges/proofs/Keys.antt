@@ -15,8 +15,8 @@ use Rattle.lists.proofs.Bools.{and-left, and-right, and-stop}
 use Rattle.lists.proofs.Orders.{cases, never}
 use Rattle.words.specs.Packed.{pairFirst, pairSecond}
 use Rattle.words.proofs.Packed.{pair-first, pair-second, pair-lex, lex-pair, edge-exchange, edge-injective}
-use Rattle.sorting.specs.Sorting.{recordBefore}
-use Rattle.sorting.proofs.Comparing.{Lex, lex-before, not-lex}
+use Rattle.records.specs.Records.{recordBefore}
+use Rattle.records.proofs.Comparing.{Lex, lex-before, not-lex}
 use Rattle.edges.specs.Edges.{sortedPair, samePair, pairBefore}
 use Rattle.edges.specs.Table.{edgeKey}
 use Rattle.edges.proofs.Sides.{Small}

@@ -13,9 +13,9 @@ use Rattle.lists.specs.Lists.{keep, count}
 use Rattle.lists.specs.Order.{Ascending}
 use Rattle.lists.proofs.Counts.{keep-append, count-append, keep-same}
 use Rattle.lists.proofs.Mapped.{Each, each-map, of-each, keep-all, keep-none}
-use Rattle.sorting.specs.Runs.{runs}
-use Rattle.sorting.specs.Sorting.{recordBefore}
-use Rattle.sorting.proofs.ByRuns.{runs-append, by-runs, greater-other}
+use Rattle.records.specs.Runs.{runs}
+use Rattle.records.specs.Records.{recordBefore}
+use Rattle.records.proofs.ByRuns.{runs-append, by-runs, greater-other}
 use Rattle.edges.specs.Table.{sameRecordKey, openRecords}
 
 abbrev pub single : List (ℕ × ℕ) → List (ℕ × ℕ)

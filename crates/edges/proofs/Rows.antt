@@ -24,8 +24,8 @@ use Rattle.lists.proofs.Members.{of-keep}
 use Rattle.lists.proofs.Multiplicity.{count-sortBy, keep-sortBy}
 use Rattle.lists.proofs.Orders.{cases}
 use Rattle.lists.proofs.SortBy.{length-sortBy, ascending-sortBy, sortBy-ascending}
-use Rattle.sorting.specs.Sorting.{recordBefore, sorted}
-use Rattle.sorting.proofs.Comparing.{record-order}
+use Rattle.records.specs.Records.{recordBefore, sorted}
+use Rattle.records.proofs.Comparing.{record-order}
 use Rattle.edges.specs.Edges.{samePair, isOpen, pairBefore}
 use Rattle.edges.specs.Table.{edgeKey, recordsFrom, sideRecords, edgeTable, sideOf, bearing, sameRecordKey, openRecords}
 use Rattle.edges.proofs.Sides.{Small}

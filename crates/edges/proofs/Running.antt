@@ -13,11 +13,11 @@ use lib.ListN.{length, getD, take}
 use lib.Seq.{ext-getD}
 use mir.Val.{boolByte}
 use Rattle.lists.specs.Order.{Ascending}
-use Rattle.sorting.specs.Buffer.{recordOf, putRecord, recordsAt}
-use Rattle.sorting.specs.Runs.{runs, Run}
-use Rattle.sorting.specs.Sorting.{records, recordBefore}
-use Rattle.sorting.proofs.ByRuns.{run-at, runs-nil}
-use Rattle.sorting.proofs.Records.{length-records-at, records-at-same, records-at-snoc, records-take, length-records, records-get, put-length, put-same, put-other}
+use Rattle.records.specs.Buffer.{recordOf, putRecord, recordsAt}
+use Rattle.records.specs.Runs.{runs, Run}
+use Rattle.records.specs.Records.{records, recordBefore}
+use Rattle.records.proofs.ByRuns.{run-at, runs-nil}
+use Rattle.records.proofs.Records.{length-records-at, records-at-same, records-at-snoc, records-take, length-records, records-get, put-length, put-same, put-other}
 use Rattle.geometry.specs.Triangles.{threes}
 use Rattle.edges.specs.Edges.{sides}
 use Rattle.edges.specs.Table.{edgeKey, sideRecords, openRecords, SideRecords, KeptOpen}

@@ -20,11 +20,10 @@ use Rattle.lists.proofs.Counts.{keep-append, count-places}
 use Rattle.lists.proofs.Mapped.{Each, each-places, each-at, keep-all, keep-none}
 use Rattle.lists.proofs.Orders.{ascending-at}
 use Rattle.lists.proofs.Places.{length-up, at-up}
-use Rattle.sorting.specs.Buffer.{recordOf, recordsAt}
-use Rattle.sorting.specs.Sorting.{records, recordBefore}
-use Rattle.sorting.proofs.Comparing.{record-order}
-use Rattle.sorting.proofs.Records.{length-records-at, records-at-get, records-take, length-records, records-get}
-use Rattle.sorting.proofs.Sorting.{at-most-key}
+use Rattle.records.specs.Buffer.{recordOf, recordsAt}
+use Rattle.records.specs.Records.{records, recordBefore}
+use Rattle.records.proofs.Comparing.{record-order, at-most-key}
+use Rattle.records.proofs.Records.{length-records-at, records-at-get, records-take, length-records, records-get}
 use Rattle.geometry.specs.Triangles.{threes}
 use Rattle.edges.specs.Edges.{sides, samePair, bearers, pairBefore}
 use Rattle.edges.specs.Table.{edgeKey, sideOf, edgeTable, bearing, EdgeTable}

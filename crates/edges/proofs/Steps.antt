@@ -14,10 +14,10 @@ use Rattle.lists.specs.Regions.{PartZeroed}
 use Rattle.lists.proofs.Mapped.{of-each}
 use Rattle.lists.proofs.Members.{getD-mem}
 use Rattle.lists.proofs.SortBy.{ascending-sortBy}
-use Rattle.sorting.specs.Sorting.{records, recordBefore, sorted, SortedRecords}
-use Rattle.sorting.proofs.Comparing.{record-order}
-use Rattle.sorting.proofs.Merging.{le-or-lt}
-use Rattle.sorting.proofs.Records.{records-at-same, records-take, length-records, records-get}
+use Rattle.records.specs.Records.{records, recordBefore, sorted}
+use Rattle.records.proofs.Comparing.{record-order}
+use Rattle.records.proofs.Records.{le-or-lt, records-at-same, records-take, length-records, records-get}
+use Rattle.sorting.specs.Sorting.{SortedRecords}
 use Rattle.geometry.specs.Triangles.{threes}
 use Rattle.edges.specs.Edges.{sides, openEdges}
 use Rattle.edges.specs.Table.{edgeKey, sideOf, sideRecords, edgeTable, openRecords, SideRecords, EdgeTable, KeptOpen, OpenEdges}

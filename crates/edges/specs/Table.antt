@@ -15,7 +15,7 @@ use lib.Dec.{eqb}
 use lib.ListN.{length, getD, take, drop, replicate}
 use Rattle.lists.specs.Lists.{keep, count, upTo}
 use Rattle.words.specs.Packed.{edge}
-use Rattle.sorting.specs.Sorting.{records, sorted}
+use Rattle.records.specs.Records.{records, sorted}
 use Rattle.geometry.specs.Triangles.{threes}
 use Rattle.edges.specs.Edges.{sides, samePair, openEdges}
 

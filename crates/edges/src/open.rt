@@ -4,7 +4,7 @@ ghost use mathlib.Core.Path.{_≡_};
 ghost use Prim.Native.Nat.{_*_, _%_, _≤_, _<_};
 ghost use lib.ListN.{length, take};
 ghost use Rattle.lists.specs.Order.{Ascending};
-ghost use Rattle.sorting.specs.Sorting.{records, recordBefore};
+ghost use Rattle.records.specs.Records.{records, recordBefore};
 ghost use Rattle.edges.specs.Table.{KeptOpen, OpenEdges};
 
 // Moves the records whose key stands only once to the front, in order, and answers how many they are. The first record of a run is stored before
@@ -17,7 +17,7 @@ pub fn keep_open(w: &mut [u64], n: usize) -> usize
     let mut k = 0;
     let mut i = 0;
     while i < n {
-        let end = sorting::run_end(w, 0, n, i);
+        let end = records::run_end(w, 0, n, i);
         let key = w[2 * i];
         let side = w[2 * i + 1];
         w[2 * k] = key;

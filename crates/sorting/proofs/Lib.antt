@@ -1,10 +1,2 @@
-pub mod Merging
-pub mod Comparing
-pub mod Records
-pub mod Running
 pub mod Halves
 pub mod Sorting
-pub mod Stable
-pub mod Dealing
-pub mod ByColumns
-pub mod ByRuns

@@ -1,4 +1,1 @@
 pub mod Sorting
-pub mod Buffer
-pub mod Digits
-pub mod Runs

@@ -1,5 +1,5 @@
 -- `put_pair` meets its contract. Assumes nothing.
-use Rattle.sorting.specs.Buffer.{putRecord}
+use Rattle.records.specs.Buffer.{putRecord}
 use mathlib.Core.Path.{ap}
 use Prim.Native.Nat.{ℕ}
 use borrow.Author.Needs.{needs}

@@ -1,0 +1,2 @@
+pub mod Stable
+pub mod ByColumns
