@@ -3,7 +3,7 @@
 --   share-first, share-again, share-cases   a vertex at its first use, and later
 --   number-new, shared-now, shared-still, number-still   what is shared stays, by the same number
 use Prim.Native.Nat.{ℕ, _+_}
-use mathlib.Core.Bool.{Bool, true, false, cond, _||_}
+use mathlib.Core.Bool.{Bool, true, false, cond, _||_, or-true}
 use mathlib.Core.List.{List, [], _∷_, _++_}
 use mathlib.Core.Logic.{⊎-elim}
 use mathlib.Core.Path.{_≡_, refl, sym, ap, _∙_, subst}
@@ -12,7 +12,7 @@ use lib.Dec.{eqb}
 use lib.ListN.{length}
 use lib.Ieee.{Float}
 use Rattle.lists.specs.Lists.{some}
-use Rattle.lists.proofs.Bools.{or-stop, or-true}
+use Rattle.lists.proofs.Bools.{or-stop}
 use Rattle.lists.proofs.Orders.{cases, never}
 use Rattle.geometry.specs.declared.point.Point.{Point}
 use Rattle.geometry.specs.declared.aabb.AABB.{AABB}

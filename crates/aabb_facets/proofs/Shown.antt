@@ -5,7 +5,7 @@
 --   facet-shows              a facet
 --   madeTo, Passed, pass-..  the loop over the facets: start, turn, end
 use Prim.Native.Nat.{ℕ, _+_, _*_, _-_, _/_, _≤_, _<_}
-use mathlib.Core.Bool.{Bool, true, false, cond, _&&_}
+use mathlib.Core.Bool.{Bool, true, false, cond, _&&_, and-true}
 use mathlib.Core.List.{List, [], _∷_, _++_, flatMap, foldl, append-assoc, append-nil}
 use mathlib.Core.Logic.{⊎-elim}
 use mathlib.Core.Path.{_≡_, refl, sym, ap, _∙_, subst}
@@ -16,7 +16,7 @@ use lib.ListN.{getD, take, length, length-append}
 use lib.Seq.{sets}
 use lib.Ieee.{Float}
 use Rattle.lists.specs.Lists.{every, upFrom}
-use Rattle.lists.proofs.Bools.{and-left, and-right, and-last}
+use Rattle.lists.proofs.Bools.{and-left, and-right}
 use Rattle.lists.proofs.Orders.{cases}
 use Rattle.lists.proofs.Sequences.{fold-more, fold-all}
 use Rattle.lists.proofs.Stores.{sets-append}
@@ -151,7 +151,7 @@ module _ (vs : List Float) (fs : List ℕ) (box : AABB) (eps : Float) (n : ℕ) 
 
     inside-is : (In a && (In b && In c)) ≡ every (λ v. insideBox box eps (vertex (pointsOf vs) v)) (vertices (tri a b c))
     unfolding every
-    inside-is = ap (λ (x : Bool). In a && (In b && x)) (sym (and-last (In c)))
+    inside-is = ap (λ (x : Bool). In a && (In b && x)) (sym (and-true (In c)))
 
     pub facet-shows : facetRoom vs fs box eps (shows vs box eps n m ov of) i ≡ shows vs box eps n (clipFacet box eps (pointsOf vs) m (tri a b c)) ov of
     unfolding facetRoom clipFacet

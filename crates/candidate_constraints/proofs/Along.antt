@@ -16,7 +16,7 @@ use lib.ListN.{length, getD}
 use lib.Ieee.{Float, nan, inf, fin, binary64, fits, lt, le, eq, isNan, neg, ofBits}
 use lib.Ieee.Fits.{div-fits}
 use Rattle.lists.specs.Lists.{sortBy, upFrom, upTo}
-use Rattle.lists.proofs.Bools.{and-left}
+use Rattle.lists.proofs.Bools.{and-left, last-false}
 use Rattle.lists.proofs.Mapped.{Each, Pairwise, Agree, map-sortBy}
 use Rattle.lists.proofs.Orders.{cases}
 use Rattle.lists.proofs.Sequences.{flat-up}
@@ -208,10 +208,6 @@ module _ (eps : Float) (n f : ℕ) (s : Side) (w₀ : List ℕ) where
         last i k a b = omega arith
 
 -- ---- the order
-last-false : (a b c : Bool) → c ≡ false → (a || (b && c)) ≡ a
-last-false true b c e = refl
-last-false false true c e = e
-last-false false false c e = refl
 
 record Entry (k : ℕ) (x : Float × ℕ) : Type 0 where
   pub above : k ≤ x .1

@@ -18,6 +18,7 @@ use Rattle.lists.proofs.Mapped.{Each, Pairwise, Agree, each-sortBy, map-sortBy}
 use Rattle.lists.proofs.Orders.{cases, never}
 use Rattle.lists.proofs.SortBy.{ascending-sortBy}
 use Rattle.lists.proofs.Regions.{view-put}
+use Rattle.lists.proofs.Bools.{both-ways}
 use Rattle.words.specs.Packed.{triple}
 use Rattle.words.proofs.Packed.{triple-first, triple-second, triple-third, triple-injective, triple-lex, lex-triple}
 use Rattle.records.specs.Buffer.{recordsAt}
@@ -28,7 +29,6 @@ use Rattle.records.proofs.Comparing.{Lex, record-order, lex-before, not-lex}
 use Rattle.geometry.specs.Triangles.{tri}
 use Rattle.edges.specs.Edges.{sortedPair, samePair, pairBefore}
 use Rattle.edges.proofs.Edges.{same-sorted, sorted-same}
-use Rattle.edges.proofs.Keys.{both-ways}
 use Rattle.candidate_constraints.specs.Steps.{Kept, Roomy, unpacked, pairKey, pairRecord, Distinct}
 use Rattle.candidate_constraints.proofs.Frames.{kept-same, kept-set, kept-then}
 use Rattle.candidate_pool.specs.Offsets.{pairsAt, constraintsAt, openEdgesAt}

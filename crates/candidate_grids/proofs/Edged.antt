@@ -7,7 +7,7 @@ use Prim.Native.Nat.{ℕ, _+_, _*_, _^_, _≤_, _<_}
 use native.Mathlib.Omega.{arith}
 use native.Mathlib.Decide.{ℕ-discrete}
 use mathlib.Core.Path.{_≡_, refl, sym, ap, _∙_}
-use mathlib.Core.Bool.{Bool, true, false, cond, _&&_, _||_}
+use mathlib.Core.Bool.{Bool, true, false, cond, _&&_, _||_, and-false}
 use mathlib.Core.List.{List, [], _∷_, map}
 use borrow.Author.Tests.{eq-eqb, ne-eqb}
 use lib.Dec.{eqb}
@@ -39,10 +39,6 @@ pass-through b true d e = refl
 pass-through true false d e = e
 pass-through false false d e = e
 
-and-none : (b : Bool) → (b && false) ≡ false
-and-none true = refl
-and-none false = refl
-
 module _ (f x y : ℕ) (G : ℕ → ℕ → Bool) (h : ℕ → Bool) where
   abbrev test : OpenEdge → Bool
   test e = eqb (e .face) f && G (e .from) (e .to)
@@ -60,7 +56,7 @@ module _ (f x y : ℕ) (G : ℕ → ℕ → Bool) (h : ℕ → Bool) where
       ∙ sym (ap (λ (c : Bool). (c || has l f) && (h f && G x y)) (eq-eqb f k (sym e)) ∙ ap (λ (c : Bool). c && G x y) hf)
   step k l r (yes e) false t =
       let hf : h f ≡ false = ap h (sym e) ∙ t in
-      r ∙ ap (λ (c : Bool). has l f && (c && G x y)) hf ∙ and-none (has l f)
+      r ∙ ap (λ (c : Bool). has l f && (c && G x y)) hf ∙ and-false (has l f)
       ∙ sym (ap (λ (c : Bool). (c || has l f) && (h f && G x y)) (eq-eqb f k (sym e)) ∙ ap (λ (c : Bool). c && G x y) hf)
   step k l r (no d) true t =
       ap (λ (c : Bool). (c && G x y) || some test (entries (keep h l))) (ne-eqb k f d) ∙ r ∙ sym (ap (λ (c : Bool). (c || has l f) && (h f && G x y)) (ne-eqb f k (λ e. d (sym e))))

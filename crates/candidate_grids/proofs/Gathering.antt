@@ -6,13 +6,13 @@ use Prim.Native.Nat.{ℕ, _+_, _*_, _≤_, _<_}
 use native.Mathlib.Omega.{arith}
 use native.Mathlib.Decide.{ℕ-discrete}
 use mathlib.Core.Path.{_≡_, refl, sym, ap, subst, _∙_}
-use mathlib.Core.Bool.{Bool, true, false, _||_}
+use mathlib.Core.Bool.{Bool, true, false, _||_, or-false}
 use mathlib.Core.List.{List}
 use lib.ListN.{length, getD}
 use lib.Ieee.{Float}
 use Rattle.lists.specs.Lists.{some, upFrom, upTo}
 use Rattle.lists.specs.Regions.{Outside}
-use Rattle.lists.proofs.Bools.{and-next, and-stop, or-last}
+use Rattle.lists.proofs.Bools.{and-next, and-stop}
 use Rattle.lists.proofs.Sequences.{some-up}
 use Rattle.box_faces.specs.declared.uv.Uv.{Uv}
 use Rattle.box_faces.specs.Faces.{project, hasBit}
@@ -65,7 +65,7 @@ module _ (n nf k face : ℕ) (tolerance : Float) (w : List ℕ) where
           most = omega arith;
           segments = G .segments;
           skips = λ p.
-              G .skips p ∙ sym (or-last (some (edgeHit (poolAt n w) w E face tolerance p) (upTo i)))
+              G .skips p ∙ sym (or-false (some (edgeHit (poolAt n w) w E face tolerance p) (upTo i)))
               ∙ ap (λ (c : Bool). some (edgeHit (poolAt n w) w E face tolerance p) (upTo i) || c) (sym (and-stop (hasBit (getD w (E + 3 * i + 2) 0) face) _ (bit b e ∙ f)))
               ∙ sym (some-up (edgeHit (poolAt n w) w E face tolerance p) i);
           long = G .long;

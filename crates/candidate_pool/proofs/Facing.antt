@@ -6,7 +6,7 @@ use Prim.Native.Nat.{ℕ, _+_, _*_, _≤_, _<_, _^_}
 use native.Mathlib.Omega.{arith}
 use native.Mathlib.Decide.{ℕ-discrete, decLt}
 use mathlib.Core.Path.{_≡_, refl, sym, ap, subst, _∙_}
-use mathlib.Core.Bool.{Bool, true, false, cond, _||_}
+use mathlib.Core.Bool.{Bool, true, false, cond, _||_, or-false, or-true}
 use mathlib.Core.List.{List, [], _∷_, _++_}
 use lib.Dec.{eqb}
 use lib.ListN.{getD, set, length, length-append, length-set}
@@ -15,7 +15,6 @@ use lib.Ieee.{Float}
 use borrow.Author.Tests.{eq-eqb, ne-eqb, eqb-true}
 use Rattle.lists.specs.Lists.{keep, has}
 use Rattle.lists.specs.Regions.{view}
-use Rattle.lists.proofs.Bools.{or-last, or-true}
 use Rattle.lists.proofs.Regions.{view-same, view-more}
 use Rattle.lists.proofs.Pigeonhole.{pigeonhole}
 use Rattle.geometry.specs.Points.{origin}
@@ -92,7 +91,7 @@ module _ (eps : Float) (n : ℕ) (w : List ℕ) (h : Holds eps n w) (id f : ℕ)
     where
       with-it : (g : ℕ) (b : Bool) → eqb g f ≡ b → hasBit mask g ≡ (hasBit mask g || b)
       with-it g true e = let q = ap (hasBit mask) (eqb-true g f e) ∙ t in q ∙ sym (or-true (hasBit mask g))
-      with-it g false e = sym (or-last (hasBit mask g))
+      with-it g false e = sym (or-false (hasBit mask g))
 
       again : candidateAt w id ≡ renewed (candidateAt w id) (candidate origin 0 (f ∷ []))
       again =

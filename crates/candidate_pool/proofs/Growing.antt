@@ -12,7 +12,7 @@ use Prim.Native.Nat.{ℕ, zero, suc, _≤_, _<_}
 use native.Mathlib.Omega.{arith}
 use native.Mathlib.Decide.{ℕ-discrete}
 use mathlib.Core.Path.{_≡_, refl, ap, subst, _∙_}
-use mathlib.Core.Bool.{Bool, true, cond, _&&_, _||_}
+use mathlib.Core.Bool.{Bool, true, cond, _&&_, _||_, or-true}
 use mathlib.Core.List.{List, [], _∷_, _++_, map}
 use mathlib.Core.Option.{Option, none, some, Option·getD}
 use lib.Dec.{eqb}
@@ -20,7 +20,7 @@ use lib.ListN.{getD, set, length, length-append, length-set, length-map, List·g
 use lib.Seq.{getD-set-same, getD-set-other}
 use borrow.Author.Tests.{eq-eqb}
 use Rattle.lists.specs.Lists.{has}
-use Rattle.lists.proofs.Bools.{or-stop, or-true}
+use Rattle.lists.proofs.Bools.{or-stop}
 use Rattle.geometry.specs.declared.point.Point.{Point}
 use Rattle.mesh_weld.specs.Joining.{Joining, Lawful}
 use Rattle.candidate_pool.specs.Pool.{Candidate, Pool, noCandidate, pointOf, faceList, renewed, enteredAs, placeFor, numberFor, insert}

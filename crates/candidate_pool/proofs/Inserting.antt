@@ -6,7 +6,7 @@
 use Prim.Native.Nat.{ℕ, zero, suc, _<_}
 use native.Mathlib.Omega.{arith}
 use mathlib.Core.Path.{_≡_, refl, sym, ap, _∙_}
-use mathlib.Core.Bool.{Bool, true, false, cond, _||_}
+use mathlib.Core.Bool.{Bool, true, false, cond, _||_, or-true, or-assoc}
 use mathlib.Core.List.{List, [], _∷_, _++_}
 use mathlib.Core.Option.{Option, none, some as just, Option·getD}
 use lib.Dec.{eqb}
@@ -14,7 +14,6 @@ use lib.ListN.{getD, set, length}
 use lib.Seq.{getD-set-same, set-set, getD-append-seam, set-append-seam}
 use borrow.Author.Tests.{eq-eqb}
 use Rattle.lists.specs.Lists.{some, keep, has}
-use Rattle.lists.proofs.Bools.{or-true, or-assoc}
 use Rattle.lists.proofs.Sequences.{some-append}
 use Rattle.geometry.specs.declared.point.Point.{Point}
 use Rattle.geometry.specs.Points.{origin}

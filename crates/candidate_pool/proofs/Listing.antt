@@ -8,13 +8,12 @@
 use Prim.Native.Nat.{ℕ, zero, suc, _<_}
 use native.Mathlib.Omega.{arith}
 use mathlib.Core.Path.{_≡_, refl, sym, ap, _∙_}
-use mathlib.Core.Bool.{Bool, true, false, cond, _&&_, _||_}
+use mathlib.Core.Bool.{Bool, true, false, cond, _&&_, _||_, and-true, or-false}
 use mathlib.Core.List.{List, [], _∷_, _++_, map}
 use lib.Dec.{eqb}
 use lib.ListN.{getD}
 use borrow.Author.Tests.{eqb-true}
 use Rattle.lists.specs.Lists.{some, keep, has, upFrom}
-use Rattle.lists.proofs.Bools.{or-last, and-last}
 use Rattle.lists.proofs.Counts.{keep-same}
 use Rattle.lists.proofs.Places.{of-up}
 use Rattle.lists.proofs.Sequences.{some-append}
@@ -42,7 +41,7 @@ keep-faces p q e = keep-same p q faces (λ f m. e f (of-up 0 6 m .1))
 
 pub has-one : (c k : ℕ) → has (c ∷ []) k ≡ eqb k c
 unfolding some
-has-one c k = or-last (eqb k c)
+has-one c k = or-false (eqb k c)
 
 pub has-added : (l : List ℕ) (c k : ℕ) → has (added l c) k ≡ (has l k || eqb k c)
 has-added l c k = go (has l c) refl
@@ -52,7 +51,7 @@ has-added l c k = go (has l c) refl
 
     there : (b : Bool) → eqb k c ≡ b → has l c ≡ true → has l k ≡ (has l k || b)
     there true e t = or-true (has l k) (ap (λ (x : ℕ). has l x) (eqb-true k c e) ∙ t)
-    there false e t = sym (or-last (has l k))
+    there false e t = sym (or-false (has l k))
 
     go : (b : Bool) → has l c ≡ b → has (cond (has l c) l (l ++ (c ∷ []))) k ≡ (has l k || eqb k c)
     go true e = ap (λ (b : Bool). has (cond b l (l ++ (c ∷ []))) k) e ∙ there (eqb k c) refl e
@@ -84,7 +83,7 @@ is-face (suc (suc (suc (suc (suc zero))))) h = refl
 is-face (suc (suc (suc (suc (suc (suc f)))))) h = absurd (omega arith)
 
 pub has-kept : (t : ℕ → Bool) (f : ℕ) → f < 6 → has (keep t faces) f ≡ t f
-has-kept t f h = has-keep t faces f ∙ ap (λ (b : Bool). t f && b) (is-face f h) ∙ and-last (t f)
+has-kept t f h = has-keep t faces f ∙ ap (λ (b : Bool). t f && b) (is-face f h) ∙ and-true (t f)
 
 pub kept-again : (t : ℕ → Bool) → keep (λ f. has (keep t faces) f) faces ≡ keep t faces
 kept-again t = keep-faces (λ f. has (keep t faces) f) t (has-kept t)
@@ -100,4 +99,4 @@ listed-has lists on c f k h = ap (λ (l : List ℕ). has l k) (listed-at lists o
   where
     go : (b : Bool) → has (cond b (added (getD lists f []) c) (getD lists f [])) k ≡ (has (getD lists f []) k || (b && eqb k c))
     go true = has-added (getD lists f []) c k
-    go false = sym (or-last (has (getD lists f []) k))
+    go false = sym (or-false (has (getD lists f []) k))

@@ -11,14 +11,13 @@
 use Prim.Native.Nat.{ℕ, zero, suc, _+_, _*_, _/_, _%_, _^_, _<_, _≤_}
 use native.Mathlib.Omega.{arith}
 use mathlib.Core.Path.{_≡_, refl, sym, ap, _∙_}
-use mathlib.Core.Bool.{Bool, true, false, _||_}
+use mathlib.Core.Bool.{Bool, true, false, _||_, or-false, or-true}
 use mathlib.Core.List.{List, []}
 use mathlib.Core.Logic.{⊎-elim}
 use lib.Dec.{eqb}
 use lib.ListN.{length}
 use borrow.Author.Tests.{eq-eqb, eqb-false}
 use Rattle.lists.specs.Lists.{keep, some, has}
-use Rattle.lists.proofs.Bools.{or-last, or-true}
 use Rattle.lists.proofs.Counts.{count-le}
 use Rattle.lists.proofs.Orders.{cases}
 use Rattle.geometry.specs.Boxes.{faces}
@@ -80,7 +79,7 @@ module _ (mask f : ℕ) (low : mask < 64) (k : f < 6) (off : hasBit mask f ≡ f
   wider-is : faceBits (keep wider faces) ≡ mask + 2 ^ f
   wider-is =
       word-adds (hasBit mask) wider f k off (ap (λ (b : Bool). hasBit mask f || b) (eq-eqb f f refl) ∙ or-true (hasBit mask f))
-      (λ g e. ap (λ (b : Bool). hasBit mask g || b) e ∙ or-last (hasBit mask g))
+      (λ g e. ap (λ (b : Bool). hasBit mask g || b) e ∙ or-false (hasBit mask g))
       ∙ ap (λ (x : ℕ). x + 2 ^ f) (mask-back mask low)
 
   pub mask-more : (g : ℕ) → g < 6 → hasBit (mask + 2 ^ f) g ≡ (hasBit mask g || eqb g f)

@@ -10,7 +10,7 @@ use Prim.Native.Nat.{ℕ, suc, _+_, _*_, _-_, _≤_, _<_}
 use native.Mathlib.Omega.{arith}
 use native.Mathlib.Decide.{ℕ-discrete}
 use mathlib.Core.Path.{_≡_, refl, sym, ap, subst, _∙_}
-use mathlib.Core.Bool.{Bool, cond, _||_}
+use mathlib.Core.Bool.{Bool, cond, _||_, or-false}
 use mathlib.Core.List.{List, [], _∷_, _++_, map}
 use mathlib.Core.Option.{Option, none, some as just}
 use lib.ListN.{getD, set, length, length-append, length-set, List·getD-append}
@@ -19,7 +19,6 @@ use lib.Ieee.{Float, binary64, ofBits, toBits}
 use borrow.Author.Tests.{eq-eqb, ne-eqb}
 use Rattle.lists.specs.Lists.{some, keep, has, upTo}
 use Rattle.lists.specs.Regions.{view, Outside}
-use Rattle.lists.proofs.Bools.{or-last}
 use Rattle.geometry.specs.declared.point.Point.{Point}
 use Rattle.geometry.specs.Points.{pt}
 use Rattle.geometry.specs.Boxes.{faces}
@@ -201,7 +200,7 @@ module _ (eps : Float) (n : ℕ) (w : List ℕ) (h : Holds eps n w) (p : Point) 
 
 pub kept-none : (t : ℕ → Bool) → keep (λ f. has (keep t faces) f || has [] f) faces ≡ keep t faces
 unfolding some
-kept-none t = keep-faces (λ f. has (keep t faces) f || has [] f) t (λ f h. or-last (has (keep t faces) f) ∙ has-kept t f h)
+kept-none t = keep-faces (λ f. has (keep t faces) f || has [] f) t (λ f h. or-false (has (keep t faces) f) ∙ has-kept t f h)
 
 module _ (eps : Float) (n : ℕ) (w : List ℕ) (h : Holds eps n w) (p : Point) (m id : ℕ)
     (found : placeFor (byKey eps) (poolAt n w) (candidate p m []) ≡ just id) where

@@ -16,22 +16,12 @@ use Rattle.chains.proofs.Firsts.{places-link, link-found, link-absent}
 use Rattle.chains.specs.Links.{linkOf}
 use Rattle.mesh_weld.specs.Joining.{Lawful}
 use Rattle.mesh_weld.specs.Cells.{Key, keyOf, same, sameKey}
+use Rattle.mesh_weld.proofs.Rule.{same-sym}
 use Rattle.candidate_pool.specs.Pool.{byKey}
-
-eqb-symmetric : (a b : ℕ) → eqb a b ≡ eqb b a
-eqb-symmetric a b =
-    by-test (λ t. t ≡ eqb b a) (eqb a b) (λ t. sym (eq-eqb b a (sym (eqb→eq a b t))))
-    (λ t. sym (ne-eqb b a (λ e. T-not (eqb a b) t (subst (λ (x : ℕ). T (eqb a x)) (sym e) (eqb-refl a)))))
-
-same-symmetric : (a b : ℤ) → same a b ≡ same b a
-same-symmetric (pos a) (pos b) = eqb-symmetric a b
-same-symmetric (pos a) (negsuc b) = refl
-same-symmetric (negsuc a) (pos b) = refl
-same-symmetric (negsuc a) (negsuc b) = eqb-symmetric a b
 
 pub key-symmetric : (a b : Key) → sameKey a b ≡ sameKey b a
 unfolding sameKey
-key-symmetric a b = λ i. same-symmetric (a .x) (b .x) i && (same-symmetric (a .y) (b .y) i && same-symmetric (a .z) (b .z) i)
+key-symmetric a b = λ i. same-sym (a .x) (b .x) i && (same-sym (a .y) (b .y) i && same-sym (a .z) (b .z) i)
 
 pub key-lawful : (eps : Float) → Lawful Point (byKey eps)
 unfolding byKey

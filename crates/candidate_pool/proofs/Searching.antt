@@ -9,7 +9,7 @@ use mathlib.Core.Bool.{Bool, true, _&&_}
 use mathlib.Core.List.{List}
 use lib.Dec.{T, eqb}
 use borrow.Author.Tests.{eqb-true}
-use Rattle.lists.proofs.Bools.{and-left, and-right}
+use Rattle.lists.proofs.Bools.{and-left, and-right, is-true}
 use Rattle.chains.specs.Chains.{Filed}
 use Rattle.chains.proofs.Walking.{filed-by-key}
 use Rattle.candidate_pool.specs.Offsets.{keysAt, chainAt}
@@ -23,8 +23,6 @@ pub key-words-are : {a b c x y z : ℕ} → a ≡ x → b ≡ y → c ≡ z → 
 key-words-are e f g = λ i. record { x = e i; y = f i; z = g i }
 
 -- a test that holds
-passed : (b : Bool) → T b → b ≡ true
-passed true t = refl
 
 pub words-same : (a b : KeyWords) → sameWords a b ≡ true → a ≡ b
 unfolding sameWords
@@ -38,7 +36,7 @@ words-same a b t =
 pub key-filed : (w : List ℕ) (n count : ℕ) (key : KeyWords) (b : ℕ) → KeyTable w n count → b ≡ keyBucket n key → Filed w (chainAt n) n count b (keyIs w n key)
 key-filed w n count key b k e =
     filed-by-key (keyBucket n) (λ i. keyAt w (keysAt n + 3 * i)) w (chainAt n) n count key b (keyIs w n key) (k .linked) e
-    (λ i h t. words-same (keyAt w (keysAt n + 3 * i)) key (passed (keyIs w n key i) t))
+    (λ i h t. words-same (keyAt w (keysAt n + 3 * i)) key (is-true (keyIs w n key i) t))
 
 -- by where the keys stand
 pub key-told : (w : List ℕ) (n : ℕ) (key : KeyWords) (i at : ℕ) (r : Bool) → at ≡ keysAt n → r ≡ sameWords (keyAt w (at + 3 * i)) key → keyIs w n key i ≡ r

@@ -6,7 +6,7 @@ use Prim.Native.Nat.{ℕ, zero, suc, _≤_, _<_}
 use native.Mathlib.Omega.{arith}
 use native.Mathlib.Decide.{ℕ-discrete}
 use mathlib.Core.Path.{_≡_, refl, sym, ap, subst, _∙_}
-use mathlib.Core.Bool.{Bool, true, false, cond, _&&_, _||_}
+use mathlib.Core.Bool.{Bool, true, false, cond, _&&_, _||_, and-true, or-false, and-false}
 use mathlib.Core.List.{List, [], _∷_, _++_}
 use mathlib.Core.Option.{Option, none, some}
 use lib.Dec.{T, eqb}
@@ -14,7 +14,7 @@ use lib.ListN.{getD, set, length, length-append, length-set, List·getD-append}
 use lib.Seq.{getD-set-same, getD-set-other, getD-append-seam}
 use borrow.Author.Tests.{eq-eqb, ne-eqb, eqb-false}
 use Rattle.lists.specs.Lists.{has}
-use Rattle.lists.proofs.Bools.{by-test, or-last, and-last}
+use Rattle.lists.proofs.Bools.{by-test}
 use Rattle.lists.proofs.Every.{none-at}
 use Rattle.lists.proofs.Members.{of-has, mem-getD}
 use Rattle.geometry.specs.declared.point.Point.{Point}
@@ -79,10 +79,6 @@ has-low p tidy f c h e =
 
 -- ---- one step
 
-and-false : (b : Bool) → (b && false) ≡ false
-and-false true = refl
-and-false false = refl
-
 -- p' is p with the candidate c, perhaps a new one, added to the faces `on`
 record Step (p p' : Pool) (c : ℕ) (on : List ℕ) : Type 0 where
   low : c < length (p' .all)
@@ -105,13 +101,13 @@ tidy-step p p' c on s t =
       where
         go : (b : Bool) → has (cond b (added (faceList p f) c) (faceList p f)) d ≡ (has (faceList p f) d || (b && eqb d c))
         go true = has-added (faceList p f) c d
-        go false = sym (or-last (has (faceList p f) d))
+        go false = sym (or-false (has (faceList p f) d))
 
     is-on : (f d : ℕ) → f < 6 → d < length (p' .all) → Dec (d ≡ c) → has (faceList p' f) d ≡ has (getD (p' .all) d noCandidate .on) f
     is-on f d hf hd (yes e) =
         listed-is f d hf
         ∙ ap (λ (b : Bool). has (faceList p f) d || (has on f && b)) (eq-eqb d c e)
-        ∙ ap (λ (b : Bool). has (faceList p f) d || b) (and-last (has on f))
+        ∙ ap (λ (b : Bool). has (faceList p f) d || b) (and-true (has on f))
         ∙ ap (λ (x : ℕ). has (faceList p f) x || has on f) e
         ∙ sym (s .own f hf)
         ∙ ap (λ (x : ℕ). has (getD (p' .all) x noCandidate .on) f) (sym e)
@@ -119,7 +115,7 @@ tidy-step p p' c on s t =
         listed-is f d hf
         ∙ ap (λ (b : Bool). has (faceList p f) d || (has on f && b)) (ne-eqb d c n)
         ∙ ap (λ (b : Bool). has (faceList p f) d || b) (and-false (has on f))
-        ∙ or-last (has (faceList p f) d)
+        ∙ or-false (has (faceList p f) d)
         ∙ t .on f d hf (s .kept d hd n)
         ∙ ap (λ (x : Candidate). has (x .on) f) (sym (s .others d (s .kept d hd n) n))
 

@@ -11,15 +11,12 @@ use lib.Dec.{T, eqb, eqb→eq}
 use Rattle.lists.specs.Lists.{keep, some, distinctFrom, distinct, upFrom, upTo}
 use Rattle.lists.proofs.Members.{some-of, of-some}
 use Rattle.lists.proofs.Places.{of-up, up-of}
-use Rattle.lists.proofs.Bools.{is-true}
+use Rattle.lists.proofs.Bools.{is-true, is-false}
 use Rattle.lists.proofs.Sequences.{up-snoc}
+use Rattle.lists.proofs.Multiplicity.{or-swap}
 use Rattle.cap_closing.specs.Steps.{isFirst}
 
 -- ---- the first of a key
-
-is-false : (b : Bool) → (T b → ⊥) → b ≡ false
-is-false true f = absurd (f tt)
-is-false false f = refl
 
 module _ (key : ℕ → ℕ) (i : ℕ) where
   pub first-none : ((p : ℕ) → p < i → key p ≡ key i → ⊥) → isFirst key i ≡ true
@@ -41,12 +38,7 @@ module _ (key : ℕ → ℕ) (i : ℕ) where
 some-snoc : {A : Type 0} (p : A → Bool) (l : List A) (x : A) → some p (l ++ (x ∷ [])) ≡ (p x || some p l)
 unfolding some
 some-snoc p [] x = refl
-some-snoc p (y ∷ l) x = ap (λ (b : Bool). p y || b) (some-snoc p l x) ∙ swap (p y) (p x) (some p l)
-  where
-    swap : (a b c : Bool) → (a || (b || c)) ≡ (b || (a || c))
-    swap true true c = refl
-    swap true false c = refl
-    swap false b c = refl
+some-snoc p (y ∷ l) x = ap (λ (b : Bool). p y || b) (some-snoc p l x) ∙ or-swap (p y) (p x) (some p l)
 
 module _ {A : Type 0} (same : A → A → Bool) (f : ℕ → A) (key : ℕ → ℕ) (m : ℕ) (alike : (i j : ℕ) → j < i → i < m → same (f i) (f j) ≡ eqb (key j) (key i)) where
   abbrev seen-by : ℕ → ℕ → Bool

@@ -3,7 +3,7 @@
 --   adding-start, adding-skip, adding-turn, adding-end     add_faces: those below `face` are added
 --   noted-start, noted-turn         note_edges, note_sides: the first i are noted
 use Prim.Native.Nat.{ℕ, _+_, _*_, _^_, _%_, _≤_, _<_}
-use mathlib.Core.Bool.{Bool, true, false, _&&_, _||_}
+use mathlib.Core.Bool.{Bool, true, false, _&&_, _||_, or-false, or-assoc}
 use mathlib.Core.List.{List}
 use mathlib.Core.Logic.{⊎-elim}
 use mathlib.Core.Path.{_≡_, refl, sym, ap, subst, _∙_}
@@ -14,13 +14,13 @@ use lib.Dec.{eqb, ltb}
 use lib.ListN.{length, getD, set, length-set}
 use lib.Seq.{getD-set-same, getD-set-other}
 use Rattle.lists.specs.Lists.{some, upTo}
-use Rattle.lists.proofs.Bools.{or-last, or-assoc}
 use Rattle.lists.proofs.Orders.{cases}
 use Rattle.lists.proofs.Sequences.{some-up}
+use Rattle.lists.proofs.Bools.{eqb-sym}
 use Rattle.box_faces.specs.Faces.{hasBit}
 use Rattle.candidate_pool.proofs.Masking.{mask-more, mask-low, shifted, no-bit}
 use Rattle.cap_pairs.specs.Steps.{Added, Noted}
-use Rattle.cap_pairs.proofs.Sums.{eqb-sym, some-none}
+use Rattle.cap_pairs.proofs.Sums.{some-none}
 
 -- ---- add_face
 module _ (w : List ℕ) (at face : ℕ) (room : at < length w) (low : getD w at 0 < 64) (k : face < 6) where
@@ -31,7 +31,7 @@ module _ (w : List ℕ) (at face : ℕ) (room : at < length w) (low : getD w at 
       go f true e =
           let t : hasBit (getD w at 0) f ≡ true = ap (hasBit (getD w at 0)) (sym (eqb-true face f e)) ∙ on in
           t ∙ sym (ap (λ (b : Bool). b || eqb face f) t)
-      go f false e = sym (ap (λ (b : Bool). hasBit (getD w at 0) f || b) e ∙ or-last (hasBit (getD w at 0) f))
+      go f false e = sym (ap (λ (b : Bool). hasBit (getD w at 0) f || b) e ∙ or-false (hasBit (getD w at 0) f))
 
   pub fits-sum : hasBit (getD w at 0) face ≡ false → getD w at 0 + 1 * 2 ^ face % 18446744073709551616 < 64
   fits-sum off = let a = mask-low (getD w at 0) face low k off in let b = shifted face k in omega arith
@@ -59,7 +59,7 @@ module _ (w₀ : List ℕ) (at mask : ℕ) where
   adding-start low =
       record {
         long = refl;
-        bits = λ f h. sym (ap (λ (b : Bool). hasBit (getD w₀ at 0) f || (b && hasBit mask f)) (le-ltb f 0 (omega arith)) ∙ or-last (hasBit (getD w₀ at 0) f));
+        bits = λ f h. sym (ap (λ (b : Bool). hasBit (getD w₀ at 0) f || (b && hasBit mask f)) (le-ltb f 0 (omega arith)) ∙ or-false (hasBit (getD w₀ at 0) f));
         small = low;
         rest = λ x h. refl;
       }
@@ -74,7 +74,7 @@ module _ (w₀ : List ℕ) (at mask : ℕ) where
         let x : hasBit mask f ≡ b = ap (hasBit mask) (sym q) ∙ m in
         (λ t. (le-ltb f face (omega arith) t && hasBit mask f) || (e t && b)) ∙ sym x ∙ sym (ap (λ (c : Bool). c && hasBit mask f) (lt-ltb f (face + 1) (omega arith))))
         (λ (e : eqb face f ≡ false).
-        ap (λ (c : Bool). Below mask face f || (c && b)) e ∙ or-last (Below mask face f) ∙ ap (λ (c : Bool). c && hasBit mask f) (other e))
+        ap (λ (c : Bool). Below mask face f || (c && b)) e ∙ or-false (Below mask face f) ∙ ap (λ (c : Bool). c && hasBit mask f) (other e))
         (cases (eqb face f))
       where
         other : eqb face f ≡ false → ltb f face ≡ ltb f (face + 1)
@@ -89,7 +89,7 @@ module _ (w₀ : List ℕ) (at mask : ℕ) where
           long = a .long;
           bits = λ f h.
               a .bits f h ∙ ap (λ (b : Bool). hasBit (getD w₀ at 0) f || b)
-              (sym (or-last (Below mask face f)) ∙ ap (λ (b : Bool). Below mask face f || b) (sym (none (eqb face f))) ∙ beyond f false m);
+              (sym (or-false (Below mask face f)) ∙ ap (λ (b : Bool). Below mask face f || b) (sym (none (eqb face f))) ∙ beyond f false m);
           small = a .small;
           rest = a .rest;
         }
@@ -152,7 +152,7 @@ module _ (target : ℕ → ℕ) (bits : ℕ → ℕ → Bool) (w₀ : List ℕ) 
         each x f h q (no n) =
             ap (λ (m : ℕ). hasBit m f) (s .rest x n) ∙ a .at x f h q
             ∙ sym (ap (λ (b : Bool). some (λ j. eqb (target j) x && bits j f) (upTo i) || (b && bits i f)) (ne-eqb (target i) x (λ e. n (sym e)))
-            ∙ or-last (some (λ j. eqb (target j) x && bits j f) (upTo i)))
+            ∙ or-false (some (λ j. eqb (target j) x && bits j f) (upTo i)))
 
         low : (x : ℕ) → getD w₀ x 0 ≡ 0 → Dec (x ≡ target i) → getD v x 0 < 64
         low x q (yes e) = subst (λ (y : ℕ). getD v y 0 < 64) (sym e) (s .small)

@@ -6,7 +6,7 @@
 --   turned-edges        a triangle turned has the same pairs
 --   sides-some          over all sides
 use Prim.Native.Nat.{ℕ, _+_, _*_, _/_, _≤_, _<_}
-use mathlib.Core.Bool.{Bool, true, false, cond, _&&_, _||_, Bool·beq}
+use mathlib.Core.Bool.{Bool, true, false, cond, _&&_, _||_, Bool·beq, and-false}
 use mathlib.Core.List.{List, [], _∷_}
 use mathlib.Core.Logic.{inr, ⊎-elim}
 use mathlib.Core.Path.{_≡_, refl, sym, ap, _∙_}
@@ -18,13 +18,14 @@ use lib.ListN.{length, getD, length-map}
 use Rattle.lists.specs.Lists.{some, has, upTo}
 use Rattle.lists.proofs.Orders.{never}
 use Rattle.lists.proofs.Sequences.{some-flat, some-below}
+use Rattle.lists.proofs.Bools.{both-ways, eqb-sym}
 use Rattle.words.proofs.Packed.{less-equal-more}
 use Rattle.root.specs.Doubles.{zeroF}
 use Rattle.geometry.specs.Triangles.{Triangle, tri, edges, reversed}
 use Rattle.box_faces.specs.Faces.{hasBit, ccwIsOutward}
 use Rattle.edges.specs.Edges.{samePair}
 use Rattle.edges.specs.Table.{nextSide}
-use Rattle.edges.proofs.Keys.{SameEnds, pair-same, both-ways}
+use Rattle.edges.proofs.Keys.{SameEnds, pair-same}
 use Rattle.edges.proofs.Edges.{same-pair-sym, same-pair-as}
 use Rattle.edges.proofs.Sides.{next-wrap, next-on}
 use Rattle.candidate_pool.specs.OpenEdges.{openEdge}
@@ -39,7 +40,7 @@ use Rattle.cap_triangles.proofs.Fours.{caps-length, cap-at, outward-at}
 use Rattle.cap_triangles.proofs.Good.{turned-corners}
 use Rattle.cap_pairs.specs.Pairs.{pairCount, pairAt, numberIn, PairNumbers}
 use Rattle.cap_pairs.specs.Steps.{sideWords, edgeMask, edgeTarget, sideTarget, sideFace}
-use Rattle.cap_pairs.proofs.Sums.{eqb-sym, some-map, some-threes, some-places}
+use Rattle.cap_pairs.proofs.Sums.{some-map, some-threes, some-places}
 use Rattle.cap_pairs.proofs.Ends.{pair-listed, pair-side, pair-kept}
 
 -- ---- the numbers
@@ -61,10 +62,6 @@ eqb-shift : (u x y : ℕ) → eqb (u + x) (u + y) ≡ eqb x y
 eqb-shift u x y =
     both-ways (eqb (u + x) (u + y)) (eqb x y) (λ e. let q = eqb-true (u + x) (u + y) e in eq-eqb x y (omega arith))
     (λ e. eq-eqb (u + x) (u + y) (ap (λ (z : ℕ). u + z) (eqb-true x y e)))
-
-and-false : (b : Bool) → (b && false) ≡ false
-and-false true = refl
-and-false false = refl
 
 with-way : (h s w e : Bool) → (h ≡ true → e ≡ s) → (h && (s && w)) ≡ ((w && e) && h)
 with-way true s w e f = turn s w ∙ ap (λ (b : Bool). (w && b) && true) (sym (f refl))

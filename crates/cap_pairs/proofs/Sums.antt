@@ -4,7 +4,7 @@
 --   some-threes, some-places         three at a time; by places
 --   place-stops, place-goes, place-map, place-same      `place`
 use Prim.Native.Nat.{ℕ, zero, suc, _+_, _*_, _≤_, _<_}
-use mathlib.Core.Bool.{Bool, true, false, cond, _||_}
+use mathlib.Core.Bool.{Bool, true, false, cond, _||_, or-false}
 use mathlib.Core.List.{List, [], _∷_, _++_, map, List·Memᴰ, List·Memᴰ·head, List·Memᴰ·tail}
 use mathlib.Core.Path.{_≡_, refl, sym, ap, _∙_}
 use native.Mathlib.Omega.{arith}
@@ -13,18 +13,14 @@ use borrow.Author.Tests.{eqb-true, eq-eqb}
 use lib.Dec.{eqb}
 use lib.ListN.{length, getD}
 use Rattle.lists.specs.Lists.{some, place, upFrom, upTo}
-use Rattle.lists.proofs.Bools.{or-last}
 use Rattle.lists.proofs.Sequences.{some-up}
-use Rattle.edges.proofs.Keys.{both-ways}
-
-pub eqb-sym : (a b : ℕ) → eqb a b ≡ eqb b a
-eqb-sym a b = both-ways (eqb a b) (eqb b a) (λ e. eq-eqb b a (sym (eqb-true a b e))) (λ e. eq-eqb a b (sym (eqb-true b a e)))
+use Rattle.lists.proofs.Bools.{both-ways, eqb-sym}
 
 -- ---- some
 module _ {A : Type 0} (p : A → Bool) where
   pub some-one : (x : A) → some p (x ∷ []) ≡ p x
   unfolding some
-  some-one x = or-last (p x)
+  some-one x = or-false (p x)
 
   pub some-map : {B : Type 0} (g : B → A) (l : List B) → some p (map g l) ≡ some (λ x. p (g x)) l
   unfolding some

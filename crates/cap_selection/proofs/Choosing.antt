@@ -9,12 +9,11 @@ use mathlib.Core.List.{List, map}
 use lib.Dec.{T, eqb, eqb→eq}
 use lib.ListN.{length, getD, length-map}
 use lib.Seq.{ext-getD}
-use Rattle.lists.specs.Lists.{some, upTo}
+use Rattle.lists.specs.Lists.{some, upTo, Decides}
 use Rattle.lists.specs.Regions.{view, PartZeroed}
 use Rattle.lists.proofs.Members.{some-of, of-some, and-parts, and-of}
 use Rattle.lists.proofs.Places.{of-up, up-of, length-up, at-up, at-map-up}
 use Rattle.lists.proofs.Regions.{view-at}
-use Rattle.components.specs.Joined.{Decides}
 use Rattle.components.specs.Components.{components, componentOf}
 use Rattle.components.specs.Table.{ComponentNumbers}
 use Rattle.components.proofs.Once.{once-up, decides-same, decides-eqb}

@@ -10,7 +10,7 @@ use borrow.Author.Tests.{eqb-true, eq-eqb, not-true}
 use lib.Dec.{T, eqb}
 use lib.ListN.{length, getD}
 use Rattle.lists.specs.Lists.{some, upTo}
-use Rattle.lists.proofs.Bools.{cond-false, is-true}
+use Rattle.lists.proofs.Bools.{cond-false, is-true, yes}
 use Rattle.lists.proofs.Members.{some-of, of-some, and-parts, and-of, getD-mem, mem-getD}
 use Rattle.lists.proofs.Places.{length-up, at-up, at-map-up}
 use Rattle.geometry.specs.Triangles.{edges}
@@ -18,7 +18,7 @@ use Rattle.edges.specs.Edges.{samePair}
 use Rattle.components.specs.Joined.{one}
 use Rattle.components.proofs.Numbers.{LabelsLink}
 use Rattle.cap_triangles.specs.Selection.{Cap, capAt, isOpenPair, shareEdge}
-use Rattle.cap_selection.proofs.Ways.{test, sideOf, sides-at}
+use Rattle.cap_selection.proofs.Ways.{sideOf, sides-at}
 use Rattle.candidate_pool.specs.OpenEdges.{OpenEdge}
 
 pub record Labelling (boundary : List OpenEdge) (caps : List Cap) (nc p : ℕ) (number label : ℕ → ℕ) (opens : ℕ → Bool) : Type 0 where
@@ -68,8 +68,8 @@ module _ (boundary : List OpenEdge) (caps : List Cap) (nc p : ℕ) (number label
   unfolding shareEdge
   shares i j a b ga gb o s =
       some-of (λ s. not (isOpenPair boundary s) && some (samePair s) (edges (capAt caps j .corners))) (edge-in i a ga)
-      (and-of (not (isOpenPair boundary (edge i a))) (some (samePair (edge i a)) (edges (capAt caps j .corners))) (test (ap not o))
-      (some-of (samePair (edge i a)) (edge-in j b gb) (test s)))
+      (and-of (not (isOpenPair boundary (edge i a))) (some (samePair (edge i a)) (edges (capAt caps j .corners))) (yes (ap not o))
+      (some-of (samePair (edge i a)) (edge-in j b gb) (yes s)))
 
   pub record Shared (i j : ℕ) : Type 0 where
     pub a : ℕ

@@ -4,7 +4,7 @@
 use Prim.Native.Nat.{ℕ, _+_, _*_, _≤_, _<_}
 use native.Mathlib.Omega.{arith}
 use mathlib.Core.Path.{_≡_, refl, sym, ap, _∙_, subst}
-use mathlib.Core.Bool.{Bool, true, false, cond, _&&_, _||_}
+use mathlib.Core.Bool.{Bool, true, false, cond, _&&_, _||_, or-false, or-true}
 use mathlib.Core.List.{List}
 use mathlib.Core.Logic.{_⊎_, inl, inr}
 use borrow.Author.Tests.{eq-eqb, ne-eqb}
@@ -12,7 +12,7 @@ use lib.Dec.{eqb}
 use lib.ListN.{length, getD, set, length-set}
 use lib.Seq.{getD-set-other}
 use Rattle.lists.specs.Lists.{some, upFrom}
-use Rattle.lists.proofs.Bools.{and-next, and-stop, or-last, or-true}
+use Rattle.lists.proofs.Bools.{and-next, and-stop}
 use Rattle.lists.proofs.Regions.{at-set}
 use Rattle.lists.proofs.Sequences.{some-up}
 use Rattle.cap_triangles.specs.Room.{labelsAt, componentsAt, seededAt, Above}
@@ -69,7 +69,7 @@ module _ (n nf nc k : ℕ) (capList w : List ℕ) where
               (sym (more i r
               ∙ ap (λ (b : Bool). seededBy n nf nc k capList w i r || b) (and-stop (seedIn n nf nc k w i (getD capList (4 * i) 0)) (eqb (getD w (componentsAt n nf nc + i) 0) r)
               off)
-              ∙ or-last (seededBy n nf nc k capList w i r)));
+              ∙ or-false (seededBy n nf nc k capList w i r)));
         }
 
     abbrev c : ℕ
@@ -104,7 +104,7 @@ module _ (n nf nc k : ℕ) (capList w : List ℕ) where
         go r h (inl e) = e .1 ∙ ap (λ (b : Bool). cond b 1 0) (sym (now r true (eq-eqb c r (sym (e .0))) ∙ or-true (seededBy n nf nc k capList w i r)))
         go r h (inr e) =
             e .1 ∙ m .seeded r h
-            ∙ ap (λ (b : Bool). cond b 1 0) (sym (now r false (ne-eqb c r (λ q. e .0 (sym q))) ∙ or-last (seededBy n nf nc k capList w i r)))
+            ∙ ap (λ (b : Bool). cond b 1 0) (sym (now r false (ne-eqb c r (λ q. e .0 (sym q))) ∙ or-false (seededBy n nf nc k capList w i r)))
 
     pub mark-turn : (u : List ℕ) → u ≡ markedSeed n nf nc k v i (getD capList (4 * i) 0) → Marking u (i + 1)
     mark-turn u is = subst (λ (x : List ℕ). Marking x (i + 1)) (sym is) (go (seedIn n nf nc k v i (getD capList (4 * i) 0)) refl)

@@ -15,7 +15,7 @@ use lib.Dec.{eqb, ltb, eqb-refl}
 use lib.ListN.{length, getD, length-map}
 use Rattle.lists.specs.Lists.{some, upTo}
 use Rattle.lists.specs.Regions.{view}
-use Rattle.lists.proofs.Bools.{or-stop, or-next, cond-true, cond-false, is-true}
+use Rattle.lists.proofs.Bools.{or-stop, or-next, cond-true, cond-false, is-true, yes, both-ways}
 use Rattle.lists.proofs.Members.{some-of, of-some, of-flatMap, of-keep, and-parts, and-of}
 use Rattle.lists.proofs.Orders.{cases, never}
 use Rattle.lists.proofs.Regions.{view-length, view-at}
@@ -25,7 +25,7 @@ use Rattle.geometry.specs.Triangles.{Triangle, edges}
 use Rattle.box_faces.specs.Faces.{hasBit}
 use Rattle.edges.specs.Edges.{sides, samePair}
 use Rattle.edges.specs.Table.{nextSide}
-use Rattle.edges.proofs.Keys.{same-pair, both-ways}
+use Rattle.edges.proofs.Keys.{same-pair}
 use Rattle.edges.proofs.Sides.{side-at, next-in}
 use Rattle.candidate_pool.specs.OpenEdges.{OpenEdge, openEdge}
 use Rattle.candidate_pool.specs.Offsets.{openEdgesAt}
@@ -38,7 +38,7 @@ use Rattle.cap_triangles.proofs.Good.{GoodCap, good-turned}
 use Rattle.cap_pairs.specs.Pairs.{pairAt, numberIn, PairsKnown}
 use Rattle.cap_pairs.proofs.Ends.{face-low}
 use Rattle.cap_selection.specs.Steps.{openIn, sideNumber, againstIn, seedIn, SidesNumbered}
-use Rattle.cap_selection.proofs.Ways.{test, down-against, up-against, sideOf, sides-at, against, seed-parts}
+use Rattle.cap_selection.proofs.Ways.{down-against, up-against, sideOf, sides-at, against, seed-parts}
 
 -- the face of an open edge is one
 pub entry-face : (w : List ℕ) (at k : ℕ) {e : OpenEdge} → List·Memᴰ e (edgesAt w at k) → e .face < 6
@@ -183,7 +183,7 @@ module _ (n nf k : ℕ) (capList w : List ℕ) (ready : CapReady n nf k capList 
     of-entry : (f : ℕ) (way : OpenEdge → Bool) → some (λ e. eqb (e .face) f && (samePair (side s) (e .from, e .to) && way e)) boundary ≡ true → isOpenPair boundary (side s) ≡ true
     unfolding isOpenPair
     of-entry f way e =
-        let r = of-some (λ e. eqb (e .face) f && (samePair (side s) (e .from, e .to) && way e)) boundary (test e) in
+        let r = of-some (λ e. eqb (e .face) f && (samePair (side s) (e .from, e .to) && way e)) boundary (yes e) in
         let q = and-parts (eqb (r .0 .face) f) (samePair (side s) (r .0 .from, r .0 .to) && way (r .0)) (r .2) .1 in
         is-true _ (some-of (λ e. samePair (side s) (e .from, e .to)) (r .1) (and-parts (samePair (side s) (r .0 .from, r .0 .to)) (way (r .0)) q .0))
 
@@ -193,7 +193,7 @@ module _ (n nf k : ℕ) (capList w : List ℕ) (ready : CapReady n nf k capList 
     to-entry e way m p q =
         is-true _ (some-of (λ d. eqb (d .face) (e .face) && (samePair (side s) (d .from, d .to) && way d)) m
         (and-of (eqb (e .face) (e .face)) (samePair (side s) (e .from, e .to) && way e) (eqb-refl (e .face))
-        (and-of (samePair (side s) (e .from, e .to)) (way e) (test p) (test q))))
+        (and-of (samePair (side s) (e .from, e .to)) (way e) (yes p) (yes q))))
 
     not-zero : (m f : ℕ) → f < 6 → hasBit m f ≡ true → m ≡ 0 → ⊥
     not-zero m f l b z = never (hasBit m f) b (ap (λ (x : ℕ). hasBit x f) z ∙ no-bit f l)
@@ -229,7 +229,7 @@ module _ (n nf k : ℕ) (capList w : List ℕ) (ready : CapReady n nf k capList 
     some-opens : isOpenPair boundary (side s) ≡ true → openIn n nf nc w (sideNumber n nf nc k w s) ≡ true
     unfolding isOpenPair
     some-opens o =
-        let r = of-some (λ e. samePair (side s) (e .from, e .to)) boundary (test o) in
+        let r = of-some (λ e. samePair (side s) (e .from, e .to)) boundary (yes o) in
         let e = r .0 in
         let p = is-true _ (r .2) in
         let l = entry-face w (openEdgesAt n nf) k (r .1) in

@@ -1,5 +1,5 @@
 -- Laws of pairs and of the ways they run, whatever room they stand in. Assumes nothing.
---   test                   a fact as a test
+--   yes                   a fact as a yes
 --   some-or                one of two tests passes
 --   down-against, up-against   an open edge of a side's pair that runs the other way, by which way the side runs
 --   sideOf, sides-at       side s of the triangles; and the sides of triangle i
@@ -14,18 +14,15 @@ use borrow.Author.Tests.{ltb-true, lt-ltb, eqb-true, eq-eqb}
 use lib.Dec.{T, eqb, ltb}
 use lib.ListN.{length, getD}
 use Rattle.lists.specs.Lists.{some}
-use Rattle.lists.proofs.Bools.{and-left, and-right, and-next}
+use Rattle.lists.proofs.Bools.{and-left, and-right, and-next, yes, both-ways}
 use Rattle.lists.proofs.Sequences.{some-same}
 use Rattle.geometry.specs.Triangles.{Triangle, edges, containsOrientedEdge}
 use Rattle.edges.specs.Edges.{sides, samePair}
-use Rattle.edges.proofs.Keys.{same-pair, pair-same, both-ways}
+use Rattle.edges.proofs.Keys.{same-pair, pair-same}
 use Rattle.cap_triangles.specs.Selection.{Cap, capAt}
 use Rattle.candidate_pool.specs.OpenEdges.{OpenEdge}
 
--- ---- a fact as a test
-
-pub test : {b : Bool} → b ≡ true → T b
-test e = subst T (sym e) tt
+-- ---- a fact as a yes
 
 -- ---- tests of a list
 

@@ -10,14 +10,13 @@ use mathlib.Core.List.{List, [], _∷_}
 use lib.Dec.{T}
 use lib.ListN.{length, getD, length-map}
 use lib.Seq.{ext-getD}
-use Rattle.lists.specs.Lists.{some, upTo}
+use Rattle.lists.specs.Lists.{some, upTo, Decides}
 use Rattle.lists.proofs.Members.{some-of, of-some, and-parts, and-of}
 use Rattle.lists.proofs.Places.{of-up, up-of, length-up, at-map-up}
 use Rattle.lists.proofs.Bools.{is-true}
 use Rattle.geometry.specs.Triangles.{edges}
 use Rattle.edges.specs.Edges.{samePair}
 use Rattle.edges.proofs.Edges.{same-pair-sym, same-pair-as}
-use Rattle.components.specs.Joined.{Decides}
 use Rattle.components.specs.Components.{components, componentOf}
 use Rattle.components.proofs.Once.{once-up, decides-as, decides-same}
 use Rattle.components.proofs.Computed.{component-some}

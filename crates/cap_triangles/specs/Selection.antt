@@ -15,12 +15,12 @@ use mathlib.Core.List.{List, [], _∷_, map}
 use lib.Dec.{T, eqb}
 use lib.ListN.{length, getD}
 use lib.Ieee.{Float, lt}
-use Rattle.lists.specs.Lists.{some, upTo}
+use Rattle.lists.specs.Lists.{some, upTo, Decides}
 use Rattle.root.specs.Doubles.{_⊖_, _⊗_, zeroF}
 use Rattle.geometry.specs.Triangles.{Triangle, tri, mapped, edges, reversed, containsOrientedEdge}
 use Rattle.box_faces.specs.Faces.{project, ccwIsOutward}
 use Rattle.edges.specs.Edges.{samePair}
-use Rattle.components.specs.Joined.{Joined, Among, Decides}
+use Rattle.components.specs.Joined.{Joined, Among}
 use Rattle.components.specs.Components.{components, componentOf}
 use Rattle.candidate_pool.specs.OpenEdges.{OpenEdge}
 use Rattle.candidate_pool.specs.Pool.{Pool, pointOf}

@@ -15,6 +15,7 @@ use lib.ListN.{length, getD, drop}
 use Rattle.lists.specs.Lists.{every, upTo, upFrom}
 use Rattle.lists.proofs.Every.{every-stop, every-more, every-end}
 use Rattle.lists.proofs.Places.{length-up, at-up}
+use Rattle.root.proofs.Numbers.{number-itself}
 
 module _ (p : ℕ → Bool) (n i : ℕ) (e : every p (upTo n) ≡ every p (drop i (upTo n))) where
   long : i < n → i < length (upTo n)
@@ -28,12 +29,6 @@ module _ (p : ℕ → Bool) (n i : ℕ) (e : every p (upTo n) ≡ every p (drop 
 
   pub row-end : n ≤ i → every p (upTo n) ≡ true
   row-end h = every-end p (upTo n) i e (subst (λ (m : ℕ). m ≤ i) (sym (length-up 0 n)) h)
-
-pub number-itself : (x : Float) → eq x x ≡ true → T (not (isNan x))
-unfolding isNan eq
-number-itself nan e = subst T (sym e) tt
-number-itself (inf s) e = tt
-number-itself (fin s m d) e = tt
 
 module _ (p : ℕ → Bool) where
   pub first-none : (k : ℕ) → k < 0 → p k ≡ false

@@ -6,9 +6,9 @@ use mathlib.Core.List.{List, [], _∷_, flatMap, List·Memᴰ, List·Memᴰ·hea
 use mathlib.Core.Logic.{_⊎_, inl, inr}
 use lib.Dec.{T, T-not, not-T, eqb, eqb→eq, eqb-refl}
 use lib.ListN.{getD}
-use Rattle.lists.specs.Lists.{some, keep, has, place}
+use Rattle.lists.specs.Lists.{some, keep, has, place, Decides}
 use Rattle.lists.proofs.Members.{some-of, of-some, keep-of, of-keep, flatMap-of, of-flatMap, has-of, of-has, place-some}
-use Rattle.components.specs.Joined.{Joined, one, same, back, via, Among, Once, Decides}
+use Rattle.components.specs.Joined.{Joined, one, same, back, via, Among, Once}
 use Rattle.components.specs.Components.{components, componentOf}
 use Rattle.components.proofs.Joined.{joined-into, joined-keeps}
 

@@ -5,9 +5,9 @@ use mathlib.Core.Bool.{Bool}
 use mathlib.Core.List.{List, List·Memᴰ}
 use lib.Dec.{T, leb, leb→le, le→leb}
 use lib.ListN.{length}
-use Rattle.lists.specs.Lists.{has, keep, count}
+use Rattle.lists.specs.Lists.{has, keep, count, Decides}
 use Rattle.lists.proofs.Members.{keep-of, of-keep}
-use Rattle.components.specs.Joined.{Joined, Among, ManyJoined, Once, Decides}
+use Rattle.components.specs.Joined.{Joined, Among, ManyJoined, Once}
 use Rattle.components.specs.Components.{components, componentOf}
 use Rattle.components.proofs.Joined.{joined-keeps}
 use Rattle.components.proofs.Once.{once-keep, once-shorter}

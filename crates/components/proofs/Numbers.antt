@@ -8,11 +8,11 @@ use mathlib.Core.List.{List, List·Memᴰ}
 use lib.Dec.{T, leb, leb→le, le→leb, eqb, eqb→eq}
 use lib.ListN.{getD, length}
 use lib.Seq.{ext-getD}
-use Rattle.lists.specs.Lists.{some, keep, place, count, has, upTo}
+use Rattle.lists.specs.Lists.{some, keep, place, count, has, upTo, Decides}
 use Rattle.lists.proofs.Members.{some-of, of-some, keep-of, of-keep, has-of, of-has, getD-mem, mem-getD}
 use Rattle.lists.proofs.Places.{of-up, up-of, at-up, length-up}
 use Rattle.lists.proofs.Counts.{count-places}
-use Rattle.components.specs.Joined.{Joined, one, same, back, via, Among, SharedLabel, LeastJoined, Once, ManyJoined, Decides}
+use Rattle.components.specs.Joined.{Joined, one, same, back, via, Among, SharedLabel, LeastJoined, Once, ManyJoined}
 use Rattle.components.specs.Components.{components, componentOf}
 use Rattle.components.specs.Table.{ComponentNumbers, size}
 use Rattle.components.proofs.Joined.{joined-into, joined-map, joined-keeps, joined-ends, least-le, least-unique, least-same, least-joined}

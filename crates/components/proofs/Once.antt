@@ -9,10 +9,10 @@ use mathlib.Core.Logic.{_⊎_, inl, inr}
 use lib.Dec.{T, eqb, eqb→eq, eqb-refl}
 use lib.ListN.{getD, length}
 use borrow.Author.Tests.{eq-eqb, ne-eqb}
-use Rattle.lists.specs.Lists.{keep, place, upFrom, upTo}
+use Rattle.lists.specs.Lists.{keep, place, upFrom, upTo, Decides}
 use Rattle.lists.proofs.Members.{of-keep, getD-mem}
 use Rattle.lists.proofs.Places.{of-up}
-use Rattle.components.specs.Joined.{Once, Decides}
+use Rattle.components.specs.Joined.{Once}
 
 -- two Bools that decide the same are the same
 pub decides-same : {P Q : Type 0} (r s : Bool) → Decides P r → Decides Q s → (P → Q) → (Q → P) → r ≡ s

@@ -6,7 +6,6 @@
 --   LeastJoined    r is the least of the items joined to i
 --   Once           each item stands once in the list
 --   ManyJoined     m different items or more are joined to i, itself counted
---   Decides        a Bool is true exactly if a proposition holds
 use Prim.Native.Nat.{ℕ, _+_, _*_, _≤_, _<_}
 use mathlib.Core.Path.{_≡_}
 use mathlib.Core.Bool.{Bool}
@@ -48,7 +47,3 @@ pub record ManyJoined (R : ℕ → ℕ → Type 0) (m i : ℕ) : Type 0 where
   pub once : Once others
   pub enough : m ≤ length others
   pub chain : (j : ℕ) → List·Memᴰ j others → Joined R i j
-
-pub record Decides (P : Type 0) (r : Bool) : Type 0 where
-  pub sound : T r → P
-  pub complete : P → T r

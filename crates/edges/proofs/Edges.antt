@@ -21,12 +21,13 @@ use Rattle.lists.proofs.Members.{keep-of, of-keep, some-of, of-some, getD-mem, 
 use Rattle.lists.proofs.Multiplicity.{more, count-cons, some-sortBy}
 use Rattle.lists.proofs.Orders.{cases, never, ascending-before}
 use Rattle.lists.proofs.SortBy.{length-sortBy, ascending-sortBy}
+use Rattle.lists.proofs.Bools.{yes, both-ways}
 use Rattle.records.specs.Records.{recordBefore}
 use Rattle.records.proofs.Comparing.{Lex, record-cases, record-order, lex-before}
 use Rattle.geometry.specs.Triangles.{Triangle, threes}
 use Rattle.edges.specs.Edges.{sides, sortedPair, samePair, bearers, isOpen, pairBefore, openEdges}
 use Rattle.edges.proofs.Sides.{Small, sides-small}
-use Rattle.edges.proofs.Keys.{SameEnds, pair-same, same-pair, both-ways, same-ends-sorted, sorted-same-ends}
+use Rattle.edges.proofs.Keys.{SameEnds, pair-same, same-pair, same-ends-sorted, sorted-same-ends}
 
 -- a test as a fact, and back
 yes-true : {b : Bool} → T b → b ≡ true
@@ -35,9 +36,6 @@ yes-true {b} t = go b t
     go : (b : Bool) → T b → b ≡ true
     go true t = refl
     go false t = absurd t
-
-true-yes : {b : Bool} → b ≡ true → T b
-true-yes e = subst T (sym e) tt
 
 -- ---- the same pair
 pub same-sorted : (s t : ℕ × ℕ) → samePair s t ≡ true → sortedPair s ≡ sortedPair t
@@ -63,7 +61,7 @@ bearers-as l s t e = ap (length {A = ℕ × ℕ}) (keep-same (samePair s) (sameP
 
 -- a member that passes is counted
 counted : {A : Type 0} (p : A → Bool) (l : List A) {x : A} → List·Memᴰ x l → p x ≡ true → 0 < count p l
-counted {A} p l {x} m e = go (keep p l) (keep-of p m (true-yes e))
+counted {A} p l {x} m e = go (keep p l) (keep-of p m (yes e))
   where
     go : (k : List A) → List·Memᴰ x k → 0 < length k
     go (y ∷ k) m = omega arith
@@ -92,13 +90,13 @@ module _ (fs : List (Triangle ℕ)) where
 
   pub once-open : {e : ℕ × ℕ} → List·Memᴰ e S → bearers S e ≡ 1 → List·Memᴰ e (openEdges fs)
   unfolding openEdges
-  once-open {e} m h = mem-sortBy pairBefore (keep (isOpen S) S) (keep-of (isOpen S) m (true-yes (eq-eqb (bearers S e) 1 h)))
+  once-open {e} m h = mem-sortBy pairBefore (keep (isOpen S) S) (keep-of (isOpen S) m (yes (eq-eqb (bearers S e) 1 h)))
 
   -- ---- pairs
   pub open-pair : (s : ℕ × ℕ) → some (samePair s) (openEdges fs) ≡ isOpen S s
   open-pair s =
       both-ways (some (samePair s) (openEdges fs)) (isOpen S s)
-      (λ h. let x = of-some (samePair s) (openEdges fs) (true-yes h) in
+      (λ h. let x = of-some (samePair s) (openEdges fs) (yes h) in
       eq-eqb (bearers S s) 1 (bearers-as S s (x .0) (yes-true (x .2)) ∙ open-once (x .1)))
       (λ h. let one = eqb-true (bearers S s) 1 h in
       let x = of-some (samePair s) S (some-counted (samePair s) S (omega arith)) in

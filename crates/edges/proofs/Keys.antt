@@ -11,7 +11,7 @@ use mathlib.Core.Path.{_≡_, refl, sym, ap, subst, _∙_}
 use native.Mathlib.Omega.{arith}
 use borrow.Author.Tests.{ltb-true, ltb-false, eqb-true, eqb-false, eq-eqb, ne-eqb, lt-ltb, le-ltb}
 use lib.Dec.{eqb, ltb}
-use Rattle.lists.proofs.Bools.{and-left, and-right, and-stop}
+use Rattle.lists.proofs.Bools.{and-left, and-right, and-stop, both-ways}
 use Rattle.lists.proofs.Orders.{cases, never}
 use Rattle.words.specs.Packed.{pairFirst, pairSecond}
 use Rattle.words.proofs.Packed.{pair-first, pair-second, pair-lex, lex-pair, edge-exchange, edge-injective}
@@ -46,10 +46,6 @@ same-pair s t h =
     (cases (eqb (s .0) (t .0) && eqb (s .1) (t .1)))
 
 -- two tests that are true together
-pub both-ways : (a b : Bool) → (a ≡ true → b ≡ true) → (b ≡ true → a ≡ true) → a ≡ b
-both-ways true b f g = sym (f refl)
-both-ways false true f g = g refl
-both-ways false false f g = refl
 
 pub same-ends-sorted : (s t : ℕ × ℕ) → SameEnds s t → sortedPair s ≡ sortedPair t
 same-ends-sorted s t =

@@ -7,7 +7,7 @@
 --   table-bearing                the records of one pair are those of the sides that bear it, in their order
 --   table-open                   the records whose key stands once are those of the open edges, in order
 use Prim.Native.Nat.{ℕ, zero, suc, _+_, _≤_, _<_}
-use mathlib.Core.Bool.{Bool, true, false, _&&_, _||_}
+use mathlib.Core.Bool.{Bool, true, false, _&&_, _||_, or-false}
 use mathlib.Core.List.{List, [], _∷_, map, List·Memᴰ}
 use mathlib.Core.Logic.{_⊎_, inl, inr, ⊎-elim}
 use mathlib.Core.Path.{_≡_, refl, sym, ap, _∙_}
@@ -17,13 +17,13 @@ use lib.Dec.{T, eqb, ltb, eqb→eq}
 use lib.ListN.{length, getD, length-map}
 use Rattle.lists.specs.Lists.{keep, count, sortBy, upFrom, upTo}
 use Rattle.lists.specs.Order.{AtMost, AtMostAll, Ascending}
-use Rattle.lists.proofs.Bools.{or-last}
 use Rattle.lists.proofs.Counts.{keep-same}
 use Rattle.lists.proofs.Mapped.{Each, Pairwise, Agree, each-of, of-each, each-map, each-sortBy, each-keep, pairwise-keep, map-keep, map-sortBy}
 use Rattle.lists.proofs.Members.{of-keep}
 use Rattle.lists.proofs.Multiplicity.{count-sortBy, keep-sortBy}
 use Rattle.lists.proofs.Orders.{cases}
 use Rattle.lists.proofs.SortBy.{length-sortBy, ascending-sortBy, sortBy-ascending}
+use Rattle.lists.proofs.Bools.{last-false}
 use Rattle.records.specs.Records.{recordBefore, sorted}
 use Rattle.records.proofs.Comparing.{record-order}
 use Rattle.edges.specs.Edges.{samePair, isOpen, pairBefore}
@@ -103,10 +103,6 @@ module _ (S : List (ℕ × ℕ)) (small : (i : ℕ) → Small (getD S i (0, 0)))
   sides-from k (s ∷ l) f = λ t. from-head k s l f t ∷ sides-from (suc k) l (from-tail k s l f) t
 
   -- ---- their order
-  last-false : (a b c : Bool) → c ≡ false → (a || (b && c)) ≡ a
-  last-false true b c e = refl
-  last-false false true c e = e
-  last-false false false c e = refl
 
   row-order : (k : ℕ) (x y : ℕ × ℕ) → x .1 ≡ k → Row 0 x → Row (suc k) y → Agree (sideOf S) recordBefore pairBefore x y
   row-order k x y e u v =

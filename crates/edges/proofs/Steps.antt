@@ -14,6 +14,7 @@ use Rattle.lists.specs.Regions.{PartZeroed}
 use Rattle.lists.proofs.Mapped.{of-each}
 use Rattle.lists.proofs.Members.{getD-mem}
 use Rattle.lists.proofs.SortBy.{ascending-sortBy}
+use Rattle.lists.proofs.Sequences.{getD-any}
 use Rattle.records.specs.Records.{records, recordBefore, sorted}
 use Rattle.records.proofs.Comparing.{record-order}
 use Rattle.records.proofs.Records.{le-or-lt, records-at-same, records-take, length-records, records-get}
@@ -43,10 +44,6 @@ pub ascends : (f w w₁ : List ℕ) → EdgeTable f w w₁ → Ascending recordB
 ascends f w w₁ t = subst (Ascending recordBefore) (sym (t .table)) (ascending-sortBy recordBefore record-order (sideRecords (sides (threes f))))
 
 -- within a list it does not matter what stands for nothing
-getD-any : {A : Type 0} (l : List A) (i : ℕ) (d e : A) → i < length l → getD l i d ≡ getD l i e
-getD-any [] i d e h = absurd (omega arith)
-getD-any (x ∷ l) zero d e h = refl
-getD-any (x ∷ l) (suc i) d e h = getD-any l i d e (omega arith)
 
 module _ (f w w₁ w₂ w₃ : List ℕ) (k : ℕ) (whole : length f % 3 ≡ 0) (room : 4 * length f ≤ length w) (bound : (i : ℕ) → getD f i 0 < 4294967296)
     (t : EdgeTable f w w₁) (o : KeptOpen w₁ w₂ (length f) k) (z : PartZeroed w₂ w₃ (2 * k) (2 * (length f - k))) where

@@ -1,9 +1,10 @@
 -- Laws of truth values: a chain of tests, and a choice, by the value of the first test; and a test as a fact. Assumes nothing.
 use Prim.Native.Nat.{ℕ}
-use mathlib.Core.Path.{_≡_, refl, sym, ap, _∙_}
+use mathlib.Core.Path.{_≡_, refl, sym, ap, _∙_, subst}
 use mathlib.Core.Bool.{Bool, true, false, cond, not, _&&_, _||_}
 use native.Mathlib.Omega.{arith}
-use lib.Dec.{T}
+use lib.Dec.{T, eqb}
+use borrow.Author.Tests.{eqb-true, eq-eqb}
 
 -- what holds of a test that came out true, and of one that came out false, holds of every test
 pub by-test : (P : Bool → Type 0) (b : Bool) → (T b → P true) → (T (not b) → P false) → P b
@@ -44,22 +45,6 @@ pub or-none-right : (a b : Bool) → (a || b) ≡ false → b ≡ false
 or-none-right true b e = absurd (let z : _≡_ {A = ℕ} 0 1 = cc in omega arith)
 or-none-right false b e = e
 
-pub and-last : (a : Bool) → (a && true) ≡ a
-and-last true = refl
-and-last false = refl
-
-pub or-last : (a : Bool) → (a || false) ≡ a
-or-last true = refl
-or-last false = refl
-
-pub or-true : (a : Bool) → (a || true) ≡ true
-or-true true = refl
-or-true false = refl
-
-pub or-assoc : (a b c : Bool) → ((a || b) || c) ≡ (a || (b || c))
-or-assoc true b c = refl
-or-assoc false b c = refl
-
 pub is-true : (b : Bool) → T b → b ≡ true
 is-true true t = refl
 is-true false t = absurd t
@@ -67,3 +52,19 @@ is-true false t = absurd t
 pub is-false : (b : Bool) → (T b → ⊥) → b ≡ false
 is-false true f = absurd (f tt)
 is-false false f = refl
+
+pub yes : {b : Bool} → b ≡ true → T b
+yes e = subst T (sym e) tt
+
+pub both-ways : (a b : Bool) → (a ≡ true → b ≡ true) → (b ≡ true → a ≡ true) → a ≡ b
+both-ways true b f g = sym (f refl)
+both-ways false true f g = g refl
+both-ways false false f g = refl
+
+pub eqb-sym : (a b : ℕ) → eqb a b ≡ eqb b a
+eqb-sym a b = both-ways (eqb a b) (eqb b a) (λ e. eq-eqb b a (sym (eqb-true a b e))) (λ e. eq-eqb a b (sym (eqb-true b a e)))
+
+pub last-false : (a b c : Bool) → c ≡ false → (a || (b && c)) ≡ a
+last-false true b c e = refl
+last-false false true c e = e
+last-false false false c e = refl

@@ -17,13 +17,12 @@ use Prim.Native.Nat.{ℕ, zero, suc, _+_, _-_, _≤_, _<_}
 use native.Mathlib.Omega.{arith}
 use native.Mathlib.Numerals.{add-one}
 use mathlib.Core.Path.{_≡_, refl, sym, ap, subst, _∙_}
-use mathlib.Core.Bool.{Bool, true, false, cond, _||_}
+use mathlib.Core.Bool.{Bool, true, false, cond, _||_, or-false, or-assoc}
 use mathlib.Core.List.{List, [], _∷_, _++_, map, flatMap, foldl, foldl-append, append-nil, append-assoc, List·Memᴰ, List·Memᴰ·head, List·Memᴰ·tail}
 use lib.Dec.{T, eqb, eqb→eq}
 use lib.ListN.{length, getD, take, drop, length-append, drop-of-length-le}
 use lib.Seq.{drop-cons, take-suc, take-all}
 use Rattle.lists.specs.Lists.{some, keep, place, has, upFrom, upTo}
-use Rattle.lists.proofs.Bools.{or-last, or-assoc}
 use Rattle.lists.proofs.Counts.{keep-append}
 use Rattle.lists.proofs.Mapped.{Each}
 use Rattle.lists.proofs.Members.{place-at}
@@ -121,7 +120,7 @@ flat-up {B} f n = ap (flatMap f) (up-snoc n) ∙ flatMap-append f (upTo n) (n �
 
 pub some-up : (p : ℕ → Bool) (n : ℕ) → some p (upTo (n + 1)) ≡ (some p (upTo n) || p n)
 unfolding some
-some-up p n = ap (some p) (up-snoc n) ∙ some-append p (upTo n) (n ∷ []) ∙ ap (λ (b : Bool). some p (upTo n) || b) (or-last (p n))
+some-up p n = ap (some p) (up-snoc n) ∙ some-append p (upTo n) (n ∷ []) ∙ ap (λ (b : Bool). some p (upTo n) || b) (or-false (p n))
 
 pub keep-up : (p : ℕ → Bool) (n : ℕ) → keep p (upTo (n + 1)) ≡ keep p (upTo n) ++ cond (p n) (n ∷ []) []
 unfolding keep

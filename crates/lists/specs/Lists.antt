@@ -5,11 +5,12 @@
 --   place         how many stand before the first that passes (all, if none does)
 --   insertBy, sortBy   an insertion sort: x goes behind y where `before y x` says so, else in front of it
 --   distinct      the first of each kind              upTo      0, 1, .. n - 1
+--   Decides       a Bool is true exactly if a proposition holds
 use Prim.Native.Nat.{ℕ, zero, suc}
 use mathlib.Core.Bool.{Bool, true, false, cond, _&&_, _||_}
 use mathlib.Core.List.{List, [], _∷_}
 use mathlib.Core.Option.{Option, none, some as just}
-use lib.Dec.{eqb}
+use lib.Dec.{eqb, T}
 use lib.ListN.{length}
 
 module _ {A : Type 0} where
@@ -65,3 +66,7 @@ upFrom k (suc n) = k ∷ upFrom (suc k) n
 
 abbrev pub upTo : ℕ → List ℕ
 upTo n = upFrom 0 n
+
+pub record Decides (P : Type 0) (r : Bool) : Type 0 where
+  pub sound : T r → P
+  pub complete : P → T r

@@ -5,14 +5,13 @@ use Prim.Native.Nat.{ℕ, suc, _+_, _-_, _<_}
 use native.Mathlib.Decide.{ℕ-discrete}
 use native.Mathlib.Omega.{arith}
 use mathlib.Core.Path.{_≡_, refl, sym, ap, subst, _∙_}
-use mathlib.Core.Bool.{Bool, true, false, cond, _||_}
+use mathlib.Core.Bool.{Bool, true, false, cond, _||_, or-false, or-true}
 use mathlib.Core.List.{List, [], _∷_, _++_, map, map-append, foldl, append-nil, append-assoc}
 use lib.Dec.{eqb}
 use lib.ListN.{length, getD, set, replicate, length-set, length-map, length-replicate, getD-replicate}
 use lib.Seq.{getD-set-same, getD-set-other}
 use borrow.Author.Tests.{eqb-true, eq-eqb, ne-eqb}
 use Rattle.lists.specs.Lists.{some, has, place, distinct, distinctFrom}
-use Rattle.lists.proofs.Bools.{or-last, or-true}
 use Rattle.lists.proofs.Mapped.{Each}
 use Rattle.lists.proofs.Sequences.{some-append, place-front, place-behind}
 use Rattle.geometry.specs.declared.point.Point.{Point}
@@ -49,7 +48,7 @@ module _ (points : List Point) where
       none = t .given-at x h ∙ ap (λ (b : Bool). cond b (place (eqb x) used + 1) 0) e
 
       last : (v : ℕ) → has (x ∷ []) v ≡ eqb v x
-      last v = or-last (eqb v x)
+      last v = or-false (eqb v x)
 
       first-place : (v : ℕ) → v ≡ x → place (eqb v) (x ∷ []) ≡ 0
       first-place v q = ap (λ (b : Bool). cond b 0 1) (eq-eqb v x q)
@@ -95,12 +94,12 @@ module _ (points : List Point) where
           by false q = refl
 
       turned : (v : ℕ) → (eqb v x || has used v) ≡ has (used ++ (x ∷ [])) v
-      turned v = or-turn (eqb v x) (has used v) ∙ sym (some-append (eqb v) used (x ∷ []) ∙ ap (λ (b : Bool). has used v || b) (or-last (eqb v x)))
+      turned v = or-turn (eqb v x) (has used v) ∙ sym (some-append (eqb v) used (x ∷ []) ∙ ap (λ (b : Bool). has used v || b) (or-false (eqb v x)))
         where
           or-turn : (a b : Bool) → (a || b) ≡ (b || a)
           or-turn true true = refl
           or-turn true false = refl
-          or-turn false b = sym (or-last b)
+          or-turn false b = sym (or-false b)
 
       go : (b : Bool) → has seen x ≡ b
           → ((u : Named) (o : List ℕ) → Tells u o → ((v : ℕ) → has (x ∷ seen) v ≡ has o v) → Each (λ v. v < length points) cs

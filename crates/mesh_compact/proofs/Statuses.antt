@@ -9,14 +9,14 @@ use lib.Dec.{T, ltb, leb}
 use lib.ListN.{length, getD}
 use borrow.Author.Tests.{ltb-true, ltb-false, lt-leb, le-leb}
 use lib.Ieee.{Float}
-use Rattle.lists.specs.Lists.{isNone, has, keep, count, upFrom, upTo}
+use Rattle.lists.specs.Lists.{isNone, has, keep, count, upFrom, upTo, Decides}
 use Rattle.lists.proofs.Counts.{keep-append, keep-same}
 use Rattle.lists.proofs.Members.{some-of, of-some, has-of, of-has, keep-of, of-keep, getD-mem}
 use Rattle.lists.proofs.Places.{of-up, up-of}
 use Rattle.lists.proofs.Sequences.{up-more}
 use Rattle.geometry.specs.declared.point.Point.{Point}
 use Rattle.geometry.specs.Triangles.{Triangle, vertices}
-use Rattle.components.specs.Joined.{Among, ManyJoined, Once, Decides}
+use Rattle.components.specs.Joined.{Among, ManyJoined, Once}
 use Rattle.components.specs.Components.{components, componentOf}
 use Rattle.components.proofs.Once.{once-keep, once-up}
 use Rattle.components.proofs.Many.{component-many}

@@ -13,10 +13,10 @@ use mathlib.Core.Option.{Option, none, some, orElse}
 use lib.Dec.{ltb}
 use lib.ListN.{length}
 use lib.Ieee.{Float}
-use Rattle.lists.specs.Lists.{some as any, isNone, has, keep, count, upTo}
+use Rattle.lists.specs.Lists.{some as any, isNone, has, keep, count, upTo, Decides}
 use Rattle.geometry.specs.declared.point.Point.{Point}
 use Rattle.geometry.specs.Triangles.{Triangle, vertices}
-use Rattle.components.specs.Joined.{Joined, Among, ManyJoined, Decides}
+use Rattle.components.specs.Joined.{Joined, Among, ManyJoined}
 use Rattle.components.specs.Components.{components, componentOf}
 use Rattle.mesh_filter.specs.Filters.{Reason, alone, facetAt, filtered, passed}
 

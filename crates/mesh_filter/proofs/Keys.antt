@@ -7,7 +7,7 @@ use mathlib.Core.List.{List}
 use lib.Dec.{eqb}
 use lib.ListN.{getD}
 use borrow.Author.Tests.{eqb-true, eq-eqb}
-use Rattle.lists.proofs.Bools.{and-left, and-right}
+use Rattle.lists.proofs.Bools.{and-left, and-right, both-ways}
 use Rattle.words.specs.Packed.{triple}
 use Rattle.words.proofs.Packed.{triple-injective}
 use Rattle.geometry.specs.Triangles.{Triangle, tri, vertices, sortedVertices}
@@ -58,11 +58,6 @@ alike-parts t u e =
 
 parts-alike : (t u : Triangle ℕ) → t .a ≡ u .a → t .b ≡ u .b → t .c ≡ u .c → alike t u ≡ true
 parts-alike t u x y z = rw (eq-eqb (t .a) (u .a) x, eq-eqb (t .b) (u .b) y, eq-eqb (t .c) (u .c) z)
-
-both-ways : (a b : Bool) → (a ≡ true → b ≡ true) → (b ≡ true → a ≡ true) → a ≡ b
-both-ways true b f g = sym (f refl)
-both-ways false true f g = g refl
-both-ways false false f g = refl
 
 pub same-key : (t u : Triangle ℕ) → Below 2097152 t → Below 2097152 u → sameCorners t u ≡ eqb (cornersKey u) (cornersKey t)
 same-key t u h k =

@@ -12,7 +12,7 @@ use lib.Ieee.{Float}
 use lib.ListN.{length, getD}
 use borrow.Author.Tests.{eqb-true, eq-eqb}
 use Rattle.lists.specs.Lists.{first, upTo}
-use Rattle.lists.proofs.Bools.{and-left, and-right, is-true}
+use Rattle.lists.proofs.Bools.{and-left, and-right, is-true, both-ways}
 use Rattle.lists.proofs.Members.{keep-of, of-keep, flatMap-of, of-flatMap}
 use Rattle.lists.proofs.Places.{of-up, up-of}
 use Rattle.lists.proofs.First.{first-found, first-none}
@@ -34,11 +34,6 @@ not-true : (b : Bool) → (b ≡ true → ⊥) → b ≡ false
 not-true true h = absurd (h refl)
 not-true false h = refl
 
-both-ways : (a b : Bool) → (a ≡ true → b ≡ true) → (b ≡ true → a ≡ true) → a ≡ b
-both-ways true b f g = sym (f refl)
-both-ways false true f g = g refl
-both-ways false false f g = refl
-
 same-true : (a b : ℤ) → same a b ≡ true → a ≡ b
 same-true (pos a) (pos b) e = ap pos (eqb-true a b e)
 same-true (pos a) (negsuc b) e = absurd (true≢false (sym e))
@@ -59,7 +54,7 @@ below-above a b =
     (λ e. true-same a (sucℤ b) (sym (ap sucℤ (same-true b (predℤ a) e) ∙ suc-pred a)))
     (λ e. true-same b (predℤ a) (sym (ap predℤ (same-true a (sucℤ b) e) ∙ pred-suc b)))
 
-same-sym : (a b : ℤ) → same a b ≡ same b a
+pub same-sym : (a b : ℤ) → same a b ≡ same b a
 same-sym a b = both-ways (same a b) (same b a) (λ e. true-same b a (sym (same-true a b e))) (λ e. true-same a b (sym (same-true b a e)))
 
 turn-or : (a b c : Bool) → (a || (b || c)) ≡ (c || (b || a))

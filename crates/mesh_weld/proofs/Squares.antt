@@ -12,10 +12,7 @@ use borrow.Author.Tests.{ltb-true, ltb-false}
 use Rattle.geometry.specs.declared.point.Point.{Point}
 use Rattle.geometry.specs.Points.{difference, dot}
 use Rattle.mesh_weld.specs.Cells.{near}
-
-cases : (b : Bool) → (b ≡ true) ⊎ (b ≡ false)
-cases true = inl refl
-cases false = inr refl
+use Rattle.lists.proofs.Orders.{cases}
 
 abbrev sq : Float → Float
 sq x = mul binary64 x x

@@ -16,10 +16,7 @@ use Rattle.mesh_weld.specs.Cells.{Key, keyOf, same, sameKey, beside, aro
 use Rattle.mesh_weld.specs.Room.{cellWord, wordsOf, sameCell, InReach, KeyIn, block}
 use Rattle.lists.proofs.Mapped.{Each}
 use Rattle.lists.proofs.Sequences.{each-append}
-
-cases : (b : Bool) → (b ≡ true) ⊎ (b ≡ false)
-cases true = inl refl
-cases false = inr refl
+use Rattle.lists.proofs.Orders.{cases}
 
 -- k is not below the keys that have a word of their own
 abbrev pub Reach : ℤ → Type 0

@@ -18,7 +18,7 @@ use lib.Ieee.{Float}
 use Rattle.geometry.specs.declared.aabb.AABB.{AABB}
 use Rattle.geometry.specs.Triangles.{flat}
 use Rattle.geometry.specs.Meshes.{Mesh, coordinates, meshLengths}
-use Rattle.lists.specs.Lists.{upTo}
+use Rattle.lists.specs.Lists.{upTo, Decides}
 use Rattle.lists.proofs.Places.{length-up}
 use Rattle.refusals.specs.Refusals.{Test, settle, Zeroed}
 use Rattle.refusals.specs.Answers.{meshOutputs, replyIn, Called}
@@ -29,7 +29,7 @@ use Rattle.mesh_cleanup.specs.Clean.{cleanAsked, cleanResult}
 use Rattle.candidate_surface.specs.Asked.{asked}
 use Rattle.caps.specs.Operation.{capsResult}
 use Rattle.yongpham.specs.Calls.{boxOf, modeOf}
-use Rattle.replay.specs.Words.{Everywhere, Decides}
+use Rattle.replay.specs.Words.{Everywhere}
 use Rattle.replay.specs.Layout.{storedReply, outputsFrom, Laid}
 use Rattle.replay.specs.Contents.{table, oldDoubles, oldWords, oldDouble, doublesIn, numbersIn}
 use Rattle.replay.specs.Agreement.{

@@ -15,10 +15,12 @@ use lib.Dec.{T, eqb}
 use lib.Ieee.{Float, nan, inf, fin, binary64, up, down, level, eq, isNan, toBits}
 use lib.ListN.{length, getD, take, drop, length-drop}
 use lib.Seq.{ext-getD, drop-cons, getD-take, getD-drop, length-take-le}
-use Rattle.replay.specs.Words.{Decides}
+use Rattle.lists.specs.Lists.{Decides}
+use Rattle.lists.proofs.Bools.{is-true, yes}
 use Rattle.replay.proofs.Deciding.{refuted, shown, ends}
 use Rattle.replay.specs.Layout.{storedReply}
 use Rattle.replay.specs.Agreement.{SameDouble, SameWords}
+use Rattle.root.proofs.Numbers.{number-itself}
 
 -- ---- two lists of words
 
@@ -85,11 +87,6 @@ level-itself : (s : Bool) (a : ℕ) → level s a s a ≡ true
 level-itself s a = ap₂ (λ (x y : Bool). x && (y || eqb a 0)) (eq-eqb a a refl) (equal-sign s)
 
 -- only a NaN is not equal to itself
-pub number-itself : (x : Float) → eq x x ≡ true → T (not (isNan x))
-unfolding isNan eq
-number-itself nan e = subst T (sym e) tt
-number-itself (inf s) e = tt
-number-itself (fin s m d) e = tt
 
 itself : (x : Float) → T (not (isNan x)) → eq x x ≡ true
 unfolding isNan eq
@@ -100,8 +97,8 @@ itself (fin s m d) h = level-itself s (m * up d * down d)
 pub same-bits : (x : Float) (word : ℕ) → eq x x ≡ true → Decides (SameDouble x word) (eqb (toBits binary64 x) word)
 same-bits x word e =
     record {
-      sound = λ t. record { number = number-itself x e; bits = eqb-true (toBits binary64 x) word t };
-      complete = λ s. eq-eqb (toBits binary64 x) word (s .bits);
+      sound = λ t. record { number = number-itself x e; bits = eqb-true (toBits binary64 x) word (is-true (eqb (toBits binary64 x) word) t) };
+      complete = λ s. yes (eq-eqb (toBits binary64 x) word (s .bits));
     }
 
 pub no-number : (x : Float) (word : ℕ) → eq x x ≡ false → Decides (SameDouble x word) false

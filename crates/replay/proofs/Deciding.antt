@@ -11,23 +11,25 @@ use native.Mathlib.Nat.{lt-of-lt-of-le}
 use borrow.Author.Count.{below-none, below-more}
 use borrow.Author.Tests.{not-true, not-false}
 use lib.Dec.{T}
-use Rattle.replay.specs.Words.{Everywhere, Decides}
+use Rattle.lists.specs.Lists.{Decides}
+use Rattle.lists.proofs.Bools.{is-true, yes}
+use Rattle.replay.specs.Words.{Everywhere}
 
 pub refuted : {P : Type 0} → (P → ⊥) → Decides P false
-refuted never = record { sound = λ e. absurd (subst T (sym e) tt); complete = λ p. absurd (never p) }
+refuted never = record { sound = λ t. absurd t; complete = λ p. absurd (never p) }
 
 pub shown : {P : Type 0} → P → Decides P true
-shown p = record { sound = λ _. p; complete = λ _. refl }
+shown p = record { sound = λ _. p; complete = λ _. tt }
 
 pub clash : {X : Type 0} {b : Bool} → b ≡ true → b ≡ false → X
 clash t f = absurd (let z : _≡_ {A = ℕ} 0 1 = cc in omega arith)
 
 -- a test of P that failed, where Q holds only if P does
 pub stops : {P : Type 0} (Q : Type 0) {b : Bool} → Decides P b → not b ≡ true → (Q → P) → Decides Q false
-stops Q {b} d e f = refuted (λ q. clash (d .complete (f q)) (not-true b e))
+stops Q {b} d e f = refuted (λ q. clash (is-true b (d .complete (f q))) (not-true b e))
 
 pub passes : {P : Type 0} {b : Bool} → Decides P b → not b ≡ false → P
-passes {b = b} d e = d .sound (not-false b e)
+passes {b = b} d e = d .sound (yes (not-false b e))
 
 pub ends : {P : Type 0} (Q : Type 0) {b : Bool} → Decides P b → (P → Q) → (Q → P) → Decides Q b
 ends Q d f g = record { sound = λ t. f (d .sound t); complete = λ q. d .complete (g q) }

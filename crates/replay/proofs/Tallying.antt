@@ -13,7 +13,9 @@ use borrow.Author.Tests.{eqb-true, eq-eqb}
 use lib.Dec.{eqb}
 use lib.ListN.{length, take, drop, length-drop, drop-of-length-le}
 use lib.Seq.{take-all, drop-drop}
-use Rattle.replay.specs.Words.{recordLength, Decides}
+use Rattle.lists.specs.Lists.{Decides}
+use Rattle.lists.proofs.Bools.{is-true, yes}
+use Rattle.replay.specs.Words.{recordLength}
 use Rattle.replay.specs.Counting.{Records, none, more, Requested, Agreeing, OneIf, Tallied, stop, onto}
 use Rattle.replay.proofs.Deciding.{refuted}
 
@@ -96,8 +98,8 @@ module _ (count : ℕ) (file : List ℕ) where
           sound =
               λ t.
               w .onward
-              (subst (λ (l : List ℕ). Records l left) (sym d) (subst (λ (m : ℕ). Records [] m) (sym (eqb-true left 0 t)) none));
-          complete = λ r. eq-eqb left 0 (all-found left (subst (λ (l : List ℕ). Records l left) d (w .back r)));
+              (subst (λ (l : List ℕ). Records l left) (sym d) (subst (λ (m : ℕ). Records [] m) (sym (eqb-true left 0 (is-true (eqb left 0) t))) none));
+          complete = λ r. yes (eq-eqb left 0 (all-found left (subst (λ (l : List ℕ). Records l left) d (w .back r))));
         }
 
 -- ---- 1 and 0

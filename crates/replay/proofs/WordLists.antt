@@ -19,7 +19,7 @@ use Rattle.candidate_constraints.specs.Constraints.{constraintWords}
 use Rattle.candidate_surface.specs.Candidates.{Candidates}
 use Rattle.candidate_outputs.specs.Outputs.{candidateWords, listWords, candidateLengths, candidateOutputs}
 use Rattle.boundary_closure.specs.Operation.{candidatesResult}
-use Rattle.replay.specs.Words.{Decides}
+use Rattle.lists.specs.Lists.{Decides}
 use Rattle.replay.specs.Layout.{outputsFrom}
 use Rattle.replay.specs.Contents.{oldWords}
 use Rattle.replay.specs.Agreement.{SameWords, OutputsLent, SameOutputs, CandidatesAnswered, CandidatesFresh, WordsStored, boxIn, epsIn, resolutionIn, askedIn, fourIn, candidatesReply}

@@ -2,9 +2,7 @@
 --   wordOf         eight bytes, the least first
 --   recordLength   the length of the record at the front of a list of words; 0 where none is whole
 --   Everywhere     a fact of each number below n
---   Decides        a Bool that is true exactly if a fact holds
 use Prim.Native.Nat.{ℕ, _+_, _*_, _<_}
-use mathlib.Core.Path.{_≡_}
 use mathlib.Core.Bool.{Bool, true, cond}
 use mathlib.Core.List.{List}
 use lib.Dec.{ltb}
@@ -22,7 +20,3 @@ recordLength rest =
 
 abbrev pub Everywhere : (ℕ → Type 0) → ℕ → Type 0
 Everywhere P n = (k : ℕ) → k < n → P k
-
-pub record Decides (P : Type 0) (r : Bool) : Type 0 where
-  pub sound : r ≡ true → P
-  pub complete : P → r ≡ true

@@ -1,5 +1,5 @@
 // Each stored request is run again, and its answer compared with the stored one.
-ghost use Rattle.replay.specs.Words.{Decides};
+ghost use Rattle.lists.specs.Lists.{Decides};
 ghost use Rattle.replay.specs.Agreement.{ToleranceAgrees, Agrees};
 use crate::compare::same_reply;
 use crate::contents::double;

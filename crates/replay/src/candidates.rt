@@ -3,7 +3,7 @@ ghost use mathlib.Core.Path.{_≡_};
 ghost use mathlib.Core.List.{_∷_};
 ghost use Prim.Native.Nat.{_≤_};
 ghost use lib.ListN.{length, getD};
-ghost use Rattle.replay.specs.Words.{Decides};
+ghost use Rattle.lists.specs.Lists.{Decides};
 ghost use Rattle.replay.specs.Layout.{sizeOf, Laid};
 ghost use Rattle.replay.specs.Agreement.{OutputsLent, SameOutputs, CandidatesAnswered, CandidatesFresh, CandidatesStored};
 use crate::compare::is_zero;

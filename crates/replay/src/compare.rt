@@ -4,7 +4,8 @@ ghost use mathlib.Core.List.{_∷_};
 ghost use Prim.Native.Nat.{_+_, _≤_};
 ghost use lib.ListN.{length, getD};
 ghost use lib.Ieee.{nan};
-ghost use Rattle.replay.specs.Words.{Decides, Everywhere};
+ghost use Rattle.lists.specs.Lists.{Decides};
+ghost use Rattle.replay.specs.Words.{Everywhere};
 ghost use Rattle.replay.specs.Layout.{storedReply, outputsFrom};
 ghost use Rattle.replay.specs.Agreement.{SameDouble, SameDoubles, SameWords, AgreesWith};
 

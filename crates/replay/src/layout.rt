@@ -5,7 +5,8 @@ ghost use mathlib.Core.Bool.{false};
 ghost use Prim.Native.Nat.{_+_, _≤_, _<_};
 ghost use lib.ListN.{length, getD, drop};
 ghost use lib.Ieee.{binary64, nanBits};
-ghost use Rattle.replay.specs.Words.{recordLength, Decides, Everywhere};
+ghost use Rattle.lists.specs.Lists.{Decides};
+ghost use Rattle.replay.specs.Words.{recordLength, Everywhere};
 ghost use Rattle.replay.specs.Layout.{sizeOf, Few, Laid};
 ghost use Rattle.replay.specs.Counting.{Records, AnswersFile};
 

@@ -1,7 +1,7 @@
 // The operations that write a mesh: clip, clean and caps.
 ghost use mathlib.Core.Path.{_≡_};
 ghost use lib.ListN.{length, getD};
-ghost use Rattle.replay.specs.Words.{Decides};
+ghost use Rattle.lists.specs.Lists.{Decides};
 ghost use Rattle.replay.specs.Layout.{Laid};
 ghost use Rattle.replay.specs.Agreement.{Fresh, ClipStored, CleanStored, CapsStored, MeshStored};
 use crate::compare::same_answer;

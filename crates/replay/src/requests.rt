@@ -1,7 +1,7 @@
 // The requests with lists: a record of one is tested, its lists are read, and it is run by its operation.
 ghost use mathlib.Core.Path.{_≡_};
 ghost use lib.ListN.{length, getD};
-ghost use Rattle.replay.specs.Words.{Decides};
+ghost use Rattle.lists.specs.Lists.{Decides};
 ghost use Rattle.replay.specs.Layout.{Laid};
 ghost use Rattle.replay.specs.Agreement.{AnswerStored, ListsStored, StoredNumbers, ListsAgree};
 use crate::candidates::candidates_answer_agrees;

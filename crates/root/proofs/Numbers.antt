@@ -87,3 +87,10 @@ div-number (fin s m e) (fin t (suc n) d) p q h =
     subst (λ (b : Bool). T (not (isNan (cond b (cond (eqb m 0) nan (inf (unlike s t))) (round binary64 (unlike s t) (m * up e * down d) (suc n * up d * down e))))))
     (sym (eqb·suc-zero n))
     (round-number binary64 (unlike s t) (m * up e * down d) (suc n * up d * down e))
+
+-- what equals itself is a number
+pub number-itself : (x : Float) → eq x x ≡ true → T (not (isNan x))
+unfolding isNan eq
+number-itself nan e = subst T (sym e) tt
+number-itself (inf s) e = tt
+number-itself (fin s m d) e = tt

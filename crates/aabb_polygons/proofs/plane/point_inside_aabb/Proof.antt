@@ -1,7 +1,8 @@
 use Rattle.lists.specs.Lists.{every}
 use borrow.Author.Tests.{not-true, not-false}
-use Rattle.lists.proofs.Bools.{and-next, and-stop, and-last}
+use Rattle.lists.proofs.Bools.{and-next, and-stop}
 use mathlib.Core.Path.{sym, _∙_}
+use mathlib.Core.Bool.{and-true}
 use borrow.Author.Needs.{needs}
 use Rattle.aabb_polygons.proofs.plane.point_inside_aabb.Statement.{statement}
 use Rattle.aabb_polygons.proofs.plane.point_inside_aabb.Tie as tie
@@ -94,7 +95,7 @@ returns-6 c =
     let if5 = c .before .if5 in
     sym (and-next _ _ _ (sym (point-inside-plane .ensures) ∙ not-false _ (if1 .left)) (and-next _ _ _ (sym (point-inside-plane2 .ensures) ∙ not-false _ (if2 .left))
     (and-next _ _ _ (sym (point-inside-plane3 .ensures) ∙ not-false _ (if3 .left)) (and-next _ _ _ (sym (point-inside-plane4 .ensures) ∙ not-false _ (if4 .left))
-    (and-next _ _ _ (sym (point-inside-plane5 .ensures) ∙ not-false _ (if5 .left)) (and-last _ ∙ sym (c .point-inside-plane6 .ensures)))))))
+    (and-next _ _ _ (sym (point-inside-plane5 .ensures) ∙ not-false _ (if5 .left)) (and-true _ ∙ sym (c .point-inside-plane6 .ensures)))))))
 
 pub point-inside-aabb-spec : {M : Type 1} → statement M
 point-inside-aabb-spec =

@@ -4,10 +4,10 @@ use mathlib.Core.Path.{ap}
 use lib.ListN.{getD}
 use Rattle.candidate_pool.specs.Offsets.{entryAt}
 use Rattle.candidate_pool.specs.Standing.{pointAt}
-use Rattle.candidate_pool.proofs.Numbers.{bits-number}
 use borrow.Author.Needs.{needs}
 use Rattle.candidate_pool.proofs.pool.point_of.Statement.{statement}
 use Rattle.candidate_pool.proofs.pool.point_of.Tie as tie
+use Rattle.root.proofs.Patterns.{no-nan-pattern}
 
 entry-at-requires : tie.Need-entry-at-requires
 entry-at-requires c κs = search needs
@@ -23,9 +23,9 @@ float-from-bits-t7 c =
     let s = c .before .before .before in
     rw (c .before .entry-at .ensures)
     (search (
-      bits-number (getD (s .args .w .now) (entryAt (s .args .id .0)) 0) (s .pre .0 .within .x .is-finite),
-      bits-number (getD (s .args .w .now) (entryAt (s .args .id .0) + 1) 0) (s .pre .0 .within .y .is-finite),
-      bits-number (getD (s .args .w .now) (entryAt (s .args .id .0) + 2) 0) (s .pre .0 .within .z .is-finite),
+      no-nan-pattern (getD (s .args .w .now) (entryAt (s .args .id .0)) 0) (s .pre .0 .within .x .is-finite),
+      no-nan-pattern (getD (s .args .w .now) (entryAt (s .args .id .0) + 1) 0) (s .pre .0 .within .y .is-finite),
+      no-nan-pattern (getD (s .args .w .now) (entryAt (s .args .id .0) + 2) 0) (s .pre .0 .within .z .is-finite),
     ))
 
 add-t8 : tie.Need-add-t8
@@ -42,9 +42,9 @@ float-from-bits-t12 c =
     let s = c .before .before .before .before in
     rw (c .before .before .entry-at .ensures)
     (search (
-      bits-number (getD (s .args .w .now) (entryAt (s .args .id .0)) 0) (s .pre .0 .within .x .is-finite),
-      bits-number (getD (s .args .w .now) (entryAt (s .args .id .0) + 1) 0) (s .pre .0 .within .y .is-finite),
-      bits-number (getD (s .args .w .now) (entryAt (s .args .id .0) + 2) 0) (s .pre .0 .within .z .is-finite),
+      no-nan-pattern (getD (s .args .w .now) (entryAt (s .args .id .0)) 0) (s .pre .0 .within .x .is-finite),
+      no-nan-pattern (getD (s .args .w .now) (entryAt (s .args .id .0) + 1) 0) (s .pre .0 .within .y .is-finite),
+      no-nan-pattern (getD (s .args .w .now) (entryAt (s .args .id .0) + 2) 0) (s .pre .0 .within .z .is-finite),
     ))
 
 add-t13 : tie.Need-add-t13
@@ -61,9 +61,9 @@ float-from-bits-t17 c =
     let s = c .before .before .before .before .before in
     rw (c .before .before .before .entry-at .ensures)
     (search (
-      bits-number (getD (s .args .w .now) (entryAt (s .args .id .0)) 0) (s .pre .0 .within .x .is-finite),
-      bits-number (getD (s .args .w .now) (entryAt (s .args .id .0) + 1) 0) (s .pre .0 .within .y .is-finite),
-      bits-number (getD (s .args .w .now) (entryAt (s .args .id .0) + 2) 0) (s .pre .0 .within .z .is-finite),
+      no-nan-pattern (getD (s .args .w .now) (entryAt (s .args .id .0)) 0) (s .pre .0 .within .x .is-finite),
+      no-nan-pattern (getD (s .args .w .now) (entryAt (s .args .id .0) + 1) 0) (s .pre .0 .within .y .is-finite),
+      no-nan-pattern (getD (s .args .w .now) (entryAt (s .args .id .0) + 2) 0) (s .pre .0 .within .z .is-finite),
     ))
 
 returns : tie.Need-returns

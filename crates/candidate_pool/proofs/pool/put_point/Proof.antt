@@ -2,10 +2,11 @@
 use mathlib.Core.Path.{refl}
 use lib.ListN.{length-set}
 use native.Mathlib.Omega.{arith}
-use Rattle.candidate_pool.proofs.Numbers.{finite-number, bits-of}
+use Rattle.candidate_pool.proofs.Numbers.{bits-of}
 use borrow.Author.Needs.{needs}
 use Rattle.candidate_pool.proofs.pool.put_point.Statement.{statement}
 use Rattle.candidate_pool.proofs.pool.put_point.Tie as tie
+use Rattle.root.proofs.Patterns.{no-nan}
 
 entry-at-requires : tie.Need-entry-at-requires
 entry-at-requires c κs = search needs
@@ -13,7 +14,7 @@ entry-at-requires c κs = search needs
 float-to-bits-w : tie.Need-float-to-bits-w
 float-to-bits-w c =
     let s = c .before .before .before in
-    finite-number (s .args .p .x) (s .pre .0 .x .is-finite)
+    no-nan (s .args .p .x) (s .pre .0 .x .is-finite)
 
 mul-w : tie.Need-mul-w
 mul-w c = search needs
@@ -24,7 +25,7 @@ slice-write-w c = search needs
 float-to-bits-w-2 : tie.Need-float-to-bits-w-2
 float-to-bits-w-2 c =
     let s = c .before .before .before .before in
-    finite-number (s .args .p .y) (s .pre .0 .y .is-finite)
+    no-nan (s .args .p .y) (s .pre .0 .y .is-finite)
 
 add-w : tie.Need-add-w
 add-w c = search needs
@@ -38,7 +39,7 @@ slice-write-w-2 c = simp length-set (omega (arith, c .before .before .entry-at .
 float-to-bits-w-3 : tie.Need-float-to-bits-w-3
 float-to-bits-w-3 c =
     let s = c .before .before .before .before .before in
-    finite-number (s .args .p .z) (s .pre .0 .z .is-finite)
+    no-nan (s .args .p .z) (s .pre .0 .z .is-finite)
 
 add-w-2 : tie.Need-add-w-2
 add-w-2 c = search needs

@@ -1,10 +1,10 @@
-use Rattle.cases.proofs.Rows.{number-itself}
 use Rattle.lists.proofs.Bools.{cond-true, cond-false}
 use mathlib.Core.Path.{_≡_, refl, sym, ap, ap₂, _∙_}
 use Rattle.cases.proofs.bits.bits.Statement.{statement}
 use Rattle.cases.proofs.bits.bits.Tie as tie
 use Rattle.cases.proofs.bits.bits.Reads as reads
 use Rattle.cases.proofs.bits.bits.Lts as lts
+use Rattle.root.proofs.Numbers.{number-itself}
 
 float-to-bits-result : tie.Need-float-to-bits-result
 float-to-bits-result c = number-itself _ (c .if1 .taken)

@@ -1,8 +1,9 @@
 use borrow.Author.Tests.{not-true, not-false}
-use Rattle.lists.proofs.Bools.{and-next, and-stop, and-last}
+use Rattle.lists.proofs.Bools.{and-next, and-stop}
 use Rattle.lists.specs.Lists.{every}
 use Rattle.refusals.specs.Front.{boxInRange}
 use mathlib.Core.Path.{_≡_, refl, sym, ap, _∙_}
+use mathlib.Core.Bool.{and-true}
 use borrow.Author.Needs.{needs}
 use Rattle.refusals.proofs.boxes.box_in_range.Statement.{statement}
 use Rattle.refusals.proofs.boxes.box_in_range.Tie as tie
@@ -53,7 +54,7 @@ returns-3 c =
     sym (and-next _ _ _ (sym (c .before .before .before .before .before .before .before .before .pair-in-range .ensures) ∙ not-false _
     (c .before .before .before .before .before .before .before .if1 .left))
     (and-next _ _ _ (sym (c .before .before .before .before .pair-in-range2 .ensures) ∙ not-false _ (c .before .before .before .if2 .left))
-    (and-last _ ∙ sym (c .pair-in-range3 .ensures))))
+    (and-true _ ∙ sym (c .pair-in-range3 .ensures))))
 
 pub box-in-range-spec : {M : Type 1} → statement M
 box-in-range-spec =

@@ -1,7 +1,8 @@
-use Rattle.lists.proofs.Bools.{or-next, or-stop, or-last}
+use Rattle.lists.proofs.Bools.{or-next, or-stop}
 use Rattle.lists.specs.Lists.{some}
 use Rattle.refusals.specs.Front.{badBox}
 use mathlib.Core.Path.{_≡_, refl, sym, ap, _∙_}
+use mathlib.Core.Bool.{or-false}
 use borrow.Author.Needs.{needs}
 use Rattle.refusals.proofs.boxes.is_bad_box.Statement.{statement}
 use Rattle.refusals.proofs.boxes.is_bad_box.Tie as tie
@@ -50,7 +51,7 @@ returns-3 : tie.Need-returns-3
 unfolding badBox some
 returns-3 c =
     sym (or-next _ _ _ (sym (c .before .before .before .before .before .before .before .before .is-closed .ensures) ∙ c .before .before .before .before .before .before .before .if1
-    .left) (or-next _ _ _ (sym (c .before .before .before .before .is-closed2 .ensures) ∙ c .before .before .before .if2 .left) (or-last _ ∙ sym (c .is-closed3 .ensures))))
+    .left) (or-next _ _ _ (sym (c .before .before .before .before .is-closed2 .ensures) ∙ c .before .before .before .if2 .left) (or-false _ ∙ sym (c .is-closed3 .ensures))))
 
 pub is-bad-box-spec : {M : Type 1} → statement M
 is-bad-box-spec =

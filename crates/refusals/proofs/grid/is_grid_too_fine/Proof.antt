@@ -1,9 +1,10 @@
 use Rattle.refusals.proofs.Grids.{cut-over}
-use Rattle.lists.proofs.Bools.{or-stop, or-next, or-last}
+use Rattle.lists.proofs.Bools.{or-stop, or-next}
 use Rattle.lists.specs.Lists.{some}
 use borrow.Author.Tests.{lt-ltb, le-ltb}
 use Rattle.refusals.specs.Front.{gridTooFine}
 use mathlib.Core.Path.{_≡_, refl, sym, ap, _∙_}
+use mathlib.Core.Bool.{or-false}
 use borrow.Author.Needs.{needs}
 use Rattle.refusals.proofs.grid.is_grid_too_fine.Statement.{statement}
 use Rattle.refusals.proofs.grid.is_grid_too_fine.Tie as tie
@@ -34,7 +35,7 @@ returns-3 : tie.Need-returns-3
 unfolding gridTooFine some
 returns-3 c =
     cut-over _ _ (c .segments-of3 .ensures) ∙ sym (or-next _ _ _ (sym (cut-over _ _ (c .before .before .before .before .segments-of .ensures)) ∙ le-ltb _ _
-    (c .before .before .before .if1 .left)) (or-next _ _ _ (sym (cut-over _ _ (c .before .before .segments-of2 .ensures)) ∙ le-ltb _ _ (c .before .if2 .left)) (or-last _)))
+    (c .before .before .before .if1 .left)) (or-next _ _ _ (sym (cut-over _ _ (c .before .before .segments-of2 .ensures)) ∙ le-ltb _ _ (c .before .if2 .left)) (or-false _)))
 
 pub is-grid-too-fine-spec : {M : Type 1} → statement M
 is-grid-too-fine-spec =

@@ -1,8 +1,9 @@
-use Rattle.replay.proofs.Comparing.{number-itself, same-bits, no-number}
+use Rattle.replay.proofs.Comparing.{same-bits, no-number}
 use Rattle.replay.proofs.compare.same_double.Statement.{statement}
 use Rattle.replay.proofs.compare.same_double.Tie as tie
 use Rattle.replay.proofs.compare.same_double.Reads as reads
 use Rattle.replay.proofs.compare.same_double.Lts as lts
+use Rattle.root.proofs.Numbers.{number-itself}
 
 float-to-bits-result : tie.Need-float-to-bits-result
 float-to-bits-result c = number-itself _ (c .if1 .taken)

@@ -8,6 +8,7 @@ use Rattle.replay.proofs.counting.agreement.Reads as reads
 use Rattle.replay.proofs.counting.agreement.Lts as lts
 use Rattle.replay.proofs.agreement.agrees.Reads as agrees-reads
 use Rattle.replay.proofs.counting.request.Reads as request-reads
+use Rattle.lists.proofs.Bools.{is-true, yes}
 
 request-requires : tie.Need-request-requires
 request-requires c κs = search needs
@@ -23,11 +24,11 @@ returns-2 c =
     one (
       c .before .before .before .request .ensures .sound (omega (arith, c .before .before .before .request .ensures .few, c .before .before .if1 .left)),
       c .before .agrees
-          .ensures .sound (c .if2 .taken),
+          .ensures .sound (yes (c .if2 .taken)),
     )
 
 returns-3 : tie.Need-returns-3
-returns-3 c = none-of (λ a. clash (c .before .agrees .ensures .complete (a .1)) (c .if2 .left))
+returns-3 c = none-of (λ a. clash (is-true _ (c .before .agrees .ensures .complete (a .1))) (c .if2 .left))
 
 pub agreement-spec : {M : Type 1} → statement M
 agreement-spec = tie.close (tie.spec request-requires returns agrees-requires returns-2 returns-3)

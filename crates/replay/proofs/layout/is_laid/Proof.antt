@@ -9,6 +9,7 @@ use Rattle.replay.proofs.layout.is_laid.Reads as reads
 use Rattle.replay.proofs.layout.is_laid.Lts as lts
 use Rattle.replay.proofs.layout.are_few.Reads as are-few-reads
 use Rattle.replay.proofs.layout.size.Reads as size-reads
+use Rattle.lists.proofs.Bools.{is-true, yes}
 
 returns : tie.Need-returns
 returns c = refuted (λ l. omega (arith, c .if1 .taken, l .head))
@@ -51,9 +52,9 @@ returns-5 c =
         outputs = passes
             (c .before .before .before .before .are-few2 .ensures) (c .before .before .before .if3 .left);
         work = c .before .if4 .left;
-        whole = sym (c .size .ensures) ∙ eqb-true _ _ t;
+        whole = sym (c .size .ensures) ∙ eqb-true _ _ (is-true _ t);
       };
-      complete = λ l. eq-eqb _ _ (c .size .ensures ∙ l .whole);
+      complete = λ l. yes (eq-eqb _ _ (c .size .ensures ∙ l .whole));
     }
 
 pub is-laid-spec : {M : Type 1} → statement M
