@@ -4,3 +4,4 @@ pub mod Points
 pub mod Threes
 pub mod Meshes
 pub mod Within
+pub mod FirstUse

@@ -215,7 +215,7 @@ module _ (kept n facets k at least : ℕ) (m : List ℕ) (L : Lent kept n facets
                 vertices = N .used ∙ numbered-points points (flat held) (each-of (λ v. v < length points) (flat held) (low-corner N));
                 numbers = N .numbers
                     ∙ map-same (newNumber (numbering points (flat held))) (λ v. place (eqb v) (usedVertices held)) (flat held)
-                    (λ v x. numbered-place points (flat held) (each-of (λ v. v < length points) (flat held) (low-corner N)) v (low-corner N v x) (N .named v x))
+                    (λ v x. numbered-place points (flat held) (each-of (λ v. v < length points) (flat held) (low-corner N)) v x)
                     ∙ sym (flat-mapped (λ v. place (eqb v) (usedVertices held)) held);
                 low = N .low;
                 small = λ j h. let a = N .small j h in let b = G .few in let c = G .within in let d = L .small in omega arith;
