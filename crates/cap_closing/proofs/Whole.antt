@@ -27,13 +27,15 @@ use Rattle.cap_triangles.specs.Room.{componentsAt, seededAt, closingAt, TurnedR
 use Rattle.cap_triangles.proofs.Fours.{caps-length, outward-at}
 use Rattle.cap_triangles.proofs.Good.{turned-corners, turned-low}
 use Rattle.cap_selection.specs.Chosen.{chosenIn}
-use Rattle.cap_closing.specs.Closing.{taken, entered, isLarge, capFacets}
-use Rattle.cap_closing.specs.Entering.{MeshWords, takenIn, namedFor, firstsIn, Closed}
+use Rattle.cap_closing.specs.Closing.{taken, isLarge, capFacets}
+use Rattle.cap_closing.specs.Entering.{MeshWords, takenIn, facetsFor, firstsIn, Closed}
 use Rattle.cap_closing.specs.Steps.{pointIn, namedAt, NamesEntering, Shaped, leftFacet, capAtRoom, isTaken, takenAt, Taking, Appending, keyIn, isFirst, bit, Started, Found}
 use Rattle.cap_closing.proofs.Growth.{fold-cong}
 use Rattle.cap_closing.proofs.Upwards.{map-keep-up, at-place}
 use Rattle.cap_closing.proofs.Numbering.{most-vertices}
 use Rattle.cap_closing.proofs.Corners.{point-below}
+use Rattle.candidate_pool.proofs.Reading.{pool-count}
+use Rattle.cap_closing.proofs.Entered.{entered, points-are, corners-are}
 use Rattle.cap_closing.proofs.Remaining.{entering-kept, named-kept}
 use Rattle.cap_closing.proofs.Turns.{cap-kept, taken-kept, taken-low}
 use Rattle.cap_closing.proofs.Places.{distinct-places}
@@ -99,8 +101,13 @@ module _ (n nf : ℕ) (capList : List ℕ) (w : List ℕ) (T : TurnedReady n nf 
     ts-low : Each (λ v. v < countAt w) (flat ts)
     ts-low = subst (λ (l : List (Triangle ℕ)). Each (λ v. v < countAt w) (flat l)) (taken-is positive) (taken-low n nf nc positive w (taking-first parts) nc (omega arith))
 
-    named₂ : namedAt b n nc nv (pointsOf vs) w₂ ≡ namedFor n nf capList positive vs w
-    unfolding entered
+    ts-in : Each (λ v. v < length (pool .all)) (flat ts)
+    ts-in = subst (λ (k : ℕ). Each (λ v. v < k) (flat ts)) (sym (pool-count n w)) ts-low
+
+    abbrev names : Named
+    names = entered pool (pointsOf vs) ts
+
+    named₂ : namedAt b n nc nv (pointsOf vs) w₂ ≡ names
     named₂ =
         P .named
         ∙ (λ t. foldl (enter (pointIn w₁)) (start t) (flat (same-taken t)))
@@ -121,7 +128,7 @@ module _ (n nf : ℕ) (capList : List ℕ) (w : List ℕ) (T : TurnedReady n nf 
     entering₃ : NamesEntering b n nc nv w₃
     entering₃ = entering-kept b n nc nv w₂ w₃ (P .entering) (F .long) (λ x h. below₃ x (omega arith)) top₃
 
-    named₃ : namedAt b n nc nv (pointsOf vs) w₃ ≡ namedFor n nf capList positive vs w
+    named₃ : namedAt b n nc nv (pointsOf vs) w₃ ≡ names
     named₃ = named-kept b n nc nv w₂ w₃ (P .entering) (F .long) (λ x h. below₃ x (omega arith)) top₃ (pointsOf vs) ∙ named₂
 
     -- ---- the facets
@@ -152,20 +159,21 @@ module _ (n nf : ℕ) (capList : List ℕ) (w : List ℕ) (T : TurnedReady n nf 
     marked true = refl
     marked false = refl
 
-    firsts-are : map (leftFacet b n w₂) (keep (isFirst key) (upTo left)) ≡ capFacets (namedFor n nf capList positive vs w) ts
+    firsts-are : map (leftFacet b n w₂) (keep (isFirst key) (upTo left)) ≡ facetsFor n nf capList positive vs w
     unfolding capFacets
     firsts-are =
         sym (distinct-places sameCorners (leftFacet b n w₂) key left alike)
         ∙ ap (distinct sameCorners)
-        (P .facets .facets ∙ (λ t. keep (isLarge (named₂ t .points)) (map (mapped (newNumber (named₂ t))) (same-taken t))))
+        (P .facets .facets ∙ (λ t. keep (isLarge (named₂ t .points)) (map (mapped (newNumber (named₂ t))) (same-taken t)))
+        ∙ (λ t. keep (isLarge (points-are pool (pointsOf vs) ts ts-in t)) (corners-are pool (pointsOf vs) ts ts-in t)))
 
-    written : firstsIn n nf nc w₃ left ≡ capFacets (namedFor n nf capList positive vs w) ts
+    written : firstsIn n nf nc w₃ left ≡ facetsFor n nf capList positive vs w
     written =
         map-keep-up (leftFacet b n w₃) (leftFacet b n w₂) (λ i. eqb (getD w₃ (b + 2 * n + 7 * nc + i) 0) 1) (isFirst key) left facet₃
         (λ i h. ap (λ (x : ℕ). eqb x 1) (F .marks i h) ∙ marked (isFirst key i))
         ∙ firsts-are
 
-    counted : found ≡ length (capFacets (namedFor n nf capList positive vs w) ts)
+    counted : found ≡ length (facetsFor n nf capList positive vs w)
     counted = F .counted ∙ sym (length-map (keep (isFirst key) (upTo left)) (leftFacet b n w₂)) ∙ ap (length {A = Triangle ℕ}) firsts-are
 
     word-low : (q r j : ℕ) → j ≡ 3 * q + r → q < left → r < 3 → Dec (r ≡ 0) → Dec (r ≡ 1) → getD w₃ (b + 2 * n + j) 0 < 2097152
@@ -199,7 +207,7 @@ module _ (n nf : ℕ) (capList : List ℕ) (w : List ℕ) (T : TurnedReady n nf 
           own = E .own;
           most = let m = most-vertices b n nc nv w₃ E in omega arith;
           fresh = λ i h. E .fresh i (omega arith);
-          points = ap (λ (m : Named). m .points) (sym named₃);
+          points = sym (points-are pool (pointsOf vs) ts ts-in) ∙ ap (λ (m : Named). m .points) (sym named₃);
           few = P .few;
           low = λ j h. word-low (j / 3) (j % 3) j (omega arith) (omega arith) (omega arith) (ℕ-discrete (j % 3) 0) (ℕ-discrete (j % 3) 1);
           facets = written;

@@ -5,7 +5,7 @@
 --   freshIn        the candidates that became new vertices
 --   facetIn        facet i of those left                      firstsIn    those that are the first of their three corners
 --   takenIn        the triangles that the mode takes, turned, by the selection that stands in the room
---   namedFor       what entering their corners gives
+--   pointsFor, facetsFor   the vertices and the caps written
 --   MeshWords      candidates name vertices of the mesh
 --   Closed         what `close_caps` leaves: `left` facets after the area test, `caps` of them first
 use Prim.Native.Nat.{ℕ, _+_, _*_, _-_, _/_, _≤_, _<_}
@@ -18,14 +18,14 @@ use lib.Ieee.{Float}
 use Rattle.lists.specs.Lists.{keep, upTo}
 use Rattle.lists.specs.Regions.{view}
 use Rattle.geometry.specs.Triangles.{Triangle, tri}
-use Rattle.geometry.specs.Meshes.{pointsOf, Named}
+use Rattle.geometry.specs.Meshes.{pointsOf}
 use Rattle.candidate_pool.specs.Offsets.{entryAt}
 use Rattle.candidate_pool.specs.Standing as standing
 use Rattle.candidate_pool.specs.Standing.{poolAt, pointAt}
 use Rattle.cap_triangles.specs.Selection.{capsOf, outwardCaps}
 use Rattle.cap_triangles.specs.Room.{closingAt, Above}
 use Rattle.cap_selection.specs.Chosen.{chosenIn}
-use Rattle.cap_closing.specs.Closing.{taken, entered, capFacets}
+use Rattle.cap_closing.specs.Closing.{taken, closedPoints, capCorners, capFacets}
 
 module _ (n nf nc : ℕ) where
   abbrev pub givenAt : ℕ
@@ -58,8 +58,12 @@ module _ (n nf nc : ℕ) where
 abbrev pub takenIn : ℕ → ℕ → List ℕ → Bool → List ℕ → List (Triangle ℕ)
 takenIn n nf capList positive w = taken positive (chosenIn n nf (length capList / 4) w) (outwardCaps (poolAt n w) (capsOf capList))
 
-abbrev pub namedFor : ℕ → ℕ → List ℕ → Bool → List Float → List ℕ → Named
-namedFor n nf capList positive vs w = entered (poolAt n w) (pointsOf vs) (takenIn n nf capList positive w)
+abbrev pub pointsFor : ℕ → ℕ → List ℕ → Bool → List Float → List ℕ → List Point
+pointsFor n nf capList positive vs w = closedPoints (poolAt n w) (pointsOf vs) (takenIn n nf capList positive w)
+
+abbrev pub facetsFor : ℕ → ℕ → List ℕ → Bool → List Float → List ℕ → List (Triangle ℕ)
+facetsFor n nf capList positive vs w =
+    capFacets (pointsFor n nf capList positive vs w) (capCorners (poolAt n w) (length (pointsOf vs)) (takenIn n nf capList positive w))
 
 -- a candidate's word names one of nv mesh vertices, or none
 abbrev pub MeshWords : ℕ → List ℕ → Type 0
@@ -70,8 +74,8 @@ pub record Closed (vs : List Float) (n nf : ℕ) (capList : List ℕ) (positive 
   pub own : length vs / 3 ≤ getD w' (verticesAt n nf (length capList / 4)) 0
   pub most : getD w' (verticesAt n nf (length capList / 4)) 0 ≤ length vs / 3 + n
   pub fresh : (i : ℕ) → i < getD w' (verticesAt n nf (length capList / 4)) 0 - length vs / 3 → getD w' (freshAt n nf (length capList / 4) + i) 0 < standing.countAt w'
-  pub points : namedFor n nf capList positive vs w .points ≡ pointsOf vs ++ map (λ c. pointAt w' (entryAt c)) (freshIn n nf (length capList / 4) w' (length vs / 3))
+  pub points : pointsFor n nf capList positive vs w ≡ pointsOf vs ++ map (λ c. pointAt w' (entryAt c)) (freshIn n nf (length capList / 4) w' (length vs / 3))
   pub few : left ≤ length capList / 4
   pub low : (j : ℕ) → j < 3 * left → getD w' (leftAt n nf (length capList / 4) + j) 0 < 2097152
-  pub facets : firstsIn n nf (length capList / 4) w' left ≡ capFacets (namedFor n nf capList positive vs w) (takenIn n nf capList positive w)
-  pub count : caps ≡ length (capFacets (namedFor n nf capList positive vs w) (takenIn n nf capList positive w))
+  pub facets : firstsIn n nf (length capList / 4) w' left ≡ facetsFor n nf capList positive vs w
+  pub count : caps ≡ length (facetsFor n nf capList positive vs w)

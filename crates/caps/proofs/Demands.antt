@@ -33,33 +33,12 @@ append-assoc : {A : Type 0} (k l m : List A) → (k ++ l) ++ m ≡ k ++ (l ++ m)
 append-assoc [] l m = refl
 append-assoc (x ∷ k) l m = ap (λ r. x ∷ r) (append-assoc k l m)
 
--- one corner
-enter-behind : (at : ℕ → Point) (n : Named) (v : ℕ) → (l : List Point) × (enter at n v .points ≡ n .points ++ l)
-unfolding enter
-enter-behind at n v = go (eqb (getD (n .given) v 0) 0)
-  where
-    go : (b : Bool) → (l : List Point) × (cond b (record { given = set (n .given) v (length (n .points) + 1); points = n .points ++ (at v ∷ []) }) n .points ≡ n .points ++ l)
-    go true = (at v ∷ [], refl)
-    go false = ([], sym (append-nil (n .points)))
-
-fold-behind : (at : ℕ → Point) (n : Named) (vs : List ℕ) → (l : List Point) × (foldl (enter at) n vs .points ≡ n .points ++ l)
-fold-behind at n [] = ([], sym (append-nil (n .points)))
-fold-behind at n (v ∷ vs) =
-    let a = enter-behind at n v in
-    let r = fold-behind at (enter at n v) vs in
-    (a .0 ++ r .0, r .1 ∙ ap (λ p. p ++ r .0) (a .1) ∙ append-assoc (n .points) (a .0) (r .0))
-
-pub entered-behind : (pool : Pool) (points : List Point) (ts : List (Triangle ℕ)) → (l : List Point) × (entered pool points ts .points ≡ points ++ l)
-unfolding entered
-entered-behind pool points ts = fold-behind (pointOf pool) (record { given = map (λ c. c .mesh) (pool .all); points = points }) (flat ts)
-
 module _ (pool : Pool) (boundary : List OpenEdge) (caps : List Cap) (positive : Bool) (mesh : Mesh) where
   pub closed-meets : (chosen : List Bool) → Selects boundary (outwardCaps pool caps) chosen → DemandThree pool boundary caps positive mesh (closed pool caps positive mesh chosen)
   unfolding closed
   closed-meets chosen s =
       let ts = taken positive chosen (outwardCaps pool caps) in
-      let a = entered-behind pool (mesh .points) ts in
-      record { chosen = chosen; selects = s; entries = entered pool (mesh .points) ts; entering = refl; added = a .0; behind = a .1; points = refl; facets = refl }
+      record { chosen = chosen; selects = s; points = refl; facets = refl }
 
   -- the mesh is the computed one
   pub demand-decides : (out : Mesh) → DemandThree pool boundary caps positive mesh out → out ≡ closed pool caps positive mesh (selected boundary (outwardCaps pool caps))
@@ -68,8 +47,9 @@ module _ (pool : Pool) (boundary : List OpenEdge) (caps : List Cap) (positive : 
       let e = selects-unique boundary (outwardCaps pool caps) (d .chosen) (selected boundary (outwardCaps pool caps)) (d .selects)
       (selected-selects boundary (outwardCaps pool caps)) in
       subst (λ (c : List Bool). out ≡ closed pool caps positive mesh c) e
-      (same-mesh out (d .chosen) (d .points ∙ ap (λ n. n .points) (d .entering))
-      (d .facets ∙ ap (λ n. ownFacets positive (mesh .facets) ++ capFacets n (taken positive (d .chosen) (outwardCaps pool caps))) (d .entering)))
+      (same-mesh out (d .chosen) (d .points)
+      (d .facets ∙ ap (λ (points : List Point). ownFacets positive (mesh .facets)
+      ++ capFacets points (capCorners pool (length (mesh .points)) (taken positive (d .chosen) (outwardCaps pool caps)))) (d .points)))
     where
       same-mesh : (out : Mesh) (chosen : List Bool) → out .points ≡ closed pool caps positive mesh chosen .points → out .facets ≡ closed pool caps positive mesh chosen .facets
           → out ≡ closed pool caps positive mesh chosen
