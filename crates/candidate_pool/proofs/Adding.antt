@@ -1,7 +1,7 @@
 -- Faces are added one after the other, and so a candidate is inserted with its faces. Assumes nothing.
 --   Adding             the loop: the faces of the mask below k were added
 --   adding-start, adding-low, adding-turn, adding-skip, adding-end   its laws
---   same-number        the faces do not bear on the number;   number-in   the number that an insertion gives is that of a candidate
+--   same-number        mesh vertex and faces do not bear on the number;   number-in   the number that an insertion gives is that of a candidate
 --   inserted-faces, inserted-face   an insertion with no face, and faces added, is an insertion with them
 --   vertex-inserted    and a mesh vertex, whose word is written
 use Prim.Native.Nat.{ℕ, _+_, _*_, _≤_, _<_}
@@ -111,9 +111,9 @@ pub number-in : (eps : Float) (n : ℕ) (w u : List ℕ) (e : Candidate) (id : �
 number-in eps n w u e id i q =
     omega (arith, pool-count n u, ap (λ (p : Pool). length (p .all)) (i .pool), number-low (byKey eps) (poolAt n w) e (key-lawful eps))
 
-pub same-number : (J : Joining Point) (p : Pool) (q : Point) (m : ℕ) (on : List ℕ) → numberFor J p (candidate q m []) ≡ numberFor J p (candidate q m on)
+pub same-number : (J : Joining Point) (p : Pool) (q : Point) (m m' : ℕ) (on : List ℕ) → numberFor J p (candidate q m []) ≡ numberFor J p (candidate q m' on)
 unfolding numberFor
-same-number J p q m on = refl
+same-number J p q m m' on = refl
 
 module _ (eps : Float) (n : ℕ) (w u v : List ℕ) (p : Point) (m id : ℕ) (h : Holds eps n w)
     (i : Inserted eps n (candidate p m []) w u) (q : id ≡ numberFor (byKey eps) (poolAt n w) (candidate p m [])) where

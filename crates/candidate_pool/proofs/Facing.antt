@@ -1,7 +1,7 @@
 -- A face is added to a candidate in the work room. Assumes nothing.
 --   face-there       the candidate has the face: nothing changes
 --   marked, facePut  the stores where it has not
---   count-marked, list-room, face-added   their indices, and what they make of the pool
+--   list-room, list-end, face-added   their indices, and what they make of the pool
 use Prim.Native.Nat.{ℕ, _+_, _*_, _≤_, _<_, _^_}
 use native.Mathlib.Omega.{arith}
 use native.Mathlib.Decide.{ℕ-discrete, decLt}
@@ -33,10 +33,6 @@ use Rattle.candidate_pool.proofs.Reading.{pool-count, pool-at, pool-lis
 use Rattle.candidate_pool.proofs.Putting.{key-same}
 use Rattle.candidate_pool.proofs.Placing.{table-kept, point-same, stored-same}
 use Rattle.candidate_pool.proofs.Masking.{mask-more, mask-low}
-
--- a store to a candidate's word of faces leaves the lengths of the lists
-pub count-marked : (w : List ℕ) (id f : ℕ) → f < 6 → (x : ℕ) → getD (set w (entryAt id + 4) x) f 0 ≡ getD w f 0
-count-marked w id f h x = getD-set-other w (entryAt id + 4) f x 0 (λ e. omega arith)
 
 module _ (eps : Float) (n : ℕ) (w : List ℕ) (h : Holds eps n w) (id f : ℕ) (id-low : id < countAt w) (k : f < 6) where
   abbrev mask : ℕ
@@ -129,21 +125,18 @@ module _ (eps : Float) (n : ℕ) (w : List ℕ) (h : Holds eps n w) (id f : ℕ)
         long : length (faceList (withFace pool id f) f) ≡ getD w f 0 + 1
         long = ap (length {A = ℕ}) longer ∙ length-append (faceList pool f) (id ∷ []) ∙ ap (λ (x : ℕ). x + 1) (list-long eps n w f h k)
 
+    -- where the candidate's number goes
+    pub list-end : (o : ℕ) → o ≡ listAt n f → o + getD w f 0 < joinedAt n
+    list-end o e = omega (arith, list-in n f k, list-room)
+
     module _ (bit o : ℕ) (bit-is : bit ≡ 2 ^ f) (o-is : o ≡ listAt n f) where
       abbrev pub marked : List ℕ
       marked = set w (entryAt id + 4) (mask + bit)
 
-      count-kept : getD marked f 0 ≡ getD w f 0
-      count-kept = count-marked w id f k (mask + bit)
-
       abbrev pub facePut : List ℕ
-      facePut = set (set marked (o + getD marked f 0) id) f (getD marked f 0 + 1)
+      facePut = set (set marked (o + getD w f 0) id) f (getD w f 0 + 1)
 
-      -- where the candidate's number goes
-      end-in : o + getD marked f 0 < joinedAt n
-      end-in = omega (arith, list-in n f k, list-room, count-kept)
-
-      end-low : listsAt n ≤ o + getD marked f 0
+      end-low : listsAt n ≤ o + getD w f 0
       end-low = omega arith
 
       room-at : entryAt id + 4 < length w
@@ -152,26 +145,24 @@ module _ (eps : Float) (n : ℕ) (w : List ℕ) (h : Holds eps n w) (id f : ℕ)
       put-long : length facePut ≡ length w
       put-long = simp length-set
 
-      put-rest : (x : ℕ) → (x ≡ entryAt id + 4 → ⊥) → (x ≡ o + getD marked f 0 → ⊥) → (x ≡ f → ⊥) → getD facePut x 0 ≡ getD w x 0
+      put-rest : (x : ℕ) → (x ≡ entryAt id + 4 → ⊥) → (x ≡ o + getD w f 0 → ⊥) → (x ≡ f → ⊥) → getD facePut x 0 ≡ getD w x 0
       put-rest x a b c =
-          getD-set-other (set marked (o + getD marked f 0) id) f x (getD marked f 0 + 1) 0 c
-          ∙ getD-set-other marked (o + getD marked f 0) x id 0 b
+          getD-set-other (set marked (o + getD w f 0) id) f x (getD w f 0 + 1) 0 c
+          ∙ getD-set-other marked (o + getD w f 0) x id 0 b
           ∙ getD-set-other w (entryAt id + 4) x (mask + bit) 0 a
 
       put-count : getD facePut f 0 ≡ getD w f 0 + 1
-      put-count =
-          getD-set-same (set marked (o + getD marked f 0) id) f (getD marked f 0 + 1) 0 (simp length-set (omega (arith, h .size)))
-          ∙ ap (λ (x : ℕ). x + 1) count-kept
+      put-count = getD-set-same (set marked (o + getD w f 0) id) f (getD w f 0 + 1) 0 (simp length-set (omega (arith, h .size)))
 
-      put-end : getD facePut (o + getD marked f 0) 0 ≡ id
+      put-end : getD facePut (o + getD w f 0) 0 ≡ id
       put-end =
-          getD-set-other (set marked (o + getD marked f 0) id) f (o + getD marked f 0) (getD marked f 0 + 1) 0 (λ e. omega (arith, end-low))
-          ∙ getD-set-same marked (o + getD marked f 0) id 0 (simp length-set (omega (arith, h .size, end-in)))
+          getD-set-other (set marked (o + getD w f 0) id) f (o + getD w f 0) (getD w f 0 + 1) 0 (λ e. omega (arith, end-low))
+          ∙ getD-set-same marked (o + getD w f 0) id 0 (simp length-set (omega (arith, h .size, list-end o o-is)))
 
       put-mask : getD facePut (entryAt id + 4) 0 ≡ mask + 2 ^ f
       put-mask =
-          getD-set-other (set marked (o + getD marked f 0) id) f (entryAt id + 4) (getD marked f 0 + 1) 0 (λ e. omega arith)
-          ∙ getD-set-other marked (o + getD marked f 0) (entryAt id + 4) id 0 (λ e. omega (arith, end-low, h .table .few))
+          getD-set-other (set marked (o + getD w f 0) id) f (entryAt id + 4) (getD w f 0 + 1) 0 (λ e. omega arith)
+          ∙ getD-set-other marked (o + getD w f 0) (entryAt id + 4) id 0 (λ e. omega (arith, end-low, h .table .few))
           ∙ getD-set-same w (entryAt id + 4) (mask + bit) 0 room-at
           ∙ ap (λ (x : ℕ). mask + x) bit-is
 
@@ -193,7 +184,7 @@ module _ (eps : Float) (n : ℕ) (w : List ℕ) (h : Holds eps n w) (id f : ℕ)
       list-word : (g i : ℕ) → g < 6 → i < n → (g ≡ f → ⊥) → getD facePut (listAt n g + i) 0 ≡ getD w (listAt n g + i) 0
       list-word g i r s d =
           put-rest (listAt n g + i) (λ e. omega (arith, h .table .few))
-          (λ e. apart (omega (arith, list-room, count-kept))) (λ e. omega arith)
+          (λ e. apart (omega (arith, list-room))) (λ e. omega arith)
         where
           apart : g * n + i ≡ f * n + getD w f 0 → ⊥
           apart e = go (decLt g f)
@@ -203,7 +194,7 @@ module _ (eps : Float) (n : ℕ) (w : List ℕ) (h : Holds eps n w) (id f : ℕ)
               go (no q) = omega (arith, list-apart n f g (omega arith), list-room)
 
       own-word : (i : ℕ) → i < getD w f 0 → getD facePut (listAt n f + i) 0 ≡ getD w (listAt n f + i) 0
-      own-word i r = put-rest (listAt n f + i) (λ e. omega (arith, h .table .few)) (λ e. omega (arith, count-kept)) (λ e. omega arith)
+      own-word i r = put-rest (listAt n f + i) (λ e. omega (arith, h .table .few)) (λ e. omega arith) (λ e. omega arith)
 
       word-kept : (c : ℕ) → c < countAt w → (c ≡ id → ⊥) → (i : ℕ) → i < 5 → Dec (i ≡ 4) → getD facePut (entryAt c + i) 0 ≡ getD w (entryAt c + i) 0
       word-kept c r d i s (yes e) = rw e (mask-kept c r d)
@@ -227,8 +218,8 @@ module _ (eps : Float) (n : ℕ) (w : List ℕ) (h : Holds eps n w) (id f : ℕ)
           ∙ ap (λ (l : List ℕ). l ++ (id ∷ [])) (sym (pool-list n w f k))
           ∙ own-list (faceList pool f) false (is-listed ∙ off))
         where
-          end-is : listAt n f + getD w f 0 ≡ o + getD marked f 0
-          end-is = omega (arith, count-kept)
+          end-is : listAt n f + getD w f 0 ≡ o + getD w f 0
+          end-is = omega arith
       face-lists g r (no d) =
           ap (λ (x : ℕ). view facePut (listAt n g) x) (front-kept g r d)
           ∙ view-same w facePut (listAt n g) (getD w g 0) (omega (arith, h .size, list-in n g r, h .lengths g r)) put-long
@@ -276,5 +267,5 @@ module _ (eps : Float) (n : ℕ) (w : List ℕ) (h : Holds eps n w) (id f : ℕ)
             pool = face-pool;
             holds = face-holds;
             long = put-long;
-            rest = λ x r. put-rest x (λ e. omega (arith, h .table .few)) (λ e. omega (arith, end-in)) (λ e. omega arith);
+            rest = λ x r. put-rest x (λ e. omega (arith, h .table .few)) (λ e. omega (arith, list-end o o-is)) (λ e. omega arith);
           }

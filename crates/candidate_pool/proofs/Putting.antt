@@ -140,26 +140,23 @@ module _ (w : List ℕ) (n id : ℕ) (p : Point) (m : ℕ) (k : KeyWords) (size 
   pub tail-room : (h : ℕ → ℕ) (b : ℕ) → b < n → Linked h w (chainAt n) n id → getD w4 (chainAt n + n + b) 0 ≤ id
   tail-room h b q l = omega (arith, chain-before (chainAt n + n + b) (omega arith), tail-le h w (chainAt n) n id b l q)
 
-  -- the stores as the code makes them: u is the room with the point in it, and a and t are where keys and chains begin
-  module _ (u v : List ℕ) (a t b : ℕ) (u-is : u ≡ w2) (a-is : a ≡ keysAt n) (t-is : t ≡ chainAt n) where
+  -- the stores as the code makes them: u is the room with the point in it, e where the candidate stands, and a and t are where keys and chains begin
+  module _ (u v : List ℕ) (e a t b : ℕ) (u-is : u ≡ w2) (e-is : e ≡ entryAt id) (a-is : a ≡ keysAt n) (t-is : t ≡ chainAt n) where
     abbrev made : List ℕ
-    made = keyPut (set u (entryAt id + 4) 0) (a + 3 * id) k
+    made = keyPut (set u (e + 4) 0) (a + 3 * id) k
 
     made-is : made ≡ w4
-    made-is = λ i. keyPut (set (u-is i) (entryAt id + 4) 0) (a-is i + 3 * id) k
-
-    pub made-long : length u ≡ length w
-    made-long = ap (length {A = ℕ}) u-is ∙ long2
+    made-is = λ i. keyPut (set (u-is i) (e-is i + 4) 0) (a-is i + 3 * id) k
 
     pub enter-asks : (h : ℕ → ℕ) → b < n → Linked h w (chainAt n) n id → (b < n) × ((t + n + n + id < length made) × (getD made (t + n + b) 0 ≤ id))
     enter-asks h q l =
         (q, (omega (arith, ap (length {A = ℕ}) made-is, long4), subst (λ (x : ℕ). x ≤ id) (sym (λ i. getD (made-is i) (t-is i + n + b) 0)) (tail-room h b q l)))
 
     pub put-all : v ≡ linkedIn made t n id b → v ≡ candidatePut w n id p m k b
-    put-all e = e ∙ (λ i. linkedIn (made-is i) (t-is i) n id b)
+    put-all h = h ∙ (λ i. linkedIn (made-is i) (t-is i) n id b)
 
     pub put-long : v ≡ linkedIn made t n id b → length v ≡ length w
-    put-long e = ap (length {A = ℕ}) (put-all e) ∙ entered-length w4 (chainAt n) n id b ∙ long4
+    put-long h = ap (length {A = ℕ}) (put-all h) ∙ entered-length w4 (chainAt n) n id b ∙ long4
 
   module _ (b : ℕ) (q : b < n) (low : getD w4 (chainAt n + n + b) 0 ≤ id) where
     abbrev w5 : List ℕ

@@ -13,6 +13,7 @@ use crate::keys::KeyWords;
 use crate::keys::find_key;
 use crate::keys::quantized_point_key;
 use crate::room::chain_at;
+use crate::room::entry_at;
 use crate::room::joined_at;
 use crate::room::keys_at;
 use crate::room::list_at;
@@ -24,6 +25,16 @@ use geometry::numbers::MeshVertexId;
 use geometry::point::Point;
 use words::zero_part;
 
+// "mesh vertex + 1 or 0", as it stands in a candidate: 0 where it has no mesh vertex.
+struct MeshWord(u64);
+
+fn mesh_word(v: MeshVertexId) -> MeshWord
+    requires { ⌜ v .0 < 268435456 ⌝ }
+    ensures { λ r. ⌜ r .0 ≡ v .0 + 1 ⌝ }
+{
+    MeshWord(v.0 as u64 + 1)
+}
+
 // The room of no candidate.
 pub fn clear_pool(w: &mut [u64], n: usize, eps: f64)
     requires { ⌜ (n < 268435456) × (poolEnd n ≤ length (now w)) ⌝ }
@@ -34,41 +45,49 @@ pub fn clear_pool(w: &mut [u64], n: usize, eps: f64)
     zero_part(w, joined_at(n), n);
 }
 
-fn put_point(w: &mut [u64], id: usize, p: Point, mesh: u64)
-    requires { ⌜ PointIn p × (entryAt id + 3 < length (now w)) ⌝ }
-    ensures { λ _. ⌜ (now (w .exit) ≡ pointPut (now (w .entry)) id p mesh) × BitsOf p ⌝ }
+fn put_point(w: &mut [u64], id: CandidateVertexId, p: Point, mesh: MeshWord)
+    requires { ⌜ PointIn p × (entryAt (id .0) + 3 < length (now w)) ⌝ }
+    ensures { λ _. ⌜ (now (w .exit) ≡ pointPut (now (w .entry)) (id .0) p (mesh .0)) × BitsOf p ⌝ }
 {
-    let at = 8 + 5 * id;
+    let at = entry_at(id);
     w[at] = f64::to_bits(p.x);
     w[at + 1] = f64::to_bits(p.y);
     w[at + 2] = f64::to_bits(p.z);
-    w[at + 3] = mesh;
+    w[at + 3] = mesh.0;
 }
 
 // A new candidate, on no face yet.
-fn push_candidate(w: &mut [u64], n: usize, p: Point, mesh: u64, key: KeyWords, b: usize) -> usize
+fn push_candidate(
+    w: &mut [u64],
+    n: usize,
+    p: Point,
+    mesh: MeshWord,
+    key: KeyWords,
+    b: usize,
+) -> CandidateVertexId
     requires { ⌜ PointIn p × (countAt (now w) < n) × (b < n) ⌝ }
     requires { ⌜ KeyTable (now w) n (countAt (now w)) × (poolEnd n ≤ length (now w)) ⌝ }
-    ensures { λ r. ⌜ (r ≡ countAt (now (w .entry))) × (now (w .exit) ≡ candidatePut (now (w .entry)) n (countAt (now (w .entry))) p mesh key b) × BitsOf p ⌝ }
+    ensures { λ r. ⌜ (r .0 ≡ countAt (now (w .entry))) × (now (w .exit) ≡ candidatePut (now (w .entry)) n (countAt (now (w .entry))) p (mesh .0) key b) × BitsOf p ⌝ }
 {
-    let id = w[6] as usize;
-    w[6] = id as u64 + 1;
+    let id = CandidateVertexId(w[6] as usize);
+    w[6] = id.0 as u64 + 1;
     put_point(w, id, p, mesh);
-    w[8 + 5 * id + 4] = 0;
-    let at = keys_at(n) + 3 * id;
+    w[entry_at(id) + 4] = 0;
+    let at = keys_at(n) + 3 * id.0;
     w[at] = key.x;
     w[at + 1] = key.y;
     w[at + 2] = key.z;
-    enter(w, chain_at(n), n, id, b);
+    enter(w, chain_at(n), n, id.0, b);
     id
 }
 
-// The candidate at p: found by its key, or new. "a later mesh vertex replaces number and point": mesh is 0 where there is none.
-fn place_candidate(w: &mut [u64], n: usize, p: Point, mesh: u64, eps: f64) -> usize
+// The candidate at p: found by its key, or new. "a later mesh vertex replaces number and point".
+fn place_candidate(w: &mut [u64], n: usize, p: Point, mesh: MeshWord, eps: f64) -> CandidateVertexId
     requires { ⌜ Holds eps n (now w) ⌝ }
     requires { ⌜ PointIn p ⌝ }
-    requires { ⌜ RoomFor eps n (now w) (candidate p mesh []) ⌝ }
-    ensures { λ r. ⌜ Inserted eps n (candidate p mesh []) (now (w .entry)) (now (w .exit)) × (r ≡ numberFor (byKey eps) (poolAt n (now (w .entry))) (candidate p mesh [])) ⌝ }
+    requires { ⌜ RoomFor eps n (now w) (candidate p (mesh .0) []) ⌝ }
+    ensures { λ r. ⌜ Inserted eps n (candidate p (mesh .0) []) (now (w .entry)) (now (w .exit)) ×
+        (r .0 ≡ numberFor (byKey eps) (poolAt n (now (w .entry))) (candidate p (mesh .0) [])) ⌝ }
 {
     let key = quantized_point_key(p, eps);
     let b = bucket(key.x, key.y, key.z, n as u64) as usize;
@@ -76,34 +95,34 @@ fn place_candidate(w: &mut [u64], n: usize, p: Point, mesh: u64, eps: f64) -> us
     if link == 0 {
         return push_candidate(w, n, p, mesh, key, b);
     }
-    let id = (link - 1) as usize;
-    if mesh != 0 {
+    let id = CandidateVertexId((link - 1) as usize);
+    if mesh.0 != 0 {
         put_point(w, id, p, mesh);
     }
     id
 }
 
 // "faces add up": the face is added to the candidate, and the candidate to the face's list, unless it is there.
-fn push_face(w: &mut [u64], n: usize, id: usize, face: usize, eps: f64)
+fn push_face(w: &mut [u64], n: usize, id: CandidateVertexId, face: usize, eps: f64)
     requires { ⌜ Holds eps n (now w) ⌝ }
-    requires { ⌜ (id < countAt (now w)) × (face < 6) ⌝ }
-    ensures { λ _. ⌜ FaceAdded eps n id face (now (w .entry)) (now (w .exit)) ⌝ }
+    requires { ⌜ (id .0 < countAt (now w)) × (face < 6) ⌝ }
+    ensures { λ _. ⌜ FaceAdded eps n (id .0) face (now (w .entry)) (now (w .exit)) ⌝ }
 {
-    let at = 8 + 5 * id + 4;
+    let at = entry_at(id) + 4;
     let faces = w[at];
     if has_face(faces, face) {
         return;
     }
-    w[at] = faces + (1 << face as u64);
     let k = w[face] as usize;
-    w[list_at(n, face) + k] = id as u64;
+    w[at] = faces + (1 << face as u64);
+    w[list_at(n, face) + k] = id.0 as u64;
     w[face] = k as u64 + 1;
 }
 
-fn push_faces(w: &mut [u64], n: usize, id: usize, mask: u64, eps: f64)
+fn push_faces(w: &mut [u64], n: usize, id: CandidateVertexId, mask: u64, eps: f64)
     requires { ⌜ Holds eps n (now w) ⌝ }
-    requires { ⌜ id < countAt (now w) ⌝ }
-    ensures { λ _. ⌜ FacesAdded eps n id mask (now (w .entry)) (now (w .exit)) ⌝ }
+    requires { ⌜ id .0 < countAt (now w) ⌝ }
+    ensures { λ _. ⌜ FacesAdded eps n (id .0) mask (now (w .entry)) (now (w .exit)) ⌝ }
 {
     let mut face = 0;
     while face < 6 {
@@ -129,10 +148,10 @@ pub fn insert_candidate(
     ensures { λ r. ⌜ VertexInserted eps n (v .0) (candidate p (v .0 + 1) (facesIn mask)) (now (w .entry)) (now (w .exit)) ×
         (r .0 ≡ numberFor (byKey eps) (poolAt n (now (w .entry))) (candidate p (v .0 + 1) (facesIn mask))) ⌝ }
 {
-    let id = place_candidate(w, n, p, v.0 as u64 + 1, eps);
+    let id = place_candidate(w, n, p, mesh_word(v), eps);
     push_faces(w, n, id, mask, eps);
-    w[joined_at(n) + v.0] = id as u64 + 1;
-    CandidateVertexId(id)
+    w[joined_at(n) + v.0] = id.0 as u64 + 1;
+    id
 }
 
 // `insert_candidate`, of a point of a face's grid
@@ -142,7 +161,7 @@ pub fn insert_grid_point(w: &mut [u64], n: usize, p: Point, face: usize, eps: f6
     requires { ⌜ RoomFor eps n (now w) (candidate p 0 (face ∷ [])) ⌝ }
     ensures { λ _. ⌜ Inserted eps n (candidate p 0 (face ∷ [])) (now (w .entry)) (now (w .exit)) ⌝ }
 {
-    let id = place_candidate(w, n, p, 0, eps);
+    let id = place_candidate(w, n, p, MeshWord(0), eps);
     push_face(w, n, id, face, eps);
 }
 
@@ -150,7 +169,7 @@ pub fn point_of(w: &[u64], id: CandidateVertexId) -> Point
     requires { ⌜ PointStored (now w) (entryAt (id .0)) × (entryAt (id .0) + 2 < length (now w)) ⌝ }
     ensures { λ r. ⌜ r ≡ pointAt (now (w .entry)) (entryAt (id .0)) ⌝ }
 {
-    let at = 8 + 5 * id.0;
+    let at = entry_at(id);
     Point {
         x: f64::from_bits(w[at]),
         y: f64::from_bits(w[at + 1]),

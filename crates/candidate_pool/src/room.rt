@@ -15,7 +15,15 @@
 // In all 8 + 63 (vertices + G) + 66 facets, of the 128 (vertices + facets + G) + 1,024 that are lent.
 ghost use mathlib.Core.Path.{_≡_};
 ghost use Prim.Native.Nat.{_<_};
-ghost use Rattle.candidate_pool.specs.Offsets.{keysAt, chainAt, listAt, joinedAt, placesAt, sideAt, pairsAt, constraintsAt, openEdgesAt, segmentsAt, edgeTableAt, roomEnd};
+ghost use Rattle.candidate_pool.specs.Offsets.{entryAt, keysAt, chainAt, listAt, joinedAt, placesAt, sideAt, pairsAt, constraintsAt, openEdgesAt, segmentsAt, edgeTableAt, roomEnd};
+use geometry::numbers::CandidateVertexId;
+
+pub fn entry_at(id: CandidateVertexId) -> usize
+    requires { ⌜ entryAt (id .0) < 18446744073709551616 ⌝ }
+    ensures { λ r. ⌜ r ≡ entryAt (id .0) ⌝ }
+{
+    8 + 5 * id.0
+}
 
 pub fn keys_at(n: usize) -> usize
     requires { ⌜ n < 268435456 ⌝ }

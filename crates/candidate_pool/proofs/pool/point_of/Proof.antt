@@ -1,16 +1,16 @@
+-- `point_of` meets its contract: three words are the bits of the point. Assumes nothing.
 use Prim.Native.Nat.{_+_, _*_}
+use mathlib.Core.Path.{ap}
 use lib.ListN.{getD}
 use Rattle.candidate_pool.specs.Offsets.{entryAt}
+use Rattle.candidate_pool.specs.Standing.{pointAt}
 use Rattle.candidate_pool.proofs.Numbers.{bits-number}
 use borrow.Author.Needs.{needs}
 use Rattle.candidate_pool.proofs.pool.point_of.Statement.{statement}
 use Rattle.candidate_pool.proofs.pool.point_of.Tie as tie
 
-mul-at : tie.Need-mul-at
-mul-at c = search needs
-
-add-at : tie.Need-add-at
-add-at c = search needs
+entry-at-requires : tie.Need-entry-at-requires
+entry-at-requires c κs = search needs
 
 mul-t4 : tie.Need-mul-t4
 mul-t4 c = search needs
@@ -20,13 +20,13 @@ shared-slice-read-t6 c = search needs
 
 float-from-bits-t7 : tie.Need-float-from-bits-t7
 float-from-bits-t7 c =
-    search (
-      bits-number (getD (c .before .before .args .w .now) (entryAt (c .before .before .args .id .0)) 0) (c .before .before .pre .0 .within .x .is-finite),
-      bits-number
-          (getD (c .before .before .args .w .now) (entryAt (c .before .before .args .id .0) + 1) 0) (c .before .before .pre .0 .within .y .is-finite),
-      bits-number
-          (getD (c .before .before .args .w .now) (entryAt (c .before .before .args .id .0) + 2) 0) (c .before .before .pre .0 .within .z .is-finite),
-    )
+    let s = c .before .before .before in
+    rw (c .before .entry-at .ensures)
+    (search (
+      bits-number (getD (s .args .w .now) (entryAt (s .args .id .0)) 0) (s .pre .0 .within .x .is-finite),
+      bits-number (getD (s .args .w .now) (entryAt (s .args .id .0) + 1) 0) (s .pre .0 .within .y .is-finite),
+      bits-number (getD (s .args .w .now) (entryAt (s .args .id .0) + 2) 0) (s .pre .0 .within .z .is-finite),
+    ))
 
 add-t8 : tie.Need-add-t8
 add-t8 c = search needs
@@ -39,14 +39,13 @@ shared-slice-read-t11 c = search needs
 
 float-from-bits-t12 : tie.Need-float-from-bits-t12
 float-from-bits-t12 c =
-    search (
-      bits-number (getD (c .before .before .before .args .w .now) (entryAt (c .before .before .before .args .id .0)) 0)
-          (c .before .before .before .pre .0 .within .x .is-finite),
-      bits-number (getD (c .before .before .before .args .w .now) (entryAt (c .before .before .before .args .id .0) + 1) 0)
-          (c .before .before .before .pre .0 .within .y .is-finite),
-      bits-number (getD (c .before .before .before .args .w .now) (entryAt (c .before .before .before .args .id .0) + 2) 0)
-          (c .before .before .before .pre .0 .within .z .is-finite),
-    )
+    let s = c .before .before .before .before in
+    rw (c .before .before .entry-at .ensures)
+    (search (
+      bits-number (getD (s .args .w .now) (entryAt (s .args .id .0)) 0) (s .pre .0 .within .x .is-finite),
+      bits-number (getD (s .args .w .now) (entryAt (s .args .id .0) + 1) 0) (s .pre .0 .within .y .is-finite),
+      bits-number (getD (s .args .w .now) (entryAt (s .args .id .0) + 2) 0) (s .pre .0 .within .z .is-finite),
+    ))
 
 add-t13 : tie.Need-add-t13
 add-t13 c = search needs
@@ -59,26 +58,22 @@ shared-slice-read-t16 c = search needs
 
 float-from-bits-t17 : tie.Need-float-from-bits-t17
 float-from-bits-t17 c =
-    search (
-      bits-number (getD (c .before .before .before .before .args .w .now) (entryAt (c .before .before .before .before .args .id .0)) 0)
-          (c .before .before .before .before .pre .0 .within .x .is-finite),
-      bits-number
-          (getD (c .before .before .before .before .args .w .now) (entryAt (c .before .before .before .before .args .id .0) + 1) 0)
-          (c .before .before .before .before .pre .0 .within .y .is-finite),
-      bits-number
-          (getD (c .before .before .before .before .args .w .now) (entryAt (c .before .before .before .before .args .id .0) + 2) 0)
-          (c .before .before .before .before .pre .0 .within .z .is-finite),
-    )
+    let s = c .before .before .before .before .before in
+    rw (c .before .before .before .entry-at .ensures)
+    (search (
+      bits-number (getD (s .args .w .now) (entryAt (s .args .id .0)) 0) (s .pre .0 .within .x .is-finite),
+      bits-number (getD (s .args .w .now) (entryAt (s .args .id .0) + 1) 0) (s .pre .0 .within .y .is-finite),
+      bits-number (getD (s .args .w .now) (entryAt (s .args .id .0) + 2) 0) (s .pre .0 .within .z .is-finite),
+    ))
 
 returns : tie.Need-returns
-returns c = search needs
+returns c = ap (pointAt (c .before .before .before .before .before .args .w .now)) (c .before .before .before .entry-at .ensures)
 
 pub point-of-spec : {M : Type 1} → statement M
 point-of-spec =
     tie.close
     (tie.spec
-    mul-at
-    add-at
+    entry-at-requires
     mul-t4
     shared-slice-read-t6
     float-from-bits-t7
