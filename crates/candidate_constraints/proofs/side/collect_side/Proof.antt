@@ -1,11 +1,11 @@
 -- `collect_side` meets its contract: after i turns the records are those of the first i candidates of the list. Assumes nothing.
+use Rattle.candidate_constraints.proofs.Showing.{in-list}
 use Rattle.candidate_constraints.proofs.Along.{Collecting, collecting-start, collected-stored, on-side-no-nan, collecting-named, collecting-end}
 use Rattle.candidate_pool.specs.Offsets.{listAt, sideAt}
-use Rattle.candidate_pool.proofs.Reading.{list-in}
-use lib.ListN.{getD}
+use lib.ListN.{getD, length}
 use native.Mathlib.Omega.{arith}
 use mathlib.Core.Path.{_≡_, refl}
-use Prim.Native.Nat.{_+_, _*_, _-_}
+use Prim.Native.Nat.{_+_, _*_, _-_, _≤_, _<_}
 use Rattle.candidate_constraints.proofs.side.collect_side.Statement.{statement}
 use Rattle.candidate_constraints.proofs.side.collect_side.Tie as tie
 
@@ -14,6 +14,21 @@ Inv-loop w₀ n face side eps list at count m₀ i₀ w m i = Collecting eps n f
 
 abbrev μ-loop : tie.MeasureT-loop
 μ-loop w₀ n face side eps list at count m₀ i₀ w m i = count - i
+
+abbrev start : tie.In-loop Inv-loop μ-loop → tie.Start Inv-loop μ-loop
+start c = c .before .before .before .before .before .before
+
+-- the word of the list that a turn reads, and the record that it may write
+turn-in : (c : tie.In-loop Inv-loop μ-loop)
+    → (c .before .before .before .before .list-at .result + c .before .loop .i < length (c .before .loop .w))
+    × (c .before .before .before .side-at .result + 2 * c .before .loop .m + 1 < length (c .before .loop .w)) × (c .before .loop .m ≤ c .before .loop .i)
+turn-in c =
+    let s = start c in
+    let l = c .before .loop in
+    let h = in-list (s .args .n) (s .args .w .now) (s .pre .0) (s .args .face) (s .pre .1 .1) (c .before .before .before .before .list-at .result)
+    (getD (s .args .w .now) (s .args .face) 0) (l .i) (l .inv .1) refl (omega (arith, l .inv .3, c .loop-test .taken)) in
+    let e = l .inv .0 .kept .long in
+    (omega (arith, h .0, e, s .pre .0 .size), omega (arith, h .1, l .inv .0 .few, l .inv .2, e, s .pre .1 .2), l .inv .0 .few)
 
 list-at-requires : tie.Need-list-at-requires Inv-loop μ-loop
 list-at-requires c κs = (omega (arith, c .before .pre .1 .0), c .before .pre .1 .1)
@@ -27,8 +42,7 @@ mul-count c = omega (arith, c .before .before .before .pre .1 .1)
 slice-read-count : tie.Need-slice-read-count Inv-loop μ-loop
 slice-read-count c =
     let s = c .before .before .before .before in
-    let a = s .args in
-    omega (arith, s .pre .1 .1, s .pre .0 .size, s .pre .1 .0, s .pre .1 .2, s .pre .0 .lengths (a .face) (s .pre .1 .1), list-in (a .n) (a .face) (s .pre .1 .1))
+    omega (arith, s .pre .0 .size, s .pre .1 .1)
 
 loop-holds : tie.Need-loop-holds Inv-loop μ-loop
 loop-holds c =
@@ -37,70 +51,13 @@ loop-holds c =
     (collecting-start (a .eps) (a .n) (a .face) (a .side) (a .w .now), c .before .before .list-at .ensures, c .before .side-at .ensures, refl)
 
 add-note-fraction : tie.Need-add-note-fraction Inv-loop μ-loop
-add-note-fraction c =
-    let s = c .before .before .before .before .before .before .before in
-    let a = s .args in
-    let l = c .before .before .loop in
-    omega (
-      arith,
-      s .pre .0 .size,
-      s .pre .1 .0,
-      s .pre .1 .2,
-      s .pre .0 .lengths (a .face) (s .pre .1 .1),
-      list-in (a .n) (a .face) (s .pre .1 .1),
-      l .inv .0 .within,
-      l .inv .0
-          .few,
-      l .inv .0 .kept .long,
-      l .inv .1,
-      l .inv .2,
-      l .inv .3,
-      c .before .loop-test .taken,
-    )
+add-note-fraction c = omega (arith, turn-in (c .before))
 
 mul-note-fraction : tie.Need-mul-note-fraction Inv-loop μ-loop
-mul-note-fraction c =
-    let s = c .before .before .before .before .before .before .before in
-    let a = s .args in
-    let l = c .before .before .loop in
-    omega (
-      arith,
-      s .pre .0 .size,
-      s .pre .1 .0,
-      s .pre .1 .2,
-      s .pre .0 .lengths (a .face) (s .pre .1 .1),
-      list-in (a .n) (a .face) (s .pre .1 .1),
-      l .inv .0 .within,
-      l .inv .0
-          .few,
-      l .inv .0 .kept .long,
-      l .inv .1,
-      l .inv .2,
-      l .inv .3,
-      c .before .loop-test .taken,
-    )
+mul-note-fraction c = omega (arith, turn-in (c .before))
 
 slice-reshared-read-note-fraction : tie.Need-slice-reshared-read-note-fraction Inv-loop μ-loop
-slice-reshared-read-note-fraction c =
-    let s = c .before .before .before .before .before .before .before in
-    let a = s .args in
-    let l = c .before .before .loop in
-    omega (
-      arith,
-      s .pre .0 .size,
-      s .pre .1 .0,
-      s .pre .1 .2,
-      s .pre .0 .lengths (a .face) (s .pre .1 .1),
-      list-in (a .n) (a .face) (s .pre .1 .1),
-      l .inv .0 .within,
-      l .inv .0
-          .few,
-      l .inv .0 .kept .long,
-      l .inv .1,
-      l .inv .2,
-      l .inv .3,
-      c .before .loop-test .taken,
-    )
+slice-reshared-read-note-fraction c = omega (arith, turn-in (c .before))
 
 point-of-requires : tie.Need-point-of-requires Inv-loop μ-loop
 point-of-requires c κs =
@@ -117,119 +74,25 @@ candidate-on-face-side-requires : tie.Need-candidate-on-face-side-requires Inv-l
 candidate-on-face-side-requires c κs = tt
 
 mul-note-fraction-2 : tie.Need-mul-note-fraction-2 Inv-loop μ-loop
-mul-note-fraction-2 c =
-    let s = c .before .before .before .before .before .before .before .before .before .before .before in
-    let a = s .args in
-    let l = c .before .before .before .before .before .before .loop in
-    omega (
-      arith,
-      s .pre .0 .size,
-      s .pre .1 .0,
-      s .pre .1 .2,
-      s .pre .0 .lengths (a .face) (s .pre .1 .1),
-      list-in (a .n) (a .face) (s .pre .1 .1),
-      l .inv .0 .within,
-      l .inv .0
-          .few,
-      l .inv .0 .kept .long,
-      l .inv .1,
-      l .inv .2,
-      l .inv .3,
-      c .before .before .before .before .before .loop-test .taken,
-    )
+mul-note-fraction-2 c = omega (arith, turn-in (c .before .before .before .before .before))
 
 add-note-fraction-2 : tie.Need-add-note-fraction-2 Inv-loop μ-loop
-add-note-fraction-2 c =
-    let s = c .before .before .before .before .before .before .before .before .before .before .before in
-    let a = s .args in
-    let l = c .before .before .before .before .before .before .loop in
-    omega (
-      arith,
-      s .pre .0 .size,
-      s .pre .1 .0,
-      s .pre .1 .2,
-      s .pre .0 .lengths (a .face) (s .pre .1 .1),
-      list-in (a .n) (a .face) (s .pre .1 .1),
-      l .inv .0 .within,
-      l .inv .0
-          .few,
-      l .inv .0 .kept .long,
-      l .inv .1,
-      l .inv .2,
-      l .inv .3,
-      c .before .before .before .before .before .loop-test .taken,
-    )
+add-note-fraction-2 c = omega (arith, turn-in (c .before .before .before .before .before))
 
 note-fraction-requires : tie.Need-note-fraction-requires Inv-loop μ-loop
 note-fraction-requires c κs =
     let s = c .before .before .before .before .before .before .before .before .before .before .before in
-    let a = s .args in
-    let l = c .before .before .before .before .before .before .loop in (
-      omega (
-        arith,
-        s .pre .0 .size,
-        s .pre .1 .0,
-        s .pre .1 .2,
-        s .pre .0 .lengths (a .face) (s .pre .1 .1),
-        list-in (a .n) (a .face) (s .pre .1 .1),
-        l .inv .0 .within,
-        l .inv .0
-            .few,
-        l .inv .0 .kept .long,
-        l .inv .1,
-        l .inv .2,
-        l .inv .3,
-        c .before .before .before .before .before .loop-test .taken,
-      ),
-      on-side-no-nan (a .eps) (a .side)
-          (c .before .before .project .result) (c .before .candidate-on-face-side .result) (c .before .candidate-on-face-side .ensures),
+    let candidate-on-face-side′ = c .before .candidate-on-face-side in (
+      omega (arith, turn-in (c .before .before .before .before .before)),
+      on-side-no-nan (s .args .eps) (s .args .side) (c .before .before .project .result) (candidate-on-face-side′ .result) (candidate-on-face-side′ .ensures),
     )
 
 add-m : tie.Need-add-m Inv-loop μ-loop
 add-m c =
-    let s = c .before .before .before .before .before .before .before .before .before .before .before .before .before .before in
-    let a = s .args in
-    let l = c .before .before .before .before .before .before .before .before .before .loop in
-    omega (
-      arith,
-      c .before .before .note-fraction .ensures .few,
-      s .pre .0 .size,
-      s .pre .1 .0,
-      s .pre .1 .2,
-      s .pre .0 .lengths (a .face) (s .pre .1 .1),
-      list-in (a .n) (a .face)
-          (s .pre .1 .1),
-      l .inv .0 .within,
-      l .inv .0 .few,
-      l .inv .0 .kept .long,
-      l .inv .1,
-      l .inv .2,
-      l .inv .3,
-      c .before .before .before .before .before .before .before .before
-          .loop-test .taken,
-    )
+    omega (arith, c .before .before .note-fraction .ensures .few, turn-in (c .before .before .before .before .before .before .before .before))
 
 add-i : tie.Need-add-i Inv-loop μ-loop
-add-i c =
-    let s = c .before .before .before .before .before .before .before .before .before .before .before .before .before .before in
-    let a = s .args in
-    let l = c .before .before .before .before .before .before .before .before .before .loop in
-    omega (
-      arith,
-      s .pre .0 .size,
-      s .pre .1 .0,
-      s .pre .1 .2,
-      s .pre .0 .lengths (a .face) (s .pre .1 .1),
-      list-in (a .n) (a .face) (s .pre .1 .1),
-      l .inv .0 .within,
-      l .inv .0
-          .few,
-      l .inv .0 .kept .long,
-      l .inv .1,
-      l .inv .2,
-      l .inv .3,
-      c .before .before .before .before .before .before .before .before .loop-test .taken,
-    )
+add-i c = omega (arith, turn-in (c .before .before .before .before .before .before .before .before))
 
 loop-less : tie.Need-loop-less Inv-loop μ-loop
 loop-less c = omega (arith, c .before .before .before .before .before .before .before .before .loop-test .taken)
