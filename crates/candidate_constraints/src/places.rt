@@ -9,6 +9,14 @@ use candidate_pool::room::places_at;
 use geometry::numbers::CandidateVertexId;
 use geometry::numbers::FacePlace;
 
+// The only way from a place to a candidate: what stands there in the face's list, which begins at `list`.
+pub fn candidate_at(w: &[u64], list: usize, place: FacePlace) -> CandidateVertexId
+    requires { ⌜ list + place .0 < length (now w) ⌝ }
+    ensures { λ r. ⌜ r .0 ≡ getD (now (w .entry)) (list + place .0) 0 ⌝ }
+{
+    CandidateVertexId(w[list + place.0] as usize)
+}
+
 pub fn note_places(w: &mut [u64], n: usize, face: usize)
     requires { ⌜ Shown n (now w) ⌝ }
     requires { ⌜ (n < 2097152) × (face < 6) × (sideAt n ≤ length (now w)) ⌝ }
@@ -19,13 +27,13 @@ pub fn note_places(w: &mut [u64], n: usize, face: usize)
     let count = w[face] as usize;
     let mut i = 0;
     while i < count {
-        let id = CandidateVertexId(w[list + i] as usize);
+        let id = candidate_at(w, list, FacePlace(i));
         w[places + id.0] = i as u64;
         i += 1;
     }
 }
 
-// The only way from a candidate to a place: the one noted.
+// The only way from a candidate to its place: the one noted.
 pub fn place_of_candidate(w: &[u64], n: usize, id: CandidateVertexId) -> FacePlace
     requires { ⌜ (n < 268435456) × (placesAt n + id .0 < length (now w)) ⌝ }
     ensures { λ r. ⌜ r .0 ≡ getD (now (w .entry)) (placesAt n + id .0) 0 ⌝ }

@@ -18,7 +18,7 @@ abbrev μ-loop : tie.MeasureT-loop
 abbrev start : tie.In-loop Inv-loop μ-loop → tie.Start Inv-loop μ-loop
 start c = c .before .before .before .before .before .before
 
--- the word that the loop reads, and the one that it writes
+-- the word that a turn reads, and the one that it writes
 read-in : (c : tie.In-loop Inv-loop μ-loop) → (c .before .before .before .before .list-at .result + c .before .loop .i < length (c .before .loop .w)) ×
     (c .before .loop .i < start c .args .n)
 read-in c =
@@ -59,37 +59,32 @@ loop-holds c =
     let s = c .before .before .before .before in
     (noting-start (s .args .n) (s .args .face) (s .args .w .now), c .before .before .list-at .ensures, c .before .places-at .ensures, refl)
 
+candidate-at-requires : tie.Need-candidate-at-requires Inv-loop μ-loop
+candidate-at-requires c κs = read-in (c .before) .0
+
 add-w : tie.Need-add-w Inv-loop μ-loop
-add-w c = omega (arith, read-in (c))
+add-w c = omega (arith, write-in (c .before .before .before), c .before .candidate-at .ensures)
 
 mul-w : tie.Need-mul-w Inv-loop μ-loop
-mul-w c = omega (arith, read-in (c))
-
-slice-read-w : tie.Need-slice-read-w Inv-loop μ-loop
-slice-read-w c = omega (arith, read-in (c .before))
-
-add-w-2 : tie.Need-add-w-2 Inv-loop μ-loop
-add-w-2 c = omega (arith, write-in (c .before .before))
-
-mul-w-2 : tie.Need-mul-w-2 Inv-loop μ-loop
-mul-w-2 c = omega (arith, write-in (c .before .before))
+mul-w c = omega (arith, write-in (c .before .before .before), c .before .candidate-at .ensures)
 
 slice-write-w : tie.Need-slice-write-w Inv-loop μ-loop
-slice-write-w c = omega (arith, write-in (c .before .before))
+slice-write-w c = omega (arith, write-in (c .before .before .before), c .before .candidate-at .ensures)
 
 add-i : tie.Need-add-i Inv-loop μ-loop
-add-i c = omega (arith, read-in (c .before .before))
+add-i c = omega (arith, read-in (c .before .before .before))
 
 loop-less : tie.Need-loop-less Inv-loop μ-loop
-loop-less c = omega (arith, c .before .before .loop-test .taken)
+loop-less c = omega (arith, c .before .before .before .loop-test .taken)
 
 loop-again : tie.Need-loop-again Inv-loop μ-loop
 loop-again c =
-    let s = c .before .before .before .before .before .before .before .before in
-    let loop′ = c .before .before .before .loop in (
-      noting-named (s .args .n) (s .args .face) (s .args .w .now) (s .pre .0) (s .pre .1 .1) (s .pre .1 .2) (loop′ .w) (loop′ .i) (loop′ .inv .0)
-          (c .before .before .before .before .before .before .list-at .result) (c .before .before .before .before .before .places-at .result) (loop′ .inv .1) (loop′ .inv .2)
-          (omega (arith, loop′ .inv .3, c .before .before .loop-test .taken)),
+    let s = c .before .before .before .before .before .before .before .before .before in
+    let loop′ = c .before .before .before .before .loop in (
+      rw (c .before .candidate-at .ensures) (noting-named (s .args .n) (s .args .face) (s .args .w .now) (s .pre .0) (s .pre .1 .1) (s .pre .1 .2) (loop′ .w) (loop′ .i)
+          (loop′ .inv .0)
+          (c .before .before .before .before .before .before .before .list-at .result) (c .before .before .before .before .before .before .places-at .result) (loop′ .inv .1)
+          (loop′ .inv .2) (omega (arith, loop′ .inv .3, c .before .before .before .loop-test .taken))),
       loop′ .inv .1,
       loop′ .inv .2,
       loop′ .inv .3,
@@ -116,11 +111,9 @@ note-places-spec =
     mul-count
     slice-read-count
     loop-holds
+    candidate-at-requires
     add-w
     mul-w
-    slice-read-w
-    add-w-2
-    mul-w-2
     slice-write-w
     add-i
     loop-less
