@@ -3,6 +3,7 @@
 --   last-axis         an axis that is neither x nor y is z
 --   le-same           a comparison of equal numbers
 --   uv-is             u and v by their coordinates
+--   segment-length-is   a segment's length by its two coordinates
 --   far-off, near-by  the two answers of `point_on_segment2`
 --   line-is           geometry's grid line is `lineAt` for the segments that the axis needs
 use Prim.Native.Nat.{ℕ, zero, suc, _<_}
@@ -11,6 +12,7 @@ use mathlib.Core.Bool.{Bool, true, false}
 use native.Mathlib.Omega.{arith}
 use lib.Ieee.{Float, lt, le}
 use Rattle.root.specs.Doubles.{_⊕_, _⊖_, _⊗_, magnitude}
+use Rattle.root.specs.Root.{root}
 use Rattle.geometry.specs.declared.point.Point.{Point}
 use Rattle.geometry.specs.declared.aabb.AABB.{AABB}
 use Rattle.geometry.specs.Points.{along}
@@ -18,7 +20,7 @@ use Rattle.geometry.specs.Boxes.{lowest, highest}
 use Rattle.geometry.specs.Axes.{segments, gridLine}
 use Rattle.box_faces.specs.declared.uv.Uv.{Uv}
 use Rattle.box_faces.specs.Faces.{uv}
-use Rattle.box_faces.specs.Segments.{uvDifference, onSegmentBy}
+use Rattle.box_faces.specs.Segments.{segmentLength, uvDifference, onSegmentBy}
 use Rattle.box_faces.specs.Lines.{lineAt}
 
 pub third : (k : ℕ) → k < 3 → (k ≡ 0 → ⊥) → (k ≡ 1 → ⊥) → k ≡ 2
@@ -43,6 +45,10 @@ le-same e f t = sym (λ i. le (e i) (f i)) ∙ t
 
 pub uv-is : {u v x y : Float} → u ≡ x → v ≡ y → _≡_ {A = Uv} (uv u v) (uv x y)
 uv-is e f = λ i. uv (e i) (f i)
+
+pub segment-length-is : (d : Uv) → segmentLength d ≡ root (d .u ⊗ d .u ⊕ d .v ⊗ d .v)
+unfolding segmentLength
+segment-length-is d = refl
 
 module _ (bound tolerance : Float) (p a b : Uv) {ab ap bp : Uv} {m : Float} (eab : ab ≡ uvDifference b a) (eap : ap ≡ uvDifference p a) (ebp : bp ≡ uvDifference p b)
     (em : m ≡ magnitude (ab .u ⊗ ap .v ⊖ ab .v ⊗ ap .u)) where

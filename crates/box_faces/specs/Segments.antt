@@ -1,10 +1,9 @@
 -- Points near a segment of a face (document 01, module 5; `point_on_segment2` of boundary_closure.rs). Assumes nothing.
---   segmentLength     the length of a segment with the extent d in u and v. Shut outside this file: what is known of it is `segmentLengthIs`
+--   segmentLength     the length of a segment with the extent d in u and v
 --   uvDifference             a difference in u and v
 --   segmentBound      how large the cross product of a point near the segment may be
 --   onSegmentBy       a point lies on the segment from a to b, for such a bound and a tolerance at the ends
 --   onSegment         `point_on_segment2`: the same for the segment's own bound
-use mathlib.Core.Path.{_≡_, refl}
 use mathlib.Core.Bool.{Bool, not, _&&_}
 use lib.Ieee.{Float, lt, le}
 use Rattle.root.specs.Doubles.{_⊕_, _⊖_, _⊗_, oneF, magnitude, larger}
@@ -13,12 +12,8 @@ use Rattle.box_faces.specs.declared.uv.Uv.{Uv}
 use Rattle.box_faces.specs.Faces.{uv}
 
 -- "Segment length there is the root of the sum of squares, each operation rounded"
-pub segmentLength : Uv → Float
+unfoldable pub segmentLength : Uv → Float
 segmentLength d = root (d .u ⊗ d .u ⊕ d .v ⊗ d .v)
-
-pub segmentLengthIs : (d : Uv) → segmentLength d ≡ root (d .u ⊗ d .u ⊕ d .v ⊗ d .v)
-unfolding segmentLength
-segmentLengthIs d = refl
 
 abbrev pub uvDifference : Uv → Uv → Uv
 uvDifference p q = uv (p .u ⊖ q .u) (p .v ⊖ q .v)

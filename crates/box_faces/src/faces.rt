@@ -5,9 +5,8 @@ ghost use Prim.Native.Nat.{_<_, _≤_};
 ghost use Rattle.root.specs.Doubles as doubles;
 ghost use Rattle.root.specs.Doubles.{_⊖_};
 ghost use Rattle.geometry.specs.Points as points;
-ghost use Rattle.geometry.specs.Boxes.{plane};
 ghost use Rattle.box_faces.specs.Faces as defined;
-ghost use Rattle.box_faces.specs.Faces.{uAxis, vAxis, onFace, facesOf, faceBits, hasBit, bitCount, ccwIsOutward};
+ghost use Rattle.box_faces.specs.Faces.{uAxis, vAxis, facesOf, faceBits, hasBit, bitCount, ccwIsOutward};
 use crate::uv::Uv;
 use geometry::aabb::AABB;
 use geometry::point::Point;
@@ -51,28 +50,6 @@ pub fn project(face: usize, p: Point) -> Uv
         u: along(p, u),
         v: along(p, v),
     }
-}
-
-// Where a face stands.
-pub fn plane_of(extents: AABB, face: usize) -> f64
-    requires { ⌜ face < 6 ⌝ }
-    ensures { λ r. ⌜ r ≡ plane extents face ⌝ }
-{
-    if face % 2 == 0 {
-        extents.min_corner[face / 2]
-    } else {
-        extents.max_corner[face / 2]
-    }
-}
-
-// `point_on`
-pub fn point_on(face: usize, p: Point, extents: AABB, eps: f64) -> bool
-    requires { ⌜ face < 6 ⌝ }
-    ensures { λ r. ⌜ r ≡ onFace extents eps face p ⌝ }
-{
-    let at = plane_of(extents, face);
-    let x = along(p, face / 2);
-    within(x - at, eps)
 }
 
 // The bit where both coordinates are within eps of the plane, else 0.

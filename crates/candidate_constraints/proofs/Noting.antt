@@ -1,6 +1,6 @@
 -- `note_places`: what its loop keeps, as it starts, one turn, and its end; and that later stores leave the places. Assumes nothing.
 --   Noting, noting-start, noting-named, noting-end; noted-low
---   member-low, place-low, placed-same          after it
+--   member-low, place-low, noted-place, placed-same          after it
 use Prim.Native.Nat.{ℕ, _+_, _*_, _≤_, _<_}
 use mathlib.Core.Bool.{true}
 use mathlib.Core.List.{List}
@@ -92,6 +92,9 @@ module _ (n f : ℕ) (w : List ℕ) (s : Shown n w) (hf : f < 6) where
 
   pub place-low : (c : ℕ) → has (faceList (poolAt n w) f) c ≡ true → place (eqb c) (faceList (poolAt n w) f) < n
   place-low c e = omega (arith, has-place (faceList (poolAt n w) f) c e, list-length n w f (s .size) (s .lengths f hf) hf, s .lengths f hf)
+
+  pub noted-place : Placed n f w → (c : ℕ) → has (faceList (poolAt n w) f) c ≡ true → getD w (placesAt n + c) 0 < n
+  noted-place p c e = omega (arith, p c e, place-low c e)
 
   pub placed-same : (w' : List ℕ) → Placed n f w → length w' ≡ length w → ((x : ℕ) → x < sideAt n → getD w' x 0 ≡ getD w x 0) → Placed n f w'
   placed-same w' p long low c e =

@@ -2,7 +2,7 @@
 --   pushed-none, pushed-one, pushed-then, pushed-grows     none, one, and some more behind others
 --   pushed-as                                              the same pairs by another name
 --   neighbours-more; Nearing, nearing-start, -named, -end  `push_neighbours`; near-named   what it reads
---   Edging, edging-start, -next, -end; edge-yes, edge-no   `push_open_edges`, `push_open_edge`
+--   Edging, edging-start, -next, -end; edge-yes, edge-no, edge-ends, edge-pushed, edge-skipped   `push_open_edges`, `push_open_edge`
 use Prim.Native.Nat.{ℕ, zero, suc, _+_, _*_, _≤_, _<_}
 use mathlib.Core.Bool.{Bool, true, false, cond, _&&_}
 use mathlib.Core.List.{List, [], _∷_, _++_, map, flatMap, append-assoc, append-nil, map-append}
@@ -27,7 +27,7 @@ use Rattle.candidate_constraints.specs.Constraints.{consecutive}
 use Rattle.candidate_constraints.specs.Steps.{Shown, Roomy, Placed, LowPlaces, pairRecord, edgePairs, Pushed}
 use Rattle.candidate_constraints.proofs.Frames.{kept-same, kept-put, kept-wider, kept-then, records-kept}
 use Rattle.candidate_constraints.proofs.Showing.{pool-same, shown-same, held-after}
-use Rattle.candidate_constraints.proofs.Noting.{member-low, place-low, placed-same}
+use Rattle.candidate_constraints.proofs.Noting.{placed-same}
 use Rattle.candidate_constraints.proofs.Along.{records-add}
 
 -- ---- more pairs
@@ -220,48 +220,32 @@ module _ (p : Pool) (f : ℕ) (hf : f < 6) (w : List ℕ) (at : ℕ) where
   pub edge-no : hasBit (getD w (at + 2) 0) f ≡ false → edgePairs p f (edgeAt w at) ≡ []
   edge-no e = edge-by false e
 
-module _ (n nf i f c : ℕ) (w : List ℕ) (s : Shown n w) (room : Roomy n nf w) (noted : Placed n f w) (held : EdgesHeld (poolAt n w) w (openEdgesAt n nf) (i + 1)) (hf : f < 6)
-    (hi : i < 3 * nf) (hc : c < 4 * n + 3 * nf) (edges : ℕ) (ee : edges ≡ openEdgesAt n nf) (bit : hasBit (getD w (edges + 3 * i + 2) 0) f ≡ true) where
-  bit-there : hasBit (getD w (openEdgesAt n nf + 3 * i + 2) 0) f ≡ true
-  bit-there = ap (λ (k : ℕ). hasBit (getD w (k + 3 * i + 2) 0) f) (sym ee) ∙ bit
+-- an open edge of the face has its two candidates in the face's list
+pub edge-ends : (n nf i f : ℕ) (w : List ℕ) → EdgesHeld (poolAt n w) w (openEdgesAt n nf) (i + 1) → f < 6 → (edges : ℕ) → edges ≡ openEdgesAt n nf
+    → hasBit (getD w (edges + 3 * i + 2) 0) f ≡ true
+    → (has (faceList (poolAt n w) f) (getD w (edges + 3 * i) 0) ≡ true) × (has (faceList (poolAt n w) f) (getD w (edges + 3 * i + 1) 0) ≡ true)
+edge-ends n nf i f w held hf edges ee bit = (
+  ap (λ (k : ℕ). has (faceList (poolAt n w) f) (getD w (k + 3 * i) 0)) ee ∙ held .from i f (omega arith) hf there,
+  ap (λ (k : ℕ). has (faceList (poolAt n w) f) (getD w (k + 3 * i + 1) 0)) ee ∙ held .to i f (omega arith) hf there,
+)
+  where
+    there : hasBit (getD w (openEdgesAt n nf + 3 * i + 2) 0) f ≡ true
+    there = ap (λ (k : ℕ). hasBit (getD w (k + 3 * i + 2) 0) f) (sym ee) ∙ bit
 
-  has-from : has (faceList (poolAt n w) f) (getD w (edges + 3 * i) 0) ≡ true
-  has-from = ap (λ (k : ℕ). has (faceList (poolAt n w) f) (getD w (k + 3 * i) 0)) ee ∙ held .from i f (omega arith) hf bit-there
-
-  has-to : has (faceList (poolAt n w) f) (getD w (edges + 3 * i + 1) 0) ≡ true
-  has-to = ap (λ (k : ℕ). has (faceList (poolAt n w) f) (getD w (k + 3 * i + 1) 0)) ee ∙ held .to i f (omega arith) hf bit-there
-
-  pub from-low : getD w (edges + 3 * i) 0 < n
-  from-low = member-low n f w s hf (getD w (edges + 3 * i) 0) has-from
-
-  pub to-low : getD w (edges + 3 * i + 1) 0 < n
-  to-low = member-low n f w s hf (getD w (edges + 3 * i + 1) 0) has-to
-
-  module _ (places : ℕ) (ep : places ≡ placesAt n) where
-    from-noted : getD w (places + getD w (edges + 3 * i) 0) 0 ≡ place (eqb (getD w (edges + 3 * i) 0)) (faceList (poolAt n w) f)
-    from-noted = ap (λ (k : ℕ). getD w (k + getD w (edges + 3 * i) 0) 0) ep ∙ noted (getD w (edges + 3 * i) 0) has-from
-
-    to-noted : getD w (places + getD w (edges + 3 * i + 1) 0) 0 ≡ place (eqb (getD w (edges + 3 * i + 1) 0)) (faceList (poolAt n w) f)
-    to-noted = ap (λ (k : ℕ). getD w (k + getD w (edges + 3 * i + 1) 0) 0) ep ∙ noted (getD w (edges + 3 * i + 1) 0) has-to
-
-    pub from-place-low : getD w (places + getD w (edges + 3 * i) 0) 0 < n
-    from-place-low = omega (arith, from-noted, place-low n f w s hf (getD w (edges + 3 * i) 0) has-from)
-
-    pub to-place-low : getD w (places + getD w (edges + 3 * i + 1) 0) 0 < n
-    to-place-low = omega (arith, to-noted, place-low n f w s hf (getD w (edges + 3 * i + 1) 0) has-to)
-
-    pub edge-pushed : (pairs : ℕ) (w' : List ℕ) → pairs ≡ pairsAt n
-        → w' ≡ putRecord w (pairs + 2 * c) (pairRecord f (getD w (places + getD w (edges + 3 * i) 0) 0, getD w (places + getD w (edges + 3 * i + 1) 0) 0))
-        → Pushed n f (pairsAt n + 2 * c) 1 (edgePairs (poolAt n w) f (edgeAt w (openEdgesAt n nf + 3 * i))) c (c + 1) w w'
-    edge-pushed pairs w' eq e =
-        pushed-as n f (pairsAt n + 2 * c) 1 1 (q ∷ []) (edgePairs (poolAt n w) f (edgeAt w (openEdgesAt n nf + 3 * i))) c (c + 1) w w' (omega arith)
-        ((λ t. (from-noted t, to-noted t) ∷ []) ∙ sym (edge-yes (poolAt n w) f hf w (edges + 3 * i) bit)
-        ∙ ap (λ (k : ℕ). edgePairs (poolAt n w) f (edgeAt w (k + 3 * i))) ee)
-        (subst (λ (u : List ℕ). Pushed n f (pairsAt n + 2 * c) 1 (q ∷ []) c (c + 1) w u) (sym (e ∙ ap (λ (k : ℕ). putRecord w (k + 2 * c) (pairRecord f q)) eq))
-        (pushed-one n f q c w (omega (arith, room .room))))
-      where
-        q : ℕ × ℕ
-        q = (getD w (places + getD w (edges + 3 * i) 0) 0, getD w (places + getD w (edges + 3 * i + 1) 0) 0)
+-- a and b are the places noted of the edge's two candidates
+pub edge-pushed : (n nf i f c : ℕ) (w : List ℕ) → Roomy n nf w → Placed n f w → EdgesHeld (poolAt n w) w (openEdgesAt n nf) (i + 1) → f < 6 → c < 4 * n + 3 * nf
+    → (edges : ℕ) → edges ≡ openEdgesAt n nf → hasBit (getD w (edges + 3 * i + 2) 0) f ≡ true → (a b pairs : ℕ) (w' : List ℕ)
+    → a ≡ getD w (placesAt n + getD w (edges + 3 * i) 0) 0 → b ≡ getD w (placesAt n + getD w (edges + 3 * i + 1) 0) 0 → pairs ≡ pairsAt n
+    → w' ≡ putRecord w (pairs + 2 * c) (pairRecord f (a, b)) → Pushed n f (pairsAt n + 2 * c) 1 (edgePairs (poolAt n w) f (edgeAt w (openEdgesAt n nf + 3 * i))) c (c + 1) w w'
+edge-pushed n nf i f c w room noted held hf hc edges ee bit a b pairs w' ea eb eq e =
+    pushed-as n f (pairsAt n + 2 * c) 1 1 ((a, b) ∷ []) (edgePairs (poolAt n w) f (edgeAt w (openEdgesAt n nf + 3 * i))) c (c + 1) w w' (omega arith)
+    ((λ t. ((ea ∙ noted (getD w (edges + 3 * i) 0) (ends .0)) t, (eb ∙ noted (getD w (edges + 3 * i + 1) 0) (ends .1)) t) ∷ [])
+    ∙ sym (edge-yes (poolAt n w) f hf w (edges + 3 * i) bit) ∙ ap (λ (k : ℕ). edgePairs (poolAt n w) f (edgeAt w (k + 3 * i))) ee)
+    (subst (λ (u : List ℕ). Pushed n f (pairsAt n + 2 * c) 1 ((a, b) ∷ []) c (c + 1) w u) (sym (e ∙ ap (λ (k : ℕ). putRecord w (k + 2 * c) (pairRecord f (a, b))) eq))
+    (pushed-one n f (a, b) c w (omega (arith, room .room))))
+  where
+    ends : (has (faceList (poolAt n w) f) (getD w (edges + 3 * i) 0) ≡ true) × (has (faceList (poolAt n w) f) (getD w (edges + 3 * i + 1) 0) ≡ true)
+    ends = edge-ends n nf i f w held hf edges ee bit
 
 pub edge-skipped : (n nf i f c : ℕ) (w : List ℕ) → f < 6 → (edges : ℕ) → edges ≡ openEdgesAt n nf → hasBit (getD w (edges + 3 * i + 2) 0) f ≡ false
     → Pushed n f (pairsAt n + 2 * c) 1 (edgePairs (poolAt n w) f (edgeAt w (openEdgesAt n nf + 3 * i))) c c w w

@@ -6,10 +6,11 @@ ghost use Rattle.records.specs.Buffer.{putRecord};
 ghost use Rattle.candidate_pool.specs.Offsets.{pairsAt, openEdgesAt};
 ghost use Rattle.candidate_pool.specs.Standing.{poolAt, edgeAt, edgesAt, EdgesHeld};
 ghost use Rattle.candidate_constraints.specs.Steps.{Shown, Roomy, Placed, pairKey, pairRecord, edgePairs, Pushed};
+use crate::places::place_of_candidate;
 use box_faces::faces::has_face;
 use candidate_pool::room::open_edges_at;
 use candidate_pool::room::pairs_at;
-use candidate_pool::room::places_at;
+use geometry::numbers::CandidateVertexId;
 use geometry::numbers::FacePlace;
 use words::pack_triple;
 
@@ -45,12 +46,9 @@ fn push_open_edge(w: &mut [u64], n: usize, nf: usize, i: usize, face: usize, c: 
     let at = open_edges_at(n, nf) + 3 * i;
     let mask = w[at + 2];
     if has_face(mask, face) {
-        let places = places_at(n);
-        let from = w[at] as usize;
-        let to = w[at + 1] as usize;
-        let a = w[places + from] as usize;
-        let b = w[places + to] as usize;
-        put_pair(w, pairs_at(n) + 2 * c, face, FacePlace(a), FacePlace(b));
+        let a = place_of_candidate(w, n, CandidateVertexId(w[at] as usize));
+        let b = place_of_candidate(w, n, CandidateVertexId(w[at + 1] as usize));
+        put_pair(w, pairs_at(n) + 2 * c, face, a, b);
         c + 1
     } else {
         c

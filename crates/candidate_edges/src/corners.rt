@@ -5,18 +5,18 @@ ghost use Rattle.geometry.specs.Meshes.{pointsOf};
 ghost use Rattle.candidate_pool.specs.Standing.{joinedIn, poolAt, Holds};
 ghost use Rattle.candidate_edges.specs.Steps.{VerticesIn, Sourced, SourcesReady, CornerEntered, CornersEntered};
 use crate::open::enter_vertex;
-use crate::open::vertex_point;
 use box_faces::faces::aabb_face_mask;
 use box_faces::faces::count_faces;
 use geometry::aabb::AABB;
 use geometry::numbers::MeshVertexId;
+use geometry::vertices::vertex_at;
 
 fn enter_corner(w: &mut [u64], vertices: &[f64], n: usize, v: MeshVertexId, extents: AABB, eps: f64)
     requires { ⌜ SourcesReady (now vertices) eps n (now w) ⌝ }
     requires { ⌜ v .0 < length (now vertices) / 3 ⌝ }
     ensures { λ _. ⌜ CornerEntered (now (vertices .entry)) extents eps n (v .0) (now (w .entry)) (now (w .exit)) ⌝ }
 {
-    let p = vertex_point(vertices, v);
+    let p = vertex_at(vertices, v);
     let mask = aabb_face_mask(p, p, extents, eps);
     if count_faces(mask) >= 2 {
         enter_vertex(w, vertices, n, v, mask, eps);

@@ -6,7 +6,7 @@ ghost use lib.Dec.{eqb};
 ghost use lib.ListN.{length, getD, set};
 ghost use Rattle.lists.specs.Lists.{place};
 ghost use Rattle.geometry.specs.Triangles.{threes};
-ghost use Rattle.geometry.specs.Meshes.{vertex, pointsOf, meshOf};
+ghost use Rattle.geometry.specs.Meshes.{meshOf};
 ghost use Rattle.box_faces.specs.Faces.{faceBits, bitCount};
 ghost use Rattle.edges.specs.Edges.{sides, openEdges};
 ghost use Rattle.candidate_pool.specs.Offsets.{edgeTableAt};
@@ -24,18 +24,7 @@ use edges::edge_to;
 use geometry::aabb::AABB;
 use geometry::numbers::CandidateVertexId;
 use geometry::numbers::MeshVertexId;
-use geometry::point::Point;
-
-pub fn vertex_point(vertices: &[f64], v: MeshVertexId) -> Point
-    requires { ⌜ v .0 < length (now vertices) / 3 ⌝ }
-    ensures { λ r. ⌜ r ≡ vertex (pointsOf (now (vertices .entry))) (v .0) ⌝ }
-{
-    Point {
-        x: vertices[3 * v.0],
-        y: vertices[3 * v.0 + 1],
-        z: vertices[3 * v.0 + 2],
-    }
-}
+use geometry::vertices::vertex_at;
 
 // The faces that both ends of a side lie on.
 fn side_mask(vertices: &[f64], facets: &[u32], side: usize, extents: AABB, eps: f64) -> u64
@@ -43,8 +32,8 @@ fn side_mask(vertices: &[f64], facets: &[u32], side: usize, extents: AABB, eps: 
     requires { ⌜ ((i : ℕ) → i < length (now facets) → getD (now facets) i 0 < length (now vertices) / 3) ⌝ }
     ensures { λ r. ⌜ r ≡ faceBits (edgeFaces extents eps (meshOf (now (vertices .entry)) (now (facets .entry))) (getD (sides (threes (now (facets .entry)))) side (0, 0))) ⌝ }
 {
-    let a = vertex_point(vertices, MeshVertexId(edge_from(facets, side) as usize));
-    let b = vertex_point(vertices, MeshVertexId(edge_to(facets, side) as usize));
+    let a = vertex_at(vertices, MeshVertexId(edge_from(facets, side) as usize));
+    let b = vertex_at(vertices, MeshVertexId(edge_to(facets, side) as usize));
     aabb_face_mask(a, b, extents, eps)
 }
 
@@ -87,7 +76,7 @@ pub fn enter_vertex(
     requires { ⌜ (v .0 < length (now vertices) / 3) × (mask < 64) ⌝ }
     ensures { λ r. ⌜ VertexEntered (now (vertices .entry)) eps n (v .0) mask (r .0) (now (w .entry)) (now (w .exit)) ⌝ }
 {
-    insert_candidate(w, n, vertex_point(vertices, v), v, mask, eps)
+    insert_candidate(w, n, vertex_at(vertices, v), v, mask, eps)
 }
 
 // Writes an open edge; how often it is listed. It "keeps two ends if their candidates differ", else it is listed with no face.

@@ -24,7 +24,8 @@ use Rattle.geometry.specs.declared.point.Point.{Point}
 use Rattle.geometry.specs.Points.{along}
 use Rattle.box_faces.specs.declared.uv.Uv.{Uv}
 use Rattle.box_faces.specs.Faces.{uv, uAxis, vAxis, project}
-use Rattle.box_faces.specs.Segments.{segmentLength, segmentLengthIs, uvDifference, segmentBound, onSegmentBy, onSegment}
+use Rattle.box_faces.specs.Segments.{segmentLength, uvDifference, segmentBound, onSegmentBy, onSegment}
+use Rattle.box_faces.proofs.Steps.{segment-length-is}
 use Rattle.candidate_pool.specs.Offsets.{entryAt}
 use Rattle.candidate_pool.specs.Standing.{pointAt, PointIn, PointStored}
 use Rattle.candidate_grids.specs.Steps.{double, SegmentIn, startAt, endAt, hitAt, SegmentPut, SegmentGathered}
@@ -128,7 +129,7 @@ module _ (a b : Uv) (ha : UvIn a) (hb : UvIn b) where
 
   length-in : Within (2 ^ 50) (segmentLength (uvDifference b a))
   length-in =
-      subst (λ (x : Float). Within (2 ^ 50) x) (sym (segmentLengthIs (uvDifference b a)))
+      subst (λ (x : Float). Within (2 ^ 50) x) (sym (segment-length-is (uvDifference b a)))
       (root-pow ((b .u ⊖ a .u) ⊗ (b .u ⊖ a .u) ⊕ (b .v ⊖ a .v) ⊗ (b .v ⊖ a .v)) 50 (lit≤ tt)
       (add-fits binary64 ((b .u ⊖ a .u) ⊗ (b .u ⊖ a .u)) ((b .v ⊖ a .v) ⊗ (b .v ⊖ a .v)))
       edge-rootable (within-pow 99 100 (lit≤ tt) (two-squares 49 (lit≤ tt) du dv)))

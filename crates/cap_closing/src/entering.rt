@@ -10,11 +10,11 @@ ghost use Rattle.cap_closing.specs.Steps.{namedAt, NamesEntering, NamesE
 use crate::room::fresh_at;
 use crate::room::given_at;
 use crate::room::vertices_at;
-use candidate_edges::open::vertex_point;
 use candidate_pool::pool::point_of;
 use geometry::numbers::CandidateVertexId;
 use geometry::numbers::MeshVertexId;
 use geometry::point::Point;
+use geometry::vertices::vertex_at;
 
 // At first a candidate has its mesh vertex, and there are nv vertices.
 pub fn start_entering(w: &mut [u64], n: usize, nf: usize, nc: usize, nv: usize)
@@ -73,7 +73,7 @@ pub fn entered_point(
 {
     let nv = vertices.len() / 3;
     if v.0 < nv {
-        return vertex_point(vertices, v);
+        return vertex_at(vertices, v);
     }
     let id = w[fresh_at(n, nf, nc) + (v.0 - nv)] as usize;
     point_of(w, CandidateVertexId(id))

@@ -9,6 +9,7 @@ ghost use Rattle.cap_triangles.specs.Selection.{capsOf};
 ghost use Rattle.cap_triangles.specs.Listed.{badCapPlace};
 ghost use Rattle.cap_triangles.specs.Room.{turnedAt, Above, Supplied, TurnedReady};
 ghost use Rattle.cap_triangles.specs.Steps.{Standing, areaOf, turnedBy};
+use crate::listed::supplied;
 use crate::room::turned_at;
 use box_faces::faces::ccw_is_outward;
 use box_faces::faces::project;
@@ -16,18 +17,6 @@ use box_faces::uv::Uv;
 use candidate_pool::pool::point_of;
 use geometry::numbers::CandidateVertexId;
 use geometry::triangle::CandidateTriangle;
-
-// The supplied triangle i: face and three candidates.
-fn supplied(cap_list: &[u64], i: usize) -> CandidateTriangle
-    requires { ⌜ 4 * i + 3 < length (now «cap_list») ⌝ }
-    ensures { λ r. ⌜ candidatesOf r ≡ tri (getD (now («cap_list» .entry)) (4 * i + 1) 0) (getD (now («cap_list» .entry)) (4 * i + 2) 0) (getD (now («cap_list» .entry)) (4 * i + 3) 0) ⌝ }
-{
-    CandidateTriangle {
-        a: CandidateVertexId(cap_list[4 * i + 1] as usize),
-        b: CandidateVertexId(cap_list[4 * i + 2] as usize),
-        c: CandidateVertexId(cap_list[4 * i + 3] as usize),
-    }
-}
 
 // "signed projected area", twice
 fn signed_area2(a: Uv, b: Uv, c: Uv) -> f64

@@ -1,11 +1,12 @@
 -- `collect_side` meets its contract: after i turns the records are those of the first i candidates of the list. Assumes nothing.
-use Rattle.candidate_constraints.proofs.Along.{Collecting, collecting-start, collected-stored, on-side-no-nan, collecting-named, collecting-end}
-use Rattle.candidate_pool.specs.Offsets.{listAt, sideAt}
-use Rattle.candidate_pool.proofs.Reading.{list-in}
-use lib.ListN.{getD}
+use Prim.Native.Nat.{ℕ, _+_, _*_, _-_, _≤_, _<_}
+use mathlib.Core.Path.{_≡_, refl, ap, _∙_}
+use lib.ListN.{getD, length}
 use native.Mathlib.Omega.{arith}
-use mathlib.Core.Path.{_≡_, refl}
-use Prim.Native.Nat.{_+_, _*_, _-_}
+use Rattle.candidate_pool.specs.Offsets.{entryAt, listAt, sideAt}
+use Rattle.candidate_pool.specs.Standing.{pointAt}
+use Rattle.candidate_constraints.proofs.Showing.{in-list}
+use Rattle.candidate_constraints.proofs.Along.{Collecting, collecting-start, collected-stored, on-side-no-nan, collecting-named, collecting-end}
 use Rattle.candidate_constraints.proofs.side.collect_side.Statement.{statement}
 use Rattle.candidate_constraints.proofs.side.collect_side.Tie as tie
 
@@ -15,8 +16,25 @@ Inv-loop w₀ n face side eps list at count m₀ i₀ w m i = Collecting eps n f
 abbrev μ-loop : tie.MeasureT-loop
 μ-loop w₀ n face side eps list at count m₀ i₀ w m i = count - i
 
+abbrev start : tie.In-loop Inv-loop μ-loop → tie.Start Inv-loop μ-loop
+start c = c .before .before .before .before .before .before
+
+-- the word of the list that a turn reads, and the record that it may write
+turn-in : (c : tie.In-loop Inv-loop μ-loop)
+    → (c .before .before .before .before .list-at .result + c .before .loop .i < length (c .before .loop .w))
+    × (c .before .before .before .side-at .result + 2 * c .before .loop .m + 1 < length (c .before .loop .w)) × (c .before .loop .m ≤ c .before .loop .i)
+turn-in c =
+    let s = start c in
+    let l = c .before .loop in
+    let h = in-list (s .args .n) (s .args .w .now) (s .pre .0) (s .args .face) (s .pre .1 .1) (c .before .before .before .before .list-at .result)
+    (getD (s .args .w .now) (s .args .face) 0) (l .i) (l .inv .1) refl (omega (arith, l .inv .3, c .loop-test .taken)) in
+    let e = l .inv .0 .kept .long in
+    (omega (arith, h .0, e, s .pre .0 .size), omega (arith, h .1, l .inv .0 .few, l .inv .2, e, s .pre .1 .2), l .inv .0 .few)
+
 list-at-requires : tie.Need-list-at-requires Inv-loop μ-loop
-list-at-requires c κs = (omega (arith, c .before .pre .1 .0), c .before .pre .1 .1)
+list-at-requires c κs =
+    let s = c .before in
+    (omega (arith, s .pre .1 .0), s .pre .1 .1)
 
 side-at-requires : tie.Need-side-at-requires Inv-loop μ-loop
 side-at-requires c κs = omega (arith, c .before .before .pre .1 .0)
@@ -27,88 +45,27 @@ mul-count c = omega (arith, c .before .before .before .pre .1 .1)
 slice-read-count : tie.Need-slice-read-count Inv-loop μ-loop
 slice-read-count c =
     let s = c .before .before .before .before in
-    let a = s .args in
-    omega (arith, s .pre .1 .1, s .pre .0 .size, s .pre .1 .0, s .pre .1 .2, s .pre .0 .lengths (a .face) (s .pre .1 .1), list-in (a .n) (a .face) (s .pre .1 .1))
+    omega (arith, s .pre .0 .size, s .pre .1 .1)
 
 loop-holds : tie.Need-loop-holds Inv-loop μ-loop
 loop-holds c =
-    let s = c .before .before .before .before in
-    let a = s .args in
-    (collecting-start (a .eps) (a .n) (a .face) (a .side) (a .w .now), c .before .before .list-at .ensures, c .before .side-at .ensures, refl)
-
-add-note-fraction : tie.Need-add-note-fraction Inv-loop μ-loop
-add-note-fraction c =
-    let s = c .before .before .before .before .before .before .before in
-    let a = s .args in
-    let l = c .before .before .loop in
-    omega (
-      arith,
-      s .pre .0 .size,
-      s .pre .1 .0,
-      s .pre .1 .2,
-      s .pre .0 .lengths (a .face) (s .pre .1 .1),
-      list-in (a .n) (a .face) (s .pre .1 .1),
-      l .inv .0 .within,
-      l .inv .0
-          .few,
-      l .inv .0 .kept .long,
-      l .inv .1,
-      l .inv .2,
-      l .inv .3,
-      c .before .loop-test .taken,
+    let s = c .before .before .before .before in (
+      collecting-start (s .args .eps) (s .args .n) (s .args .face) (s .args .side) (s .args .w .now),
+      c .before .before .list-at .ensures,
+      c .before .side-at .ensures,
+      refl,
     )
 
-mul-note-fraction : tie.Need-mul-note-fraction Inv-loop μ-loop
-mul-note-fraction c =
-    let s = c .before .before .before .before .before .before .before in
-    let a = s .args in
-    let l = c .before .before .loop in
-    omega (
-      arith,
-      s .pre .0 .size,
-      s .pre .1 .0,
-      s .pre .1 .2,
-      s .pre .0 .lengths (a .face) (s .pre .1 .1),
-      list-in (a .n) (a .face) (s .pre .1 .1),
-      l .inv .0 .within,
-      l .inv .0
-          .few,
-      l .inv .0 .kept .long,
-      l .inv .1,
-      l .inv .2,
-      l .inv .3,
-      c .before .loop-test .taken,
-    )
-
-slice-reshared-read-note-fraction : tie.Need-slice-reshared-read-note-fraction Inv-loop μ-loop
-slice-reshared-read-note-fraction c =
-    let s = c .before .before .before .before .before .before .before in
-    let a = s .args in
-    let l = c .before .before .loop in
-    omega (
-      arith,
-      s .pre .0 .size,
-      s .pre .1 .0,
-      s .pre .1 .2,
-      s .pre .0 .lengths (a .face) (s .pre .1 .1),
-      list-in (a .n) (a .face) (s .pre .1 .1),
-      l .inv .0 .within,
-      l .inv .0
-          .few,
-      l .inv .0 .kept .long,
-      l .inv .1,
-      l .inv .2,
-      l .inv .3,
-      c .before .loop-test .taken,
-    )
+candidate-at-requires : tie.Need-candidate-at-requires Inv-loop μ-loop
+candidate-at-requires c κs = turn-in (c .before) .0
 
 point-of-requires : tie.Need-point-of-requires Inv-loop μ-loop
 point-of-requires c κs =
-    let s = c .before .before .before .before .before .before .before in
-    let a = s .args in
-    let l = c .before .before .loop in
-    (collected-stored (a .eps) (a .n) (a .face) (a .side) (a .w .now) (s .pre .0) (s .pre .1 .1) (l .w) (l .m) (l .i) (l .inv .0)
-    (c .before .before .before .before .before .list-at .result) (l .inv .1) (omega (arith, l .inv .3, c .before .loop-test .taken)))
+    let s = c .before .before .before .before .before .before .before .before in
+    let loop′ = c .before .before .before .loop in
+    rw (c .candidate-at .ensures) (collected-stored (s .args .eps) (s .args .n) (s .args .face) (s .args .side) (s .args .w .now) (s .pre .0) (s .pre .1 .1) (loop′ .w)
+    (loop′ .m) (loop′ .i) (loop′ .inv .0)
+    (c .before .before .before .before .before .before .list-at .result) (loop′ .inv .1) (omega (arith, loop′ .inv .3, c .before .before .loop-test .taken)))
 
 project-requires : tie.Need-project-requires Inv-loop μ-loop
 project-requires c κs = tt
@@ -116,142 +73,49 @@ project-requires c κs = tt
 candidate-on-face-side-requires : tie.Need-candidate-on-face-side-requires Inv-loop μ-loop
 candidate-on-face-side-requires c κs = tt
 
-mul-note-fraction-2 : tie.Need-mul-note-fraction-2 Inv-loop μ-loop
-mul-note-fraction-2 c =
-    let s = c .before .before .before .before .before .before .before .before .before .before .before in
-    let a = s .args in
-    let l = c .before .before .before .before .before .before .loop in
-    omega (
-      arith,
-      s .pre .0 .size,
-      s .pre .1 .0,
-      s .pre .1 .2,
-      s .pre .0 .lengths (a .face) (s .pre .1 .1),
-      list-in (a .n) (a .face) (s .pre .1 .1),
-      l .inv .0 .within,
-      l .inv .0
-          .few,
-      l .inv .0 .kept .long,
-      l .inv .1,
-      l .inv .2,
-      l .inv .3,
-      c .before .before .before .before .before .loop-test .taken,
-    )
+mul-note-fraction : tie.Need-mul-note-fraction Inv-loop μ-loop
+mul-note-fraction c = omega (arith, turn-in (c .before .before .before .before .before .before))
 
-add-note-fraction-2 : tie.Need-add-note-fraction-2 Inv-loop μ-loop
-add-note-fraction-2 c =
-    let s = c .before .before .before .before .before .before .before .before .before .before .before in
-    let a = s .args in
-    let l = c .before .before .before .before .before .before .loop in
-    omega (
-      arith,
-      s .pre .0 .size,
-      s .pre .1 .0,
-      s .pre .1 .2,
-      s .pre .0 .lengths (a .face) (s .pre .1 .1),
-      list-in (a .n) (a .face) (s .pre .1 .1),
-      l .inv .0 .within,
-      l .inv .0
-          .few,
-      l .inv .0 .kept .long,
-      l .inv .1,
-      l .inv .2,
-      l .inv .3,
-      c .before .before .before .before .before .loop-test .taken,
-    )
+add-note-fraction : tie.Need-add-note-fraction Inv-loop μ-loop
+add-note-fraction c = omega (arith, turn-in (c .before .before .before .before .before .before))
 
 note-fraction-requires : tie.Need-note-fraction-requires Inv-loop μ-loop
 note-fraction-requires c κs =
-    let s = c .before .before .before .before .before .before .before .before .before .before .before in
-    let a = s .args in
-    let l = c .before .before .before .before .before .before .loop in (
-      omega (
-        arith,
-        s .pre .0 .size,
-        s .pre .1 .0,
-        s .pre .1 .2,
-        s .pre .0 .lengths (a .face) (s .pre .1 .1),
-        list-in (a .n) (a .face) (s .pre .1 .1),
-        l .inv .0 .within,
-        l .inv .0
-            .few,
-        l .inv .0 .kept .long,
-        l .inv .1,
-        l .inv .2,
-        l .inv .3,
-        c .before .before .before .before .before .loop-test .taken,
-      ),
-      on-side-no-nan (a .eps) (a .side)
-          (c .before .before .project .result) (c .before .candidate-on-face-side .result) (c .before .candidate-on-face-side .ensures),
+    let s = c .before .before .before .before .before .before .before .before .before .before .before .before in
+    let candidate-on-face-side′ = c .before .candidate-on-face-side in (
+      omega (arith, turn-in (c .before .before .before .before .before .before)),
+      on-side-no-nan (s .args .eps) (s .args .side) (c .before .before .project .result) (candidate-on-face-side′ .result) (candidate-on-face-side′ .ensures),
     )
 
 add-m : tie.Need-add-m Inv-loop μ-loop
 add-m c =
-    let s = c .before .before .before .before .before .before .before .before .before .before .before .before .before .before in
-    let a = s .args in
-    let l = c .before .before .before .before .before .before .before .before .before .loop in
-    omega (
-      arith,
-      c .before .before .note-fraction .ensures .few,
-      s .pre .0 .size,
-      s .pre .1 .0,
-      s .pre .1 .2,
-      s .pre .0 .lengths (a .face) (s .pre .1 .1),
-      list-in (a .n) (a .face)
-          (s .pre .1 .1),
-      l .inv .0 .within,
-      l .inv .0 .few,
-      l .inv .0 .kept .long,
-      l .inv .1,
-      l .inv .2,
-      l .inv .3,
-      c .before .before .before .before .before .before .before .before
-          .loop-test .taken,
-    )
+    omega (arith, c .before .before .note-fraction .ensures .few, turn-in (c .before .before .before .before .before .before .before .before .before))
 
 add-i : tie.Need-add-i Inv-loop μ-loop
-add-i c =
-    let s = c .before .before .before .before .before .before .before .before .before .before .before .before .before .before in
-    let a = s .args in
-    let l = c .before .before .before .before .before .before .before .before .before .loop in
-    omega (
-      arith,
-      s .pre .0 .size,
-      s .pre .1 .0,
-      s .pre .1 .2,
-      s .pre .0 .lengths (a .face) (s .pre .1 .1),
-      list-in (a .n) (a .face) (s .pre .1 .1),
-      l .inv .0 .within,
-      l .inv .0
-          .few,
-      l .inv .0 .kept .long,
-      l .inv .1,
-      l .inv .2,
-      l .inv .3,
-      c .before .before .before .before .before .before .before .before .loop-test .taken,
-    )
+add-i c = omega (arith, turn-in (c .before .before .before .before .before .before .before .before .before))
 
 loop-less : tie.Need-loop-less Inv-loop μ-loop
-loop-less c = omega (arith, c .before .before .before .before .before .before .before .before .loop-test .taken)
+loop-less c = omega (arith, c .before .before .before .before .before .before .before .before .before .loop-test .taken)
 
 loop-again : tie.Need-loop-again Inv-loop μ-loop
 loop-again c =
-    let s = c .before .before .before .before .before .before .before .before .before .before .before .before .before .before in
-    let a = s .args in
-    let l = c .before .before .before .before .before .before .before .before .before .loop in
-    let note-fraction′ = c .before .before .note-fraction in
     let point-of′ = c .before .before .before .before .before .before .point-of in
+    let loop′ = c .before .before .before .before .before .before .before .before .before .before .loop in
+    let s = c .before .before .before .before .before .before .before .before .before .before .before .before .before .before .before in
+    let note-fraction′ = c .before .before .note-fraction in
     let project′ = c .before .before .before .before .before .project in
-    let candidate-on-face-side′ = c .before .before .before .before .candidate-on-face-side in (
-      collecting-named (a .eps) (a .n) (a .face) (a .side) (a .w .now) (s .pre .0) (s .pre .1 .1) (l .w) (l .m) (l .i) (l .inv .0)
-          (c .before .before .before .before .before .before .before .before .before .before .before .before .list-at .result) (l .inv .1)
-          (c .before .before .before .before .before .before .before .before .before .before .before .side-at .result) (note-fraction′ .last .0) (point-of′ .result)
-          (project′ .result) (candidate-on-face-side′ .result) (note-fraction′ .result) (l .inv .2)
-          (omega (arith, l .inv .3, c .before .before .before .before .before .before .before .before .loop-test .taken)) (point-of′ .ensures) (project′ .ensures)
+    let candidate-on-face-side′ = c .before .before .before .before .candidate-on-face-side in
+    let read = point-of′ .ensures ∙ ap (λ (d : ℕ). pointAt (loop′ .w) (entryAt d)) (c .before .before .before .before .before .before .before .candidate-at .ensures) in (
+      collecting-named (s .args .eps) (s .args .n) (s .args .face) (s .args .side) (s .args .w .now) (s .pre .0) (s .pre .1 .1) (loop′ .w) (loop′ .m) (loop′ .i)
+          (loop′ .inv .0)
+          (c .before .before .before .before .before .before .before .before .before .before .before .before .before .list-at .result) (loop′ .inv .1)
+          (c .before .before .before .before .before .before .before .before .before .before .before .before .side-at .result) (note-fraction′ .last .0) (point-of′ .result)
+          (project′ .result) (candidate-on-face-side′ .result) (note-fraction′ .result)
+          (loop′ .inv .2) (omega (arith, loop′ .inv .3, c .before .before .before .before .before .before .before .before .before .loop-test .taken)) read (project′ .ensures)
           (candidate-on-face-side′ .ensures) (note-fraction′ .ensures),
-      l .inv .1,
-      l .inv .2,
-      l .inv .3,
+      loop′ .inv .1,
+      loop′ .inv .2,
+      loop′ .inv .3,
     )
 
 same-length : tie.Need-same-length Inv-loop μ-loop
@@ -260,9 +124,10 @@ same-length c = c .before .loop .inv .0 .kept .long
 returns : tie.Need-returns Inv-loop μ-loop
 returns c =
     let s = c .before .before .before .before .before .before in
-    let a = s .args in
-    collecting-end (a .eps) (a .n) (a .face) (a .side) (a .w .now) (s .pre .0) (s .pre .1 .1) (c .before .loop .w) (c .before .loop .m) (c .before .loop .i)
-    (c .before .loop .inv .0) (omega (arith, c .before .loop .inv .3, c .loop-test .left))
+    let loop′ = c .before .loop in
+    collecting-end (s .args .eps) (s .args .n) (s .args .face) (s .args .side) (s .args .w .now) (s .pre .0) (s .pre .1 .1) (loop′ .w) (loop′ .m) (loop′ .i)
+    (loop′ .inv .0)
+    (omega (arith, loop′ .inv .3, c .loop-test .left))
 
 pub collect-side-spec : {M : Type 1} → statement M
 collect-side-spec =
@@ -275,14 +140,12 @@ collect-side-spec =
     mul-count
     slice-read-count
     loop-holds
-    add-note-fraction
-    mul-note-fraction
-    slice-reshared-read-note-fraction
+    candidate-at-requires
     point-of-requires
     project-requires
     candidate-on-face-side-requires
-    mul-note-fraction-2
-    add-note-fraction-2
+    mul-note-fraction
+    add-note-fraction
     note-fraction-requires
     add-m
     add-i

@@ -14,6 +14,40 @@ use Rattle.candidate_edges.proofs.Turns.{edge-done}
 use Rattle.candidate_edges.proofs.open.enter_edge.Statement.{statement}
 use Rattle.candidate_edges.proofs.open.enter_edge.Tie as tie
 
+abbrev start : tie.After-edge-to → tie.Start
+start c = c .before .before .before .before .before .before .before .before
+
+-- both ends are vertices of the mesh, and the mask is a word of faces
+entering : (c : tie.After-edge-to) → (c .before .edge-from .result < length (start c .args .vertices .now) / 3) × (c .edge-to .result < length (start
+    c .args .vertices .now) / 3)
+    × (c .before .before .side-mask .result < 64)
+entering c =
+    let s = start c in
+    let a = s .args in
+    let t = c .before .before .before .before .edge-table-at in
+    let f = s .pre .0 .fits in
+    let j = getD (a .w .now) (t .result + 2 * a .i + 1) 0 in
+    let named = side-low (a .facets .now) (a .w .now) (edgeTableAt (a .n) (length (a .facets .now) / 3)) (t .result) (length (openEdges (threes (a .facets .now)))) (a .i)
+    (s .pre .0 .table) (t .ensures) (s .pre .1) in
+    let e = getD (sides (threes (a .facets .now))) j (0, 0) in (
+      omega (arith, c .before .edge-from .ensures, from-low (a .facets .now) (length (a .vertices .now) / 3) j (f .threes) (f .numbers) named),
+      omega (arith, c .edge-to .ensures, to-low (a .facets .now) (length (a .vertices .now) / 3) j (f .threes) (f .numbers) named),
+      subst (λ (x : ℕ). x < 64) (sym (c .before .before .side-mask .ensures))
+          (mask-small (a .extents) (a .eps) (vertex (pointsOf (a .vertices .now)) (e .0)) (vertex (pointsOf (a .vertices .now)) (e .1))),
+    )
+
+abbrev start-of : tie.After-open-edges-at → tie.Start
+start-of c = start (c .before .before .before .before .before .before .before .before .before .before)
+
+-- the three words of the open edge
+edge-in : (c : tie.After-open-edges-at)
+    → (c .open-edges-at .result + 3 * start-of c .args .i + 2 < length (start-of c .args .w .now)) × (c .open-edges-at .result + 3 * start-of c .args .i < 18446744073709551616)
+edge-in c =
+    let f = start-of c .pre .0 .fits in
+    let k = start-of c .pre .0 .table .within in
+    let h = start-of c .pre .1 in
+    (omega (arith, c .open-edges-at .ensures), omega (arith, c .open-edges-at .ensures))
+
 edge-table-at-requires : tie.Need-edge-table-at-requires
 edge-table-at-requires c κs = search needs
 
@@ -74,38 +108,15 @@ cast-put-edge-2 c = search needs
 
 enter-vertex-requires : tie.Need-enter-vertex-requires
 enter-vertex-requires c κs =
-    let s = c .before .before .before .before .before .before .before .before .before in
-    let a = s .args in
-    let t = c .before .before .before .before .before .edge-table-at in
-    let m = c .before .before .before .side-mask in
-    let f = s .pre .0 .fits in
-    let j = getD (a .w .now) (t .result + 2 * a .i + 1) 0 in
-    let named = side-low (a .facets .now) (a .w .now) (edgeTableAt (a .n) (length (a .facets .now) / 3)) (t .result) (length (openEdges (threes (a .facets .now)))) (a .i)
-    (s .pre .0 .table) (t .ensures) (s .pre .1) in
-    let e = getD (sides (threes (a .facets .now))) j (0, 0) in
-    let from = from-low (a .facets .now) (length (a .vertices .now) / 3) j (f .threes) (f .numbers) named in
-    let to = to-low (a .facets .now) (length (a .vertices .now) / 3) j (f .threes) (f .numbers) named in
-    let small = subst (λ (x : ℕ). x < 64) (sym (m .ensures)) (mask-small (a .extents) (a .eps) (vertex (pointsOf (a .vertices .now)) (e .0))
-    (vertex (pointsOf (a .vertices .now)) (e .1))) in
-    (s .pre .0 .ready, (omega (arith, c .before .before .edge-from .ensures, c .before .edge-to .ensures), small))
+    let h = entering (c .before) in
+    (c .before .before .before .before .before .before .before .before .before .pre .0 .ready, (h .0, h .2))
 
 enter-vertex-requires-2 : tie.Need-enter-vertex-requires-2
 enter-vertex-requires-2 c κs =
-    let s = c .before .before .before .before .before .before .before .before .before .before .before .before .before in
-    let a = s .args in
-    let t = c .before .before .before .before .before .before .before .before .before .edge-table-at in
-    let m = c .before .before .before .before .before .before .before .side-mask in
-    let f = s .pre .0 .fits in
-    let j = getD (a .w .now) (t .result + 2 * a .i + 1) 0 in
-    let named = side-low (a .facets .now) (a .w .now) (edgeTableAt (a .n) (length (a .facets .now) / 3)) (t .result) (length (openEdges (threes (a .facets .now)))) (a .i)
-    (s .pre .0 .table) (t .ensures) (s .pre .1) in
-    let e = getD (sides (threes (a .facets .now))) j (0, 0) in
-    let from = from-low (a .facets .now) (length (a .vertices .now) / 3) j (f .threes) (f .numbers) named in
-    let to = to-low (a .facets .now) (length (a .vertices .now) / 3) j (f .threes) (f .numbers) named in
-    let small = subst (λ (x : ℕ). x < 64) (sym (m .ensures)) (mask-small (a .extents) (a .eps) (vertex (pointsOf (a .vertices .now)) (e .0))
-    (vertex (pointsOf (a .vertices .now)) (e .1))) in (
-      ready-next _ _ _ _ _ _ _ _ (s .pre .0 .ready) (c .before .before .before .enter-vertex .ensures),
-      (omega (arith, c .before .before .before .before .before .before .edge-from .ensures, c .before .before .before .before .before .edge-to .ensures), small),
+    let h = entering (c .before .before .before .before .before) in (
+      ready-next _ _ _ _ _ _ _ _ (c .before .before .before .before .before .before .before .before .before .before .before .before .before .pre .0 .ready)
+          (c .before .before .before .enter-vertex .ensures),
+      (h .1, h .2),
     )
 
 open-edges-at-requires : tie.Need-open-edges-at-requires
@@ -114,33 +125,18 @@ open-edges-at-requires c κs =
     (f .small, f .few)
 
 mul-put-edge : tie.Need-mul-put-edge
-mul-put-edge c =
-    let f = c .before .before .before .before .before .before .before .before .before .before .before .before .before .before .before .before .before .before .pre .0 .fits in
-    let k = c .before .before .before .before .before .before .before .before .before .before .before .before .before .before .before .before .before .before .pre .0 .table .within
-    in
-    let h = c .before .before .before .before .before .before .before .before .before .before .before .before .before .before .before .before .before .before .pre .1 in
-    omega arith
+mul-put-edge c = omega (arith, edge-in c)
 
 add-put-edge : tie.Need-add-put-edge
-add-put-edge c =
-    let f = c .before .before .before .before .before .before .before .before .before .before .before .before .before .before .before .before .before .before .pre .0 .fits in
-    let k = c .before .before .before .before .before .before .before .before .before .before .before .before .before .before .before .before .before .before .pre .0 .table .within
-    in
-    let h = c .before .before .before .before .before .before .before .before .before .before .before .before .before .before .before .before .before .before .pre .1 in
-    omega (arith, c .open-edges-at .ensures)
+add-put-edge c = omega (arith, edge-in c)
 
 put-edge-requires : tie.Need-put-edge-requires
 put-edge-requires c κs =
-    let f = c .before .before .before .before .before .before .before .before .before .before .before .before .before .before .before .before .before .before .pre .0 .fits in
-    let k = c .before .before .before .before .before .before .before .before .before .before .before .before .before .before .before .before .before .before .pre .0 .table .within
-    in
-    let h = c .before .before .before .before .before .before .before .before .before .before .before .before .before .before .before .before .before .before .pre .1 in
     omega (
       arith,
-      c .open-edges-at .ensures,
+      edge-in c,
       c .before .before .before .before .before .before .before .before .enter-vertex .ensures .inserted .long,
-      c .before .before .before
-          .before .enter-vertex2 .ensures .inserted .long,
+      c .before .before .before .before .enter-vertex2 .ensures .inserted .long,
     )
 
 same-length : tie.Need-same-length

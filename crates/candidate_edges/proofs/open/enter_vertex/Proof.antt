@@ -7,14 +7,14 @@ use Rattle.candidate_edges.proofs.Ends.{vertex-in, vertex-room, vertex-
 use Rattle.candidate_edges.proofs.open.enter_vertex.Statement.{statement}
 use Rattle.candidate_edges.proofs.open.enter_vertex.Tie as tie
 
-vertex-point-requires : tie.Need-vertex-point-requires
-vertex-point-requires c κs = search needs
+vertex-at-requires : tie.Need-vertex-at-requires
+vertex-at-requires c κs = search needs
 
 insert-candidate-requires : tie.Need-insert-candidate-requires
 insert-candidate-requires c κs =
     let s = c .before .before .before .before in
     let a = s .args in
-    let v = c .vertex-point in
+    let v = c .vertex-at in
     let small : a .v .0 < a .n = omega (arith, s .pre .0 .vertices, s .pre .1 .0) in (
       s .pre .0 .holds,
       (
@@ -31,11 +31,11 @@ returns : tie.Need-returns
 returns c =
     let s = c .before .before .before .before .before .before .before in
     let a = s .args in
-    let v = c .before .before .before .vertex-point in
+    let v = c .before .before .before .vertex-at in
     let i = c .before .before .insert-candidate in
     vertex-entered (a .vertices .now) (a .eps) (a .n) (a .w .now) (a .v .0) (v .result) (s .pre .0) (s .pre .1 .0) (v .ensures) (a .mask) (i .result .0) (i .last .0)
     (i .ensures .0) (i .ensures .1)
 
 pub enter-vertex-spec : {M : Type 1} → statement M
 enter-vertex-spec =
-    tie.close (tie.spec vertex-point-requires insert-candidate-requires same-length returns)
+    tie.close (tie.spec vertex-at-requires insert-candidate-requires same-length returns)

@@ -1,6 +1,7 @@
 -- `side_mask` meets its contract: both ends are vertices of the mesh, and the word is that of the faces that both lie on. Assumes nothing.
-use Prim.Native.Nat.{ℕ, _/_, _<_}
-use mathlib.Core.Path.{sym, ap, _∙_, subst}
+use Prim.Native.Nat.{_/_}
+use mathlib.Core.Path.{ap, _∙_}
+use native.Mathlib.Omega.{arith}
 use borrow.Author.Needs.{needs}
 use lib.ListN.{length}
 use Rattle.geometry.specs.Meshes.{vertex, pointsOf}
@@ -15,12 +16,11 @@ edge-from-requires c κs = search needs
 cast-t9 : tie.Need-cast-t9
 cast-t9 c = search needs
 
-vertex-point-requires : tie.Need-vertex-point-requires
-vertex-point-requires c κs =
+vertex-at-requires : tie.Need-vertex-at-requires
+vertex-at-requires c κs =
     let s = c .before .before .before in
     let a = s .args in
-    subst (λ (v : ℕ). v < length (a .vertices .now) / 3) (sym (c .edge-from .ensures))
-    (from-low (a .facets .now) (length (a .vertices .now) / 3) (a .side) (s .pre .0 .0) (s .pre .1) (s .pre .0 .1))
+    omega (arith, c .edge-from .ensures, from-low (a .facets .now) (length (a .vertices .now) / 3) (a .side) (s .pre .0 .0) (s .pre .1) (s .pre .0 .1))
 
 edge-to-requires : tie.Need-edge-to-requires
 edge-to-requires c κs = search needs
@@ -28,12 +28,11 @@ edge-to-requires c κs = search needs
 cast-t9-2 : tie.Need-cast-t9-2
 cast-t9-2 c = search needs
 
-vertex-point-requires-2 : tie.Need-vertex-point-requires-2
-vertex-point-requires-2 c κs =
+vertex-at-requires-2 : tie.Need-vertex-at-requires-2
+vertex-at-requires-2 c κs =
     let s = c .before .before .before .before .before in
     let a = s .args in
-    subst (λ (v : ℕ). v < length (a .vertices .now) / 3) (sym (c .edge-to .ensures))
-    (to-low (a .facets .now) (length (a .vertices .now) / 3) (a .side) (s .pre .0 .0) (s .pre .1) (s .pre .0 .1))
+    omega (arith, c .edge-to .ensures, to-low (a .facets .now) (length (a .vertices .now) / 3) (a .side) (s .pre .0 .0) (s .pre .1) (s .pre .0 .1))
 
 aabb-face-mask-requires : tie.Need-aabb-face-mask-requires
 aabb-face-mask-requires c κs = search needs
@@ -43,8 +42,8 @@ returns c =
     let s = c .before .before .before .before .before .before .before in
     let a = s .args in
     let at = vertex (pointsOf (a .vertices .now)) in
-    let from = c .before .before .before .vertex-point .ensures ∙ ap at (c .before .before .before .before .edge-from .ensures) in
-    let to = c .before .vertex-point2 .ensures ∙ ap at (c .before .before .edge-to .ensures) in
+    let from = c .before .before .before .vertex-at .ensures ∙ ap at (c .before .before .before .before .edge-from .ensures) in
+    let to = c .before .vertex-at2 .ensures ∙ ap at (c .before .before .edge-to .ensures) in
     c .aabb-face-mask .ensures ∙ (λ i. faceBits (facesOf (a .extents) (a .eps) (from i) (to i)))
 
 pub side-mask-spec : {M : Type 1} → statement M
@@ -53,9 +52,9 @@ side-mask-spec =
     (tie.spec
     edge-from-requires
     cast-t9
-    vertex-point-requires
+    vertex-at-requires
     edge-to-requires
     cast-t9-2
-    vertex-point-requires-2
+    vertex-at-requires-2
     aabb-face-mask-requires
     returns)

@@ -1,8 +1,9 @@
 -- `stray_edge` meets its contract. The invariant: none of the first i open edges is on no face. Assumes nothing.
-use Prim.Native.Nat.{_+_, _*_, _-_, _/_, _≤_}
+use Prim.Native.Nat.{_+_, _*_, _-_, _/_, _≤_, _<_}
 use mathlib.Core.Path.{_≡_, _∙_}
 use native.Mathlib.Omega.{arith}
 use borrow.Author.Tests.{eq-eqb, ne-eqb}
+use lib.Dec.{eqb}
 use lib.ListN.{length, getD, drop}
 use Rattle.lists.specs.Lists.{place}
 use Rattle.geometry.specs.Triangles.{threes}
@@ -21,6 +22,29 @@ Inv-loop w vertices facets n k extents eps table i₀ i =
 abbrev μ-loop : tie.MeasureT-loop
 μ-loop w vertices facets n k extents eps table i₀ i = k - i
 
+abbrev start : tie.In-loop Inv-loop μ-loop → tie.Start Inv-loop μ-loop
+start c = c .before .before .before .before .before .before
+
+-- the word that a turn reads
+turn-in : (c : tie.In-loop Inv-loop μ-loop) → c .before .before .edge-table-at .result + 2 * c .before .loop .i + 1 < length (start c .args .w .now)
+turn-in c = let s = start c in omega (arith, s .pre .0 .size, s .pre .0 .threes, s .pre .1 .within, c .loop-test .taken, c .before .before .edge-table-at .ensures)
+
+-- the mask answers whether the open edge is on no face
+tested : (c : tie.After-side-mask Inv-loop μ-loop) → let s = start (c .before .before) in
+    stray (s .args .vertices .now) (s .args .facets .now) (s .args .extents) (s .args .eps) (getD (openEdges (threes (s .args .facets .now)))
+    (c .before .before .before .loop .i) (0, 0))
+    ≡ eqb (c .side-mask .result) 0
+tested c =
+    let s = start (c .before .before) in
+    let a = s .args in
+    let t = c .before .before .before .before .edge-table-at in
+    let l = c .before .before .before .loop in
+    let side = getD (sides (threes (a .facets .now))) (getD (a .w .now) (t .result + 2 * l .i + 1) 0) (0, 0) in
+    stray-test (a .vertices .now) (a .facets .now) (a .extents) (a .eps) (c .side-mask .result) (getD (openEdges (threes (a .facets .now))) (l .i) (0, 0)) side
+    (side-is (a .facets .now) (a .w .now) (edgeTableAt (a .n) (length (a .facets .now) / 3)) (t .result) (a .k) (l .i) (s .pre .1) (t .ensures)
+    (c .before .before .loop-test .taken))
+    (c .side-mask .ensures)
+
 edge-table-at-requires : tie.Need-edge-table-at-requires Inv-loop μ-loop
 edge-table-at-requires c κs = (c .before .before .before .pre .0 .small, c .before .before .before .pre .0 .few)
 
@@ -28,39 +52,19 @@ loop-holds : tie.Need-loop-holds Inv-loop μ-loop
 loop-holds c = (omega arith, omega arith)
 
 mul-side : tie.Need-mul-side Inv-loop μ-loop
-mul-side c =
-    let f = c .before .before .before .before .before .before .pre .0 in
-    let k = c .before .before .before .before .before .before .pre .1 .within in
-    let h = c .loop-test .taken in
-    omega (arith, c .before .before .edge-table-at .ensures)
+mul-side c = omega (arith, turn-in (c))
 
 add-side : tie.Need-add-side Inv-loop μ-loop
-add-side c =
-    let f = c .before .before .before .before .before .before .pre .0 in
-    let k = c .before .before .before .before .before .before .pre .1 .within in
-    let h = c .loop-test .taken in
-    omega (arith, c .before .before .edge-table-at .ensures)
+add-side c = omega (arith, turn-in (c))
 
 add-side-2 : tie.Need-add-side-2 Inv-loop μ-loop
-add-side-2 c =
-    let f = c .before .before .before .before .before .before .pre .0 in
-    let k = c .before .before .before .before .before .before .pre .1 .within in
-    let h = c .loop-test .taken in
-    omega (arith, c .before .before .edge-table-at .ensures)
+add-side-2 c = omega (arith, turn-in (c))
 
 mul-side-2 : tie.Need-mul-side-2 Inv-loop μ-loop
-mul-side-2 c =
-    let f = c .before .before .before .before .before .before .pre .0 in
-    let k = c .before .before .before .before .before .before .pre .1 .within in
-    let h = c .loop-test .taken in
-    omega (arith, c .before .before .edge-table-at .ensures)
+mul-side-2 c = omega (arith, turn-in (c))
 
 shared-slice-read-side : tie.Need-shared-slice-read-side Inv-loop μ-loop
-shared-slice-read-side c =
-    let f = c .before .before .before .before .before .before .before .pre .0 in
-    let k = c .before .before .before .before .before .before .before .pre .1 .within in
-    let h = c .before .loop-test .taken in
-    omega (arith, c .before .before .before .edge-table-at .ensures)
+shared-slice-read-side c = omega (arith, turn-in (c .before))
 
 side-mask-requires : tie.Need-side-mask-requires Inv-loop μ-loop
 side-mask-requires c κs =
@@ -79,41 +83,26 @@ side-mask-requires c κs =
 returns : tie.Need-returns Inv-loop μ-loop
 returns c =
     let s = c .before .before .before .before .before .before .before .before .before in
-    let a = s .args in
-    let t = c .before .before .before .before .before .edge-table-at in
-    let l = c .before .before .before .before .loop in
-    let m = c .before .side-mask in
-    let side = getD (sides (threes (a .facets .now))) (getD (a .w .now) (t .result + 2 * l .i + 1) 0) (0, 0) in
-    let tested = stray-test (a .vertices .now) (a .facets .now) (a .extents) (a .eps) (m .result) (getD (openEdges (threes (a .facets .now))) (l .i) (0, 0)) side
-    (side-is (a .facets .now) (a .w .now) (edgeTableAt (a .n) (length (a .facets .now) / 3)) (t .result) (a .k) (l .i) (s .pre .1) (t .ensures)
-    (c .before .before .before .loop-test .taken)) (m .ensures) in
-    place-stop (stray (a .vertices .now) (a .facets .now) (a .extents) (a .eps)) (openEdges (threes (a .facets .now))) (l .i) (l .inv .1) (0, 0)
-    (omega (arith, s .pre .1 .count, c .before .before .before .loop-test .taken)) (tested ∙ eq-eqb (m .result) 0 (c .if1 .taken))
+    let loop′ = c .before .before .before .before .loop in
+    place-stop (stray (s .args .vertices .now) (s .args .facets .now) (s .args .extents) (s .args .eps)) (openEdges (threes (s .args .facets .now))) (loop′ .i)
+    (loop′ .inv .1) (0, 0)
+    (omega (arith, s .pre .1 .count, c .before .before .before .loop-test .taken)) (tested (c .before) ∙ eq-eqb (c .before .side-mask .result) 0 (c .if1 .taken))
 
 add-i : tie.Need-add-i Inv-loop μ-loop
-add-i c =
-    let f = c .before .before .before .before .before .before .before .before .before .pre .0 in
-    let k = c .before .before .before .before .before .before .before .before .before .pre .1 .within in
-    let h = c .before .before .before .loop-test .taken in
-    omega (arith, c .before .before .before .before .before .edge-table-at .ensures)
+add-i c = omega (arith, turn-in (c .before .before .before))
 
 loop-less : tie.Need-loop-less Inv-loop μ-loop
 loop-less c = omega (arith, c .before .before .before .loop-test .taken)
 
 loop-again : tie.Need-loop-again Inv-loop μ-loop
 loop-again c =
+    let loop-test′ = c .before .before .before .loop-test in
     let s = c .before .before .before .before .before .before .before .before .before in
-    let a = s .args in
-    let t = c .before .before .before .before .before .edge-table-at in
-    let l = c .before .before .before .before .loop in
-    let m = c .before .side-mask in
-    let side = getD (sides (threes (a .facets .now))) (getD (a .w .now) (t .result + 2 * l .i + 1) 0) (0, 0) in
-    let tested = stray-test (a .vertices .now) (a .facets .now) (a .extents) (a .eps) (m .result) (getD (openEdges (threes (a .facets .now))) (l .i) (0, 0)) side
-    (side-is (a .facets .now) (a .w .now) (edgeTableAt (a .n) (length (a .facets .now) / 3)) (t .result) (a .k) (l .i) (s .pre .1) (t .ensures)
-    (c .before .before .before .loop-test .taken)) (m .ensures) in (
-      omega (arith, c .before .before .before .loop-test .taken),
-      place-more (stray (a .vertices .now) (a .facets .now) (a .extents) (a .eps)) (openEdges (threes (a .facets .now)))
-          (l .i) (l .inv .1) (0, 0) (omega (arith, s .pre .1 .count, c .before .before .before .loop-test .taken)) (tested ∙ ne-eqb (m .result) 0 (c .if1 .left)),
+    let loop′ = c .before .before .before .before .loop in (
+      omega (arith, loop-test′ .taken),
+      place-more (stray (s .args .vertices .now) (s .args .facets .now) (s .args .extents) (s .args .eps)) (openEdges (threes (s .args .facets .now))) (loop′ .i)
+          (loop′ .inv .1) (0, 0)
+          (omega (arith, s .pre .1 .count, loop-test′ .taken)) (tested (c .before) ∙ ne-eqb (c .before .side-mask .result) 0 (c .if1 .left)),
     )
 
 returns-2 : tie.Need-returns-2 Inv-loop μ-loop

@@ -11,12 +11,8 @@ use Rattle.cap_closing.proofs.Corners.{own-point, new-point}
 use Rattle.cap_closing.proofs.entering.entered_point.Statement.{statement}
 use Rattle.cap_closing.proofs.entering.entered_point.Tie as tie
 
-vertex-point-requires : tie.Need-vertex-point-requires
-vertex-point-requires c κs =
-    let s = c .before .before .before .before in
-    let a = s .args in
-    let E = s .pre .1 .0 in
-    (c .if1 .taken)
+vertex-at-requires : tie.Need-vertex-at-requires
+vertex-at-requires c κs = omega (arith, c .if1 .taken)
 
 returns : tie.Need-returns
 returns c =
@@ -24,7 +20,7 @@ returns c =
     let a = s .args in
     let b = closingAt (a .n) (a .nf) (a .nc) in
     let E = s .pre .1 .0 in
-    c .vertex-point .ensures ∙ own-point (a .vertices .now) b (a .n) (a .nc) (a .w .now) E (a .v .0) (c .before .if1 .taken)
+    c .vertex-at .ensures ∙ own-point (a .vertices .now) b (a .n) (a .nc) (a .w .now) E (a .v .0) (c .before .if1 .taken)
 
 fresh-at-requires : tie.Need-fresh-at-requires
 fresh-at-requires c κs = search needs
@@ -101,7 +97,7 @@ pub entered-point-spec : {M : Type 1} → statement M
 entered-point-spec =
     tie.close
     (tie.spec
-    vertex-point-requires
+    vertex-at-requires
     returns
     fresh-at-requires
     add-id
