@@ -8,7 +8,7 @@ ghost use Rattle.lists.specs.Lists.{every};
 ghost use Rattle.geometry.specs.Meshes.{pointsOf};
 ghost use Rattle.aabb_facets.specs.Clipped.{insideBox};
 ghost use Rattle.aabb_facets.specs.Rooms.{mark, marked, markWords};
-use aabb_polygons::plane::point_inside_aabb;
+use aabb_planes::plane::point_inside_aabb;
 use geometry::aabb::AABB;
 use geometry::numbers::MeshVertexId;
 use geometry::point::Point;

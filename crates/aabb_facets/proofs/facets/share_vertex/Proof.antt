@@ -1,5 +1,5 @@
 use Rattle.aabb_facets.proofs.RoomLaws.{share-new, share-old}
-use Rattle.aabb_polygons.specs.Polygons.{snapped}
+use Rattle.aabb_planes.specs.Planes.{snapped}
 use Rattle.geometry.specs.Meshes.{coordinates, vertexOf}
 use Rattle.geometry.specs.declared.point.Point.{Point}
 use lib.Seq.{sets}
