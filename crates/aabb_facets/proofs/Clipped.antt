@@ -17,7 +17,7 @@ use Rattle.lists.proofs.Orders.{cases, never}
 use Rattle.geometry.specs.declared.point.Point.{Point}
 use Rattle.geometry.specs.declared.aabb.AABB.{AABB}
 use Rattle.geometry.specs.Meshes.{vertex}
-use Rattle.aabb_polygons.specs.Polygons.{snapped}
+use Rattle.aabb_planes.specs.Planes.{snapped}
 use Rattle.aabb_facets.specs.Clipped.{Clipping, sharedNumber, shareOnce}
 use Rattle.aabb_facets.specs.Rooms.{link}
 

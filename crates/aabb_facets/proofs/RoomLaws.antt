@@ -4,7 +4,7 @@
 --   facet-shared, facet-fanned, facet-low   a facet
 --   Sharing, sharing-..           the loop over the three corners of a facet that is inside
 use Prim.Native.Nat.{ℕ, zero, suc, _+_, _*_, _-_, _≤_, _<_}
-use mathlib.Core.Bool.{Bool, true, false, cond, _&&_}
+use mathlib.Core.Bool.{Bool, true, false, cond}
 use mathlib.Core.List.{List, [], _∷_, flatMap}
 use mathlib.Core.Path.{_≡_, refl, sym, ap, _∙_, subst}
 use native.Mathlib.Omega.{arith}
@@ -17,12 +17,13 @@ use Rattle.geometry.specs.declared.point.Point.{Point}
 use Rattle.geometry.specs.declared.aabb.AABB.{AABB}
 use borrow.Author.Tests.{lt-ltb, le-ltb}
 use Rattle.geometry.specs.Boxes.{faces}
-use Rattle.geometry.specs.Triangles.{flat}
+use Rattle.geometry.specs.Triangles.{vertices, mapped, flat, cornersAt}
 use Rattle.geometry.specs.Meshes.{coordinates, vertexOf}
-use Rattle.aabb_polygons.specs.Polygons.{snapped, clipPolygon}
+use Rattle.aabb_planes.specs.Planes.{snapped}
+use Rattle.aabb_polygons.specs.Polygons.{clipPolygon}
 use Rattle.aabb_facets.specs.declared.facets.Counts.{Counts}
 use Rattle.aabb_facets.specs.Clipped.{fan}
-use Rattle.aabb_facets.specs.Rooms.{Room, room, grow, shareRoomAs, shareRoom, fanRoom, facetRoom, shareTo, marked, Low}
+use Rattle.aabb_facets.specs.Rooms.{Room, room, grow, shareRoomAs, shareRoom, fanRoom, facetRoom, shareTo, allMarked, Low}
 use Rattle.aabb_facets.proofs.OutputLists.{length-fan}
 
 -- ---- a shared vertex
@@ -108,10 +109,10 @@ fan-grows r l h = fan-grows-by (ltb (length l) 3) r l h
 
 module _ (vs : List Float) (fs : List ℕ) (box : AABB) (eps : Float) (r : Room) (i : ℕ) where
   abbrev all-of : Bool
-  all-of = marked (r .ids) (getD fs (3 * i) 0) && (marked (r .ids) (getD fs (3 * i + 1) 0) && marked (r .ids) (getD fs (3 * i + 2) 0))
+  all-of = allMarked (r .ids) (cornersAt fs (3 * i))
 
   abbrev cut : List Point
-  cut = clipPolygon box eps faces (vertexOf vs (getD fs (3 * i) 0) ∷ vertexOf vs (getD fs (3 * i + 1) 0) ∷ vertexOf vs (getD fs (3 * i + 2) 0) ∷ [])
+  cut = clipPolygon box eps faces (vertices (mapped (vertexOf vs) (cornersAt fs (3 * i))))
 
   pub facet-shared : (t : Room) (x : Bool) → x ≡ all-of → x ≡ true → t ≡ shareTo vs fs box eps r i 3 → t ≡ facetRoom vs fs box eps r i
   unfolding facetRoom

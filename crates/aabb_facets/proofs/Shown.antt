@@ -27,7 +27,8 @@ use Rattle.geometry.specs.Triangles.{tri, vertices, mapped, threes, flat}
 use Rattle.geometry.specs.Meshes.{pointsOf, coordinates, vertex, vertexOf, meshOf}
 use Rattle.geometry.proofs.Threes.{length-threes, threes-at, flat-append}
 use Rattle.geometry.proofs.Meshes.{length-coordinates, coordinates-append}
-use Rattle.aabb_polygons.specs.Polygons.{snapped, clipPolygon}
+use Rattle.aabb_planes.specs.Planes.{snapped}
+use Rattle.aabb_polygons.specs.Polygons.{clipPolygon}
 use Rattle.aabb_facets.specs.declared.facets.Counts.{Counts}
 use Rattle.aabb_facets.specs.Clipped.{Clipping, sharedNumber, insideBox, fan, fanned, shareOnce, sharing, clipFacet, clipFacets}
 use Rattle.aabb_facets.specs.Rooms.{Room, room, grow, marked, link, markWords, shareRoomAs, shareRoom, shareTo, fanRoom, facetRoom, showsAs, shows, Low}

@@ -16,7 +16,8 @@ use Rattle.geometry.specs.declared.aabb.AABB.{AABB}
 use Rattle.geometry.specs.Boxes.{faces}
 use Rattle.geometry.specs.Triangles.{Triangle, tri, vertices, mapped}
 use Rattle.geometry.specs.Meshes.{Mesh, vertex}
-use Rattle.aabb_polygons.specs.Polygons.{inside, snapped, clipPolygon}
+use Rattle.aabb_planes.specs.Planes.{inside, snapped}
+use Rattle.aabb_polygons.specs.Polygons.{clipPolygon}
 
 -- vertices and facets, and the vertices shared so far: each as its old number and its new one
 pub record Clipping : Type 0 where

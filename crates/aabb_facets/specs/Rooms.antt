@@ -2,7 +2,7 @@
 -- this; the product promises nothing by it. `sets old i new` stores new from the place i on, as far as there is room. Assumes nothing.
 --   Room, room        counts and contents                   grow          more vertices and more facet numbers
 --   link              0, or 1 more than the number that a vertex is shared by
---   mark, markWord, markWords   the word of a vertex, and of all      marked        a vertex inside
+--   mark, markWord, markWords   the word of a vertex, and of all      marked, allMarked   a vertex inside, and all corners of a facet
 --   shareRoom, shareTo, fanRoom, facetRoom   what a shared corner, a facet's first corners, a fan and a facet do
 --   shows             the room that shows what was made     Ran           what a whole pass does
 use Prim.Native.Nat.{ℕ, zero, suc, _+_, _*_, _-_, _≤_}
@@ -17,9 +17,10 @@ use Rattle.lists.specs.Lists.{upTo}
 use Rattle.geometry.specs.declared.point.Point.{Point}
 use Rattle.geometry.specs.declared.aabb.AABB.{AABB}
 use Rattle.geometry.specs.Boxes.{faces}
-use Rattle.geometry.specs.Triangles.{flat}
+use Rattle.geometry.specs.Triangles.{Triangle, vertices, mapped, flat, cornersAt}
 use Rattle.geometry.specs.Meshes.{Mesh, coordinates, vertexOf}
-use Rattle.aabb_polygons.specs.Polygons.{snapped, clipPolygon}
+use Rattle.aabb_planes.specs.Planes.{snapped}
+use Rattle.aabb_polygons.specs.Polygons.{clipPolygon}
 use Rattle.aabb_facets.specs.declared.facets.Counts.{Counts}
 use Rattle.aabb_facets.specs.Clipped.{Clipping, insideBox, fan}
 
@@ -53,6 +54,9 @@ mark b s = cond b (s + 1) 0
 abbrev pub marked : List ℕ → ℕ → Bool
 marked ids v = not (eqb (getD ids v 0) 0)
 
+abbrev pub allMarked : List ℕ → Triangle ℕ → Bool
+allMarked ids t = marked ids (t .a) && (marked ids (t .b) && marked ids (t .c))
+
 unfoldable pub shareRoomAs : ℕ → Room → ℕ → Point → Room
 shareRoomAs zero r v p = grow (renamed r v (r .nv + 2)) (p ∷ []) (r .nv ∷ [])
 shareRoomAs (suc k) r v p = grow r [] (k ∷ [])
@@ -71,9 +75,9 @@ module _ (vs : List Float) (fs : List ℕ) (box : AABB) (eps : Float) where
 
   unfoldable pub facetRoom : Room → ℕ → Room
   facetRoom r i =
-      cond (marked (r .ids) (getD fs (3 * i) 0) && (marked (r .ids) (getD fs (3 * i + 1) 0) && marked (r .ids) (getD fs (3 * i + 2) 0)))
+      cond (allMarked (r .ids) (cornersAt fs (3 * i)))
       (shareTo r i 3)
-      (fanRoom r (clipPolygon box eps faces (vertexOf vs (getD fs (3 * i) 0) ∷ vertexOf vs (getD fs (3 * i + 1) 0) ∷ vertexOf vs (getD fs (3 * i + 2) 0) ∷ [])))
+      (fanRoom r (clipPolygon box eps faces (vertices (mapped (vertexOf vs) (cornersAt fs (3 * i))))))
 
 unfoldable pub link : List (ℕ × ℕ) → ℕ → ℕ
 link [] v = 0

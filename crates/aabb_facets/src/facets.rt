@@ -1,22 +1,28 @@
 // aabb_clipping.rs, the body of `clip_mesh_to_aabb`: one facet, shared or clipped.
 ghost use mathlib.Core.Path.{_≡_};
-ghost use mathlib.Core.List.{List, [], _∷_};
+ghost use mathlib.Core.List.{List};
 ghost use Prim.Native.Nat.{ℕ, _+_, _*_, _<_, _≤_};
 ghost use lib.ListN.{length, getD};
 ghost use Rattle.geometry.specs.Boxes.{faces};
+ghost use Rattle.geometry.specs.Triangles.{mapped};
+ghost use Rattle.geometry.specs.Triangles as triangles;
+ghost use Rattle.geometry.specs.Numbers.{meshVerticesOf};
 ghost use Rattle.geometry.specs.Meshes.{vertexOf};
-ghost use Rattle.aabb_polygons.specs.Polygons.{snapped, clipPolygon};
+ghost use Rattle.aabb_planes.specs.Planes.{snapped};
+ghost use Rattle.aabb_polygons.specs.Polygons.{clipPolygon};
 ghost use Rattle.aabb_polygons.specs.Steps.{corners};
 ghost use Rattle.aabb_facets.specs.Rooms.{room, shareRoom, shareTo, fanRoom, facetRoom};
 use crate::marks::all_marked;
 use crate::outputs::push_vertex;
 use crate::outputs::put_corners;
 use crate::outputs::put_fan;
+use aabb_planes::snapping::snap_near_bbox;
 use aabb_polygons::polygon::clip_polygon;
-use aabb_polygons::snapping::snap_near_bbox;
 use geometry::aabb::AABB;
 use geometry::numbers::MeshVertexId;
+use geometry::triangle::MeshTriangle;
 use geometry::vertices::corner_at;
+use geometry::vertices::facet_at;
 use geometry::vertices::vertex_at;
 use words::put_number;
 
@@ -50,7 +56,7 @@ fn share_vertex(
     if k <= 1 {
         push_vertex(
             out_vertices,
-            nv,
+            MeshVertexId(nv),
             snap_near_bbox(vertex_at(vertices, v), extents, eps),
         );
         put_number(out_facets, nf, nv as u32);
@@ -124,8 +130,9 @@ fn put_fanned(
     if n < 3 {
         return at;
     }
-    put_corners(out_vertices, nv, polygon, n);
-    put_fan(out_facets, nf, nv, n - 2);
+    let base = MeshVertexId(nv);
+    put_corners(out_vertices, base, polygon, n);
+    put_fan(out_facets, nf, base, n - 2);
     Counts {
         vertices: nv + n,
         numbers: nf + 3 * (n - 2),
@@ -135,9 +142,7 @@ fn put_fanned(
 // A facet that is not wholly inside.
 fn cut_facet(
     vertices: &[f64],
-    a: MeshVertexId,
-    b: MeshVertexId,
-    c: MeshVertexId,
+    t: MeshTriangle,
     extents: AABB,
     eps: f64,
     polygon: &mut [f64],
@@ -147,17 +152,16 @@ fn cut_facet(
     at: Counts,
 ) -> Counts
     requires { ⌜ (84 ≤ length (now polygon)) × (84 ≤ length (now spare)) ⌝ }
-    requires { ⌜ (3 * a .0 + 2 < length (now vertices)) × ((3 * b .0 + 2 < length (now vertices)) × (3 * c .0 + 2 < length (now vertices))) ⌝ }
+    requires { ⌜ (3 * t .a .0 + 2 < length (now vertices)) × ((3 * t .b .0 + 2 < length (now vertices)) × (3 * t .c .0 + 2 < length (now vertices))) ⌝ }
     requires { ⌜ (at .vertices < 4200000000) × (at .numbers < 4200000000) ⌝ }
     ensures { λ r. ⌜
         ((i : List ℕ) → room r i (now («out_vertices» .exit)) (now («out_facets» .exit)) ≡ fanRoom (room at i (now («out_vertices» .entry)) (now («out_facets» .entry)))
-        (clipPolygon extents eps faces (vertexOf (now (vertices .entry)) (a .0) ∷ vertexOf (now (vertices .entry)) (b .0) ∷ vertexOf (now (vertices .entry)) (c .0) ∷ [])))
-        ⌝ }
+        (clipPolygon extents eps faces (triangles.vertices (mapped (vertexOf (now (vertices .entry))) (meshVerticesOf t))))) ⌝ }
     ensures { λ r. ⌜ (r .vertices ≤ at .vertices + 28) × (r .numbers ≤ at .numbers + 78) ⌝ }
 {
-    let p = vertex_at(vertices, a);
-    let q = vertex_at(vertices, b);
-    let s = vertex_at(vertices, c);
+    let p = vertex_at(vertices, t.a);
+    let q = vertex_at(vertices, t.b);
+    let s = vertex_at(vertices, t.c);
     let n = clip_polygon(polygon, spare, p, q, s, extents, eps);
     put_fanned(polygon, n, out_vertices, out_facets, at)
 }
@@ -185,10 +189,8 @@ pub fn clip_facet(
         extents eps (room at (now (ids .entry)) (now («out_vertices» .entry)) (now («out_facets» .entry))) i ⌝ }
     ensures { λ r. ⌜ (r .vertices ≤ at .vertices + 28) × (r .numbers ≤ at .numbers + 78) ⌝ }
 {
-    let a = corner_at(facets, 3 * i);
-    let b = corner_at(facets, 3 * i + 1);
-    let c = corner_at(facets, 3 * i + 2);
-    if all_marked(ids, a, b, c) {
+    let t = facet_at(facets, i);
+    if all_marked(ids, t) {
         return share_facet(
             vertices,
             facets,
@@ -203,9 +205,7 @@ pub fn clip_facet(
     }
     cut_facet(
         vertices,
-        a,
-        b,
-        c,
+        t,
         extents,
         eps,
         polygon,

@@ -1,18 +1,18 @@
 // One word of work room for each vertex: 0 outside the box; 1 inside; 2 + k inside, and shared as the new vertex k.
 ghost use mathlib.Core.Path.{_≡_};
 ghost use mathlib.Core.List.{[]};
-ghost use mathlib.Core.Bool.{_&&_};
 ghost use Prim.Native.Nat.{_*_, _<_, _≤_};
 ghost use lib.ListN.{length};
 ghost use Rattle.lists.specs.Lists.{every};
+ghost use Rattle.geometry.specs.Numbers.{meshVerticesOf};
 ghost use Rattle.geometry.specs.Meshes.{pointsOf};
 ghost use Rattle.aabb_facets.specs.Clipped.{insideBox};
-ghost use Rattle.aabb_facets.specs.Rooms.{mark, marked, markWords};
-use aabb_polygons::plane::point_inside_aabb;
+ghost use Rattle.aabb_facets.specs.Rooms.{mark, allMarked, markWords};
+use aabb_planes::plane::point_inside_aabb;
 use geometry::aabb::AABB;
 use geometry::numbers::MeshVertexId;
 use geometry::point::Point;
-use geometry::vertices::point_at;
+use geometry::triangle::MeshTriangle;
 use geometry::vertices::vertex_at;
 
 fn mark_of(p: Point, extents: AABB, eps: f64) -> u64
@@ -36,19 +36,19 @@ pub fn mark_all(vertices: &[f64], extents: AABB, eps: f64, ids: &mut [u64])
     }
 }
 
-pub fn all_marked(ids: &[u64], a: MeshVertexId, b: MeshVertexId, c: MeshVertexId) -> bool
-    requires { ⌜ (a .0 < length (now ids)) × ((b .0 < length (now ids)) × (c .0 < length (now ids))) ⌝ }
-    ensures { λ r. ⌜ r ≡ (marked (now (ids .entry)) (a .0) && (marked (now (ids .entry)) (b .0) && marked (now (ids .entry)) (c .0))) ⌝ }
+pub fn all_marked(ids: &[u64], t: MeshTriangle) -> bool
+    requires { ⌜ (t .a .0 < length (now ids)) × ((t .b .0 < length (now ids)) × (t .c .0 < length (now ids))) ⌝ }
+    ensures { λ r. ⌜ r ≡ allMarked (now (ids .entry)) (meshVerticesOf t) ⌝ }
 {
-    let i = a.0;
+    let i = t.a.0;
     if ids[i] == 0 {
         return false;
     }
-    let j = b.0;
+    let j = t.b.0;
     if ids[j] == 0 {
         return false;
     }
-    let k = c.0;
+    let k = t.c.0;
     ids[k] != 0
 }
 
@@ -59,7 +59,7 @@ pub fn wholly_inside(vertices: &[f64], extents: AABB, eps: f64) -> bool
     let n = vertices.len() / 3;
     let mut k = 0;
     while k < n {
-        if !point_inside_aabb(point_at(vertices, k), extents, eps) {
+        if !point_inside_aabb(vertex_at(vertices, MeshVertexId(k)), extents, eps) {
             return false;
         }
         k += 1;

@@ -12,7 +12,7 @@ use lib.Ieee.{Float, nan}
 use lib.Seq.{sets, getD-set-same, getD-set-other, lt-length-set}
 use Rattle.geometry.specs.declared.point.Point.{Point}
 use Rattle.geometry.specs.declared.aabb.AABB.{AABB}
-use Rattle.aabb_polygons.specs.Polygons.{snapped}
+use Rattle.aabb_planes.specs.Planes.{snapped}
 use Rattle.geometry.specs.Meshes.{vertexOf}
 use Rattle.geometry.proofs.Threes.{three-set}
 use Rattle.geometry.proofs.Meshes.{vertex-at}

@@ -1,4 +1,3 @@
-pub mod SnapTwice
 pub mod CornerLists
 pub mod Planes
 pub mod Walks

@@ -22,9 +22,10 @@ use Rattle.geometry.specs.Boxes.{axis, plane}
 use Rattle.lists.specs.Lists.{every}
 use Rattle.lists.proofs.Bools.{and-right}
 use Rattle.lists.proofs.Every.{every-at}
-use Rattle.aabb_polygons.specs.Polygons.{inside, snapped, crossing, interpolated, onPlane, crossed, sideClipped, walk, clipToPlane}
+use Rattle.aabb_planes.specs.Planes.{inside, snapped, crossing, interpolated, onPlane}
+use Rattle.aabb_polygons.specs.Polygons.{crossed, sideClipped, walk, clipToPlane}
 use Rattle.aabb_polygons.specs.Steps.{corners, points, sideCrossed, sideUnsnapped, walkUnsnapped, clipUnsnapped}
-use Rattle.aabb_polygons.proofs.SnapTwice.{snap-twice}
+use Rattle.aabb_planes.proofs.SnapTwice.{snap-twice}
 use Rattle.aabb_polygons.proofs.CornerLists.{snap-append}
 
 -- ---- how the count grows: each plane gives at most half as many corners again. A corner outside counts one half for the crossing back in

@@ -1,7 +1,7 @@
 -- Laws of the walk round the corners, and of the planes in turn. Assumes nothing.
 --   side-in, side-out, side-room, side-more, room-left, onto   one side, in its two parts
 --   Walked, walked-..     the loop over the corners: start, turn, end, and that there is room
---   grown, still-snapped, all-stop, all-go, all-last   the planes in turn, "stopping under three corners"
+--   grown, next, all-stop, all-go, all-last   the planes in turn, "stopping under three corners"
 --   few                   no more than 28 corners
 use Prim.Native.Nat.{ℕ, suc, _+_, _*_, _-_, _≤_, _<_}
 use mathlib.Core.Bool.{Bool, true, false, cond, Bool·beq}
@@ -16,7 +16,8 @@ use Rattle.geometry.specs.declared.point.Point.{Point}
 use Rattle.geometry.specs.declared.aabb.AABB.{AABB}
 use Rattle.geometry.specs.Points.{origin}
 use Rattle.geometry.specs.Boxes.{faces}
-use Rattle.aabb_polygons.specs.Polygons.{inside, snapped, clipToPlane, clipPolygon}
+use Rattle.aabb_planes.specs.Planes.{inside, snapped}
+use Rattle.aabb_polygons.specs.Polygons.{clipToPlane, clipPolygon}
 use Rattle.geometry.specs.Meshes.{vertexOf}
 use Rattle.aabb_polygons.specs.Steps.{points, corners, sideCrossed, sideUnsnapped, walkUnsnapped, clipUnsnapped}
 use Rattle.aabb_polygons.proofs.CornerLists.{points-length, points-at, points-cons, counted}
@@ -113,9 +114,13 @@ module _ (a : List Float) (n : ℕ) (some : 0 < n) (few : n ≤ 19) (k : ℕ) (b
 pub grown : (a b : List Float) (n r : ℕ) (k : ℕ) (box : AABB) (eps : Float) → corners b r ≡ clipToPlane box eps (corners a n) k → 2 * r ≤ 3 * n
 grown a b n r k box eps h = omega (arith, clip-short box eps k (corners a n), counted b r (clipToPlane box eps (corners a n) k) h, points-length a 0 n)
 
-pub still-snapped : (a b : List Float) (n r : ℕ) (k : ℕ) (box : AABB) (eps : Float) → corners b r ≡ clipToPlane box eps (corners a n) k → map (snapped box eps) (corners b r) ≡
-    corners b r
-still-snapped a b n r k box eps h = ap (λ (l : List Point). map (snapped box eps) l) h ∙ clip-snapped box eps k (corners a n) ∙ sym h
+-- what the next plane asks of a polygon that the plane k has left: it is snapped, and as few as `few` corners have become `more` at most
+pub next : (a b : List Float) (n r k : ℕ) (box : AABB) (eps : Float) (few more : ℕ) → corners b r ≡ clipToPlane box eps (corners a n) k → n ≤ few → 3 * few ≤ 2 * more + 1
+    → 3 ≤ r → ((0 < r) × (r ≤ more)) × (map (snapped box eps) (corners b r) ≡ corners b r)
+next a b n r k box eps few more h g e m = (
+  (omega arith, omega (arith, grown a b n r k box eps h)),
+  ap (λ (l : List Point). map (snapped box eps) l) h ∙ clip-snapped box eps k (corners a n) ∙ sym h,
+)
 
 module _ (box : AABB) (eps : Float) (k : ℕ) (ks : List ℕ) (l : List Point) (a : List Float) (n : ℕ) (h : corners a n ≡ clipToPlane box eps l k) where
   pub all-stop : n < 3 → corners a n ≡ clipPolygon box eps (k ∷ ks) l

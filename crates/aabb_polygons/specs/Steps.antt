@@ -13,7 +13,8 @@ use Rattle.geometry.specs.declared.aabb.AABB.{AABB}
 use Rattle.geometry.specs.Points.{origin, along}
 use Rattle.geometry.specs.Boxes.{axis, plane}
 use Rattle.geometry.specs.Meshes.{vertexOf}
-use Rattle.aabb_polygons.specs.Polygons.{inside, crossing, crossed}
+use Rattle.aabb_planes.specs.Planes.{inside, crossing}
+use Rattle.aabb_polygons.specs.Polygons.{crossed}
 
 -- n points from the point k on
 unfoldable pub points : List Float → ℕ → ℕ → List Point

@@ -6,11 +6,11 @@ ghost use mathlib.Core.List.{[], _∷_, _++_, map};
 ghost use Prim.Native.Nat.{_+_, _<_, _≤_};
 ghost use lib.ListN.{length};
 ghost use Rattle.lists.specs.Lists.{every};
-ghost use Rattle.aabb_polygons.specs.Polygons.{faceOf, inside, snapped};
+ghost use Rattle.aabb_planes.specs.Planes.{faceOf, inside, snapped};
 ghost use Rattle.aabb_polygons.specs.Steps.{corners};
-use crate::plane::BoxPlane;
-use crate::plane::point_inside_plane;
-use crate::snapping::snap_near_bbox;
+use aabb_planes::plane::BoxPlane;
+use aabb_planes::plane::point_inside_plane;
+use aabb_planes::snapping::snap_near_bbox;
 use geometry::aabb::AABB;
 use geometry::point::Point;
 use geometry::vertices::point_at;
@@ -84,4 +84,14 @@ pub fn snap_corners(to: &mut [f64], from: &[f64], n: usize, extents: AABB, eps: 
         push_corner(to, i, snap_near_bbox(point_at(from, i), extents, eps));
         i += 1;
     }
+}
+
+// The same over the polygon itself. `spare` is scratch room.
+pub fn snap_in_place(polygon: &mut [f64], spare: &mut [f64], n: usize, extents: AABB, eps: f64)
+    requires { ⌜ (84 ≤ length (now polygon)) × (84 ≤ length (now spare)) ⌝ }
+    requires { ⌜ n ≤ 28 ⌝ }
+    ensures { λ _. ⌜ corners (now (polygon .exit)) n ≡ map (snapped extents eps) (corners (now (polygon .entry)) n) ⌝ }
+{
+    copy_corners(spare, polygon, n);
+    snap_corners(polygon, spare, n, extents, eps);
 }

@@ -1,7 +1,4 @@
-// Clipping one polygon to a box (document 01, module 3; aabb_clipping.rs of the Rust): the planes, snapping, crossings, and Sutherland and
-// Hodgman's walk round the corners.
+// Clipping one polygon to a box (document 01, module 3; aabb_clipping.rs of the Rust): Sutherland and Hodgman's walk round the corners, plane by
+// plane.
 pub mod corners;
-pub mod crossing;
-pub mod plane;
 pub mod polygon;
-pub mod snapping;

@@ -8,7 +8,8 @@ ghost use lib.ListN.{length};
 ghost use Rattle.geometry.specs.Points.{along};
 ghost use Rattle.geometry.specs.Boxes.{axis, faces};
 ghost use Rattle.geometry.specs.Boxes as boxes;
-ghost use Rattle.aabb_polygons.specs.Polygons.{faceOf, snapped, crossing, crossed, clipToPlane, clipPolygon};
+ghost use Rattle.aabb_planes.specs.Planes.{faceOf, snapped, crossing};
+ghost use Rattle.aabb_polygons.specs.Polygons.{crossed, clipToPlane, clipPolygon};
 ghost use Rattle.aabb_polygons.specs.Steps.{corners, sideCrossed, sideUnsnapped, clipUnsnapped};
 use crate::corners::all_inside;
 use crate::corners::copy_corners;
@@ -16,12 +17,13 @@ use crate::corners::none_inside;
 use crate::corners::push_corner;
 use crate::corners::put_triangle;
 use crate::corners::snap_corners;
-use crate::crossing::interpolate_points;
-use crate::crossing::segment_plane_t;
-use crate::plane::BoxPlane;
-use crate::plane::point_inside_plane;
-use crate::plane::snap_to_plane;
-use crate::snapping::snap_near_bbox;
+use crate::corners::snap_in_place;
+use aabb_planes::crossing::interpolate_points;
+use aabb_planes::crossing::segment_plane_t;
+use aabb_planes::plane::BoxPlane;
+use aabb_planes::plane::point_inside_plane;
+use aabb_planes::plane::snap_to_plane;
+use aabb_planes::snapping::snap_near_bbox;
 use geometry::aabb::AABB;
 use geometry::fraction::Fraction;
 use geometry::point::Point;
@@ -120,6 +122,24 @@ fn walk_sides(
     k
 }
 
+// The walk, with what it gives copied back over the polygon.
+fn clip_sides(
+    polygon: &mut [f64],
+    spare: &mut [f64],
+    n: usize,
+    plane: BoxPlane,
+    extents: AABB,
+    eps: f64,
+) -> usize
+    requires { ⌜ (84 ≤ length (now polygon)) × (84 ≤ length (now spare)) ⌝ }
+    requires { ⌜ (0 < n) × (n ≤ 19) ⌝ }
+    ensures { λ r. ⌜ corners (now (polygon .exit)) r ≡ clipUnsnapped extents eps (faceOf plane) (corners (now (polygon .entry)) n) ⌝ }
+{
+    let r = walk_sides(polygon, n, plane, extents, eps, spare);
+    copy_corners(polygon, spare, r);
+    r
+}
+
 // `clip_polygon_to_plane`, for a polygon whose corners are snapped already. `spare` is scratch room.
 pub fn clip_polygon_to_plane(
     polygon: &mut [f64],
@@ -140,9 +160,7 @@ pub fn clip_polygon_to_plane(
     if none_inside(polygon, n, plane, extents, eps) {
         return 0;
     }
-    let r = walk_sides(polygon, n, plane, extents, eps, spare);
-    copy_corners(polygon, spare, r);
-    r
+    clip_sides(polygon, spare, n, plane, extents, eps)
 }
 
 // The first plane: it alone meets corners that are not yet snapped.
@@ -164,35 +182,54 @@ fn clip_first(
         return 3;
     }
     let r = walk_sides(spare, 3, BoxPlane::XMin, extents, eps, polygon);
-    copy_corners(spare, polygon, r);
-    snap_corners(polygon, spare, r, extents, eps);
+    snap_in_place(polygon, spare, r, extents, eps);
     r
 }
 
-// The other five, "in face order, stopping under three corners"
+// The planes across z, "stopping under three corners"
+fn clip_z(polygon: &mut [f64], spare: &mut [f64], n: usize, extents: AABB, eps: f64) -> usize
+    requires { ⌜ (84 ≤ length (now polygon)) × (84 ≤ length (now spare)) ⌝ }
+    requires { ⌜ (0 < n) × (n ≤ 13) ⌝ }
+    requires { ⌜ map (snapped extents eps) (corners (now polygon) n) ≡ corners (now polygon) n ⌝ }
+    ensures { λ r. ⌜ corners (now (polygon .exit)) r ≡ clipPolygon extents eps (4 ∷ 5 ∷ []) (corners (now (polygon .entry)) n) ⌝ }
+{
+    let k = clip_polygon_to_plane(polygon, spare, n, BoxPlane::ZMin, extents, eps);
+    if k < 3 {
+        return k;
+    }
+    clip_polygon_to_plane(polygon, spare, k, BoxPlane::ZMax, extents, eps)
+}
+
+// The planes across y, then those across z.
+fn clip_y(polygon: &mut [f64], spare: &mut [f64], n: usize, extents: AABB, eps: f64) -> usize
+    requires { ⌜ (84 ≤ length (now polygon)) × (84 ≤ length (now spare)) ⌝ }
+    requires { ⌜ (0 < n) × (n ≤ 6) ⌝ }
+    requires { ⌜ map (snapped extents eps) (corners (now polygon) n) ≡ corners (now polygon) n ⌝ }
+    ensures { λ r. ⌜ corners (now (polygon .exit)) r ≡ clipPolygon extents eps (2 ∷ 3 ∷ 4 ∷ 5 ∷ []) (corners (now (polygon .entry)) n) ⌝ }
+{
+    let j = clip_polygon_to_plane(polygon, spare, n, BoxPlane::YMin, extents, eps);
+    if j < 3 {
+        return j;
+    }
+    let k = clip_polygon_to_plane(polygon, spare, j, BoxPlane::YMax, extents, eps);
+    if k < 3 {
+        return k;
+    }
+    clip_z(polygon, spare, k, extents, eps)
+}
+
+// The other five, "in face order".
 fn clip_rest(polygon: &mut [f64], spare: &mut [f64], n: usize, extents: AABB, eps: f64) -> usize
     requires { ⌜ (84 ≤ length (now polygon)) × (84 ≤ length (now spare)) ⌝ }
     requires { ⌜ (0 < n) × (n ≤ 4) ⌝ }
     requires { ⌜ map (snapped extents eps) (corners (now polygon) n) ≡ corners (now polygon) n ⌝ }
     ensures { λ r. ⌜ corners (now (polygon .exit)) r ≡ clipPolygon extents eps (1 ∷ 2 ∷ 3 ∷ 4 ∷ 5 ∷ []) (corners (now (polygon .entry)) n) ⌝ }
 {
-    let n2 = clip_polygon_to_plane(polygon, spare, n, BoxPlane::XMax, extents, eps);
-    if n2 < 3 {
-        return n2;
+    let k = clip_polygon_to_plane(polygon, spare, n, BoxPlane::XMax, extents, eps);
+    if k < 3 {
+        return k;
     }
-    let n3 = clip_polygon_to_plane(polygon, spare, n2, BoxPlane::YMin, extents, eps);
-    if n3 < 3 {
-        return n3;
-    }
-    let n4 = clip_polygon_to_plane(polygon, spare, n3, BoxPlane::YMax, extents, eps);
-    if n4 < 3 {
-        return n4;
-    }
-    let n5 = clip_polygon_to_plane(polygon, spare, n4, BoxPlane::ZMin, extents, eps);
-    if n5 < 3 {
-        return n5;
-    }
-    clip_polygon_to_plane(polygon, spare, n5, BoxPlane::ZMax, extents, eps)
+    clip_y(polygon, spare, k, extents, eps)
 }
 
 // A facet's three corners against all six planes; the corners that are left stand in `polygon`.

@@ -6,10 +6,12 @@
 --   containsOrientedEdge a side runs from x to y
 --   sortedVertices       the three numbers, ascending: the same for the same three in any order
 --   threes, flat         a flat list taken three at a time, and back
-use Prim.Native.Nat.{ℕ, min, max}
+--   cornersAt            the three numbers of a flat list from a place on
+use Prim.Native.Nat.{ℕ, _+_, min, max}
 use mathlib.Core.Bool.{Bool, _&&_, _||_}
 use mathlib.Core.List.{List, [], _∷_, flatMap}
 use lib.Dec.{eqb, ltb}
+use lib.ListN.{getD}
 use Rattle.lists.specs.Lists.{sortBy}
 
 pub record Triangle (A : Type 0) : Type 0 where
@@ -47,3 +49,6 @@ threes (a ∷ b ∷ c ∷ l) = tri a b c ∷ threes l
 
 abbrev pub flat : {A : Type 0} → List (Triangle A) → List A
 flat l = flatMap vertices l
+
+abbrev pub cornersAt : List ℕ → ℕ → Triangle ℕ
+cornersAt l k = tri (getD l k 0) (getD l (k + 1) 0) (getD l (k + 2) 0)

@@ -1,12 +1,15 @@
-// Points in a flat list of coordinates, three a point, and the corners of facets.
+// Points in a flat list of coordinates, three a point, and the vertices that lists of numbers name: here a raw number becomes a vertex's.
 ghost use mathlib.Core.Path.{_≡_};
 ghost use mathlib.Core.List.{[], _∷_};
 ghost use Prim.Native.Nat.{_+_, _*_, _<_};
 ghost use lib.ListN.{length, getD};
 ghost use lib.Seq.{sets};
+ghost use Rattle.geometry.specs.Triangles.{cornersAt};
+ghost use Rattle.geometry.specs.Numbers.{meshVerticesOf};
 ghost use Rattle.geometry.specs.Meshes.{vertexOf};
 use crate::numbers::MeshVertexId;
 use crate::point::Point;
+use crate::triangle::MeshTriangle;
 
 // The k-th point.
 pub fn point_at(coordinates: &[f64], k: usize) -> Point
@@ -34,6 +37,38 @@ pub fn corner_at(facets: &[u32], k: usize) -> MeshVertexId
     ensures { λ r. ⌜ r .0 ≡ getD (now (facets .entry)) k 0 ⌝ }
 {
     MeshVertexId(facets[k] as usize)
+}
+
+// The corners of the facet f.
+pub fn facet_at(facets: &[u32], f: usize) -> MeshTriangle
+    requires { ⌜ 3 * f + 2 < length (now facets) ⌝ }
+    ensures { λ r. ⌜ meshVerticesOf r ≡ cornersAt (now (facets .entry)) (3 * f) ⌝ }
+{
+    MeshTriangle {
+        a: corner_at(facets, 3 * f),
+        b: corner_at(facets, 3 * f + 1),
+        c: corner_at(facets, 3 * f + 2),
+    }
+}
+
+// The vertex whose number stands at the place k of a work room.
+pub fn vertex_in(room: &[u64], k: usize) -> MeshVertexId
+    requires { ⌜ k < length (now room) ⌝ }
+    ensures { λ r. ⌜ r .0 ≡ getD (now (room .entry)) k 0 ⌝ }
+{
+    MeshVertexId(room[k] as usize)
+}
+
+// The facet whose corners stand in a work room from the place k on.
+pub fn facet_in(room: &[u64], k: usize) -> MeshTriangle
+    requires { ⌜ k + 2 < length (now room) ⌝ }
+    ensures { λ r. ⌜ meshVerticesOf r ≡ cornersAt (now (room .entry)) k ⌝ }
+{
+    MeshTriangle {
+        a: vertex_in(room, k),
+        b: vertex_in(room, k + 1),
+        c: vertex_in(room, k + 2),
+    }
 }
 
 // The three coordinates of p, from the place `at` on.

@@ -10,8 +10,8 @@ ghost use Rattle.refusals.specs.Refusals.{documentedReply, firstRefusal};
 ghost use Rattle.refusals.specs.Answers.{meshOutputs, Answer};
 ghost use Rattle.mesh_cleanup.specs.Clean.{cleanAsked, cleanTests, cleanResult, Cleaned};
 ghost use Rattle.mesh_cleanup.specs.Steps.{CleanReady, Staging};
-use geometry::numbers::MeshVertexId;
 use geometry::vertices::vertex_at;
+use geometry::vertices::vertex_in;
 use geometry::vertices::write_point;
 use mesh_compact::compact::Staged;
 use mesh_compact::compact::remove_small_disconnected_components;
@@ -88,8 +88,8 @@ fn write_vertices(m: &[u64], at: usize, n: usize, vertices: &[f64], out: &mut [f
 {
     let mut k = 0;
     while k < n {
-        let v = m[at + k] as usize;
-        write_point(out, 3 * k, vertex_at(vertices, MeshVertexId(v)));
+        let v = vertex_in(m, at + k);
+        write_point(out, 3 * k, vertex_at(vertices, v));
         k += 1;
     }
 }

@@ -18,7 +18,7 @@ use Rattle.lists.proofs.Mapped.{each-of}
 use Rattle.lists.proofs.Sequences.{at-map, map-same}
 use Rattle.geometry.specs.declared.point.Point.{Point}
 use Rattle.geometry.specs.Points.{origin}
-use Rattle.geometry.specs.Triangles.{Triangle, tri, vertices, flat}
+use Rattle.geometry.specs.Triangles.{Triangle, tri, vertices, flat, cornersAt}
 use Rattle.geometry.specs.Meshes.{Mesh, newNumber}
 use Rattle.components.specs.Components.{components, componentOf}
 use Rattle.components.specs.Table.{LabelsBelow, ComponentNumbers, ComponentTable, size}
@@ -28,7 +28,7 @@ use Rattle.mesh_compact.specs.declared.renumber.Numbered.{Numbered}
 use Rattle.mesh_compact.specs.declared.compact.Staged.{Staged}
 use Rattle.mesh_compact.specs.Status.{shareVertex, allPassed, isAlone, keptFacets}
 use Rattle.mesh_compact.specs.Compact.{usedVertices, renumbered, compacted}
-use Rattle.mesh_compact.specs.Room.{cornersAt, isLargeAt, numbering, keptCorners, Naming, RenumberRoom, NumberedSoFar, StagedMesh, Source, Lent, MeshCompacted}
+use Rattle.mesh_compact.specs.Room.{isLargeAt, numbering, keptCorners, Naming, RenumberRoom, NumberedSoFar, StagedMesh, Source, Lent, MeshCompacted}
 use Rattle.mesh_compact.proofs.Numbering.{numbered-points, numbered-place}
 use Rattle.mesh_compact.proofs.Loop.{pointed-same}
 use Rattle.mesh_compact.proofs.Statuses.{shares-back, once-passed, kept-passed, large-enough}

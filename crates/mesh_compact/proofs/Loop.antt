@@ -14,10 +14,10 @@ use Rattle.lists.proofs.Regions.{view-length, view-at}
 use Rattle.lists.proofs.Counts.{keep-append}
 use Rattle.lists.proofs.Sequences.{up-snoc}
 use Rattle.geometry.specs.declared.point.Point.{Point}
-use Rattle.geometry.specs.Triangles.{tri, vertices, flat}
+use Rattle.geometry.specs.Triangles.{tri, vertices, flat, cornersAt}
 use Rattle.geometry.proofs.Threes.{flat-append}
 use Rattle.mesh_compact.specs.declared.renumber.Numbered.{Numbered}
-use Rattle.mesh_compact.specs.Room.{numbering, cornersAt, isLargeAt, keptCorners, Pointed, Naming, Cornered, Faceted, RenumberRoom, FacetNumbered, NumberedSoFar}
+use Rattle.mesh_compact.specs.Room.{numbering, isLargeAt, keptCorners, Pointed, Naming, Cornered, Faceted, RenumberRoom, FacetNumbered, NumberedSoFar}
 
 -- ---- the three corners of a facet
 

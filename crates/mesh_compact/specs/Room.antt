@@ -1,7 +1,7 @@
 -- What the functions of the last step ask and keep in the work room, of which the outer contract does not speak. Of k facets that passed the corners stand from `facets` on, the
 -- components' numbers from `parts` on and their sizes behind; renumbering among n welded vertices has, from `at` on, 1 more than the new number of each, or 0 while it has none; from
 -- at + n on the old numbers of those used, in order of first use; from at + n + 3 k on the new numbers of the kept facets' corners. Assumes nothing.
---   cornersAt, isLargeAt           facet i of the k, and whether its component has at least `least` facets
+--   isLargeAt                      whether the component of facet i of the k has at least `least` facets
 --   afterVertex, countAfter        the room, and how many have a number, after a vertex was numbered
 --   numbering                      the numbers given to the corners cs in turn, as a table
 --   Naming                         the corners cs have been numbered, among the points
@@ -21,16 +21,13 @@ use lib.Ieee.{Float}
 use Rattle.lists.specs.Lists.{keep, upTo}
 use Rattle.lists.specs.Regions.{view}
 use Rattle.geometry.specs.declared.point.Point.{Point}
-use Rattle.geometry.specs.Triangles.{Triangle, tri, vertices, flat}
+use Rattle.geometry.specs.Triangles.{Triangle, vertices, flat, cornersAt}
 use Rattle.geometry.specs.Meshes.{Mesh, vertex, Named, newNumber, enter}
 use Rattle.mesh_filter.specs.Filters.{facetAt}
 use Rattle.mesh_compact.specs.declared.renumber.Numbered.{Numbered}
 use Rattle.mesh_compact.specs.declared.compact.Staged.{Staged}
 use Rattle.mesh_compact.specs.Status.{allPassed}
 use Rattle.mesh_compact.specs.Compact.{compacted}
-
-abbrev pub cornersAt : List ℕ → ℕ → Triangle ℕ
-cornersAt m o = tri (getD m o 0) (getD m (o + 1) 0) (getD m (o + 2) 0)
 
 abbrev pub isLargeAt : List ℕ → ℕ → ℕ → ℕ → ℕ → Bool
 isLargeAt m parts k least i = leb least (getD m (parts + k + getD m (parts + i) 0) 0)

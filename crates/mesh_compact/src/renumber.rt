@@ -2,8 +2,10 @@
 ghost use mathlib.Core.Path.{_≡_};
 ghost use Prim.Native.Nat.{_+_, _*_, _≤_, _<_};
 ghost use lib.ListN.{length, getD};
-ghost use Rattle.mesh_compact.specs.Room.{cornersAt, isLargeAt, Vertexed, Cornered, Faceted, RenumberRoom, FacetNumbered, NumberedSoFar};
+ghost use Rattle.geometry.specs.Triangles.{cornersAt};
+ghost use Rattle.mesh_compact.specs.Room.{isLargeAt, Vertexed, Cornered, Faceted, RenumberRoom, FacetNumbered, NumberedSoFar};
 use geometry::numbers::MeshVertexId;
+use geometry::vertices::facet_in;
 use words::zero_part;
 
 // How many vertices and how many corners have been numbered.
@@ -74,12 +76,10 @@ fn number_facet(
     requires { ⌜ (getD (now m) facet 0 < n) × ((getD (now m) (facet + 1) 0 < n) × (getD (now m) (facet + 2) 0 < n)) ⌝ }
     ensures { λ r. ⌜ Faceted kept at n k (cornersAt (now (m .entry)) facet) w r (now (m .entry)) (now (m .exit)) ⌝ }
 {
-    let a = m[facet] as usize;
-    let b = m[facet + 1] as usize;
-    let c = m[facet + 2] as usize;
-    let w1 = number_corner(m, kept, at, n, k, w, MeshVertexId(a));
-    let w2 = number_corner(m, kept, at, n, k, w1, MeshVertexId(b));
-    number_corner(m, kept, at, n, k, w2, MeshVertexId(c))
+    let t = facet_in(m, facet);
+    let w1 = number_corner(m, kept, at, n, k, w, t.a);
+    let w2 = number_corner(m, kept, at, n, k, w1, t.b);
+    number_corner(m, kept, at, n, k, w2, t.c)
 }
 
 // Whether the component of item i, of k items whose components stand from `parts` on, has at least `least` items.

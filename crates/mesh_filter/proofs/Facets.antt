@@ -15,14 +15,14 @@ use Rattle.lists.proofs.Members.{of-some, some-of, mem-getD, getD-mem}
 use Rattle.lists.proofs.Sequences.{at-map}
 use Rattle.root.specs.Doubles.{_⊗_}
 use Rattle.geometry.specs.Points.{origin, norm2, normal}
-use Rattle.geometry.specs.Triangles.{Triangle, tri, mapped, threes}
+use Rattle.geometry.specs.Triangles.{Triangle, tri, mapped, threes, cornersAt}
 use Rattle.geometry.specs.Meshes.{vertex, vertexOf}
 use Rattle.geometry.proofs.Threes.{length-threes, threes-at}
 use Rattle.chains.specs.Links.{linkTo}
 use Rattle.chains.proofs.Firsts.{link-found, link-absent, link-map}
 use Rattle.mesh_filter.specs.declared.corners.WeldedAt.{WeldedAt}
 use Rattle.mesh_filter.specs.Filters.{facetAt, isFlat, sameCorners, isDuplicate}
-use Rattle.mesh_filter.specs.Room.{keptInRoom, numbersInRoom, pointsInRoom, facetsInRoom, rawFacet, cornersKey, Below, CornersNumbered}
+use Rattle.mesh_filter.specs.Room.{keptInRoom, numbersInRoom, pointsInRoom, facetsInRoom, cornersKey, Below, CornersNumbered}
 use Rattle.mesh_filter.proofs.Keys.{same-key}
 
 module _ (w : WeldedAt) (vs : List Float) (fs : List ℕ) (at n : ℕ) (m : List ℕ) (N : CornersNumbered w vs fs at n m) where
@@ -33,7 +33,7 @@ module _ (w : WeldedAt) (vs : List Float) (fs : List ℕ) (at n : ℕ) (m : List
   pub facets-long : length F ≡ n
   facets-long = length-map (threes fs) (mapped (λ v. getD (numbersInRoom w vs m) v 0)) ∙ length-threes fs ∙ (let e = N .facets in omega arith)
 
-  pub facet-is : (f : ℕ) → f < n → facetAt F f ≡ mapped (λ v. getD m (w .numbers + v) 0) (rawFacet fs f)
+  pub facet-is : (f : ℕ) → f < n → facetAt F f ≡ mapped (λ v. getD m (w .numbers + v) 0) (cornersAt fs (3 * f))
   facet-is f h =
       at-map (mapped (λ v. getD (numbersInRoom w vs m) v 0)) (threes fs) f (tri 0 0 0) (tri 0 0 0) (let e = N .facets in omega (arith, length-threes fs))
       ∙ ap (mapped (λ v. getD (numbersInRoom w vs m) v 0)) (threes-at fs f (tri 0 0 0) 0 (let e = N .facets in omega arith))

@@ -33,9 +33,6 @@ pointsInRoom w vs m = map (vertexOf vs) (keptInRoom w m)
 abbrev pub facetsInRoom : WeldedAt → List Float → List ℕ → List ℕ → List (Triangle ℕ)
 facetsInRoom w vs fs m = map (mapped (λ v. getD (numbersInRoom w vs m) v 0)) (threes fs)
 
-abbrev pub rawFacet : List ℕ → ℕ → Triangle ℕ
-rawFacet fs f = tri (getD fs (3 * f) 0) (getD fs (3 * f + 1) 0) (getD fs (3 * f + 2) 0)
-
 abbrev pub inOrder : Triangle ℕ → Triangle ℕ
 inOrder t =
     tri (min (t .a) (min (t .b) (t .c))) (min (max (t .a) (min (t .b) (t .c))) (max (t .b) (t .c))) (max (max (t .a) (min (t .b) (t .c))) (max (t .b) (t .c)))

@@ -4,17 +4,19 @@ ghost use Prim.Native.Nat.{ℕ, _+_, _*_, _≤_, _<_};
 ghost use lib.ListN.{length, getD};
 ghost use lib.Ieee.{le};
 ghost use Rattle.root.specs.Doubles.{_⊗_};
-ghost use Rattle.geometry.specs.Triangles.{mapped};
+ghost use Rattle.geometry.specs.Triangles.{mapped, cornersAt};
 ghost use Rattle.geometry.specs.Numbers.{meshVerticesOf};
 ghost use Rattle.geometry.specs.Points.{norm2, normal};
 ghost use Rattle.geometry.specs.Meshes.{vertexOf};
 ghost use Rattle.mesh_filter.specs.Filters.{hasRepeatedCorner};
-ghost use Rattle.mesh_filter.specs.Room.{rawFacet, cornersKey, Below};
+ghost use Rattle.mesh_filter.specs.Room.{cornersKey, Below};
 use geometry::numbers::MeshVertexId;
 use geometry::point::Point;
 use geometry::triangle::MeshTriangle;
 use geometry::triangle::Triangle3;
+use geometry::vertices::facet_at;
 use geometry::vertices::vertex_at;
+use geometry::vertices::vertex_in;
 use words::pack_triple;
 
 // Where the welded vertices stand in the work room: the `count` kept ones, by their old numbers, from `kept` on; each old vertex's new number from `numbers` on.
@@ -24,25 +26,17 @@ pub struct WeldedAt {
     pub numbers: usize,
 }
 
-fn wide(x: u32) -> usize
-    ensures { λ r. ⌜ r ≡ x ⌝ }
-{
-    x as usize
-}
-
 // The new numbers of the corners of facet f.
 pub fn corners_of(m: &[u64], numbers: usize, facets: &[u32], f: usize) -> MeshTriangle
     requires { ⌜ 3 * f + 2 < length (now facets) ⌝ }
     requires { ⌜ ((j : ℕ) → j < length (now facets) → numbers + getD (now facets) j 0 < length (now m)) ⌝ }
-    ensures { λ r. ⌜ meshVerticesOf r ≡ mapped (λ v. getD (now (m .entry)) (numbers + v) 0) (rawFacet (now (facets .entry)) f) ⌝ }
+    ensures { λ r. ⌜ meshVerticesOf r ≡ mapped (λ v. getD (now (m .entry)) (numbers + v) 0) (cornersAt (now (facets .entry)) (3 * f)) ⌝ }
 {
-    let a = wide(facets[3 * f]);
-    let b = wide(facets[3 * f + 1]);
-    let c = wide(facets[3 * f + 2]);
+    let t = facet_at(facets, f);
     MeshTriangle {
-        a: MeshVertexId(m[numbers + a] as usize),
-        b: MeshVertexId(m[numbers + b] as usize),
-        c: MeshVertexId(m[numbers + c] as usize),
+        a: vertex_in(m, numbers + t.a.0),
+        b: vertex_in(m, numbers + t.b.0),
+        c: vertex_in(m, numbers + t.c.0),
     }
 }
 
@@ -64,8 +58,8 @@ fn welded_point(m: &[u64], kept: usize, vertices: &[f64], v: MeshVertexId) -> Po
     requires { ⌜ 3 * getD (now m) (kept + v .0) 0 + 2 < length (now vertices) ⌝ }
     ensures { λ r. ⌜ r ≡ vertexOf (now (vertices .entry)) (getD (now (m .entry)) (kept + v .0) 0) ⌝ }
 {
-    let old = m[kept + v.0] as usize;
-    vertex_at(vertices, MeshVertexId(old))
+    let old = vertex_in(m, kept + v.0);
+    vertex_at(vertices, old)
 }
 
 pub fn is_flat(

@@ -16,9 +16,9 @@ use chains::bucket_at;
 use chains::first;
 use chains::mix;
 use chains::next;
-use geometry::numbers::MeshVertexId;
 use geometry::point::Point;
 use geometry::vertices::vertex_at;
+use geometry::vertices::vertex_in;
 
 // Whether the kept vertex at k is in the cell c and near p.
 fn holds(m: &[u64], vs: &[f64], n: usize, k: usize, c: Cell, p: Point, eps: f64) -> bool
@@ -35,8 +35,8 @@ fn holds(m: &[u64], vs: &[f64], n: usize, k: usize, c: Cell, p: Point, eps: f64)
     if m[at + 2] != c.z {
         return false;
     }
-    let v = m[9 * n + k] as usize;
-    let q = vertex_at(vs, MeshVertexId(v));
+    let v = vertex_in(m, 9 * n + k);
+    let q = vertex_at(vs, v);
     is_near(p, q, eps)
 }
 

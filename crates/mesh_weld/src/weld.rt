@@ -25,14 +25,21 @@ fn keep(m: &mut [u64], n: usize, count: usize, v: MeshVertexId, c: Cell)
     m[at + 2] = c.z;
 }
 
-// Welds the vertex i; how many are kept then.
-fn weld_vertex(m: &mut [u64], vs: &[f64], n: usize, i: usize, count: usize, eps: f64) -> usize
-    requires { ⌜ WeldedSoFar (now vs) eps n i count (now m) ⌝ }
+// Welds the vertex v; how many are kept then.
+fn weld_vertex(
+    m: &mut [u64],
+    vs: &[f64],
+    n: usize,
+    v: MeshVertexId,
+    count: usize,
+    eps: f64,
+) -> usize
+    requires { ⌜ WeldedSoFar (now vs) eps n (v .0) count (now m) ⌝ }
     requires { ⌜ KeysIn (now vs) eps n ⌝ }
-    requires { ⌜ i < n ⌝ }
-    ensures { λ r. ⌜ WeldedSoFar (now (vs .entry)) eps n (i + 1) r (now (m .exit)) ⌝ }
+    requires { ⌜ v .0 < n ⌝ }
+    ensures { λ r. ⌜ WeldedSoFar (now (vs .entry)) eps n (v .0 + 1) r (now (m .exit)) ⌝ }
 {
-    let v = MeshVertexId(i);
+    let i = v.0;
     let p = vertex_at(vs, v);
     let c = cell_of(p, eps);
     let found = search(m, vs, n, count, c, p, eps);
@@ -60,7 +67,7 @@ pub fn weld(m: &mut [u64], vs: &[f64], n: usize, eps: f64) -> usize
     let mut count = 0;
     let mut i = 0;
     while i < n {
-        count = weld_vertex(m, vs, n, i, count, eps);
+        count = weld_vertex(m, vs, n, MeshVertexId(i), count, eps);
         i += 1;
     }
     count

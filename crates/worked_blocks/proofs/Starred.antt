@@ -28,7 +28,8 @@ use Rattle.mesh_filter.specs.Filters.{hasRepeatedCorner, isFlat, sameCorners, i
 use Rattle.mesh_compact.specs.Status.{shareVertex, isAlone, status, keptFacets}
 use Rattle.mesh_compact.specs.Compact.{renumbered, compacted}
 use Rattle.mesh_cleanup.specs.Clean.{CleanAsked, cleanAsked, weldedMesh, cleanedMesh, cleanResult, cleanTests}
-use Rattle.aabb_polygons.specs.Polygons.{inside, snapTo, snapped, crossing, interpolated, onPlane, crossed, sideClipped, walk, clipToPlane, clipPolygon}
+use Rattle.aabb_planes.specs.Planes.{inside, snapTo, snapped, crossing, interpolated, onPlane}
+use Rattle.aabb_polygons.specs.Polygons.{crossed, sideClipped, walk, clipToPlane, clipPolygon}
 use Rattle.aabb_facets.specs.Clipped.{sharedNumber, fan, fanned, insideBox, shareOnce, sharing, clipFacet, clipFacets, clipped}
 use Rattle.aabb_clipping.specs.Clip.{ClipAsked, clipAsked, clipTests, clipResult}
 use Rattle.geometry.specs.Axes.{segments, gridLine, axisPoints, gridSize}

@@ -7,7 +7,7 @@ use lib.Ieee.{Float}
 use mathlib.Core.List.{List}
 use native.Mathlib.Omega.{arith}
 use Prim.Native.Nat.{_+_, _*_, _-_}
-use mathlib.Core.Path.{sym, subst}
+use mathlib.Core.Path.{sym, ap, subst, _∙_}
 use Rattle.mesh_cleanup.proofs.write_vertices.Statement.{statement}
 use Rattle.mesh_cleanup.proofs.write_vertices.Tie as tie
 
@@ -20,22 +20,19 @@ abbrev μ-loop : tie.MeasureT-loop
 loop-holds : tie.Need-loop-holds Inv-loop μ-loop
 loop-holds c = let s = c .before .before .before in let a = s .args in vertices-start (a .vertices .now) (a .m .now) (a .at) (a .n) (s .pre .0 .0) (a .out .now) (s .pre .0 .1)
 
-add-v : tie.Need-add-v Inv-loop μ-loop
-add-v c = omega arith
+add-vertex-in : tie.Need-add-vertex-in Inv-loop μ-loop
+add-vertex-in c = omega arith
 
-mul-v : tie.Need-mul-v Inv-loop μ-loop
-mul-v c = omega arith
+vertex-in-requires : tie.Need-vertex-in-requires Inv-loop μ-loop
+vertex-in-requires c κs = omega arith
 
-shared-slice-read-v : tie.Need-shared-slice-read-v Inv-loop μ-loop
-shared-slice-read-v c = omega arith
+mul-write-point : tie.Need-mul-write-point Inv-loop μ-loop
+mul-write-point c = omega arith
 
 vertex-at-requires : tie.Need-vertex-at-requires Inv-loop μ-loop
 vertex-at-requires c κs =
     let h = c .before .before .before .before .before .before .before .pre .1 (c .before .before .before .loop .k) (c .before .before .loop-test .taken) in
-    omega arith
-
-mul-write-point : tie.Need-mul-write-point Inv-loop μ-loop
-mul-write-point c = omega arith
+    omega (arith, c .before .vertex-in .ensures)
 
 write-point-requires : tie.Need-write-point-requires Inv-loop μ-loop
 write-point-requires c κs =
@@ -58,7 +55,7 @@ loop-again c =
     (3 * (c .before .before .before .before .before .before .before .loop .k + 1))) (sym (c .before .before .write-point .ensures))
     (vertices-turn (a .vertices .now) (a .m .now) (a .at) (a .n) (s .pre .0 .0) (a .out .now) (c .before .before .before .before .before .before .before .loop .out)
     (c .before .before .before .before .before .before .before .loop .k) (c .before .before .before .before .before .before .before .loop .inv)
-    (c .before .before .before .before .before .before .loop-test .taken) (c .before .before .before .vertex-at .result) (c .before .before .before .vertex-at .ensures))
+    (c .before .before .before .before .before .before .loop-test .taken) (c .before .before .before .vertex-at .result) (c .before .before .before .vertex-at .ensures ∙ ap (vertexOf (a .vertices .now)) (c .before .before .before .before .before .vertex-in .ensures)))
 
 same-length : tie.Need-same-length Inv-loop μ-loop
 same-length c = c .before .loop .inv .same
@@ -70,20 +67,4 @@ returns c =
     vertices-end (a .vertices .now) (a .m .now) (a .at) (a .n) (s .pre .0 .0) (a .out .now) (c .before .loop .out) (c .before .loop .k) (c .before .loop .inv) (c .loop-test .left)
 
 pub write-vertices-spec : {M : Type 1} → statement M
-write-vertices-spec =
-    tie.close
-    (tie.spec
-    Inv-loop
-    μ-loop
-    loop-holds
-    add-v
-    mul-v
-    shared-slice-read-v
-    mul-write-point
-    vertex-at-requires
-    write-point-requires
-    add-k
-    loop-less
-    loop-again
-    same-length
-    returns)
+write-vertices-spec = tie.close (tie.spec Inv-loop μ-loop loop-holds add-vertex-in vertex-in-requires mul-write-point vertex-at-requires write-point-requires add-k loop-less loop-again same-length returns)

@@ -29,17 +29,17 @@ sub-put-fan c = search needs
 put-fan-requires : tie.Need-put-fan-requires
 put-fan-requires c κs = search needs
 
-add-t14 : tie.Need-add-t14
-add-t14 c = search needs
+add-t15 : tie.Need-add-t15
+add-t15 c = search needs
 
-sub-t15 : tie.Need-sub-t15
-sub-t15 c = search needs
+sub-t16 : tie.Need-sub-t16
+sub-t16 c = search needs
 
-mul-t16 : tie.Need-mul-t16
-mul-t16 c = search needs
+mul-t17 : tie.Need-mul-t17
+mul-t17 c = search needs
 
-add-t17 : tie.Need-add-t17
-add-t17 c = search needs
+add-t18 : tie.Need-add-t18
+add-t18 c = search needs
 
 same-length : tie.Need-same-length
 same-length c = search needs
@@ -57,17 +57,4 @@ returns-2 c =
     (points-length (s .args .polygon .now) 0 (s .args .n))) (if1 .left) (put-corners .ensures) (put-fan .ensures)
 
 pub put-fanned-spec : {M : Type 1} → statement M
-put-fanned-spec =
-    tie.close
-    (tie.spec
-    returns
-    put-corners-requires
-    sub-put-fan
-    put-fan-requires
-    add-t14
-    sub-t15
-    mul-t16
-    add-t17
-    same-length
-    same-length-2
-    returns-2)
+put-fanned-spec = tie.close (tie.spec returns put-corners-requires sub-put-fan put-fan-requires add-t15 sub-t16 mul-t17 add-t18 same-length same-length-2 returns-2)

@@ -1,6 +1,6 @@
 use Rattle.aabb_facets.proofs.RoomLaws.{Sharing, sharing-start, sharing-more}
 use Rattle.aabb_facets.specs.Rooms.{room, shareRoom, shareTo}
-use Rattle.aabb_polygons.specs.Polygons.{snapped}
+use Rattle.aabb_planes.specs.Planes.{snapped}
 use Rattle.geometry.specs.Meshes.{vertexOf}
 use mathlib.Core.Path.{_≡_, ap, _∙_}
 use native.Mathlib.Omega.{arith}

@@ -1,5 +1,5 @@
 use Rattle.aabb_facets.proofs.RoomLaws.{share-new, share-old}
-use Rattle.aabb_polygons.specs.Polygons.{snapped}
+use Rattle.aabb_planes.specs.Planes.{snapped}
 use Rattle.geometry.specs.Meshes.{coordinates, vertexOf}
 use Rattle.geometry.specs.declared.point.Point.{Point}
 use lib.Seq.{sets}
@@ -40,11 +40,11 @@ mul-ids c = search needs
 slice-write-ids : tie.Need-slice-write-ids
 slice-write-ids c = search needs
 
-add-t25 : tie.Need-add-t25
-add-t25 c = search needs
+add-t26 : tie.Need-add-t26
+add-t26 c = search needs
 
-add-t27 : tie.Need-add-t27
-add-t27 c = search needs
+add-t28 : tie.Need-add-t28
+add-t28 c = search needs
 
 same-length : tie.Need-same-length
 same-length c = search needs
@@ -91,28 +91,4 @@ returns-2 c =
     (c .before .before .put-number2 .last .0) (c .before .before .before .before .if1 .left) (c .before .before .put-number2 .ensures)
 
 pub share-vertex-spec : {M : Type 1} → statement M
-share-vertex-spec =
-    tie.close
-    (tie.spec
-    mul-k
-    slice-read-k
-    vertex-at-requires
-    snap-near-bbox-requires
-    push-vertex-requires
-    cast-put-number
-    put-number-requires
-    add-ids
-    mul-ids
-    slice-write-ids
-    add-t25
-    add-t27
-    same-length
-    same-length-2
-    same-length-3
-    returns
-    sub-put-number
-    cast-put-number-2
-    put-number-requires-2
-    add-t13
-    same-length-4
-    returns-2)
+share-vertex-spec = tie.close (tie.spec mul-k slice-read-k vertex-at-requires snap-near-bbox-requires push-vertex-requires cast-put-number put-number-requires add-ids mul-ids slice-write-ids add-t26 add-t28 same-length same-length-2 same-length-3 returns sub-put-number cast-put-number-2 put-number-requires-2 add-t13 same-length-4 returns-2)

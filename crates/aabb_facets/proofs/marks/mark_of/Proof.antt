@@ -7,7 +7,7 @@ use Rattle.aabb_facets.proofs.marks.mark_of.Statement.{statement}
 use Rattle.aabb_facets.proofs.marks.mark_of.Tie as tie
 use Rattle.aabb_facets.proofs.marks.mark_of.Reads as reads
 use Rattle.aabb_facets.proofs.marks.mark_of.Lts as lts
-use Rattle.aabb_polygons.proofs.plane.point_inside_aabb.Reads as point-inside-aabb-reads
+use Rattle.aabb_planes.proofs.plane.point_inside_aabb.Reads as point-inside-aabb-reads
 
 point-inside-aabb-requires : tie.Need-point-inside-aabb-requires
 point-inside-aabb-requires c κs = search needs

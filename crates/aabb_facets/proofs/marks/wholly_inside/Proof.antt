@@ -22,8 +22,8 @@ abbrev μ-loop : tie.MeasureT-loop
 loop-holds : tie.Need-loop-holds Inv-loop μ-loop
 loop-holds c = (search needs, refl)
 
-point-at-requires : tie.Need-point-at-requires Inv-loop μ-loop
-point-at-requires c κs = omega (arith, c .loop-test .taken)
+vertex-at-requires : tie.Need-vertex-at-requires Inv-loop μ-loop
+vertex-at-requires c κs = omega (arith, c .loop-test .taken)
 
 point-inside-aabb-requires : tie.Need-point-inside-aabb-requires Inv-loop μ-loop
 point-inside-aabb-requires c κs = search needs
@@ -33,14 +33,14 @@ unfolding insideBox
 returns c =
     let loop = c .before .before .before .before .loop in
     let loop-test = c .before .before .before .loop-test in
-    let point-at = c .before .before .point-at in
+    let vertex-at = c .before .before .vertex-at in
     let point-inside-aabb = c .before .point-inside-aabb in
     let s = c .before .before .before .before .before .before in
     sym (every-stop (insideBox (s .args .extents) (s .args .eps)) (pointsOf (s .args .vertices .now)) (loop .k) (loop .inv .1) origin (omega (
       arith,
       loop-test .taken,
       length-pointsOf (s .args .vertices .now),
-    )) (ap (insideBox (s .args .extents) (s .args .eps)) (sym (point-at .ensures)) ∙ sym (point-inside-aabb .ensures) ∙ not-true _
+    )) (ap (insideBox (s .args .extents) (s .args .eps)) (sym (vertex-at .ensures)) ∙ sym (point-inside-aabb .ensures) ∙ not-true _
     (c .if1 .taken)))
 
 add-k : tie.Need-add-k Inv-loop μ-loop
@@ -54,7 +54,7 @@ unfolding insideBox
 loop-again c =
     let loop = c .before .before .before .before .loop in
     let loop-test = c .before .before .before .loop-test in
-    let point-at = c .before .before .point-at in
+    let vertex-at = c .before .before .vertex-at in
     let point-inside-aabb = c .before .point-inside-aabb in
     let s = c .before .before .before .before .before .before in (
       search needs,
@@ -62,7 +62,7 @@ loop-again c =
         arith,
         loop-test .taken,
         length-pointsOf (s .args .vertices .now),
-      )) (ap (insideBox (s .args .extents) (s .args .eps)) (sym (point-at .ensures)) ∙ sym
+      )) (ap (insideBox (s .args .extents) (s .args .eps)) (sym (vertex-at .ensures)) ∙ sym
           (point-inside-aabb .ensures) ∙ not-false _ (c .if1 .left)),
     )
 
@@ -83,7 +83,7 @@ wholly-inside-spec =
     Inv-loop
     μ-loop
     loop-holds
-    point-at-requires
+    vertex-at-requires
     point-inside-aabb-requires
     returns
     add-k

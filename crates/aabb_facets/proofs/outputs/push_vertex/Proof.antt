@@ -35,23 +35,11 @@ same-length c = search needs
 
 returns : tie.Need-returns
 returns c =
-    let put-double = c .before .before .before .before .before .before .before .before .before .before .put-double in
-    let put-double2 = c .before .before .before .before .before .before .put-double2 in
+    let put-double = c .before .before .before .before .before .before .before .before .before .before .before .before .put-double in
+    let put-double2 = c .before .before .before .before .before .before .before .put-double2 in
     let put-double3 = c .before .before .put-double3 in
-    let s = c .before .before .before .before .before .before .before .before .before .before .before .before .before in
+    let s = c .before .before .before .before .before .before .before .before .before .before .before .before .before .before .before .before in
     point-put _ _ _ _ _ (s .args .p) (put-double .ensures) (put-double2 .ensures) (put-double3 .ensures)
 
 pub push-vertex-spec : {M : Type 1} → statement M
-push-vertex-spec =
-    tie.close
-    (tie.spec
-    mul-put-double
-    put-double-requires
-    mul-put-double-2
-    add-put-double
-    put-double-requires-2
-    mul-put-double-3
-    add-put-double-2
-    put-double-requires-3
-    same-length
-    returns)
+push-vertex-spec = tie.close (tie.spec mul-put-double put-double-requires mul-put-double-2 add-put-double put-double-requires-2 mul-put-double-3 add-put-double-2 put-double-requires-3 same-length returns)

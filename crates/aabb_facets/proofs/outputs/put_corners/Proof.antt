@@ -16,23 +16,23 @@ use Rattle.aabb_facets.proofs.outputs.push_vertex.Reads as push-vertex-
 use Rattle.geometry.proofs.vertices.point_at.Reads as point-at-reads
 
 abbrev Inv-loop : tie.InvT-loop
-Inv-loop out₀ k polygon n j₀ out j =
-    (j ≤ n) × ((length out ≡ length out₀) × (sets out (3 * (k + j)) (coordinates (drop j (corners polygon n))) ≡ sets out₀ (3 * k) (coordinates (corners polygon n))))
+Inv-loop out₀ base polygon n j₀ out j =
+    (j ≤ n) × ((length out ≡ length out₀) × (sets out (3 * (base .0 + j)) (coordinates (drop j (corners polygon n))) ≡ sets out₀ (3 * base .0) (coordinates (corners polygon n))))
 
 abbrev μ-loop : tie.MeasureT-loop
-μ-loop out₀ k polygon n j₀ out j = n - j
+μ-loop out₀ base polygon n j₀ out j = n - j
 
 loop-holds : tie.Need-loop-holds Inv-loop μ-loop
 loop-holds c = let s = c .before .before in (search needs, (refl, corners-start _ (corners (s .args .polygon .now) (s .args .n)) _))
 
-add-push-vertex : tie.Need-add-push-vertex Inv-loop μ-loop
-add-push-vertex c = omega (arith, c .before .before .before .before .before .pre, c .before .loop-test .taken)
+add-t10 : tie.Need-add-t10 Inv-loop μ-loop
+add-t10 c = omega (arith, c .before .before .before .before .before .before .pre, c .before .before .loop-test .taken)
 
 point-at-requires : tie.Need-point-at-requires Inv-loop μ-loop
-point-at-requires c κs = omega (arith, c .before .before .before .before .before .pre, c .before .loop-test .taken)
+point-at-requires c κs = omega (arith, c .before .before .before .before .before .before .pre, c .before .before .loop-test .taken)
 
 push-vertex-requires : tie.Need-push-vertex-requires Inv-loop μ-loop
-push-vertex-requires c κs = let s = c .before .before .before .before .before .before in omega (arith, s .pre, c .before .before .loop-test .taken)
+push-vertex-requires c κs = let s = c .before .before .before .before .before .before .before in omega (arith, s .pre, c .before .before .before .loop-test .taken)
 
 add-j : tie.Need-add-j Inv-loop μ-loop
 add-j c = search needs
@@ -43,14 +43,14 @@ loop-less c = search needs
 loop-again : tie.Need-loop-again Inv-loop μ-loop
 loop-again c =
     let push-vertex = c .before .before .push-vertex in
-    let loop = c .before .before .before .before .before .before .loop in
+    let loop = c .before .before .before .before .before .before .before .loop in
     let point-at = c .before .before .before .point-at in
-    let loop-test = c .before .before .before .before .before .loop-test in
-    let s = c .before .before .before .before .before .before .before .before .before in (
+    let loop-test = c .before .before .before .before .before .before .loop-test in
+    let s = c .before .before .before .before .before .before .before .before .before .before in (
       search needs,
       (
         push-vertex .kept .0 ∙ loop .inv .1 .0,
-        corners-more (loop .out) (push-vertex .last .0) (corners (s .args .polygon .now) (s .args .n)) (s .args .k)
+        corners-more (loop .out) (push-vertex .last .0) (corners (s .args .polygon .now) (s .args .n)) (s .args .base .0)
             (loop .j) (point-at .result) (point-at .result) (omega (arith, loop-test .taken, points-length (s .args .polygon .now) 0 (s .args .n))) (at (s .args .polygon .now)
             (s .args .n) (loop .j) (point-at .result) (loop-test .taken) ∙ sym (point-at .ensures)) (push-vertex .ensures) ∙ loop .inv .1 .1,
       ),
@@ -71,17 +71,4 @@ returns c =
     ))) ∙ loop .inv .1 .1
 
 pub put-corners-spec : {M : Type 1} → statement M
-put-corners-spec =
-    tie.close
-    (tie.spec
-    Inv-loop
-    μ-loop
-    loop-holds
-    add-push-vertex
-    point-at-requires
-    push-vertex-requires
-    add-j
-    loop-less
-    loop-again
-    same-length
-    returns)
+put-corners-spec = tie.close (tie.spec Inv-loop μ-loop loop-holds add-t10 point-at-requires push-vertex-requires add-j loop-less loop-again same-length returns)

@@ -14,7 +14,7 @@ use Rattle.aabb_facets.proofs.outputs.put_fan.Lts as lts
 use Rattle.words.proofs.put_number.Reads as put-number-reads
 
 abbrev Inv-loop : tie.InvT-loop
-Inv-loop out₀ at base n j₀ out j = (j ≤ n) × ((length out ≡ length out₀) × (sets out (at + 3 * j) (fanFrom base j (n - j)) ≡ sets out₀ at (flat (fan base n))))
+Inv-loop out₀ at base n j₀ out j = (j ≤ n) × ((length out ≡ length out₀) × (sets out (at + 3 * j) (fanFrom (base .0) j (n - j)) ≡ sets out₀ at (flat (fan (base .0) n))))
 
 abbrev μ-loop : tie.MeasureT-loop
 μ-loop out₀ at base n j₀ out j = n - j
@@ -84,8 +84,8 @@ loop-again c =
     let put-number3 = c .before .before .put-number3 in
     let put-number2 = c .before .before .before .before .before .before .put-number2 in
     let put-number = c .before .before .before .before .before .before .before .before .before .before .put-number in
-    let loop = c .before .before .before .before .before .before .before .before .before .before .before .before .before .loop in
-    let loop-test = c .before .before .before .before .before .before .before .before .before .before .before .before .loop-test in (
+    let loop = c .before .before .before .before .before .before .before .before .before .before .before .before .before .before .before .loop in
+    let loop-test = c .before .before .before .before .before .before .before .before .before .before .before .before .before .before .loop-test in (
       search needs,
       (
         put-number3 .kept .0 ∙ put-number2 .kept .0 ∙ put-number .kept .0 ∙ loop .inv .1 .0,
@@ -101,31 +101,4 @@ returns : tie.Need-returns Inv-loop μ-loop
 returns c = sym (fan-end _ _ _ _ _ (omega arith)) ∙ c .before .loop .inv .1 .1
 
 pub put-fan-spec : {M : Type 1} → statement M
-put-fan-spec =
-    tie.close
-    (tie.spec
-    Inv-loop
-    μ-loop
-    loop-holds
-    add-prev
-    add-prev-2
-    mul-put-number
-    add-put-number
-    cast-put-number
-    put-number-requires
-    mul-put-number-2
-    add-put-number-2
-    add-put-number-3
-    cast-put-number-2
-    put-number-requires-2
-    mul-put-number-3
-    add-put-number-4
-    add-put-number-5
-    add-put-number-6
-    cast-put-number-3
-    put-number-requires-3
-    add-j
-    loop-less
-    loop-again
-    same-length
-    returns)
+put-fan-spec = tie.close (tie.spec Inv-loop μ-loop loop-holds add-prev add-prev-2 mul-put-number add-put-number cast-put-number put-number-requires mul-put-number-2 add-put-number-2 add-put-number-3 cast-put-number-2 put-number-requires-2 mul-put-number-3 add-put-number-4 add-put-number-5 add-put-number-6 cast-put-number-3 put-number-requires-3 add-j loop-less loop-again same-length returns)

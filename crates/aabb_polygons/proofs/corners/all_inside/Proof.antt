@@ -1,6 +1,6 @@
 use Rattle.aabb_polygons.proofs.CornerLists.{points-length, at}
 use Rattle.aabb_polygons.specs.Steps.{corners}
-use Rattle.aabb_polygons.specs.Polygons.{faceOf, inside}
+use Rattle.aabb_planes.specs.Planes.{faceOf, inside}
 use Rattle.lists.proofs.Every.{every-stop, every-more, every-end}
 use Rattle.lists.specs.Lists.{every}
 use borrow.Author.Tests.{not-true, not-false}
@@ -15,7 +15,7 @@ use Rattle.aabb_polygons.proofs.corners.all_inside.Tie as tie
 use Rattle.aabb_polygons.proofs.corners.all_inside.Reads as reads
 use Rattle.aabb_polygons.proofs.corners.all_inside.Lts as lts
 use Rattle.geometry.proofs.vertices.point_at.Reads as point-at-reads
-use Rattle.aabb_polygons.proofs.plane.point_inside_plane.Reads as point-inside-plane-reads
+use Rattle.aabb_planes.proofs.plane.point_inside_plane.Reads as point-inside-plane-reads
 
 abbrev Inv-loop : tie.InvT-loop
 Inv-loop polygon n plane extents eps i₀ i =

@@ -1,6 +1,6 @@
 use Rattle.aabb_polygons.proofs.CornerLists.{snap-none, snap-more}
 use Rattle.aabb_polygons.specs.Steps.{corners}
-use Rattle.aabb_polygons.specs.Polygons.{snapped}
+use Rattle.aabb_planes.specs.Planes.{snapped}
 use lib.ListN.{length}
 use mathlib.Core.List.{map}
 use Prim.Native.Nat.{ℕ, _≤_, _-_}
@@ -13,7 +13,7 @@ use Rattle.aabb_polygons.proofs.corners.snap_corners.Reads as reads
 use Rattle.aabb_polygons.proofs.corners.snap_corners.Lts as lts
 use Rattle.aabb_polygons.proofs.corners.push_corner.Reads as push-corner-reads
 use Rattle.geometry.proofs.vertices.point_at.Reads as point-at-reads
-use Rattle.aabb_polygons.proofs.snapping.snap_near_bbox.Reads as snap-near-bbox-reads
+use Rattle.aabb_planes.proofs.snapping.snap_near_bbox.Reads as snap-near-bbox-reads
 
 abbrev Inv-loop : tie.InvT-loop
 Inv-loop to₀ from n extents eps i₀ to i = (i ≤ n) × ((length to ≡ length to₀) × (corners to i ≡ map (snapped extents eps) (corners from i)))

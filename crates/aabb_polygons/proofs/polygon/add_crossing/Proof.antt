@@ -9,10 +9,10 @@ use Rattle.aabb_polygons.proofs.polygon.add_crossing.Tie as tie
 use Rattle.aabb_polygons.proofs.polygon.add_crossing.Reads as reads
 use Rattle.aabb_polygons.proofs.polygon.add_crossing.Lts as lts
 use Rattle.aabb_polygons.proofs.corners.push_corner.Reads as push-corner-reads
-use Rattle.aabb_polygons.proofs.crossing.interpolate_points.Reads as interpolate-points-reads
-use Rattle.aabb_polygons.proofs.crossing.segment_plane_t.Reads as segment-plane-t-reads
-use Rattle.aabb_polygons.proofs.plane.snap_to_plane.Reads as snap-to-plane-reads
-use Rattle.aabb_polygons.proofs.snapping.snap_near_bbox.Reads as snap-near-bbox-reads
+use Rattle.aabb_planes.proofs.crossing.interpolate_points.Reads as interpolate-points-reads
+use Rattle.aabb_planes.proofs.crossing.segment_plane_t.Reads as segment-plane-t-reads
+use Rattle.aabb_planes.proofs.plane.snap_to_plane.Reads as snap-to-plane-reads
+use Rattle.aabb_planes.proofs.snapping.snap_near_bbox.Reads as snap-near-bbox-reads
 
 returns : tie.Need-returns
 returns c = let s = c .before .before in simp (c .if1 .taken) (sym (append-nil (corners (s .args .out .now) (s .args .n))))

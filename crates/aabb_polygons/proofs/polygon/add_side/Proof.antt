@@ -1,6 +1,6 @@
 use Rattle.aabb_polygons.proofs.Walks.{side-in, side-out, side-room, side-more, room-left, onto}
 use Rattle.aabb_polygons.specs.Steps.{corners}
-use Rattle.aabb_polygons.specs.Polygons.{faceOf}
+use Rattle.aabb_planes.specs.Planes.{faceOf}
 use mathlib.Core.List.{[]}
 use native.Mathlib.Omega.{arith}
 use mathlib.Core.Path.{_∙_}
@@ -10,7 +10,7 @@ use Rattle.aabb_polygons.proofs.polygon.add_side.Tie as tie
 use Rattle.aabb_polygons.proofs.polygon.add_side.Reads as reads
 use Rattle.aabb_polygons.proofs.polygon.add_side.Lts as lts
 use Rattle.aabb_polygons.proofs.corners.push_corner.Reads as push-corner-reads
-use Rattle.aabb_polygons.proofs.plane.point_inside_plane.Reads as point-inside-plane-reads
+use Rattle.aabb_planes.proofs.plane.point_inside_plane.Reads as point-inside-plane-reads
 use Rattle.aabb_polygons.proofs.polygon.add_crossing.Reads as add-crossing-reads
 
 point-inside-plane-requires : tie.Need-point-inside-plane-requires

@@ -2,7 +2,7 @@ use Rattle.aabb_polygons.proofs.Walks.{all-stop, all-go, few}
 use Rattle.aabb_polygons.proofs.Planes.{clip-short, clip-snapped}
 use Rattle.aabb_polygons.proofs.CornerLists.{counted}
 use Rattle.aabb_polygons.specs.Steps.{corners}
-use Rattle.aabb_polygons.specs.Polygons.{snapped}
+use Rattle.aabb_planes.specs.Planes.{snapped}
 use Rattle.geometry.specs.declared.point.Point.{Point}
 use mathlib.Core.List.{List, [], _∷_, map}
 use native.Mathlib.Omega.{arith}

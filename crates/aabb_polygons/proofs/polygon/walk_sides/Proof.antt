@@ -1,5 +1,5 @@
 use Rattle.aabb_polygons.proofs.Walks.{Walked, walked-start, walked-room, walked-more, walked-end}
-use Rattle.aabb_polygons.specs.Polygons.{faceOf}
+use Rattle.aabb_planes.specs.Planes.{faceOf}
 use lib.ListN.{length}
 use Prim.Native.Nat.{_≤_, _-_}
 use native.Mathlib.Omega.{arith}

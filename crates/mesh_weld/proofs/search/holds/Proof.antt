@@ -3,6 +3,7 @@ use Rattle.geometry.specs.Meshes.{vertexOf}
 use Rattle.mesh_weld.specs.Room.{cellAt}
 use Rattle.mesh_weld.specs.Cells.{near}
 use lib.ListN.{getD}
+use native.Mathlib.Omega.{arith}
 use Prim.Native.Nat.{_+_, _*_}
 use mathlib.Core.Bool.{Bool}
 use mathlib.Core.Path.{ap, _∙_}
@@ -31,9 +32,8 @@ shared-slice-read-if1 c = search needs
 
 returns : tie.Need-returns
 returns c =
-    differ-x (cellAt (c .before .before .before .before .before .args .m .now)
-    (11 * c .before .before .before .before .before .args .n + 3 * c .before .before .before .before .before .args .k)) (c .before .before .before .before .before .args .c)
-    (near-of (c .before .before .before .before .before)) (c .if1 .taken)
+    let s = c .before .before .before .before .before in
+    differ-x (cellAt (s .args .m .now) (11 * s .args .n + 3 * s .args .k)) (s .args .c) (near-of s) (c .if1 .taken)
 
 add-if2 : tie.Need-add-if2
 add-if2 c = search needs
@@ -46,10 +46,8 @@ shared-slice-read-if2 c = search needs
 
 returns-2 : tie.Need-returns-2
 returns-2 c =
-    differ-y (cellAt (c .before .before .before .before .before .before .before .before .args .m .now)
-    (11 * c .before .before .before .before .before .before .before .before .args .n + 3 * c .before .before .before .before .before .before .before .before .args .k))
-    (c .before .before .before .before .before .before .before .before .args .c) (near-of (c .before .before .before .before .before .before .before .before))
-    (c .before .before .before .if1 .left) (c .if2 .taken)
+    let s = c .before .before .before .before .before .before .before .before in
+    differ-y (cellAt (s .args .m .now) (11 * s .args .n + 3 * s .args .k)) (s .args .c) (near-of s) (c .before .before .before .if1 .left) (c .if2 .taken)
 
 add-if3 : tie.Need-add-if3
 add-if3 c = search needs
@@ -62,64 +60,32 @@ shared-slice-read-if3 c = search needs
 
 returns-3 : tie.Need-returns-3
 returns-3 c =
-    differ-z (cellAt (c .before .before .before .before .before .before .before .before .before .before .before .args .m .now)
-    (11 * c .before .before .before .before .before .before .before .before .before .before .before .args .n + 3 * c .before .before .before .before .before .before .before .before
-    .before .before .before .args .k)) (c .before .before .before .before .before .before .before .before .before .before .before .args .c)
-    (near-of (c .before .before .before .before .before .before .before .before .before .before .before)) (c .before .before .before .before .before .before .if1 .left)
-    (c .before .before .before .if2 .left) (c .if3 .taken)
+    let s = c .before .before .before .before .before .before .before .before .before .before .before in
+    differ-z (cellAt (s .args .m .now) (11 * s .args .n + 3 * s .args .k)) (s .args .c) (near-of s) (c .before .before .before .before .before .before .if1 .left) (c .before .before .before .if2 .left) (c .if3 .taken)
 
-mul-v : tie.Need-mul-v
-mul-v c = search needs
+mul-vertex-in : tie.Need-mul-vertex-in
+mul-vertex-in c = search needs
 
-add-v : tie.Need-add-v
-add-v c = search needs
+add-vertex-in : tie.Need-add-vertex-in
+add-vertex-in c = search needs
 
-mul-v-2 : tie.Need-mul-v-2
-mul-v-2 c = search needs
-
-shared-slice-read-v : tie.Need-shared-slice-read-v
-shared-slice-read-v c = search needs
+vertex-in-requires : tie.Need-vertex-in-requires
+vertex-in-requires c κs = search needs
 
 vertex-at-requires : tie.Need-vertex-at-requires
-vertex-at-requires c κs = search needs
+vertex-at-requires c κs =
+    let s = c .before .before .before .before .before .before .before .before .before .before .before .before in
+    omega (arith, s .pre, c .vertex-in .ensures)
 
 is-near-requires : tie.Need-is-near-requires
 is-near-requires c κs = search needs
 
 returns-4 : tie.Need-returns-4
 returns-4 c =
-    c .is-near .ensures ∙ ap (near (c .before .before .before .before .before .before .before .before .before .before .before .before .before .before .args .eps)
-    (c .before .before .before .before .before .before .before .before .before .before .before .before .before .before .args .p)) (c .before .vertex-at .ensures) ∙ differ-no
-    (cellAt (c .before .before .before .before .before .before .before .before .before .before .before .before .before .before .args .m .now)
-    (11 * c .before .before .before .before .before .before .before .before .before .before .before .before .before .before .args .n + 3 * c .before .before .before .before .before
-    .before .before .before .before .before .before .before .before .before .args .k))
-    (c .before .before .before .before .before .before .before .before .before .before .before .before .before .before .args .c)
-    (near-of (c .before .before .before .before .before .before .before .before .before .before .before .before .before .before))
-    (c .before .before .before .before .before .before .before .before .before .if1 .left) (c .before .before .before .before .before .before .if2 .left)
-    (c .before .before .before .if3 .left)
+    let s = c .before .before .before .before .before .before .before .before .before .before .before .before .before .before in
+    let a = s .args in
+    c .is-near .ensures ∙ ap (near (a .eps) (a .p)) (c .before .vertex-at .ensures ∙ ap (vertexOf (a .vs .now)) (c .before .before .vertex-in .ensures))
+    ∙ differ-no (cellAt (s .args .m .now) (11 * s .args .n + 3 * s .args .k)) (s .args .c) (near-of s) (c .before .before .before .before .before .before .before .before .before .if1 .left) (c .before .before .before .before .before .before .if2 .left) (c .before .before .before .if3 .left)
 
 pub holds-spec : {M : Type 1} → statement M
-holds-spec =
-    tie.close
-    (tie.spec
-    mul-at
-    mul-at-2
-    add-at
-    mul-if1
-    shared-slice-read-if1
-    returns
-    add-if2
-    mul-if2
-    shared-slice-read-if2
-    returns-2
-    add-if3
-    mul-if3
-    shared-slice-read-if3
-    returns-3
-    mul-v
-    add-v
-    mul-v-2
-    shared-slice-read-v
-    vertex-at-requires
-    is-near-requires
-    returns-4)
+holds-spec = tie.close (tie.spec mul-at mul-at-2 add-at mul-if1 shared-slice-read-if1 returns add-if2 mul-if2 shared-slice-read-if2 returns-2 add-if3 mul-if3 shared-slice-read-if3 returns-3 mul-vertex-in add-vertex-in vertex-in-requires vertex-at-requires is-near-requires returns-4)

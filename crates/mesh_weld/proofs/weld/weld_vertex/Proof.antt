@@ -19,7 +19,7 @@ cell-of-requires : tie.Need-cell-of-requires
 cell-of-requires c κs =
     let s = c .before .before .before in
     let a = s .args in
-    subst (λ (q : Point). KeyIn (a .eps) q) (sym (c .vertex-at .ensures)) (s .pre .1 .0 (a .i) (s .pre .1 .1))
+    subst (λ (q : Point). KeyIn (a .eps) q) (sym (c .vertex-at .ensures)) (s .pre .1 .0 (a .v .0) (s .pre .1 .1))
 
 search-requires : tie.Need-search-requires
 search-requires c κs = search needs
@@ -46,7 +46,7 @@ returns : tie.Need-returns
 returns c =
     let s = c .before .before .before .before .before .before .before in
     let a = s .args in
-    taken (a .vs .now) (a .eps) (a .n) (a .i) (a .count) (a .m .now) (s .pre .0) (s .pre .1 .1) (c .before .search .result)
+    taken (a .vs .now) (a .eps) (a .n) (a .v .0) (a .count) (a .m .now) (s .pre .0) (s .pre .1 .1) (c .before .search .result)
     (c .before .search .ensures ∙ ap (λ (q : Point). linkOf (cells (a .eps) .find q (keptPoints (a .vs .now) (a .n) (a .count) (a .m .now))))
     (c .before .before .before .before .vertex-at .ensures)) (c .if1 .taken)
 
@@ -66,7 +66,7 @@ enter-requires c κs =
       c .before .bucket .ensures .low,
       (
         omega (arith, s .pre .0 .index .room, s .pre .0 .within, s .pre .1 .1),
-        tail-low (a .vs .now) (a .eps) (a .n) (a .i) (a .count) (a .m .now)
+        tail-low (a .vs .now) (a .eps) (a .n) (a .v .0) (a .count) (a .m .now)
             (s .pre .0) (s .pre .1 .1) (c .before .bucket .result) (c .before .bucket .ensures .low),
       ),
     )
@@ -122,14 +122,14 @@ returns-2 c =
     let E = subst (λ (q : Point). CellOf (a .eps) q (c .before .before .before .before .before .before .before .before .before .before .before .before .cell-of .result))
     (c .before .before .before .before .before .before .before .before .before .before .before .before .before .vertex-at .ensures)
     (c .before .before .before .before .before .before .before .before .before .before .before .before .cell-of .ensures) in
-    subst (λ (l : List ℕ). WeldedSoFar (a .vs .now) (a .eps) (a .n) (a .i + 1) (a .count + 1) (set l (10 * a .n + a .i) (a .count)))
+    subst (λ (l : List ℕ). WeldedSoFar (a .vs .now) (a .eps) (a .n) (a .v .0 + 1) (a .count + 1) (set l (10 * a .n + a .v .0) (a .count)))
     (sym (c .before .before .keep .ensures ∙ ap (λ (l : List ℕ). set
-    (set (set (set l (9 * a .n + a .count) (a .i)) (11 * a .n + 3 * a .count)
+    (set (set (set l (9 * a .n + a .count) (a .v .0)) (11 * a .n + 3 * a .count)
     (c .before .before .before .before .before .before .before .before .before .before .before .before .cell-of .result .x)) (11 * a .n + 3 * a .count + 1)
     (c .before .before .before .before .before .before .before .before .before .before .before .before .cell-of .result .y)) (11 * a .n + 3 * a .count + 2)
     (c .before .before .before .before .before .before .before .before .before .before .before .before .cell-of .result .z))
     (c .before .before .before .before .before .before .enter .ensures)))
-    (kept-new (a .vs .now) (a .eps) (a .n) (a .i) (a .count) (a .m .now) (s .pre .0) (s .pre .1 .1)
+    (kept-new (a .vs .now) (a .eps) (a .n) (a .v .0) (a .count) (a .m .now) (s .pre .0) (s .pre .1 .1)
     (c .before .before .before .before .before .before .before .before .bucket .result)
     (c .before .before .before .before .before .before .before .before .before .before .before .before .cell-of .result) E
     (c .before .before .before .before .before .before .before .before .bucket .ensures)
