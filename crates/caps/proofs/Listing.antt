@@ -12,8 +12,10 @@ use lib.Dec.{ltb}
 use lib.ListN.{length}
 use lib.Ieee.{Float}
 use Rattle.lists.specs.Lists.{upTo}
+use Rattle.lists.specs.Regions.{Above}
 use Rattle.lists.proofs.Members.{place-le}
 use Rattle.lists.proofs.Places.{length-up}
+use Rattle.lists.proofs.Regions.{above-less, above-more}
 use Rattle.refusals.specs.declared.refusal.Refusal.{Refusal}
 use Rattle.refusals.specs.declared.refusal.Refusal.the-variants.{BadCap, MissingEdge}
 use Rattle.refusals.specs.declared.refusal.Checked.{Checked}
@@ -26,9 +28,9 @@ use Rattle.candidate_pool.specs.Pool.{Pool}
 use Rattle.candidate_pool.specs.Standing.{poolAt, Holds, EdgesHeld}
 use Rattle.cap_triangles.specs.Selection.{Cap, capsOf}
 use Rattle.cap_triangles.specs.Listed.{badCap, badCapPlace, missingPlace}
-use Rattle.cap_triangles.specs.Room.{turnedAt, pairRecordsAt, upAt, Above, Pooled, Supplied, TurnedReady, CapReady}
+use Rattle.cap_triangles.specs.Room.{turnedAt, pairRecordsAt, upAt, Pooled, Supplied, TurnedReady, CapReady}
 use Rattle.cap_triangles.proofs.Fours.{caps-length}
-use Rattle.cap_triangles.proofs.Kept.{above-less, above-more, pool-kept, edges-kept, held-kept, ready-kept}
+use Rattle.cap_triangles.proofs.Kept.{pool-kept, edges-kept, held-kept, ready-kept}
 use Rattle.cap_pairs.specs.Pairs.{Numbered, PairsKnown}
 use Rattle.caps.specs.Operation.{suppliedTests}
 use Rattle.caps.specs.Steps.{edgesIn, CapsChecked, Listable}
