@@ -1,6 +1,6 @@
 -- Laws of the last steps: what stands in the room is the definition's. Assumes nothing.
 --   no-ends-left, ends-left   "if no open edge keeps two ends"
---   readable, standing-is     once the constraints are in, the four results can be written out, and they are the definition's
+--   Made, made-of             once the constraints are in, the four results can be written out, and they are the definition's
 use Prim.Native.Nat.{ℕ, _/_, _≤_}
 use native.Mathlib.Omega.{arith}
 use mathlib.Core.Bool.{true, false}
@@ -26,6 +26,10 @@ use Rattle.candidate_surface.specs.Steps.{Completed}
 use Rattle.candidate_outputs.specs.Written.{candidatesStanding, Readable}
 use Rattle.candidate_outputs.proofs.Blocks.{words-same}
 
+pub record Made (vs : List Float) (fs : List ℕ) (q : Asked) (n k listed total : ℕ) (w : List ℕ) : Type 0 where
+  pub readable : Readable n (length fs / 3) k listed total w
+  pub standing : candidatesStanding n (length fs / 3) k total w ≡ candidates (setting q) (meshOf vs fs)
+
 module _ (vs : List Float) (fs : List ℕ) (q : Asked) (listed : ℕ) (el : listed ≡ length (edgeSurface (q .box) (q .eps) (byKey (q .eps)) (meshOf vs fs) .edges)) where
   pub no-ends-left : listed ≡ 0 → noTwoEnds vs fs q ≡ true
   unfolding noTwoEnds
@@ -46,8 +50,8 @@ module _ (vs : List Float) (fs : List ℕ) (q : Asked) (listed : ℕ) (el : list
     edges-here : edgesAt w' from k ≡ edgeSurface (q .box) (q .eps) (byKey (q .eps)) (meshOf vs fs) .edges
     edges-here = edges-same w w' from k (λ x h l. K .high x h) ∙ D .edges
 
-    pub readable : Readable n nf k listed total w'
-    readable =
+    readable-here : Readable n nf k listed total w'
+    readable-here =
         record {
           small = M .small;
           small-facets = M .few;
@@ -60,9 +64,12 @@ module _ (vs : List Float) (fs : List ℕ) (q : Asked) (listed : ℕ) (el : list
           faces-listed = el ∙ sym (ap length edges-here);
         }
 
-    pub standing-is : candidatesStanding n nf k total w' ≡ candidates (setting q) (meshOf vs fs)
+    standing-is : candidatesStanding n nf k total w' ≡ candidates (setting q) (meshOf vs fs)
     unfolding candidates
     standing-is =
         let p = pool-same (q .eps) n w w' (D .holds) (K .long) (λ x h. K .low x (omega arith)) ∙ D .pool in
         let c = K .listed ∙ (λ t. flatMap (faceConstraints (q .box) (q .eps) (D .edges t) (D .pool t)) faces) in
         λ t. record { all = p t .all; lists = p t .lists; constraints = c t; edges = edges-here t }
+
+    pub made-of : Made vs fs q n k listed total w'
+    made-of = record { readable = readable-here; standing = standing-is }

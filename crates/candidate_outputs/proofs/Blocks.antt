@@ -1,24 +1,28 @@
 -- The four results as lists that are written one after the other, word for word as they stand in the room. Assumes nothing.
+--   part-copied                        a part of the room, copied to a part of an output
 --   listBlock, lists-are, lists-long, numbers-long, block-long, lists-stored   "six counts, then the numbers"
 --   keyBlock, keys-are, keys-long      constraints            faces-are, faces-long, face-taken, face-left   an open edge with its faces
 --   edgeBlock, edges-are               open edges
 --   words-are, words-same              candidates, and in a room that agrees with one that holds them
-use Prim.Native.Nat.{ℕ, zero, suc, _+_, _*_, _≤_, _<_}
+use Prim.Native.Nat.{ℕ, zero, suc, _+_, _-_, _*_, _≤_, _<_}
 use native.Mathlib.Nat.{mul-le-mul-right}
 use native.Mathlib.Omega.{arith}
-use mathlib.Core.Bool.{Bool, true, false, cond}
+use mathlib.Core.Bool.{true, false}
 use mathlib.Core.Path.{_≡_, refl, sym, ap, _∙_}
-use mathlib.Core.List.{List, [], _∷_, _++_, map, flatMap}
-use lib.ListN.{length, getD, take, drop, length-append, length-map}
-use lib.Seq.{sets, take-add, drop-drop}
+use mathlib.Core.List.{List, [], _∷_, _++_, map, flatMap, append-assoc}
+use borrow.Rule.Slice.PartMut.{putMid, post-is}
+use lib.ListN.{length, getD, take, drop, length-append, length-take, length-drop, length-map}
+use lib.Seq.{sets, sets-eq, take-add, drop-drop}
 use lib.Ieee.{Float, binary64, toBits}
-use Rattle.lists.specs.Lists.{keep, upFrom, upTo}
+use Rattle.lists.specs.Lists.{upFrom, upTo}
 use Rattle.lists.specs.Regions.{view}
 use Rattle.lists.proofs.Regions.{view-length, view-map, view-same}
 use Rattle.geometry.specs.Boxes.{faces}
 use Rattle.lists.proofs.Bools.{cond-true, cond-false}
 use Rattle.lists.proofs.Stores.{sets-append}
-use Rattle.lists.proofs.Sequences.{flat-map, flat-flat, flat-up, flat-below}
+use Rattle.lists.proofs.Sequences.{flat-map, flat-flat, flat-keep, flat-up, flat-below}
+use Rattle.words.specs.Overlay.{overlay}
+use Rattle.words.proofs.Overlay.{overlay-whole}
 use Rattle.box_faces.specs.Faces.{faceBits, hasBit}
 use Rattle.candidate_pool.specs.OpenEdges.{openEdge, openEdgeWords}
 use Rattle.candidate_constraints.specs.Constraints.{Constraint, constraintWords}
@@ -30,6 +34,19 @@ use Rattle.candidate_pool.proofs.Frames.{count-same, pool-same}
 use Rattle.candidate_constraints.specs.Steps.{unpacked}
 use Rattle.candidate_outputs.specs.Outputs.{candidateWords, listWords}
 use Rattle.candidate_outputs.specs.Written.{faceWords}
+
+-- ---- a part of the room
+
+pub part-copied : (w out ys : List ℕ) (from n at : ℕ) → from + n ≤ length w → at + n ≤ length out
+    → ys ≡ overlay (take (from + n - from) (drop from w)) (take (at + n - at) (drop at out)) → putMid at (at + n - at) out ys ≡ sets out at (view w from n)
+part-copied w out ys from n at h k e =
+    let a : from + n - from ≡ n = omega arith in
+    let b : at + n - at ≡ n = omega arith in
+    let l = view-length w from n h in
+    let m : length (take n (drop at out)) ≤ length (view w from n) = simp (length-take, length-drop) (omega (arith, l)) in
+    let q : ys ≡ view w from n = e ∙ (λ t. overlay (take (a t) (drop from w)) (take (b t) (drop at out))) ∙ overlay-whole (view w from n) (take n (drop at out)) m in
+    (λ t. take at out ++ (q t ++ post-is at (at + n) out (omega arith) t)) ∙ ap (λ (x : ℕ). take at out ++ (view w from n ++ drop (at + x) out)) (sym l)
+    ∙ sym (sets-eq (view w from n) out at (omega arith) ∙ append-assoc (take at out) (view w from n) (drop (at + length (view w from n)) out))
 
 -- ---- "six counts, then the numbers"
 
@@ -123,19 +140,11 @@ keys-long w at total h =
 -- ---- open edges
 
 module _ (mask a b : ℕ) where
-  flat-kept : (l : List ℕ) → flatMap (faceWords mask a b) l ≡ openEdgeWords (map (λ f. openEdge f a b) (keep (hasBit mask) l))
-  unfolding flatMap keep
-  flat-kept [] = refl
-  flat-kept (f ∷ l) = go (hasBit mask f) (flat-kept l)
-    where
-      go : (p : Bool) → flatMap (faceWords mask a b) l ≡ openEdgeWords (map (λ f. openEdge f a b) (keep (hasBit mask) l))
-          → cond p (f ∷ a ∷ b ∷ []) [] ++ flatMap (faceWords mask a b) l ≡ openEdgeWords (map (λ f. openEdge f a b) (cond p (f ∷ keep (hasBit mask) l) (keep (hasBit mask) l)))
-      go true e = ap (λ (r : List ℕ). f ∷ a ∷ b ∷ r) e
-      go false e = e
-
   pub faces-are : flatMap (faceWords mask a b) (upTo 6) ≡ openEdgeWords (map (λ f. openEdge f a b) (facesIn mask))
   unfolding upFrom
-  faces-are = flat-kept faces
+  faces-are =
+      flat-keep (hasBit mask) (λ f. f ∷ a ∷ b ∷ []) faces
+      ∙ sym (flat-map (λ e. e .face ∷ e .from ∷ e .to ∷ []) (λ f. openEdge f a b) (facesIn mask))
 
   pub faces-long : length (flatMap (faceWords mask a b) (upTo 6)) ≡ length (openEdgeWords (map (λ f. openEdge f a b) (facesIn mask)))
   faces-long = ap length faces-are

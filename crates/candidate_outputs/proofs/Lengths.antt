@@ -1,7 +1,8 @@
 -- How many words the four results have that stand in the room. Assumes nothing.
+--   SixShort, six-short   no face has more than n numbers, one by one
 --   blocks-few       as many lists of at most m words
 --   candidates-long, all-lists-long, constraints-long, edges-long, edges-few   the four lengths, and a bound
-use Prim.Native.Nat.{ℕ, zero, suc, _+_, _*_, _≤_}
+use Prim.Native.Nat.{ℕ, zero, suc, _+_, _*_, _≤_, _<_}
 use native.Mathlib.Nat.{suc-mul}
 use native.Mathlib.Omega.{arith}
 use mathlib.Core.Bool.{Bool, true, false, cond}
@@ -21,6 +22,25 @@ use Rattle.candidate_constraints.specs.Steps.{unpacked}
 use Rattle.candidate_outputs.specs.Outputs.{candidateWords, listWords}
 use Rattle.candidate_outputs.specs.Written.{faceWords, Readable}
 use Rattle.candidate_outputs.proofs.Blocks.{threes-long, edgeBlock, faces-are, edges-are, lists-long, numbers-long}
+
+pub record SixShort (w : List ℕ) (n : ℕ) : Type 0 where
+  pub zeroth : getD w 0 0 ≤ n
+  pub first : getD w 1 0 ≤ n
+  pub second : getD w 2 0 ≤ n
+  pub third : getD w 3 0 ≤ n
+  pub fourth : getD w 4 0 ≤ n
+  pub fifth : getD w 5 0 ≤ n
+
+pub six-short : (w : List ℕ) (n : ℕ) → ((f : ℕ) → f < 6 → getD w f 0 ≤ n) → SixShort w n
+six-short w n h =
+    record {
+      zeroth = h 0 (omega arith);
+      first = h 1 (omega arith);
+      second = h 2 (omega arith);
+      third = h 3 (omega arith);
+      fourth = h 4 (omega arith);
+      fifth = h 5 (omega arith);
+    }
 
 pub blocks-few : (block : ℕ → List ℕ) (m k : ℕ) → ((i : ℕ) → length (block i) ≤ m) → length (flatMap block (upTo k)) ≤ k * m
 unfolding upFrom flatMap

@@ -1,5 +1,4 @@
--- Laws that the proofs cite. Runs: a loop that writes one list after the other. Blocks: what is written, as such lists. Lengths: how many words. Delivery: the reply.
-pub mod Runs
+-- Laws that the proofs cite. Blocks: what is written, as lists that are stored one after the other. Lengths: how many words. Delivery: the reply.
 pub mod Blocks
 pub mod Lengths
 pub mod Delivery

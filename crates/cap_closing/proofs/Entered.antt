@@ -16,7 +16,7 @@ use Rattle.geometry.specs.Triangles.{Triangle, tri, mapped, flat}
 use Rattle.geometry.specs.Meshes.{Named, newNumber, enter}
 use Rattle.geometry.proofs.FirstUse.{news, numberIn, news-points, news-numbers}
 use Rattle.candidate_pool.specs.Pool.{Pool, Candidate, noCandidate, pointOf}
-use Rattle.cap_closing.specs.Closing.{meshOf, newVertices, vertexFor, closedPoints, capCorners}
+use Rattle.cap_closing.specs.Closing.{meshWord, newVertices, vertexFor, closedPoints, capCorners}
 
 abbrev pub entered : Pool → List Point → List (Triangle ℕ) → Named
 entered pool points ts = foldl (enter (pointOf pool)) (record { given = map (λ c. c .mesh) (pool .all); points = points }) (flat ts)
@@ -29,7 +29,7 @@ module _ (pool : Pool) (points : List Point) (ts : List (Triangle ℕ)) (low : E
   abbrev given : List ℕ
   given = map (λ c. c .mesh) (pool .all)
 
-  mesh-at : (c : ℕ) → c < length (pool .all) → getD given c 0 ≡ meshOf pool c
+  mesh-at : (c : ℕ) → c < length (pool .all) → getD given c 0 ≡ meshWord pool c
   mesh-at c h = at-map (λ (c : Candidate). c .mesh) (pool .all) c noCandidate 0 h
 
   below : Each (λ v. v < length given) (flat ts)
@@ -39,7 +39,7 @@ module _ (pool : Pool) (points : List Point) (ts : List (Triangle ℕ)) (low : E
   unfolding newVertices
   news-are =
       ap (distinct eqb)
-      (keep-same (λ c. eqb (getD given c 0) 0) (λ c. eqb (meshOf pool c) 0) (flat ts)
+      (keep-same (λ c. eqb (getD given c 0) 0) (λ c. eqb (meshWord pool c) 0) (flat ts)
       (λ c m. ap (λ (k : ℕ). eqb k 0) (mesh-at c (of-each (λ v. v < length (pool .all)) m low))))
 
   pub points-are : entered pool points ts .points ≡ closedPoints pool points ts

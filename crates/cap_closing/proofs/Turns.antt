@@ -13,6 +13,7 @@ use lib.Dec.{eqb}
 use lib.ListN.{length, getD}
 use lib.Ieee.{Float, binary64, ofBits, toBits}
 use Rattle.lists.specs.Lists.{keep, upFrom, upTo}
+use Rattle.lists.specs.Regions.{Above}
 use Rattle.lists.proofs.Counts.{keep-append}
 use Rattle.lists.proofs.Mapped.{Each, each-keep}
 use Rattle.lists.proofs.Multiplicity.{keep-yes, keep-no}
@@ -23,7 +24,7 @@ use Rattle.geometry.proofs.Meshes.{length-pointsOf}
 use Rattle.mesh_filter.specs.Room.{Below}
 use Rattle.candidate_pool.specs.Offsets.{entryAt}
 use Rattle.candidate_pool.specs.Standing.{countAt, PointIn, PointStored}
-use Rattle.cap_triangles.specs.Room.{turnedAt, componentsAt, seededAt, closingAt, Above}
+use Rattle.cap_triangles.specs.Room.{turnedAt, componentsAt, seededAt, closingAt}
 use Rattle.cap_closing.specs.Closing.{isLarge}
 use Rattle.cap_closing.specs.Steps.{pointIn, namedAt, NamesEntering, Shaped, leftFacet, LeftAre, Appended, capAtRoom, isTaken, takenAt, Taking, Turned, Appending}
 use Rattle.cap_closing.proofs.Growth.{Grown, grown-fold, fold-has, fold-cong, Corners, flat-each, each-flat, kept-left}

@@ -30,16 +30,16 @@ unfoldable pub taken : Bool → List Bool → List Cap → List (Triangle ℕ)
 taken positive chosen caps = map (λ i. capAt caps i .corners) (keep (λ i. Bool·beq (getD chosen i false) positive) (upTo (length caps)))
 
 -- "mesh vertex + 1 or 0"
-abbrev pub meshOf : Pool → ℕ → ℕ
-meshOf pool c = getD (pool .all) c noCandidate .mesh
+abbrev pub meshWord : Pool → ℕ → ℕ
+meshWord pool c = getD (pool .all) c noCandidate .mesh
 
 -- "a candidate's mesh vertex, else one new vertex at its point": the candidates that have none, each once, in the order of the corners, "before the area test"
 unfoldable pub newVertices : Pool → List (Triangle ℕ) → List ℕ
-newVertices pool ts = distinct eqb (keep (λ c. eqb (meshOf pool c) 0) (flat ts))
+newVertices pool ts = distinct eqb (keep (λ c. eqb (meshWord pool c) 0) (flat ts))
 
 -- and the vertex of a candidate, where the new ones stand behind n others
 unfoldable pub vertexFor : Pool → ℕ → List ℕ → ℕ → ℕ
-vertexFor pool n new c = cond (eqb (meshOf pool c) 0) (n + place (eqb c) new) (meshOf pool c - 1)
+vertexFor pool n new c = cond (eqb (meshWord pool c) 0) (n + place (eqb c) new) (meshWord pool c - 1)
 
 unfoldable pub closedPoints : Pool → List Point → List (Triangle ℕ) → List Point
 closedPoints pool points ts = points ++ map (pointOf pool) (newVertices pool ts)

@@ -16,14 +16,14 @@ use lib.Dec.{eqb}
 use lib.ListN.{length, getD}
 use lib.Ieee.{Float}
 use Rattle.lists.specs.Lists.{keep, upTo}
-use Rattle.lists.specs.Regions.{view}
+use Rattle.lists.specs.Regions.{view, Above}
 use Rattle.geometry.specs.Triangles.{Triangle, tri}
 use Rattle.geometry.specs.Meshes.{pointsOf}
 use Rattle.candidate_pool.specs.Offsets.{entryAt}
 use Rattle.candidate_pool.specs.Standing as standing
 use Rattle.candidate_pool.specs.Standing.{poolAt, pointAt}
 use Rattle.cap_triangles.specs.Selection.{capsOf, outwardCaps}
-use Rattle.cap_triangles.specs.Room.{closingAt, Above}
+use Rattle.cap_triangles.specs.Room.{closingAt}
 use Rattle.cap_selection.specs.Chosen.{chosenIn}
 use Rattle.cap_closing.specs.Closing.{taken, closedPoints, capCorners, capFacets}
 

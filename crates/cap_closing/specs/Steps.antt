@@ -24,7 +24,7 @@ use lib.Dec.{eqb}
 use lib.ListN.{length, getD, set}
 use lib.Ieee.{Float}
 use Rattle.lists.specs.Lists.{keep, some, count, upTo}
-use Rattle.lists.specs.Regions.{view}
+use Rattle.lists.specs.Regions.{view, Above}
 use Rattle.geometry.specs.declared.point.Point.{Point}
 use Rattle.geometry.specs.Triangles.{Triangle, tri, mapped, vertices, flat}
 use Rattle.geometry.specs.Meshes.{pointsOf, Named, newNumber, enter}
@@ -32,7 +32,7 @@ use Rattle.mesh_filter.specs.Room.{cornersKey, Below}
 use Rattle.candidate_pool.specs.Offsets.{entryAt, keysAt}
 use Rattle.candidate_pool.specs.Standing.{countAt, pointAt, PointStored}
 use Rattle.candidate_edges.specs.Steps.{VerticesIn}
-use Rattle.cap_triangles.specs.Room.{turnedAt, componentsAt, seededAt, Above}
+use Rattle.cap_triangles.specs.Room.{turnedAt, componentsAt, seededAt}
 use Rattle.cap_closing.specs.Closing.{isLarge}
 
 abbrev pub pointIn : List ℕ → ℕ → Point

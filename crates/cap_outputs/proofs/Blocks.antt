@@ -9,7 +9,7 @@ use Prim.Native.Nat.{ℕ, _+_, _*_, _/_, _%_, _≤_, _<_}
 use native.Mathlib.Omega.{arith}
 use mathlib.Core.Bool.{Bool, true, false, cond}
 use mathlib.Core.Path.{_≡_, refl, sym, ap, _∙_}
-use mathlib.Core.List.{List, [], _∷_, _++_, map, flatMap}
+use mathlib.Core.List.{List, [], _∷_, map, flatMap}
 use borrow.Author.Tests.{eq-eqb, ne-eqb}
 use lib.Dec.{eqb}
 use lib.ListN.{length, getD, length-map}
@@ -20,7 +20,7 @@ use Rattle.lists.specs.Regions.{view}
 use Rattle.lists.proofs.Bools.{cond-true, cond-false}
 use Rattle.lists.proofs.Places.{length-up, at-map-up}
 use Rattle.lists.proofs.Regions.{view-length, view-map}
-use Rattle.lists.proofs.Sequences.{flat-map}
+use Rattle.lists.proofs.Sequences.{flat-map, flat-keep}
 use Rattle.geometry.specs.declared.point.Point.{Point}
 use Rattle.geometry.specs.Triangles.{Triangle, tri, vertices, reversed, threes, flat}
 use Rattle.geometry.specs.Meshes.{coordinates}
@@ -103,16 +103,6 @@ module _ (w : List ℕ) (facet first : ℕ) where
 
   pub cap-left : (getD w first 0 ≡ 1 → ⊥) → capWords w facet first ≡ []
   cap-left e = cond-false (eqb (getD w first 0) 1) _ _ _ (ne-eqb (getD w first 0) 1 e) refl
-
-flat-keep : {A B : Type 0} (p : A → Bool) (f : A → List B) (l : List A) → flatMap (λ x. cond (p x) (f x) []) l ≡ flatMap f (keep p l)
-unfolding flatMap keep
-flat-keep p f [] = refl
-flat-keep {A} {B} p f (x ∷ l) = go (p x) (flat-keep p f l)
-  where
-    go : (b : Bool) → flatMap (λ x. cond (p x) (f x) []) l ≡ flatMap f (keep p l) → cond b (f x) [] ++ flatMap (λ x. cond (p x) (f x) []) l ≡ flatMap f
-        (cond b (x ∷ keep p l) (keep p l))
-    go true e = ap (λ (r : List B). f x ++ r) e
-    go false e = e
 
 abbrev pub capBlock : List ℕ → ℕ → ℕ → ℕ → List ℕ
 capBlock w facets firsts i = capWords w (facets + 3 * i) (firsts + i)

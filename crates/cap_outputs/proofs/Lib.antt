@@ -1,4 +1,3 @@
--- Laws that the proofs cite. Runs: a loop that writes one list after the other. Blocks: what is written, as such lists. Delivery: the reply and both outputs.
-pub mod Runs
+-- Laws that the proofs cite. Blocks: what is written, as lists that are stored one after the other. Delivery: the reply and both outputs.
 pub mod Blocks
 pub mod Delivery

@@ -15,7 +15,7 @@ use borrow.Author.Tests.{lt-ltb, le-ltb, eqb-false, ltb-true, ltb-false, ne-eqb}
 use lib.Dec.{eqb, ltb}
 use lib.ListN.{length, getD}
 use Rattle.lists.specs.Lists.{upFrom}
-use Rattle.lists.specs.Regions.{view}
+use Rattle.lists.specs.Regions.{view, Above}
 use Rattle.lists.proofs.Orders.{cases}
 use Rattle.lists.proofs.Places.{of-up}
 use Rattle.lists.proofs.Regions.{view-at, view-length}
@@ -30,7 +30,7 @@ use Rattle.candidate_pool.specs.Standing.{countAt, poolAt}
 use Rattle.candidate_pool.proofs.Masking.{word-bit}
 use Rattle.candidate_pool.proofs.Reading.{pool-count}
 use Rattle.candidate_pool.proofs.Tidying.{has-low}
-use Rattle.cap_triangles.specs.Room.{turnedAt, pairRecordsAt, Above, turnedIn, CapReady}
+use Rattle.cap_triangles.specs.Room.{turnedAt, pairRecordsAt, turnedIn, CapReady}
 use Rattle.cap_triangles.proofs.Kept.{turnedIn-kept}
 use Rattle.cap_triangles.proofs.Good.{turned-low}
 use Rattle.cap_pairs.specs.Pairs.{edgePair, pairCount, pairAt}

@@ -16,6 +16,7 @@ use lib.Dec.{eqb, ltb}
 use lib.Ieee.{lt}
 use lib.ListN.{length, getD, length-map}
 use Rattle.lists.specs.Lists.{some, has, upTo}
+use Rattle.lists.specs.Regions.{Above}
 use Rattle.lists.proofs.Orders.{never}
 use Rattle.lists.proofs.Sequences.{some-flat, some-below}
 use Rattle.lists.proofs.Bools.{both-ways, eqb-sym}
@@ -35,7 +36,7 @@ use Rattle.candidate_pool.specs.Standing.{facesIn, poolAt, edgeAt, edgesAt}
 use Rattle.candidate_pool.proofs.Listing.{has-kept}
 use Rattle.candidate_pool.proofs.Masking.{no-bit}
 use Rattle.cap_triangles.specs.Selection.{Cap, cap, capsOf, capAt, signedArea, outward, outwardCaps}
-use Rattle.cap_triangles.specs.Room.{turnedAt, numbersAt, upAt, downAt, heldAt, Above, CapReady}
+use Rattle.cap_triangles.specs.Room.{turnedAt, numbersAt, upAt, downAt, heldAt, CapReady}
 use Rattle.cap_triangles.proofs.Fours.{caps-length, cap-at, outward-at}
 use Rattle.cap_triangles.proofs.Good.{turned-corners}
 use Rattle.cap_pairs.specs.Pairs.{pairCount, pairAt, numberIn, PairNumbers}

@@ -11,15 +11,16 @@ use borrow.Author.Tests.{ltb-true, ltb-false}
 use lib.Dec.{eqb, ltb}
 use lib.ListN.{length, getD}
 use lib.Seq.{getD-take}
+use Rattle.lists.specs.Regions.{Above}
 use Rattle.lists.proofs.Orders.{cases}
 use Rattle.records.specs.Buffer.{recordOf}
+use Rattle.lists.proofs.Regions.{above-more, above-less}
 use Rattle.sorting.proofs.Sorting.{SortedPart}
 use Rattle.edges.specs.Edges.{samePair}
 use Rattle.edges.specs.Table.{edgeKey, nextSide}
 use Rattle.edges.proofs.Keys.{same-pair-key}
 use Rattle.edges.proofs.Sides.{next-in}
-use Rattle.cap_triangles.specs.Room.{turnedAt, pairRecordsAt, numbersAt, Above, CapReady}
-use Rattle.cap_triangles.proofs.Kept.{above-more, above-less}
+use Rattle.cap_triangles.specs.Room.{turnedAt, pairRecordsAt, numbersAt, CapReady}
 use Rattle.cap_pairs.specs.Pairs.{edgePair, pairAt, Numbered}
 use Rattle.cap_pairs.specs.Steps.{sideWords, Recorded, SortedPairs, FirstsPut, TablesFor}
 use Rattle.cap_pairs.proofs.Ends.{pair-edge, pair-side, pair-kept, pair-small, word-small, three}

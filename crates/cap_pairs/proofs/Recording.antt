@@ -13,8 +13,8 @@ use lib.ListN.{length, getD, set, length-set}
 use lib.Seq.{getD-set-same, getD-set-other}
 use Rattle.records.specs.Buffer.{recordOf, putRecord}
 use Rattle.records.proofs.Records.{put-length, put-same, put-other}
+use Rattle.lists.specs.Regions.{Above}
 use Rattle.edges.specs.Table.{edgeKey}
-use Rattle.cap_triangles.specs.Room.{Above}
 use Rattle.cap_pairs.specs.Steps.{Recorded, keyIn, whichIn, SortedPairs, FirstOf, FirstsPut}
 
 -- ---- put_edges, put_sides

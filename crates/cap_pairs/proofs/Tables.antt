@@ -11,12 +11,13 @@ use native.Mathlib.Omega.{arith}
 use lib.Dec.{eqb, ltb}
 use lib.ListN.{length, getD}
 use Rattle.lists.specs.Lists.{some, upTo}
-use Rattle.lists.specs.Regions.{PartZeroed}
+use Rattle.lists.specs.Regions.{PartZeroed, Above}
 use Rattle.lists.proofs.Sequences.{some-below}
+use Rattle.lists.proofs.Regions.{above-more}
 use Rattle.box_faces.specs.Faces.{hasBit}
 use Rattle.cap_triangles.specs.Selection.{Cap, capsOf}
-use Rattle.cap_triangles.specs.Room.{numbersAt, upAt, downAt, heldAt, Above, CapReady}
-use Rattle.cap_triangles.proofs.Kept.{above-more, ready-kept}
+use Rattle.cap_triangles.specs.Room.{numbersAt, upAt, downAt, heldAt, CapReady}
+use Rattle.cap_triangles.proofs.Kept.{ready-kept}
 use Rattle.cap_triangles.proofs.Fours.{caps-length, cap-at}
 use Rattle.cap_triangles.proofs.Good.{good-cap}
 use Rattle.cap_pairs.specs.Pairs.{pairCount, numberIn, PairNumbers, PairsKnown}

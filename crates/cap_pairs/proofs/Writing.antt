@@ -8,11 +8,12 @@ use mathlib.Core.Path.{_≡_, sym, ap, subst, _∙_}
 use native.Mathlib.Omega.{arith}
 use lib.Dec.{eqb}
 use lib.ListN.{length, getD}
+use Rattle.lists.specs.Regions.{Above}
 use Rattle.words.specs.Packed.{edge}
 use Rattle.records.specs.Buffer.{putRecord}
 use Rattle.edges.specs.Table.{edgeKey, nextSide}
 use Rattle.edges.proofs.Sides.{next-in}
-use Rattle.cap_triangles.specs.Room.{turnedAt, pairRecordsAt, Above}
+use Rattle.cap_triangles.specs.Room.{turnedAt, pairRecordsAt}
 use Rattle.cap_pairs.specs.Pairs.{edgePair}
 use Rattle.cap_pairs.specs.Steps.{SmallEdge, sideWords, Recorded, TablesFor}
 use Rattle.cap_pairs.proofs.Recording.{recording-turn}

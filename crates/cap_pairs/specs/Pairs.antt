@@ -11,13 +11,14 @@ use mathlib.Core.List.{List}
 use lib.Dec.{eqb, ltb}
 use lib.ListN.{length, getD}
 use Rattle.lists.specs.Lists.{some}
+use Rattle.lists.specs.Regions.{Above}
 use Rattle.geometry.specs.Triangles.{edges}
 use Rattle.box_faces.specs.Faces.{hasBit}
 use Rattle.edges.specs.Edges.{sides, samePair}
 use Rattle.candidate_pool.specs.Offsets.{openEdgesAt}
 use Rattle.candidate_pool.specs.Standing.{poolAt, edgesAt}
 use Rattle.cap_triangles.specs.Selection.{capsOf, outwardCaps}
-use Rattle.cap_triangles.specs.Room.{pairRecordsAt, numbersAt, upAt, downAt, heldAt, Above, turnedIn}
+use Rattle.cap_triangles.specs.Room.{pairRecordsAt, numbersAt, upAt, downAt, heldAt, turnedIn}
 
 abbrev pub edgePair : List ℕ → ℕ → ℕ × ℕ
 edgePair w at = cond (eqb (getD w (at + 2) 0) 0) (0, 0) (getD w at 0, getD w (at + 1) 0)

@@ -20,9 +20,10 @@ use lib.Dec.{eqb, leb, ltb}
 use lib.ListN.{length, getD}
 use Rattle.lists.specs.Lists.{some, upTo}
 use Rattle.records.specs.Buffer.{recordOf}
+use Rattle.lists.specs.Regions.{Above}
 use Rattle.box_faces.specs.Faces.{hasBit}
 use Rattle.edges.specs.Table.{edgeKey, nextSide}
-use Rattle.cap_triangles.specs.Room.{numbersAt, upAt, downAt, heldAt, capsEnd, Above}
+use Rattle.cap_triangles.specs.Room.{numbersAt, upAt, downAt, heldAt, capsEnd}
 use Rattle.candidate_pool.specs.Offsets.{openEdgesAt}
 
 abbrev pub SmallEdge : List ℕ → ℕ → Type 0

@@ -10,10 +10,10 @@ use lib.Dec.{T, eqb, eqb→eq}
 use lib.ListN.{length, getD, length-map}
 use lib.Seq.{ext-getD}
 use Rattle.lists.specs.Lists.{some, upTo, Decides}
-use Rattle.lists.specs.Regions.{view, PartZeroed}
+use Rattle.lists.specs.Regions.{view, PartZeroed, Above}
 use Rattle.lists.proofs.Members.{some-of, of-some, and-parts, and-of}
 use Rattle.lists.proofs.Places.{of-up, up-of, length-up, at-up, at-map-up}
-use Rattle.lists.proofs.Regions.{view-at}
+use Rattle.lists.proofs.Regions.{view-at, above-less, above-more}
 use Rattle.components.specs.Components.{components, componentOf}
 use Rattle.components.specs.Table.{ComponentNumbers}
 use Rattle.components.proofs.Once.{once-up, decides-same, decides-eqb}
@@ -22,9 +22,9 @@ use Rattle.candidate_pool.specs.OpenEdges.{OpenEdge}
 use Rattle.candidate_pool.specs.Offsets.{openEdgesAt}
 use Rattle.candidate_pool.specs.Standing.{poolAt, edgesAt}
 use Rattle.cap_triangles.specs.Selection.{Cap, capsOf, outwardCaps, isSeed, shareEdge, selected}
-use Rattle.cap_triangles.specs.Room.{labelsAt, componentsAt, seededAt, Above, CapReady}
+use Rattle.cap_triangles.specs.Room.{labelsAt, componentsAt, seededAt, CapReady}
 use Rattle.cap_triangles.proofs.Selecting.{share-turn}
-use Rattle.cap_triangles.proofs.Kept.{above-less, above-more, pool-kept, edges-kept}
+use Rattle.cap_triangles.proofs.Kept.{pool-kept, edges-kept}
 use Rattle.cap_pairs.specs.Pairs.{PairsKnown}
 use Rattle.cap_selection.specs.Chosen.{chosenIn, Chosen}
 use Rattle.cap_selection.specs.Steps.{openIn, sideNumber, labelIn, seedIn, seededBy, Markable, JoinedCaps, SeedsMarked}

@@ -12,10 +12,11 @@ use lib.Dec.{eqb}
 use lib.ListN.{length, getD, set, length-set}
 use lib.Seq.{getD-set-other}
 use Rattle.lists.specs.Lists.{some, upFrom}
-use Rattle.lists.proofs.Bools.{and-next, and-stop}
+use Rattle.lists.proofs.Bools.{and-next, and-stop, or-last, or-true}
+use Rattle.lists.specs.Regions.{Above}
 use Rattle.lists.proofs.Regions.{at-set}
 use Rattle.lists.proofs.Sequences.{some-up}
-use Rattle.cap_triangles.specs.Room.{labelsAt, componentsAt, seededAt, Above}
+use Rattle.cap_triangles.specs.Room.{labelsAt, componentsAt, seededAt}
 use Rattle.cap_selection.specs.Steps.{seedIn, seededBy, markedSeed, SidesNumbered, Markable, SeedsMarked}
 use Rattle.cap_selection.proofs.Same.{seed-same, numbered-same}
 

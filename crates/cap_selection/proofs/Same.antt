@@ -10,10 +10,11 @@ use mathlib.Core.Bool.{Bool, cond, not, _||_}
 use mathlib.Core.List.{List}
 use lib.Dec.{eqb, ltb}
 use lib.ListN.{length, getD}
+use Rattle.lists.specs.Regions.{Above}
 use Rattle.box_faces.specs.Faces.{hasBit}
 use Rattle.edges.specs.Table.{nextSide}
 use Rattle.edges.proofs.Sides.{next-in}
-use Rattle.cap_triangles.specs.Room.{turnedAt, numbersAt, upAt, downAt, labelsAt, Above}
+use Rattle.cap_triangles.specs.Room.{turnedAt, numbersAt, upAt, downAt, labelsAt}
 use Rattle.cap_selection.specs.Steps.{openIn, sideNumber, labelIn, againstIn, seedIn, SidesNumbered}
 
 module _ (n nf nc k : ℕ) (w : List ℕ) (room : SidesNumbered n nf nc k w) where

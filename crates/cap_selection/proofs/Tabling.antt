@@ -10,11 +10,11 @@ use mathlib.Core.List.{List, map}
 use lib.ListN.{length, getD, length-map}
 use lib.Seq.{ext-getD}
 use Rattle.lists.specs.Lists.{upTo}
-use Rattle.lists.specs.Regions.{view}
+use Rattle.lists.specs.Regions.{view, Above}
 use Rattle.lists.proofs.Regions.{Filled, view-length, view-at}
 use Rattle.lists.proofs.Places.{length-up, at-map-up}
 use Rattle.components.specs.Table.{ComponentNumbers, LabelRoom, ComponentTable}
-use Rattle.cap_triangles.specs.Room.{labelsAt, componentsAt, Above}
+use Rattle.cap_triangles.specs.Room.{labelsAt, componentsAt}
 use Rattle.cap_selection.specs.Steps.{openIn, sideNumber, labelIn, SidesNumbered, Labelled, JoinedCaps}
 
 module _ (n nf nc k : ℕ) (w : List ℕ) (room : SidesNumbered n nf nc k w) where

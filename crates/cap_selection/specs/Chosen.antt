@@ -8,10 +8,11 @@ use mathlib.Core.List.{List, map}
 use lib.Dec.{eqb}
 use lib.ListN.{length, getD}
 use Rattle.lists.specs.Lists.{upTo}
+use Rattle.lists.specs.Regions.{Above}
 use Rattle.candidate_pool.specs.Offsets.{openEdgesAt}
 use Rattle.candidate_pool.specs.Standing.{poolAt, edgesAt}
 use Rattle.cap_triangles.specs.Selection.{capsOf, outwardCaps, selected}
-use Rattle.cap_triangles.specs.Room.{labelsAt, componentsAt, seededAt, Above}
+use Rattle.cap_triangles.specs.Room.{labelsAt, componentsAt, seededAt}
 
 abbrev pub chosenIn : ℕ → ℕ → ℕ → List ℕ → List Bool
 chosenIn n nf nc w = map (λ i. eqb (getD w (seededAt n nf nc + getD w (componentsAt n nf nc + i) 0) 0) 1) (upTo nc)

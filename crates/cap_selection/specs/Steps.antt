@@ -15,11 +15,11 @@ use mathlib.Core.List.{List, map}
 use lib.Dec.{eqb, ltb}
 use lib.ListN.{length, getD, set}
 use Rattle.lists.specs.Lists.{some, upTo}
-use Rattle.lists.specs.Regions.{view}
+use Rattle.lists.specs.Regions.{view, Above}
 use Rattle.box_faces.specs.Faces.{hasBit}
 use Rattle.edges.specs.Table.{nextSide}
 use Rattle.components.specs.Table.{ComponentNumbers}
-use Rattle.cap_triangles.specs.Room.{turnedAt, numbersAt, upAt, downAt, labelsAt, componentsAt, seededAt, Above}
+use Rattle.cap_triangles.specs.Room.{turnedAt, numbersAt, upAt, downAt, labelsAt, componentsAt, seededAt}
 
 module _ (n nf nc : ℕ) where
   unfoldable pub openIn : List ℕ → ℕ → Bool

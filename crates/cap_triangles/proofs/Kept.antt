@@ -1,5 +1,4 @@
 -- What stands in the room stays as it is where nothing below its end changed. Assumes nothing.
---   above-none, above-less, above-more   a room is above itself; a lesser bound; one change after another
 --   view-below        a part of the room that ends below the bound
 --   pool-kept, pooled-kept               the candidates: they end at poolEnd
 --   edges-kept, held-kept                k open edges: they end at their place + 3 k
@@ -7,11 +6,11 @@
 --   turnedIn-kept, turned-kept           the turned triangles: they end at pairRecordsAt
 --   ready-kept        and with the open edges
 use Prim.Native.Nat.{ℕ, _+_, _-_, _*_, _/_, _≤_, _<_}
-use mathlib.Core.Path.{_≡_, refl, sym, ap, _∙_, subst}
+use mathlib.Core.Path.{_≡_, sym, ap, _∙_, subst}
 use mathlib.Core.List.{List, map}
 use native.Mathlib.Omega.{arith}
 use lib.ListN.{length, getD, drop, length-take}
-use Rattle.lists.specs.Regions.{view}
+use Rattle.lists.specs.Regions.{view, Above}
 use Rattle.geometry.specs.Triangles.{threes}
 use Rattle.candidate_pool.specs.Offsets.{entryAt, joinedAt, poolEnd, openEdgesAt}
 use Rattle.candidate_pool.specs.Pool.{Pool}
@@ -20,16 +19,7 @@ use Rattle.candidate_pool.proofs.Frames.{view-kept, count-same, stored-kept, po
 use Rattle.candidate_pool.proofs.Edges.{edges-same, held-same}
 use Rattle.cap_triangles.specs.Selection.{capsOf, outwardCaps}
 use Rattle.cap_triangles.specs.Listed.{badCapPlace}
-use Rattle.cap_triangles.specs.Room.{turnedAt, pairRecordsAt, Above, Pooled, Supplied, turnedIn, TurnedReady, CapReady}
-
-pub above-none : (b : ℕ) (w : List ℕ) → Above b w w
-above-none b w = record { long = refl; below = λ x h. refl }
-
-pub above-less : (a b : ℕ) (w w' : List ℕ) → a ≤ b → Above b w w' → Above a w w'
-above-less a b w w' h r = record { long = r .long; below = λ x k. r .below x (omega arith) }
-
-pub above-more : (b : ℕ) (u v w : List ℕ) → Above b u v → Above b v w → Above b u w
-above-more b u v w r s = record { long = s .long ∙ r .long; below = λ x k. s .below x k ∙ r .below x k }
+use Rattle.cap_triangles.specs.Room.{turnedAt, pairRecordsAt, Pooled, Supplied, turnedIn, TurnedReady, CapReady}
 
 module _ (b : ℕ) (w w' : List ℕ) (above : Above b w w') where
   pub view-below : (o k m : ℕ) → length (view w o k) ≤ m → o + m ≤ b → view w' o k ≡ view w o k

@@ -12,8 +12,8 @@ use native.Mathlib.Decide.{ℕ-discrete}
 use lib.Ieee.{Float, lt}
 use lib.ListN.{length, getD, set, length-set, length-map}
 use lib.Seq.{ext-getD, getD-set-same, getD-set-other}
-use Rattle.lists.specs.Regions.{view}
-use Rattle.lists.proofs.Regions.{view-length, view-at}
+use Rattle.lists.specs.Regions.{view, Above}
+use Rattle.lists.proofs.Regions.{view-length, view-at, above-none}
 use Rattle.lists.proofs.Sequences.{at-map}
 use Rattle.root.specs.Doubles.{zeroF}
 use Rattle.geometry.specs.declared.point.Point.{Point}
@@ -26,9 +26,9 @@ use Rattle.candidate_pool.specs.Standing.{countAt, pointAt, poolAt}
 use Rattle.candidate_pool.proofs.Reading.{pool-point}
 use Rattle.cap_triangles.specs.Selection.{Cap, cap, capAt, capsOf, signedArea, outward, outwardCaps}
 use Rattle.cap_triangles.specs.Listed.{badCapPlace}
-use Rattle.cap_triangles.specs.Room.{turnedAt, Above, Supplied, turnedIn, TurnedReady}
+use Rattle.cap_triangles.specs.Room.{turnedAt, Supplied, turnedIn, TurnedReady}
 use Rattle.cap_triangles.specs.Steps.{Standing, areaOf, cornersIn, turnedBy}
-use Rattle.cap_triangles.proofs.Kept.{above-none, pool-kept, supplied-kept}
+use Rattle.cap_triangles.proofs.Kept.{pool-kept, supplied-kept}
 use Rattle.cap_triangles.proofs.Fours.{caps-length, cap-at, outward-at}
 use Rattle.cap_triangles.proofs.Good.{GoodCap, good-cap}
 

@@ -1,7 +1,6 @@
 -- Supplied triangles in the work room, of which the outer contract does not speak. Behind the room of candidates (candidate_pool), for at most n candidates, nf facets and nc
 -- supplied triangles. Every step of caps writes behind what the steps before it wrote, so that its frame is one number. Assumes nothing.
 --   turnedAt .. closingAt   where the tables stand (src/room.rt has them as a table), and capsEnd, where they end
---   Above          w became w', and nothing below b changed
 --   Pooled         the room holds candidates, as far as caps asks
 --   Supplied       with a list of triangles, and room for the tables
 --   turnedIn       the turned triangles that stand in the room
@@ -50,10 +49,6 @@ closingAt n nf nc = turnedAt n nf + 27 * nf + 39 * nc
 
 abbrev pub capsEnd : ℕ → ℕ → ℕ → ℕ
 capsEnd n nf nc = closingAt n nf nc + 2 * n + 8 * nc + 1
-
-pub record Above (b : ℕ) (w w' : List ℕ) : Type 0 where
-  pub long : length w' ≡ length w
-  pub below : (x : ℕ) → x < b → getD w' x 0 ≡ getD w x 0
 
 pub record Pooled (n : ℕ) (w : List ℕ) : Type 0 where
   pub size : poolEnd n ≤ length w

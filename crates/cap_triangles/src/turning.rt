@@ -2,12 +2,13 @@
 ghost use mathlib.Core.Path.{_≡_};
 ghost use Prim.Native.Nat.{_+_, _*_, _/_, _<_};
 ghost use lib.ListN.{length, getD};
+ghost use Rattle.lists.specs.Regions.{Above};
 ghost use Rattle.geometry.specs.Triangles.{tri};
 ghost use Rattle.geometry.specs.Numbers.{candidatesOf};
 ghost use Rattle.candidate_pool.specs.Standing.{poolAt};
 ghost use Rattle.cap_triangles.specs.Selection.{capsOf};
 ghost use Rattle.cap_triangles.specs.Listed.{badCapPlace};
-ghost use Rattle.cap_triangles.specs.Room.{turnedAt, Above, Supplied, TurnedReady};
+ghost use Rattle.cap_triangles.specs.Room.{turnedAt, Supplied, TurnedReady};
 ghost use Rattle.cap_triangles.specs.Steps.{Standing, areaOf, turnedBy};
 use crate::listed::supplied;
 use crate::room::turned_at;

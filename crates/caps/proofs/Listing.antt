@@ -2,7 +2,7 @@
 --   supplied            what the tests ask for, of candidates that stand in the room
 --   bad-refused         10 refuses                     good-list      or does not
 --   turned-ready        the triangles turned           numbered-ready, noted-ready   pairs numbered, and faces noted
---   missing-refused, all-passed   11
+--   EdgesAnswered, edges-answered   11
 use Prim.Native.Nat.{ℕ, _+_, _*_, _/_, _%_, _≤_, _<_}
 use native.Mathlib.Omega.{arith}
 use mathlib.Core.Path.{_≡_, refl, sym, ap, _∙_, subst}
@@ -12,8 +12,10 @@ use lib.Dec.{ltb}
 use lib.ListN.{length}
 use lib.Ieee.{Float}
 use Rattle.lists.specs.Lists.{upTo}
+use Rattle.lists.specs.Regions.{Above}
 use Rattle.lists.proofs.Members.{place-le}
 use Rattle.lists.proofs.Places.{length-up}
+use Rattle.lists.proofs.Regions.{above-less, above-more}
 use Rattle.refusals.specs.declared.refusal.Refusal.{Refusal}
 use Rattle.refusals.specs.declared.refusal.Refusal.the-variants.{BadCap, MissingEdge}
 use Rattle.refusals.specs.declared.refusal.Checked.{Checked}
@@ -26,9 +28,9 @@ use Rattle.candidate_pool.specs.Pool.{Pool}
 use Rattle.candidate_pool.specs.Standing.{poolAt, Holds, EdgesHeld}
 use Rattle.cap_triangles.specs.Selection.{Cap, capsOf}
 use Rattle.cap_triangles.specs.Listed.{badCap, badCapPlace, missingPlace}
-use Rattle.cap_triangles.specs.Room.{turnedAt, pairRecordsAt, upAt, Above, Pooled, Supplied, TurnedReady, CapReady}
+use Rattle.cap_triangles.specs.Room.{turnedAt, pairRecordsAt, upAt, Pooled, Supplied, TurnedReady, CapReady}
 use Rattle.cap_triangles.proofs.Fours.{caps-length}
-use Rattle.cap_triangles.proofs.Kept.{above-less, above-more, pool-kept, edges-kept, held-kept, ready-kept}
+use Rattle.cap_triangles.proofs.Kept.{pool-kept, edges-kept, held-kept, ready-kept}
 use Rattle.cap_pairs.specs.Pairs.{Numbered, PairsKnown}
 use Rattle.caps.specs.Operation.{suppliedTests}
 use Rattle.caps.specs.Steps.{edgesIn, CapsChecked, Listable}
@@ -56,6 +58,11 @@ refusal-passes r e = absurd (let z : _≡_ {A = ℕ} 0 1 = cc in omega arith)
 turned-off : (n nf k : ℕ) (capList : List ℕ) (r : Refusal) (w w' : List ℕ) → Refused r ≡ firstRefusal (suppliedTests (poolAt n w) (capsOf capList) (edgesIn n nf k w))
     → CapsChecked n nf k capList (Refused r) w w'
 turned-off n nf k capList r w w' e = record { found = e; above = refusal-passes r; ready = refusal-passes r; known = refusal-passes r }
+
+-- what test 11 answers, by the place of the first edge that is missing, once the list passed 10
+pub record EdgesAnswered (n nf k : ℕ) (capList w w' : List ℕ) (listed missing : ℕ) : Type 0 where
+  pub refused : missing < listed → CapsChecked n nf k capList (Refused (MissingEdge missing)) w w'
+  pub passed : listed ≤ missing → PairsKnown n nf k capList w' → CapsChecked n nf k capList Passed w w'
 
 module _ (n nf k : ℕ) (capList w : List ℕ) (S : Supplied n nf capList w) (H : EdgesHeld (poolAt n w) w (openEdgesAt n nf) k) (few : k ≤ 3 * nf)
     (listed : ℕ) (el : listed ≡ length (edgesIn n nf k w)) (bad : ℕ) (eb : bad ≡ badCapPlace (poolAt n w) (capsOf capList)) where
@@ -125,7 +132,7 @@ module _ (n nf k : ℕ) (capList w : List ℕ) (S : Supplied n nf capList w) (H 
                 em
                 ∙ (λ t. missingPlace (pool-at w₃ above-all t) l (edges-kept (turnedAt n nf) w w₃ above-all (openEdgesAt n nf) k (omega (arith, few)) t))
 
-            pub missing-refused : missing < listed → CapsChecked n nf k capList (Refused (MissingEdge missing)) w w₃
+            missing-refused : missing < listed → CapsChecked n nf k capList (Refused (MissingEdge missing)) w w₃
             missing-refused h =
                 let e = missing-is in
                 turned-off n nf k capList (MissingEdge missing) w w₃
@@ -134,7 +141,7 @@ module _ (n nf k : ℕ) (capList w : List ℕ) (S : Supplied n nf capList w) (H 
                 (after-first
                 ∙ holds (ltb (missingPlace p l es) (length es)) (MissingEdge (missingPlace p l es)) [] (lt-ltb (missingPlace p l es) (length es) (omega (arith, e, h, el)))))
 
-            pub all-passed : listed ≤ missing → PairsKnown n nf k capList w₃ → CapsChecked n nf k capList Passed w w₃
+            all-passed : listed ≤ missing → PairsKnown n nf k capList w₃ → CapsChecked n nf k capList Passed w w₃
             all-passed h known =
                 let e = missing-is in
                 record {
@@ -146,3 +153,6 @@ module _ (n nf k : ℕ) (capList w : List ℕ) (S : Supplied n nf capList w) (H 
                   ready = λ z. noted-ready;
                   known = λ z. known;
                 }
+
+            pub edges-answered : EdgesAnswered n nf k capList w w₃ listed missing
+            edges-answered = record { refused = missing-refused; passed = all-passed }

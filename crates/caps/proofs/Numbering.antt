@@ -12,6 +12,7 @@ use lib.Dec.{eqb, leb}
 use lib.ListN.{length, getD, set, length-map}
 use lib.Ieee.{Float}
 use Rattle.lists.specs.Lists.{upTo}
+use Rattle.lists.specs.Regions.{Above}
 use Rattle.lists.proofs.Mapped.{Each, each-places, each-keep}
 use Rattle.lists.proofs.Places.{length-up, at-map-up}
 use Rattle.lists.proofs.Sequences.{each-flat}
@@ -31,7 +32,6 @@ use Rattle.candidate_edges.specs.Surface.{meshCandidate, edgeFaces, cornerVerti
 use Rattle.candidate_grids.specs.Grid.{gridPoint, interior, skipped, gridAt, faceGrid, grid, segmentsOf}
 use Rattle.candidate_surface.specs.Asked.{Asked, setting}
 use Rattle.candidate_surface.specs.Steps.{fullPool}
-use Rattle.cap_triangles.specs.Room.{Above}
 use Rattle.cap_closing.specs.Entering.{MeshWords}
 
 abbrev pub LowAll : ℕ → List Candidate → Type 0

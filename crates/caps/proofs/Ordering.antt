@@ -14,6 +14,7 @@ use mathlib.Core.Path.{_≡_, refl, sym, ap, subst, _∙_}
 use borrow.Author.Tests.{eq-eqb, ne-eqb}
 use lib.ListN.{length, replicate}
 use lib.Ieee.{Float}
+use Rattle.lists.specs.Regions.{Above}
 use Rattle.lists.proofs.Bools.{cond-true, cond-false, or-stop, or-next}
 use Rattle.geometry.specs.Meshes.{Mesh, meshOf}
 use Rattle.refusals.specs.declared.refusal.Refusal.{Refusal}
@@ -34,7 +35,7 @@ use Rattle.candidate_surface.specs.Candidates.{candidates, noFacet, noTwoEnds}
 use Rattle.closure_tests.specs.Tests.{edgeTests}
 use Rattle.candidate_surface.specs.Steps.{Completed}
 use Rattle.cap_triangles.specs.Selection.{capsOf}
-use Rattle.cap_triangles.specs.Room.{turnedAt, Above, Pooled}
+use Rattle.cap_triangles.specs.Room.{turnedAt, Pooled}
 use Rattle.cap_triangles.proofs.Kept.{pool-kept, edges-kept}
 use Rattle.caps.specs.declared.mode.BoundaryClosure.{BoundaryClosure}
 use Rattle.caps.specs.Operation.{leavesOpen, isPositive, suppliedTests, surface, pool, capTests, passedOver, capsTests, capsResult, Capped}

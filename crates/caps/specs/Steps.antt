@@ -11,6 +11,7 @@ use mathlib.Core.Bool.{Bool, cond}
 use mathlib.Core.List.{List}
 use lib.ListN.{length}
 use lib.Ieee.{Float}
+use Rattle.lists.specs.Regions.{Above}
 use Rattle.geometry.specs.Meshes.{Mesh, meshOf}
 use Rattle.refusals.specs.declared.refusal.Checked.{Checked}
 use Rattle.refusals.specs.declared.refusal.Checked.the-variants.{Passed}
@@ -24,7 +25,7 @@ use Rattle.candidate_edges.specs.Steps.{VerticesIn}
 use Rattle.candidate_surface.specs.Asked.{Asked}
 use Rattle.candidate_surface.specs.Candidates.{noTwoEnds}
 use Rattle.cap_triangles.specs.Selection.{Cap, capsOf, outwardCaps, selected}
-use Rattle.cap_triangles.specs.Room.{turnedAt, capsEnd, Above, CapReady}
+use Rattle.cap_triangles.specs.Room.{turnedAt, capsEnd, CapReady}
 use Rattle.cap_pairs.specs.Pairs.{PairsKnown}
 use Rattle.cap_closing.specs.Closing.{closed}
 use Rattle.cap_closing.specs.Entering.{MeshWords}

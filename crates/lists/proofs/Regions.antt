@@ -4,6 +4,7 @@
 --   view-more, view-put, view-stay   one more at its end; the same of a store there; a store behind it
 --   at-set                    what stands at a place after a store
 --   Filled, filled-none, filled-more   a part that is written place by place
+--   above-none, above-less, above-more   a buffer is above itself; a lesser bound; one change after another
 use Prim.Native.Nat.{ℕ, _+_, _≤_, _<_}
 use native.Mathlib.Omega.{arith}
 use native.Mathlib.Numerals.{add-one}
@@ -14,7 +15,7 @@ use mathlib.Core.Logic.{_⊎_, inl, inr}
 use lib.ListN.{getD, set, length, take, drop, length-take, length-drop, length-set, length-map}
 use lib.Seq.{getD-take, getD-drop, getD-set-same, getD-set-other, ext-getD, take-suc, take-suc-set, take-set-le, drop-set-add}
 use Rattle.lists.specs.Lists.{upTo}
-use Rattle.lists.specs.Regions.{view, Outside, Apart}
+use Rattle.lists.specs.Regions.{view, Outside, Apart, Above}
 use Rattle.lists.proofs.Places.{length-up, at-map-up}
 
 pub view-length : (w : List ℕ) (o n : ℕ) → o + n ≤ length w → length (view w o n) ≡ n
@@ -87,3 +88,14 @@ filled-more g w v o i hi f = record {
         → getD (set v (o + i) (g i)) (o + j) 0 ≡ g j
     go j h (inl e) = e .1 ∙ ap g (sym (e .0))
     go j h (inr e) = let d = e .0 in e .1 ∙ f .at j (omega arith)
+
+-- ---- nothing below a place changed
+
+pub above-none : (b : ℕ) (w : List ℕ) → Above b w w
+above-none b w = record { long = refl; below = λ x h. refl }
+
+pub above-less : (a b : ℕ) (w w' : List ℕ) → a ≤ b → Above b w w' → Above a w w'
+above-less a b w w' h r = record { long = r .long; below = λ x k. r .below x (omega arith) }
+
+pub above-more : (b : ℕ) (u v w : List ℕ) → Above b u v → Above b v w → Above b u w
+above-more b u v w r s = record { long = s .long ∙ r .long; below = λ x k. s .below x k ∙ r .below x k }

@@ -1,6 +1,6 @@
 -- Laws of lists that are made or gone through place by place. Assumes nothing.
 --   up-split, up-more, up-snoc       numbers counted up: in two parts, one more from k on, one more from 0 on
---   flatMap-append, flat-map, flat-flat   the library's `flatMap`: over two lists, after `map`, after itself
+--   flatMap-append, flat-map, flat-flat, flat-keep   the library's `flatMap`: over two lists, after `map`, after itself, after `keep`
 --   some-append, some-flat           a test of two lists, of the parts of one
 --   map-same, flat-same, some-same   functions that agree on each member
 --   map-below, flat-below, some-below   functions that agree on each number below n
@@ -68,6 +68,16 @@ module _ {A B : Type 0} (f : A → List B) where
   unfolding flatMap
   flat-flat g [] = refl
   flat-flat g (x ∷ l) = flatMap-append (g x) (flatMap g l) ∙ ap (λ (r : List B). flatMap f (g x) ++ r) (flat-flat g l)
+
+pub flat-keep : {A B : Type 0} (p : A → Bool) (f : A → List B) (l : List A) → flatMap (λ x. cond (p x) (f x) []) l ≡ flatMap f (keep p l)
+unfolding flatMap keep
+flat-keep p f [] = refl
+flat-keep {A} {B} p f (x ∷ l) = go (p x) (flat-keep p f l)
+  where
+    go : (b : Bool) → flatMap (λ x. cond (p x) (f x) []) l ≡ flatMap f (keep p l) → cond b (f x) [] ++ flatMap (λ x. cond (p x) (f x) []) l ≡ flatMap f
+        (cond b (x ∷ keep p l) (keep p l))
+    go true e = ap (λ (r : List B). f x ++ r) e
+    go false e = e
 
 -- ---- a test of lists
 

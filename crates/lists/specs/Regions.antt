@@ -3,6 +3,7 @@
 --   Outside x o n     the place x is none of the n from o on
 --   Apart o n p k     the n places from o on and the k from p on have none in common
 --   PartZeroed            the n places from o on were cleared, and all else is as it was
+--   Above b w w'      w became w', and nothing below the place b changed
 use Prim.Native.Nat.{ℕ, _+_, _<_}
 use mathlib.Core.Path.{_≡_}
 use mathlib.Core.List.{List}
@@ -21,3 +22,7 @@ pub record PartZeroed (old new : List ℕ) (o n : ℕ) : Type 0 where
   pub long : length new ≡ length old
   pub zero : (i : ℕ) → i < n → getD new (o + i) 0 ≡ 0
   pub rest : (x : ℕ) → Outside x o n → getD new x 0 ≡ getD old x 0
+
+pub record Above (b : ℕ) (w w' : List ℕ) : Type 0 where
+  pub long : length w' ≡ length w
+  pub below : (x : ℕ) → x < b → getD w' x 0 ≡ getD w x 0

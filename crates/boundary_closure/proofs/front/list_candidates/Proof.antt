@@ -1,6 +1,7 @@
+use mathlib.Core.Path.{_∙_}
 use native.Mathlib.Omega.{arith}
 use Rattle.candidate_surface.specs.Asked.{asked}
-use Rattle.boundary_closure.proofs.Listing.{no-ends-left, ends-left, readable, standing-is}
+use Rattle.boundary_closure.proofs.Listing.{no-ends-left, ends-left, Made, made-of}
 use Rattle.boundary_closure.proofs.Delivery.{no-ends, some-ends}
 use Rattle.candidate_surface.proofs.Fitting.{vertices-in, most-small}
 use Rattle.candidate_surface.proofs.Completing.{fits-same}
@@ -48,61 +49,45 @@ complete-requires c κs =
 
 all-constraints-requires : tie.Need-all-constraints-requires
 all-constraints-requires c κs =
-    let a = c .before .before .before .before .before .before .before .before .before .before .before .before .before .before .before .before .before .args in (
+    let surfaced = c .before .before .before .before .before .before .before .before in
+    let s = surfaced .before .before .before .before .before .before .before .before .before in
+    let a = s .args in
+    let M = s .pre .1 .0 .0 in
+    let m = most-small (a .vertices .now) (a .facets .now) (asked (a .extents) (a .eps) (a .resolution)) (s .pre .0) in (
       c .before .before .before .complete .ensures .holds,
       (
         c .before .before .before .complete .ensures .held,
-        ((
-          omega (
-            arith,
-            (c .before .before .before .before .before .before .before .before .before .before .before .before .before .before .before .before .before .pre .1 .0 .1),
-            most-small (a .vertices .now) (a .facets .now) (asked (a .extents) (a .eps) (a .resolution))
-                (c .before .before .before .before .before .before .before .before .before .before .before .before .before .before .before .before .before .pre .0),
-          ),
-          (fits-same (a .vertices .now) (a .facets .now) (a .n) (c .before .before .before .before .before .before .before .before .enter-surface .last .1 .1 .1 .1 .0)
-              (c .before .before .before .complete .last .1 .1 .1 .1 .1 .0) (c .before .before .before .complete .kept .1 .1 .1 .1 .1 .0)
-              (fits-same (a .vertices .now) (a .facets .now) (a .n) (a .w .now) (c .before .before .before .before .before .before .before .before .enter-surface .last .1 .1 .1 .1 .0)
-              (c .before .before .before .before .before .before .before .before .enter-surface .kept .1 .1 .1 .1 .0)
-              (c .before .before .before .before .before .before .before .before .before .before .before .before .before .before .before .before .before .pre .1 .0 .0))) .few,
-          omega (
-            arith,
-            (fits-same (a .vertices .now) (a .facets .now) (a .n) (c .before .before .before .before .before .before .before .before .enter-surface .last .1 .1 .1 .1 .0)
-                (c .before .before .before .complete .last .1 .1 .1 .1 .1 .0) (c .before .before .before .complete .kept .1 .1 .1 .1 .1 .0)
-                (fits-same (a .vertices .now) (a .facets .now) (a .n) (a .w .now) (c .before .before .before .before .before .before .before .before .enter-surface .last .1 .1 .1 .1 .0)
-                (c .before .before .before .before .before .before .before .before .enter-surface .kept .1 .1 .1 .1 .0)
-                (c .before .before .before .before .before .before .before .before .before .before .before .before .before .before .before .before .before .pre .1 .0 .0))) .threes,
-            ((c .before .before .before .before .before .before .before .before .before .before .before .before .before .before .before .before .before .pre .1 .1) .table .within),
-          ),
-          (fits-same (a .vertices .now) (a .facets .now) (a .n) (c .before .before .before .before .before .before .before .before .enter-surface .last .1 .1 .1 .1 .0)
-              (c .before .before .before .complete .last .1 .1 .1 .1 .1 .0) (c .before .before .before .complete .kept .1 .1 .1 .1 .1 .0)
-              (fits-same (a .vertices .now) (a .facets .now) (a .n) (a .w .now) (c .before .before .before .before .before .before .before .before .enter-surface .last .1 .1 .1 .1 .0)
-              (c .before .before .before .before .before .before .before .before .enter-surface .kept .1 .1 .1 .1 .0)
-              (c .before .before .before .before .before .before .before .before .before .before .before .before .before .before .before .before .before .pre .1 .0 .0))) .size,
-        )),
+        (
+          omega (arith, s .pre .1 .0 .1, m),
+          M .few,
+          omega (arith, M .threes, s .pre .1 .1 .table .within),
+          omega (arith, M .size, surfaced .enter-surface .kept .1 .1 .1 .1 .0, c .before .before .before .complete .kept .1 .1 .1 .1 .1 .0),
+        ),
       ),
     )
 
+-- from the place where the constraints are in, back to the ends of open edges and to the start
+abbrev surfaced : tie.After-all-constraints → tie.After-enter-surface
+surfaced m = m .before .before .before .before .before .before .before .before .before
+
+abbrev start : tie.After-all-constraints → tie.Start
+start m = surfaced m .before .before .before .before .before .before .before .before .before
+
+made : (m : tie.After-all-constraints)
+    → Made (start m .args .vertices .now) (start m .args .facets .now) (asked (start m .args .extents) (start m .args .eps) (start m .args .resolution)) (start m .args .n)
+    (start m .args .k) (surfaced m .enter-surface .result) (m .all-constraints .result) (m .all-constraints .last .0)
+made m =
+    let completed = m .before .before .before .before in
+    let a = start m .args in
+    let w = completed .complete .last .1 .1 .1 .1 .1 .0 in
+    made-of (a .vertices .now) (a .facets .now) (asked (a .extents) (a .eps) (a .resolution)) (surfaced m .enter-surface .result) (surfaced m .enter-surface .ensures .1) (a .n) (a .k)
+    (m .all-constraints .result) w (m .all-constraints .last .0)
+    (fits-same (a .vertices .now) (a .facets .now) (a .n) (a .w .now) w
+    (completed .complete .kept .1 .1 .1 .1 .1 .0 ∙ surfaced m .enter-surface .kept .1 .1 .1 .1 .0) (start m .pre .1 .0 .0)) (start m .pre .1 .1 .table .within)
+    (completed .complete .ensures) (m .all-constraints .ensures)
+
 deliver-requires : tie.Need-deliver-requires
-deliver-requires c κs =
-    let a = c .before .before .before .before .before .before .before .before .before .before .before .before .before .before .before .before .before .before .before .before
-    .before .before .before .before .before .args in
-    readable (a .vertices .now) (a .facets .now) (asked (a .extents) (a .eps) (a .resolution))
-    (c .before .before .before .before .before .before .before .before .before .before .before .before .before .before .before .before .enter-surface .result)
-    (c .before .before .before .before .before .before .before .before .before .before .before .before .before .before .before .before .enter-surface .ensures .1) (a .n) (a .k)
-    (c .before .before .before .before .before .before .before .all-constraints .result)
-    (c .before .before .before .before .before .before .before .before .before .before .before .complete .last .1 .1 .1 .1 .1 .0)
-    (c .before .before .before .before .before .before .before .all-constraints .last .0)
-    (fits-same (a .vertices .now) (a .facets .now) (a .n) (c .before .before .before .before .before .before .before .before .before .before .before .before .before .before .before
-    .before .enter-surface .last .1 .1 .1 .1 .0) (c .before .before .before .before .before .before .before .before .before .before .before .complete .last .1 .1 .1 .1 .1 .0)
-    (c .before .before .before .before .before .before .before .before .before .before .before .complete .kept .1 .1 .1 .1 .1 .0)
-    (fits-same (a .vertices .now) (a .facets .now) (a .n) (a .w .now)
-    (c .before .before .before .before .before .before .before .before .before .before .before .before .before .before .before .before .enter-surface .last .1 .1 .1 .1 .0)
-    (c .before .before .before .before .before .before .before .before .before .before .before .before .before .before .before .before .enter-surface .kept .1 .1 .1 .1 .0)
-    (c .before .before .before .before .before .before .before .before .before .before .before .before .before .before .before .before .before .before .before .before .before
-    .before .before .before .before .pre .1 .0 .0))) ((c .before .before .before .before .before .before .before .before .before .before .before .before .before .before .before
-    .before .before .before .before .before .before .before .before .before .before .pre .1 .1) .table .within)
-    (c .before .before .before .before .before .before .before .before .before .before .before .complete .ensures)
-    (c .before .before .before .before .before .before .before .all-constraints .ensures)
+deliver-requires c κs = made (c .before .before .before .before .before .before .before) .readable
 
 same-length-2 : tie.Need-same-length-2
 same-length-2 c = search needs
@@ -121,38 +106,12 @@ same-length-6 c = search needs
 
 returns-2 : tie.Need-returns-2
 returns-2 c =
-    let a = c .before .before .before .before .before .before .before .before .before .before .before .before .before .before .before .before .before .before .before .before
-    .before .before .before .before .before .before .before .before .before .before .before .before .before .before .args in
-    some-ends (a .vertices .now) (a .facets .now) (asked (a .extents) (a .eps) (a .resolution)) (a .candidates .now) _ (a .face-lists .now) _ (a .constraints .now) _
-    (a .open-edges .now) _ (ends-left (a .vertices .now) (a .facets .now) (asked (a .extents) (a .eps) (a .resolution))
-    (c .before .before .before .before .before .before .before .before .before .before .before .before .before .before .before .before .before .before .before .before .before
-    .before .before .before .before .enter-surface .result) (c .before .before .before .before .before .before .before .before .before .before .before .before .before .before
-    .before .before .before .before .before .before .before .before .before .before .before .enter-surface .ensures .1)
-    (c .before .before .before .before .before .before .before .before .before .before .before .before .before .before .before .before .before .before .before .before .before
-    .before .if1 .left)) _ (standing-is (a .vertices .now) (a .facets .now) (asked (a .extents) (a .eps) (a .resolution))
-    (c .before .before .before .before .before .before .before .before .before .before .before .before .before .before .before .before .before .before .before .before .before
-    .before .before .before .before .enter-surface .result) (c .before .before .before .before .before .before .before .before .before .before .before .before .before .before
-    .before .before .before .before .before .before .before .before .before .before .before .enter-surface .ensures .1) (a .n) (a .k)
-    (c .before .before .before .before .before .before .before .before .before .before .before .before .before .before .before .before .all-constraints .result)
-    (c .before .before .before .before .before .before .before .before .before .before .before .before .before .before .before .before .before .before .before .before .complete
-    .last .1 .1 .1 .1 .1 .0) (c .before .before .before .before .before .before .before .before .before .before .before .before .before .before .before .before .all-constraints
-    .last .0) (fits-same (a .vertices .now) (a .facets .now) (a .n)
-    (c .before .before .before .before .before .before .before .before .before .before .before .before .before .before .before .before .before .before .before .before .before
-    .before .before .before .before .enter-surface .last .1 .1 .1 .1 .0)
-    (c .before .before .before .before .before .before .before .before .before .before .before .before .before .before .before .before .before .before .before .before .complete
-    .last .1 .1 .1 .1 .1 .0) (c .before .before .before .before .before .before .before .before .before .before .before .before .before .before .before .before .before .before
-    .before .before .complete .kept .1 .1 .1 .1 .1 .0) (fits-same (a .vertices .now) (a .facets .now) (a .n) (a .w .now)
-    (c .before .before .before .before .before .before .before .before .before .before .before .before .before .before .before .before .before .before .before .before .before
-    .before .before .before .before .enter-surface .last .1 .1 .1 .1 .0)
-    (c .before .before .before .before .before .before .before .before .before .before .before .before .before .before .before .before .before .before .before .before .before
-    .before .before .before .before .enter-surface .kept .1 .1 .1 .1 .0)
-    (c .before .before .before .before .before .before .before .before .before .before .before .before .before .before .before .before .before .before .before .before .before
-    .before .before .before .before .before .before .before .before .before .before .before .before .before .pre .1 .0 .0)))
-    ((c .before .before .before .before .before .before .before .before .before .before .before .before .before .before .before .before .before .before .before .before .before
-    .before .before .before .before .before .before .before .before .before .before .before .before .before .pre .1 .1) .table .within)
-    (c .before .before .before .before .before .before .before .before .before .before .before .before .before .before .before .before .before .before .before .before .complete
-    .ensures) (c .before .before .before .before .before .before .before .before .before .before .before .before .before .before .before .before .all-constraints .ensures)) _
-    (c .before .before .before .before .before .before .before .before .deliver .ensures)
+    let m = c .before .before .before .before .before .before .before .before .before .before .before .before .before .before .before .before in
+    let a = start m .args in
+    let q = asked (a .extents) (a .eps) (a .resolution) in
+    some-ends (a .vertices .now) (a .facets .now) q (a .candidates .now) _ (a .face-lists .now) _ (a .constraints .now) _ (a .open-edges .now) _
+    (ends-left (a .vertices .now) (a .facets .now) q (surfaced m .enter-surface .result) (surfaced m .enter-surface .ensures .1)
+    (m .before .before .before .before .before .before .if1 .left)) _ (made m .standing) _ (c .before .before .before .before .before .before .before .before .deliver .ensures)
 
 pub list-candidates-spec : {M : Type 1} → statement M
 list-candidates-spec =

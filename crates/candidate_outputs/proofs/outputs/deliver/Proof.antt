@@ -4,13 +4,12 @@ use Rattle.candidate_constraints.specs.Steps.{unpacked}
 use Rattle.candidate_pool.specs.Standing.{edgesAt}
 use Rattle.lists.specs.Regions.{view}
 use lib.Seq.{sets}
-use lib.ListN.{getD, length}
-use Prim.Native.Nat.{ℕ, _+_, _*_}
+use lib.ListN.{length}
+use Prim.Native.Nat.{ℕ}
 use mathlib.Core.List.{map}
-use mathlib.Core.Path.{sym, ap, _∙_}
+use mathlib.Core.Path.{ap, _∙_}
 use native.Mathlib.Omega.{arith}
-use Rattle.candidate_outputs.specs.Written.{candidatesStanding}
-use Rattle.candidate_outputs.proofs.Lengths.{candidates-long, all-lists-long, constraints-long, edges-long, edges-few}
+use Rattle.candidate_outputs.proofs.Lengths.{all-lists-long, edges-long, edges-few}
 use Rattle.candidate_outputs.proofs.Delivery.{short-candidates, short-lists, short-constraints, short-edges, done}
 use borrow.Author.Needs.{needs}
 use Rattle.candidate_outputs.proofs.outputs.deliver.Statement.{statement}
@@ -33,83 +32,48 @@ mul-t c = search needs
 
 mul-e : tie.Need-mul-e
 mul-e c =
-    let a = c .before .before .before .before .before .before .before .args in
-    let w = a .w .now in
-    let h = edges-few (a .n) (a .nf) (a .k) (a .listed) (a .total) w (c .before .before .before .before .before .before .before .pre) in
-    omega (arith, h, c .before .before .before .before .before .before .before .pre .small-facets)
+    let s = c .before .before .before .before .before .before .before in
+    let a = s .args in
+    let h = edges-few (a .n) (a .nf) (a .k) (a .listed) (a .total) (a .w .now) (s .pre) in
+    omega (arith, h, s .pre .small-facets)
 
 returns : tie.Need-returns
 returns c =
-    let a = c .before .before .before .before .before .before .before .before .args in
-    let w = a .w .now in
-    short-candidates (candidatesStanding (a .n) (a .nf) (a .k) (a .total) w) (5 * getD w 6 0) (6 + c .before .listed-numbers .result) (3 * a .total) (3 * a .listed)
-    (candidates-long (a .n) (a .nf) (a .k) (a .listed) (a .total) w (c .before .before .before .before .before .before .before .before .pre))
-    (all-lists-long (a .n) (a .nf) (a .k) (a .listed) (a .total) w (c .before .before .before .before .before .before .before .before .pre) _
-    (c .before .listed-numbers .ensures .0)) (constraints-long (a .n) (a .nf) (a .k) (a .listed) (a .total) w
-    (c .before .before .before .before .before .before .before .before .pre))
-    (edges-long (a .n) (a .nf) (a .k) (a .listed) (a .total) w (c .before .before .before .before .before .before .before .before .pre)) (a .candidates .now) (a .face-lists .now)
-    (a .constraints .now) (a .open-edges .now) (c .if1 .taken)
+    let s = c .before .before .before .before .before .before .before .before in
+    let a = s .args in
+    short-candidates (a .n) (a .nf) (a .k) (a .listed) (a .total) (a .w .now) (s .pre) _ (c .before .listed-numbers .ensures .0) (a .candidates .now)
+    (a .face-lists .now) (a .constraints .now) (a .open-edges .now) (c .if1 .taken)
 
 returns-2 : tie.Need-returns-2
 returns-2 c =
-    let a = c .before .before .before .before .before .before .before .before .before .args in
-    let w = a .w .now in
-    short-lists (candidatesStanding (a .n) (a .nf) (a .k) (a .total) w) (5 * getD w 6 0) (6 + c .before .before .listed-numbers .result) (3 * a .total) (3 * a .listed)
-    (candidates-long (a .n) (a .nf) (a .k) (a .listed) (a .total) w (c .before .before .before .before .before .before .before .before .before .pre))
-    (all-lists-long (a .n) (a .nf) (a .k) (a .listed) (a .total) w (c .before .before .before .before .before .before .before .before .before .pre) _
-    (c .before .before .listed-numbers .ensures .0)) (constraints-long (a .n) (a .nf) (a .k) (a .listed) (a .total) w
-    (c .before .before .before .before .before .before .before .before .before .pre))
-    (edges-long (a .n) (a .nf) (a .k) (a .listed) (a .total) w (c .before .before .before .before .before .before .before .before .before .pre)) (a .candidates .now)
+    let s = c .before .before .before .before .before .before .before .before .before in
+    let a = s .args in
+    short-lists (a .n) (a .nf) (a .k) (a .listed) (a .total) (a .w .now) (s .pre) _ (c .before .before .listed-numbers .ensures .0) (a .candidates .now)
     (a .face-lists .now) (a .constraints .now) (a .open-edges .now) (c .before .if1 .left) (c .if2 .taken)
 
 returns-3 : tie.Need-returns-3
 returns-3 c =
-    let a = c .before .before .before .before .before .before .before .before .before .before .args in
-    let w = a .w .now in
-    short-constraints (candidatesStanding (a .n) (a .nf) (a .k) (a .total) w) (5 * getD w 6 0) (6 + c .before .before .before .listed-numbers .result) (3 * a .total) (3 * a .listed)
-    (candidates-long (a .n) (a .nf) (a .k) (a .listed) (a .total) w (c .before .before .before .before .before .before .before .before .before .before .pre))
-    (all-lists-long (a .n) (a .nf) (a .k) (a .listed) (a .total) w (c .before .before .before .before .before .before .before .before .before .before .pre) _
-    (c .before .before .before .listed-numbers .ensures .0)) (constraints-long (a .n) (a .nf) (a .k) (a .listed) (a .total) w
-    (c .before .before .before .before .before .before .before .before .before .before .pre))
-    (edges-long (a .n) (a .nf) (a .k) (a .listed) (a .total) w (c .before .before .before .before .before .before .before .before .before .before .pre)) (a .candidates .now)
+    let s = c .before .before .before .before .before .before .before .before .before .before in
+    let a = s .args in
+    short-constraints (a .n) (a .nf) (a .k) (a .listed) (a .total) (a .w .now) (s .pre) _ (c .before .before .before .listed-numbers .ensures .0) (a .candidates .now)
     (a .face-lists .now) (a .constraints .now) (a .open-edges .now) (c .before .before .if1 .left) (c .before .if2 .left) (c .if3 .taken)
 
 returns-4 : tie.Need-returns-4
 returns-4 c =
-    let a = c .before .before .before .before .before .before .before .before .before .before .before .args in
-    let w = a .w .now in
-    short-edges (candidatesStanding (a .n) (a .nf) (a .k) (a .total) w) (5 * getD w 6 0) (6 + c .before .before .before .before .listed-numbers .result) (3 * a .total) (3 * a .listed)
-    (candidates-long (a .n) (a .nf) (a .k) (a .listed) (a .total) w (c .before .before .before .before .before .before .before .before .before .before .before .pre))
-    (all-lists-long (a .n) (a .nf) (a .k) (a .listed) (a .total) w (c .before .before .before .before .before .before .before .before .before .before .before .pre) _
-    (c .before .before .before .before .listed-numbers .ensures .0))
-    (constraints-long (a .n) (a .nf) (a .k) (a .listed) (a .total) w (c .before .before .before .before .before .before .before .before .before .before .before .pre))
-    (edges-long (a .n) (a .nf) (a .k) (a .listed) (a .total) w (c .before .before .before .before .before .before .before .before .before .before .before .pre))
-    (a .candidates .now) (a .face-lists .now) (a .constraints .now) (a .open-edges .now) (c .before .before .before .if1 .left) (c .before .before .if2 .left)
-    (c .before .if3 .left) (c .if4 .taken)
+    let s = c .before .before .before .before .before .before .before .before .before .before .before in
+    let a = s .args in
+    short-edges (a .n) (a .nf) (a .k) (a .listed) (a .total) (a .w .now) (s .pre) _ (c .before .before .before .before .listed-numbers .ensures .0) (a .candidates .now)
+    (a .face-lists .now) (a .constraints .now) (a .open-edges .now) (c .before .before .before .if1 .left) (c .before .before .if2 .left) (c .before .if3 .left) (c .if4 .taken)
 
 write-words-requires : tie.Need-write-words-requires
 write-words-requires c κs = search needs
 
 write-face-lists-requires : tie.Need-write-face-lists-requires
 write-face-lists-requires c κs =
-    let a = c .before .before .before .before .before .before .before .before .before .before .before .before .before .before .before .before .args in
-    let w = a .w .now in (
-      (
-        c .before .before .before .before .before .before .before .before .before .before .before .before .before .before .before .before .pre .small,
-        omega
-            (arith, c .before .before .before .before .before .before .before .before .before .before .before .before .before .before .before .before .pre .size),
-      ),
-      (
-        c .before .before .before .before .before .before .before .before .before .before .before .before .before .before .before .before .pre .short,
-        omega (
-          arith,
-          c .before .before .before .before .before .before .before .if2 .left,
-          all-lists-long (a .n) (a .nf) (a .k) (a .listed) (a .total) w
-              (c .before .before .before .before .before .before .before .before .before .before .before .before .before .before .before .before .pre) _
-              (c .before .before .before .before .before .before .before .before .before .listed-numbers .ensures .0),
-        ),
-      ),
-    )
+    let s = c .before .before .before .before .before .before .before .before .before .before .before .before .before .before .before .before in
+    let a = s .args in
+    let l = all-lists-long (a .n) (a .nf) (a .k) (a .listed) (a .total) (a .w .now) (s .pre) _ (c .before .before .before .before .before .before .before .before .before .listed-numbers .ensures .0) in
+    ((s .pre .small, omega (arith, s .pre .size)), (s .pre .short, omega (arith, c .before .before .before .before .before .before .before .if2 .left, l)))
 
 constraints-at-requires : tie.Need-constraints-at-requires
 constraints-at-requires c κs = search needs
@@ -122,28 +86,12 @@ open-edges-at-requires c κs = search needs
 
 write-edges-requires : tie.Need-write-edges-requires
 write-edges-requires c κs =
-    let a = c .before .before .before .before .before .before .before .before .before .before .before .before .before .before .before .before .before .before .before .before
-    .before .before .before .before .before .before .args in
-    let w = a .w .now in (
-      omega (
-        arith,
-        c .before .before .before .before .before .before .before .before .before .before .before .before .before .before .before .before .before .before .before .before
-            .before .before .before .before .before .before .pre .size,
-        c .before .before .before .before .before .before .before .before .before .before .before .before .before .before
-            .before .before .before .before .before .before .before .before .before .before .before .before .pre .edges,
-        c .before .open-edges-at .ensures,
-      ),
-      let e = ap
-          (λ (x : ℕ). length (openEdgeWords (edgesAt w x (a .k)))) (c .before .open-edges-at .ensures) in omega (
-            arith,
-            c .before .before .before .before .before .before .before .before .before .before .before .before .before .before .before .if4 .left,
-            edges-long (a .n) (a .nf) (a .k)
-                (a .listed) (a .total) w (c .before .before .before .before .before .before .before .before .before .before .before .before .before .before .before .before .before
-                .before
-                .before .before .before .before .before .before .before .before .pre),
-            e,
-          ),
-    )
+    let fit = c .before .before .before .before .before .before .before .before .before .before .before .before .before .before .before in
+    let s = fit .before .before .before .before .before .before .before .before .before .before .before in
+    let a = s .args in
+    let e = ap (λ (x : ℕ). length (openEdgeWords (edgesAt (a .w .now) x (a .k)))) (c .before .open-edges-at .ensures) in
+    let l = edges-long (a .n) (a .nf) (a .k) (a .listed) (a .total) (a .w .now) (s .pre) in
+    (omega (arith, s .pre .size, s .pre .edges, c .before .open-edges-at .ensures), omega (arith, fit .if4 .left, l, e))
 
 same-length : tie.Need-same-length
 same-length c = search needs
@@ -159,37 +107,22 @@ same-length-4 c = search needs
 
 returns-5 : tie.Need-returns-5
 returns-5 c =
-    let a = c .before .before .before .before .before .before .before .before .before .before .before .before .before .before .before .before .before .before .before .before
-    .before .before .before .before .before .before .before .before .before .args in
+    let edges = c .before .before .before .before in
+    let constraints = edges .before .before .before in
+    let before-constraints = constraints .before .before in
+    let lists = before-constraints .before .before .before in
+    let words = lists .before .before .before .before in
+    let fit = words .before .before in
+    let numbers = fit .before .before .before .before in
+    let s = numbers .before .before .before .before .before .before .before in
+    let a = s .args in
     let w = a .w .now in
-    done (candidatesStanding (a .n) (a .nf) (a .k) (a .total) w) (5 * getD w 6 0)
-    (6 + c .before .before .before .before .before .before .before .before .before .before .before .before .before .before .before .before .before .before .before .before .before
-    .before .listed-numbers .result) (3 * a .total) (3 * a .listed)
-    (candidates-long (a .n) (a .nf) (a .k) (a .listed) (a .total) w
-    (c .before .before .before .before .before .before .before .before .before .before .before .before .before .before .before .before .before .before .before .before .before
-    .before .before .before .before .before .before .before .before .pre))
-    (all-lists-long (a .n) (a .nf) (a .k) (a .listed) (a .total) w
-    (c .before .before .before .before .before .before .before .before .before .before .before .before .before .before .before .before .before .before .before .before .before
-    .before .before .before .before .before .before .before .before .pre) _
-    (c .before .before .before .before .before .before .before .before .before .before .before .before .before .before .before .before .before .before .before .before .before
-    .before .listed-numbers .ensures .0)) (constraints-long (a .n) (a .nf) (a .k) (a .listed) (a .total) w
-    (c .before .before .before .before .before .before .before .before .before .before .before .before .before .before .before .before .before .before .before .before .before
-    .before .before .before .before .before .before .before .before .pre))
-    (edges-long (a .n) (a .nf) (a .k) (a .listed) (a .total) w (c .before .before .before .before .before .before .before .before .before .before .before .before .before .before
-    .before .before .before .before .before .before .before .before .before .before .before .before .before .before .before .pre)) (a .candidates .now) (a .face-lists .now)
-    (a .constraints .now) (a .open-edges .now) (c .before .before .before .before .before .before .before .before .before .before .before .before .before .before .before .before
-    .before .before .before .before .before .if1 .left) (c .before .before .before .before .before .before .before .before .before .before .before .before .before .before .before
-    .before .before .before .before .before .if2 .left) (c .before .before .before .before .before .before .before .before .before .before .before .before .before .before .before
-    .before .before .before .before .if3 .left) (c .before .before .before .before .before .before .before .before .before .before .before .before .before .before .before .before
-    .before .before .if4 .left) _ _ _ _ (c .before .before .before .before .before .before .before .before .before .before .before .before .before .before .before .before
-    .write-words .ensures ∙ ap (sets (a .candidates .now) 0) (sym (c .before .before .before .before .before .before .before .before .before .before .before .before .before .before
-    .before .before .before .before .before .before .before .before .before .before .before .before .before .before .before .pre .words)))
-    (c .before .before .before .before .before .before .before .before .before .before .before .before .write-face-lists .ensures)
-    (c .before .before .before .before .before .before .before .write-constraints .ensures ∙ ap
-    (λ (x : ℕ). sets (a .constraints .now) 0 (constraintWords (map unpacked (view w x (a .total)))))
-    (c .before .before .before .before .before .before .before .before .before .constraints-at .ensures))
-    (c .before .before .write-edges .ensures ∙ ap (λ (x : ℕ). sets (a .open-edges .now) 0 (openEdgeWords (edgesAt w x (a .k))))
-    (c .before .before .before .before .open-edges-at .ensures))
+    done (a .n) (a .nf) (a .k) (a .listed) (a .total) w (s .pre) _ (numbers .listed-numbers .ensures .0) (a .candidates .now) (a .face-lists .now) (a .constraints .now)
+    (a .open-edges .now) (fit .before .before .before .if1 .left) (fit .before .before .if2 .left) (fit .before .if3 .left) (fit .if4 .left) _ _ _ _ (words .write-words .ensures)
+    (lists .write-face-lists .ensures)
+    (constraints .write-constraints .ensures ∙ ap (λ (x : ℕ). sets (a .constraints .now) 0 (constraintWords (map unpacked (view w x (a .total)))))
+    (before-constraints .constraints-at .ensures))
+    (c .before .before .write-edges .ensures ∙ ap (λ (x : ℕ). sets (a .open-edges .now) 0 (openEdgeWords (edgesAt w x (a .k)))) (edges .open-edges-at .ensures))
 
 pub deliver-spec : {M : Type 1} → statement M
 deliver-spec =

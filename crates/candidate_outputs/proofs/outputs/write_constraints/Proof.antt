@@ -5,18 +5,18 @@ use mathlib.Core.List.{[], _∷_}
 use mathlib.Core.Path.{refl, _∙_}
 use native.Mathlib.Omega.{arith}
 use Rattle.candidate_outputs.proofs.Blocks.{keyBlock, keys-are, keys-long}
-use Rattle.candidate_outputs.proofs.Runs.{Run, run-start, run-turn, run-room, run-long, run-end}
+use Rattle.lists.proofs.Blocks.{BlocksStored, blocks-start, blocks-turn, blocks-room, blocks-long, blocks-end}
 use Rattle.candidate_outputs.proofs.outputs.write_constraints.Statement.{statement}
 use Rattle.candidate_outputs.proofs.outputs.write_constraints.Tie as tie
 
 abbrev Inv-loop : tie.InvT-loop
-Inv-loop w at total out₀ o₀ i₀ out o i = (i ≤ total) × Run (keyBlock w at) out₀ out 0 i o
+Inv-loop w at total out₀ o₀ i₀ out o i = (i ≤ total) × BlocksStored (keyBlock w at) out₀ out 0 i o
 
 abbrev μ-loop : tie.MeasureT-loop
 μ-loop w at total out₀ o₀ i₀ out o i = total - i
 
 loop-holds : tie.Need-loop-holds Inv-loop μ-loop
-loop-holds c = let a = c .before .before .args in (omega arith, run-start (keyBlock (a .w .now) (a .at)) (a .out .now) 0)
+loop-holds c = let a = c .before .before .args in (omega arith, blocks-start (keyBlock (a .w .now) (a .at)) (a .out .now) 0 _ refl)
 
 add-key : tie.Need-add-key Inv-loop μ-loop
 add-key c = omega (arith, c .before .before .before .before .pre .0)
@@ -40,7 +40,7 @@ write-three-requires : tie.Need-write-three-requires Inv-loop μ-loop
 write-three-requires c κs =
     let a = c .before .before .before .before .before .before .before .before .before .args in
     let l = keys-long (a .w .now) (a .at) (a .total) (c .before .before .before .before .before .before .before .before .before .pre .0) in
-    let r = run-room (keyBlock (a .w .now) (a .at)) (a .out .now) (c .before .before .before .before .before .before .loop .out) 0
+    let r = blocks-room (keyBlock (a .w .now) (a .at)) (a .out .now) (c .before .before .before .before .before .before .loop .out) 0
     (c .before .before .before .before .before .before .loop .i) (c .before .before .before .before .before .before .loop .o)
     (c .before .before .before .before .before .before .loop .inv .1) (a .total) (c .before .before .before .before .before .loop-test .taken)
     (omega (arith, l, c .before .before .before .before .before .before .before .before .before .pre .1)) in
@@ -50,7 +50,7 @@ add-o : tie.Need-add-o Inv-loop μ-loop
 add-o c =
     let a = c .before .before .before .before .before .before .before .before .before .before .before .before .args in
     let l = keys-long (a .w .now) (a .at) (a .total) (c .before .before .before .before .before .before .before .before .before .before .before .before .pre .0) in
-    let r = run-room (keyBlock (a .w .now) (a .at)) (a .out .now) (c .before .before .before .before .before .before .before .before .before .loop .out) 0
+    let r = blocks-room (keyBlock (a .w .now) (a .at)) (a .out .now) (c .before .before .before .before .before .before .before .before .before .loop .out) 0
     (c .before .before .before .before .before .before .before .before .before .loop .i) (c .before .before .before .before .before .before .before .before .before .loop .o)
     (c .before .before .before .before .before .before .before .before .before .loop .inv .1) (a .total)
     (c .before .before .before .before .before .before .before .before .loop-test .taken)
@@ -58,7 +58,7 @@ add-o c =
     omega (
       arith,
       r,
-      run-long (keyBlock (a .w .now) (a .at)) (a .out .now) (c .before .before .before .before .before .before .before .before .before .loop .out) 0
+      blocks-long (keyBlock (a .w .now) (a .at)) (a .out .now) (c .before .before .before .before .before .before .before .before .before .loop .out) 0
           (c .before .before .before .before .before .before .before .before .before .loop .i) (c .before .before .before .before .before .before .before .before .before .loop .o)
           (c .before .before .before .before .before .before .before .before .before .loop .inv .1),
     )
@@ -73,7 +73,7 @@ loop-again : tie.Need-loop-again Inv-loop μ-loop
 loop-again c =
     let a = c .before .before .before .before .before .before .before .before .before .before .before .before .args in (
       omega arith,
-      run-turn (keyBlock (a .w .now) (a .at)) (a .out .now) (c .before .before .before .before .before .before .before .before .before .loop .out) 0
+      blocks-turn (keyBlock (a .w .now) (a .at)) (a .out .now) (c .before .before .before .before .before .before .before .before .before .loop .out) 0
           (c .before .before .before .before .before .before .before .before .before .loop .i) (c .before .before .before .before .before .before .before .before .before .loop .o)
           (c .before .before .before .before .before .before .before .before .before .loop .inv .1) _ _
           (c .before .before .write-three .ensures ∙ (λ t. sets (c .before .before .before .before .before .before .before .before .before .loop .out)
@@ -85,12 +85,12 @@ loop-again c =
 same-length : tie.Need-same-length Inv-loop μ-loop
 same-length c =
     let a = c .before .before .before .before .args in
-    run-long (keyBlock (a .w .now) (a .at)) (a .out .now) (c .before .loop .out) 0 (c .before .loop .i) (c .before .loop .o) (c .before .loop .inv .1)
+    blocks-long (keyBlock (a .w .now) (a .at)) (a .out .now) (c .before .loop .out) 0 (c .before .loop .i) (c .before .loop .o) (c .before .loop .inv .1)
 
 returns : tie.Need-returns Inv-loop μ-loop
 returns c =
     let a = c .before .before .before .before .args in
-    run-end (keyBlock (a .w .now) (a .at)) (a .out .now) (c .before .loop .out) 0 (c .before .loop .i) (c .before .loop .o) (c .before .loop .inv .1) (a .total)
+    blocks-end (keyBlock (a .w .now) (a .at)) (a .out .now) (c .before .loop .out) 0 (c .before .loop .i) (c .before .loop .o) (c .before .loop .inv .1) (a .total)
     (c .before .loop .inv .0) (c .loop-test .left) _ (keys-are (a .w .now) (a .at) (a .total) (c .before .before .before .before .pre .0))
 
 pub write-constraints-spec : {M : Type 1} → statement M

@@ -1,14 +1,15 @@
 use Prim.Native.Nat.{_≤_, _+_, _-_}
 use lib.ListN.{getD}
+use mathlib.Core.Path.{refl}
 use native.Mathlib.Omega.{arith}
 use Rattle.candidate_outputs.specs.Written.{faceWords}
 use Rattle.candidate_outputs.proofs.Blocks.{faces-are, faces-long}
-use Rattle.candidate_outputs.proofs.Runs.{Run, run-start, run-turn, run-room, run-long, run-end, run-place}
+use Rattle.lists.proofs.Blocks.{BlocksStored, blocks-start, blocks-turn, blocks-room, blocks-long, blocks-end, blocks-place}
 use Rattle.candidate_outputs.proofs.outputs.write_edge.Statement.{statement}
 use Rattle.candidate_outputs.proofs.outputs.write_edge.Tie as tie
 
 abbrev Inv-loop : tie.InvT-loop
-Inv-loop w edge out₀ at mask o₀ face₀ out o face = (face ≤ 6) × Run (faceWords mask (getD w edge 0) (getD w (edge + 1) 0)) out₀ out at face o
+Inv-loop w edge out₀ at mask o₀ face₀ out o face = (face ≤ 6) × BlocksStored (faceWords mask (getD w edge 0) (getD w (edge + 1) 0)) out₀ out at face o
 
 abbrev μ-loop : tie.MeasureT-loop
 μ-loop w edge out₀ at mask o₀ face₀ out o face = 6 - face
@@ -25,7 +26,7 @@ shared-slice-read-mask c = omega arith
 loop-holds : tie.Need-loop-holds Inv-loop μ-loop
 loop-holds c =
     let a = c .before .before .before .args in
-    (omega arith, run-start (faceWords (getD (a .w .now) (a .edge + 2) 0) (getD (a .w .now) (a .edge) 0) (getD (a .w .now) (a .edge + 1) 0)) (a .out .now) (a .at))
+    (omega arith, blocks-start (faceWords (getD (a .w .now) (a .edge + 2) 0) (getD (a .w .now) (a .edge) 0) (getD (a .w .now) (a .edge + 1) 0)) (a .out .now) (a .at) _ refl)
 
 mul-write-face : tie.Need-mul-write-face Inv-loop μ-loop
 mul-write-face c = omega arith
@@ -46,7 +47,7 @@ write-face-requires : tie.Need-write-face-requires Inv-loop μ-loop
 write-face-requires c κs =
     let a = c .before .before .before .before .before .before .before .before .args in
     let l = faces-long (getD (a .w .now) (a .edge + 2) 0) (getD (a .w .now) (a .edge) 0) (getD (a .w .now) (a .edge + 1) 0) in
-    let r = run-room (faceWords (getD (a .w .now) (a .edge + 2) 0) (getD (a .w .now) (a .edge) 0) (getD (a .w .now) (a .edge + 1) 0)) (a .out .now)
+    let r = blocks-room (faceWords (getD (a .w .now) (a .edge + 2) 0) (getD (a .w .now) (a .edge) 0) (getD (a .w .now) (a .edge + 1) 0)) (a .out .now)
     (c .before .before .before .before .loop .out) (a .at) (c .before .before .before .before .loop .face) (c .before .before .before .before .loop .o)
     (c .before .before .before .before .loop .inv .1) 6 (c .before .before .before .loop-test .taken)
     (omega (arith, l, c .before .before .before .before .before .before .before .before .pre .1)) in
@@ -62,7 +63,7 @@ loop-again : tie.Need-loop-again Inv-loop μ-loop
 loop-again c =
     let a = c .before .before .before .before .before .before .before .before .before .before .before .args in (
       omega arith,
-      run-turn (faceWords (getD (a .w .now) (a .edge + 2) 0) (getD (a .w .now) (a .edge) 0) (getD (a .w .now) (a .edge + 1) 0)) (a .out .now)
+      blocks-turn (faceWords (getD (a .w .now) (a .edge + 2) 0) (getD (a .w .now) (a .edge) 0) (getD (a .w .now) (a .edge + 1) 0)) (a .out .now)
           (c .before .before .before .before .before .before .before .loop .out) (a .at) (c .before .before .before .before .before .before .before .loop .face)
           (c .before .before .before .before .before .before .before .loop .o) (c .before .before .before .before .before .before .before .loop .inv .1) _ _
           (c .before .before .write-face .ensures .1) (c .before .before .write-face .ensures .0),
@@ -71,16 +72,16 @@ loop-again c =
 same-length : tie.Need-same-length Inv-loop μ-loop
 same-length c =
     let a = c .before .before .before .before .before .args in
-    run-long (faceWords (getD (a .w .now) (a .edge + 2) 0) (getD (a .w .now) (a .edge) 0) (getD (a .w .now) (a .edge + 1) 0)) (a .out .now) (c .before .loop .out) (a .at)
+    blocks-long (faceWords (getD (a .w .now) (a .edge + 2) 0) (getD (a .w .now) (a .edge) 0) (getD (a .w .now) (a .edge + 1) 0)) (a .out .now) (c .before .loop .out) (a .at)
     (c .before .loop .face) (c .before .loop .o) (c .before .loop .inv .1)
 
 returns : tie.Need-returns Inv-loop μ-loop
 returns c =
     let a = c .before .before .before .before .before .args in (
-      run-place (faceWords (getD (a .w .now) (a .edge + 2) 0) (getD (a .w .now) (a .edge) 0) (getD (a .w .now) (a .edge + 1) 0)) (a .out .now) (c .before .loop .out) (a .at)
+      blocks-place (faceWords (getD (a .w .now) (a .edge + 2) 0) (getD (a .w .now) (a .edge) 0) (getD (a .w .now) (a .edge + 1) 0)) (a .out .now) (c .before .loop .out) (a .at)
           (c .before .loop .face) (c .before .loop .o) (c .before .loop .inv .1) 6 (c .before .loop .inv .0) (c .loop-test .left) _
           (faces-are (getD (a .w .now) (a .edge + 2) 0) (getD (a .w .now) (a .edge) 0) (getD (a .w .now) (a .edge + 1) 0)),
-      run-end
+      blocks-end
           (faceWords (getD (a .w .now) (a .edge + 2) 0) (getD (a .w .now) (a .edge) 0) (getD (a .w .now) (a .edge + 1) 0)) (a .out .now) (c .before .loop .out) (a .at)
           (c .before .loop .face) (c .before .loop .o) (c .before .loop .inv .1) 6 (c .before .loop .inv .0) (c .loop-test .left) _
           (faces-are (getD (a .w .now) (a .edge + 2) 0) (getD (a .w .now) (a .edge) 0) (getD (a .w .now) (a .edge + 1) 0)),

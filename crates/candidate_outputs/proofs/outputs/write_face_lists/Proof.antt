@@ -5,12 +5,12 @@ use Prim.Native.Nat.{ℕ, _≤_, _-_}
 use mathlib.Core.Path.{refl, ap, _∙_}
 use native.Mathlib.Omega.{arith}
 use Rattle.candidate_outputs.proofs.Blocks.{listBlock, lists-long, block-long, lists-stored}
-use Rattle.candidate_outputs.proofs.Runs.{Run, run-start, run-turn, run-room, run-long, run-end}
+use Rattle.lists.proofs.Blocks.{BlocksStored, blocks-start, blocks-turn, blocks-room, blocks-long, blocks-end}
 use Rattle.candidate_outputs.proofs.outputs.write_face_lists.Statement.{statement}
 use Rattle.candidate_outputs.proofs.outputs.write_face_lists.Tie as tie
 
 abbrev Inv-loop : tie.InvT-loop
-Inv-loop w n out₀ at₀ face₀ out at face = (face ≤ 6) × Run (listBlock n w) out₀ out 6 face at
+Inv-loop w n out₀ at₀ face₀ out at face = (face ≤ 6) × BlocksStored (listBlock n w) out₀ out 6 face at
 
 abbrev μ-loop : tie.MeasureT-loop
 μ-loop w n out₀ at₀ face₀ out at face = 6 - face
@@ -24,7 +24,7 @@ write-words-requires c κs =
 loop-holds : tie.Need-loop-holds Inv-loop μ-loop
 loop-holds c =
     let a = c .before .before .before .before .before .before .args in
-    (omega arith, run-start (listBlock (a .n) (a .w .now)) (c .before .before .write-words .last .1 .1 .1 .0) 6)
+    (omega arith, blocks-start (listBlock (a .n) (a .w .now)) (c .before .before .write-words .last .1 .1 .1 .0) 6 _ refl)
 
 mul-count : tie.Need-mul-count Inv-loop μ-loop
 mul-count c = omega arith
@@ -40,7 +40,7 @@ write-words-requires-2 c κs =
     let a = c .before .before .before .before .before .before .before .before .before .before .before .args in
     let l = lists-long (a .n) (a .w .now) (c .before .before .before .before .before .before .before .before .before .before .before .pre .0 .1)
     (c .before .before .before .before .before .before .before .before .before .before .before .pre .1 .0) in
-    let r = run-room (listBlock (a .n) (a .w .now)) (c .before .before .before .before .before .before .before .write-words .last .1 .1 .1 .0)
+    let r = blocks-room (listBlock (a .n) (a .w .now)) (c .before .before .before .before .before .before .before .write-words .last .1 .1 .1 .0)
     (c .before .before .before .before .loop .out) 6 (c .before .before .before .before .loop .face) (c .before .before .before .before .loop .at)
     (c .before .before .before .before .loop .inv .1) 6 (c .before .before .before .loop-test .taken)
     (omega (
@@ -60,7 +60,7 @@ add-at c =
     let a = c .before .before .before .before .before .before .before .before .before .before .before .before .before .before .args in
     let l = lists-long (a .n) (a .w .now) (c .before .before .before .before .before .before .before .before .before .before .before .before .before .before .pre .0 .1)
     (c .before .before .before .before .before .before .before .before .before .before .before .before .before .before .pre .1 .0) in
-    let r = run-room (listBlock (a .n) (a .w .now)) (c .before .before .before .before .before .before .before .before .before .before .write-words .last .1 .1 .1 .0)
+    let r = blocks-room (listBlock (a .n) (a .w .now)) (c .before .before .before .before .before .before .before .before .before .before .write-words .last .1 .1 .1 .0)
     (c .before .before .before .before .before .before .before .loop .out) 6 (c .before .before .before .before .before .before .before .loop .face)
     (c .before .before .before .before .before .before .before .loop .at) (c .before .before .before .before .before .before .before .loop .inv .1) 6
     (c .before .before .before .before .before .before .loop-test .taken)
@@ -78,7 +78,7 @@ add-at c =
       arith,
       r,
       q .0,
-      run-long (listBlock (a .n) (a .w .now))
+      blocks-long (listBlock (a .n) (a .w .now))
           (c .before .before .before .before .before .before .before .before .before .before .write-words .last .1 .1 .1 .0)
           (c .before .before .before .before .before .before .before .loop .out) 6 (c .before .before .before .before .before .before .before .loop .face)
           (c .before .before .before .before .before .before .before .loop .at) (c .before .before .before .before .before .before .before .loop .inv .1),
@@ -98,7 +98,7 @@ loop-again c =
     (c .before .before .before .before .before .before .before .before .before .before .before .before .before .before .pre .1 .0)
     (c .before .before .before .before .before .before .before .loop .face) (c .before .before .before .before .before .before .loop-test .taken) in (
       omega arith,
-      run-turn (listBlock (a .n) (a .w .now)) (c .before .before .before .before .before .before .before .before .before .before .write-words .last .1 .1 .1 .0)
+      blocks-turn (listBlock (a .n) (a .w .now)) (c .before .before .before .before .before .before .before .before .before .before .write-words .last .1 .1 .1 .0)
           (c .before .before .before .before .before .before .before .loop .out) 6 (c .before .before .before .before .before .before .before .loop .face)
           (c .before .before .before .before .before .before .before .loop .at) (c .before .before .before .before .before .before .before .loop .inv .1) _ _
           (c .before .before .write-words2 .ensures ∙ ap (λ (x : ℕ). sets (c .before .before .before .before .before .before .before .loop .out)
@@ -110,13 +110,13 @@ loop-again c =
 same-length : tie.Need-same-length Inv-loop μ-loop
 same-length c =
     let a = c .before .before .before .before .before .before .before .before .args in
-    run-long (listBlock (a .n) (a .w .now)) (c .before .before .before .before .write-words .last .1 .1 .1 .0) (c .before .loop .out) 6 (c .before .loop .face)
+    blocks-long (listBlock (a .n) (a .w .now)) (c .before .before .before .before .write-words .last .1 .1 .1 .0) (c .before .loop .out) 6 (c .before .loop .face)
     (c .before .loop .at) (c .before .loop .inv .1) ∙ (c .before .before .before .before .write-words .kept .1 .1 .1 .0)
 
 returns : tie.Need-returns Inv-loop μ-loop
 returns c =
     let a = c .before .before .before .before .before .before .before .before .args in
-    run-end (listBlock (a .n) (a .w .now)) (c .before .before .before .before .write-words .last .1 .1 .1 .0) (c .before .loop .out) 6 (c .before .loop .face) (c .before .loop .at)
+    blocks-end (listBlock (a .n) (a .w .now)) (c .before .before .before .before .write-words .last .1 .1 .1 .0) (c .before .loop .out) 6 (c .before .loop .face) (c .before .loop .at)
     (c .before .loop .inv .1) 6 (c .before .loop .inv .0) (c .loop-test .left) _ refl ∙ lists-stored (a .n) (a .w .now)
     (c .before .before .before .before .before .before .before .before .pre .0 .1) (c .before .before .before .before .before .before .before .before .pre .1 .0) (a .out .now) _
     (c .before .before .before .before .write-words .ensures)

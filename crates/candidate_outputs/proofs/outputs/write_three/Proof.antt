@@ -1,6 +1,6 @@
 use native.Mathlib.Omega.{arith}
 use lib.ListN.{length-set}
-use Rattle.candidate_outputs.proofs.Runs.{three-set}
+use Rattle.geometry.proofs.Threes.{three-set}
 use borrow.Author.Needs.{needs}
 use Rattle.candidate_outputs.proofs.outputs.write_three.Statement.{statement}
 use Rattle.candidate_outputs.proofs.outputs.write_three.Tie as tie

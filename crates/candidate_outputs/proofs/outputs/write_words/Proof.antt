@@ -1,4 +1,4 @@
-use Rattle.candidate_outputs.proofs.Runs.{part-copied}
+use Rattle.candidate_outputs.proofs.Blocks.{part-copied}
 use borrow.Author.Needs.{needs}
 use Rattle.candidate_outputs.proofs.outputs.write_words.Statement.{statement}
 use Rattle.candidate_outputs.proofs.outputs.write_words.Tie as tie

@@ -1,4 +1,4 @@
-use Rattle.cap_outputs.proofs.Runs.{Run, run-start, run-turn, run-room, run-long, run-end}
+use Rattle.lists.proofs.Blocks.{BlocksStored, blocks-start, blocks-turn, blocks-room, blocks-long, blocks-end}
 use Rattle.cap_outputs.proofs.Blocks.{three, freshBlock, fresh-are, fresh-long}
 use Rattle.geometry.specs.declared.point.Point.{Point}
 use lib.Seq.{sets}
@@ -10,13 +10,13 @@ use Rattle.cap_outputs.proofs.outputs.write_fresh.Statement.{statement}
 use Rattle.cap_outputs.proofs.outputs.write_fresh.Tie as tie
 
 abbrev Inv-loop : tie.InvT-loop
-Inv-loop w fresh count out₀ at i₀ out i = (i ≤ count) × Run (freshBlock w fresh) out₀ out at i (at + 3 * i)
+Inv-loop w fresh count out₀ at i₀ out i = (i ≤ count) × BlocksStored (freshBlock w fresh) out₀ out at i (at + 3 * i)
 
 abbrev μ-loop : tie.MeasureT-loop
 μ-loop w fresh count out₀ at i₀ out i = count - i
 
 loop-holds : tie.Need-loop-holds Inv-loop μ-loop
-loop-holds c = let a = c .before .before .args in (omega arith, run-start (freshBlock (a .w .now) (a .fresh)) (a .out .now) (a .at) _ (omega arith))
+loop-holds c = let a = c .before .before .args in (omega arith, blocks-start (freshBlock (a .w .now) (a .fresh)) (a .out .now) (a .at) _ (omega arith))
 
 add-c : tie.Need-add-c Inv-loop μ-loop
 add-c c = omega arith
@@ -41,7 +41,7 @@ write-point-requires c κs =
     let a = c .before .before .before .before .before .before .before .args in
     let l = ap length (fresh-are (a .w .now) (a .fresh) (a .count) (c .before .before .before .before .before .before .before .pre .0 .0)) in
     let m = fresh-long (a .w .now) (a .fresh) (a .count) (c .before .before .before .before .before .before .before .pre .0 .0) in
-    let r = run-room (freshBlock (a .w .now) (a .fresh)) (a .out .now) (c .before .before .before .before .loop .out) (a .at) (c .before .before .before .before .loop .i)
+    let r = blocks-room (freshBlock (a .w .now) (a .fresh)) (a .out .now) (c .before .before .before .before .loop .out) (a .at) (c .before .before .before .before .loop .i)
     (a .at + 3 * c .before .before .before .before .loop .i) (c .before .before .before .before .loop .inv .1) (a .count) (c .before .before .before .loop-test .taken)
     (omega (arith, l, m, c .before .before .before .before .before .before .before .pre .0 .1)) in
     omega (arith, r)
@@ -56,7 +56,7 @@ loop-again : tie.Need-loop-again Inv-loop μ-loop
 loop-again c =
     let a = c .before .before .before .before .before .before .before .before .before .before .args in (
       omega arith,
-      run-turn (freshBlock (a .w .now) (a .fresh)) (a .out .now) (c .before .before .before .before .before .before .before .loop .out) (a .at)
+      blocks-turn (freshBlock (a .w .now) (a .fresh)) (a .out .now) (c .before .before .before .before .before .before .before .loop .out) (a .at)
           (c .before .before .before .before .before .before .before .loop .i) (a .at + 3 * c .before .before .before .before .before .before .before .loop .i)
           (c .before .before .before .before .before .before .before .loop .inv .1) _ _
           (c .before .before .write-point .ensures ∙ ap (λ (p : Point). sets (c .before .before .before .before .before .before .before .loop .out)
@@ -66,12 +66,12 @@ loop-again c =
 same-length : tie.Need-same-length Inv-loop μ-loop
 same-length c =
     let a = c .before .before .before .before .args in
-    run-long (freshBlock (a .w .now) (a .fresh)) (a .out .now) (c .before .loop .out) (a .at) (c .before .loop .i) (a .at + 3 * c .before .loop .i) (c .before .loop .inv .1)
+    blocks-long (freshBlock (a .w .now) (a .fresh)) (a .out .now) (c .before .loop .out) (a .at) (c .before .loop .i) (a .at + 3 * c .before .loop .i) (c .before .loop .inv .1)
 
 returns : tie.Need-returns Inv-loop μ-loop
 returns c =
     let a = c .before .before .before .before .args in
-    run-end (freshBlock (a .w .now) (a .fresh)) (a .out .now) (c .before .loop .out) (a .at) (c .before .loop .i) (a .at + 3 * c .before .loop .i) (c .before .loop .inv .1)
+    blocks-end (freshBlock (a .w .now) (a .fresh)) (a .out .now) (c .before .loop .out) (a .at) (c .before .loop .i) (a .at + 3 * c .before .loop .i) (c .before .loop .inv .1)
     (a .count) (c .before .loop .inv .0) (c .loop-test .left) _ (fresh-are (a .w .now) (a .fresh) (a .count) (c .before .before .before .before .pre .0 .0))
 
 pub write-fresh-spec : {M : Type 1} → statement M

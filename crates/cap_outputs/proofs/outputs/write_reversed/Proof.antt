@@ -1,4 +1,4 @@
-use Rattle.cap_outputs.proofs.Runs.{Run, run-start, run-turn, run-long, run-end}
+use Rattle.lists.proofs.Blocks.{BlocksStored, blocks-start, blocks-turn, blocks-long, blocks-end}
 use Rattle.cap_outputs.proofs.Blocks.{reversedBlock, reversed-are}
 use lib.ListN.{length}
 use native.Mathlib.Omega.{arith}
@@ -7,13 +7,13 @@ use Rattle.cap_outputs.proofs.outputs.write_reversed.Statement.{stateme
 use Rattle.cap_outputs.proofs.outputs.write_reversed.Tie as tie
 
 abbrev Inv-loop : tie.InvT-loop
-Inv-loop facets out₀ i₀ out i = (i ≤ length facets / 3) × Run (reversedBlock facets) out₀ out 0 i (3 * i)
+Inv-loop facets out₀ i₀ out i = (i ≤ length facets / 3) × BlocksStored (reversedBlock facets) out₀ out 0 i (3 * i)
 
 abbrev μ-loop : tie.MeasureT-loop
 μ-loop facets out₀ i₀ out i = length facets / 3 - i
 
 loop-holds : tie.Need-loop-holds Inv-loop μ-loop
-loop-holds c = let a = c .before .before .args in (omega arith, run-start (reversedBlock (a .facets .now)) (a .out .now) 0 _ (omega arith))
+loop-holds c = let a = c .before .before .args in (omega arith, blocks-start (reversedBlock (a .facets .now)) (a .out .now) 0 _ (omega arith))
 
 mul-write-three : tie.Need-mul-write-three Inv-loop μ-loop
 mul-write-three c = omega arith
@@ -54,7 +54,7 @@ shared-slice-read-write-three-3 c = omega arith
 write-three-requires : tie.Need-write-three-requires Inv-loop μ-loop
 write-three-requires c κs =
     let a = c .before .before .before .before .before .before .before .before .args in
-    let l = run-long (reversedBlock (a .facets .now)) (a .out .now) (c .before .before .before .before .before .loop .out) 0 (c .before .before .before .before .before .loop .i)
+    let l = blocks-long (reversedBlock (a .facets .now)) (a .out .now) (c .before .before .before .before .before .loop .out) 0 (c .before .before .before .before .before .loop .i)
     (3 * c .before .before .before .before .before .loop .i) (c .before .before .before .before .before .loop .inv .1) in
     omega (arith, l, c .before .before .before .before .before .before .before .before .pre .1)
 
@@ -68,7 +68,7 @@ loop-again : tie.Need-loop-again Inv-loop μ-loop
 loop-again c =
     let a = c .before .before .before .before .before .before .before .before .before .before .before .args in (
       omega arith,
-      run-turn (reversedBlock (a .facets .now)) (a .out .now) (c .before .before .before .before .before .before .before .before .loop .out) 0
+      blocks-turn (reversedBlock (a .facets .now)) (a .out .now) (c .before .before .before .before .before .before .before .before .loop .out) 0
           (c .before .before .before .before .before .before .before .before .loop .i) (3 * c .before .before .before .before .before .before .before .before .loop .i)
           (c .before .before .before .before .before .before .before .before .loop .inv .1) _ _ (c .before .before .write-three .ensures) (omega arith),
     )
@@ -76,12 +76,12 @@ loop-again c =
 same-length : tie.Need-same-length Inv-loop μ-loop
 same-length c =
     let a = c .before .before .before .before .args in
-    run-long (reversedBlock (a .facets .now)) (a .out .now) (c .before .loop .out) 0 (c .before .loop .i) (3 * c .before .loop .i) (c .before .loop .inv .1)
+    blocks-long (reversedBlock (a .facets .now)) (a .out .now) (c .before .loop .out) 0 (c .before .loop .i) (3 * c .before .loop .i) (c .before .loop .inv .1)
 
 returns : tie.Need-returns Inv-loop μ-loop
 returns c =
     let a = c .before .before .before .before .args in
-    run-end (reversedBlock (a .facets .now)) (a .out .now) (c .before .loop .out) 0 (c .before .loop .i) (3 * c .before .loop .i) (c .before .loop .inv .1)
+    blocks-end (reversedBlock (a .facets .now)) (a .out .now) (c .before .loop .out) 0 (c .before .loop .i) (3 * c .before .loop .i) (c .before .loop .inv .1)
     (length (a .facets .now) / 3) (c .before .loop .inv .0) (c .loop-test .left) _ (reversed-are (a .facets .now))
 
 pub write-reversed-spec : {M : Type 1} → statement M

@@ -1,4 +1,4 @@
-use Rattle.cap_outputs.proofs.Runs.{three-set}
+use Rattle.geometry.proofs.Threes.{three-set}
 use lib.ListN.{length-set}
 use native.Mathlib.Omega.{arith}
 use borrow.Author.Needs.{needs}
