@@ -12,7 +12,7 @@ use lib.Dec.{eqb}
 use lib.ListN.{length, getD, set, length-set}
 use lib.Seq.{getD-set-other}
 use Rattle.lists.specs.Lists.{some, upFrom}
-use Rattle.lists.proofs.Bools.{and-next, and-stop, or-last, or-true}
+use Rattle.lists.proofs.Bools.{and-next, and-stop}
 use Rattle.lists.specs.Regions.{Above}
 use Rattle.lists.proofs.Regions.{at-set}
 use Rattle.lists.proofs.Sequences.{some-up}

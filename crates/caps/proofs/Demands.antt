@@ -1,5 +1,4 @@
 -- Demand 3 of what the definitions compute. Assumes nothing.
---   entered-behind    entering adds vertices behind those there are
 --   closed-meets      the mesh of a selection is what demand 3 says; result-meets of the definition's mesh, for every input
 --   demand-decides    demand 3 leaves no other mesh
 --   closes            what an operation that settles the definition's mesh writes is what demand 3 says
@@ -12,7 +11,7 @@ use lib.ListN.{length, getD, set}
 use lib.Ieee.{Float}
 use Rattle.geometry.specs.declared.point.Point.{Point}
 use Rattle.geometry.specs.Triangles.{Triangle, flat}
-use Rattle.geometry.specs.Meshes.{Mesh, meshOf, Named, enter}
+use Rattle.geometry.specs.Meshes.{Mesh, meshOf}
 use Rattle.refusals.specs.Refusals.{Test}
 use Rattle.refusals.specs.Answers.{meshOutputs, Answer}
 use Rattle.refusals.proofs.Answers.{answer-done}
@@ -22,16 +21,8 @@ use Rattle.candidate_surface.specs.Asked.{Asked}
 use Rattle.cap_triangles.specs.Selection.{Cap, capsOf, outwardCaps, selected, Selects}
 use Rattle.cap_triangles.proofs.Selecting.{selected-selects, selects-unique}
 use Rattle.caps.specs.declared.mode.BoundaryClosure.{BoundaryClosure}
-use Rattle.cap_closing.specs.Closing.{taken, entered, capFacets, ownFacets, closed, DemandThree}
+use Rattle.cap_closing.specs.Closing.{taken, capCorners, capFacets, ownFacets, closed, DemandThree}
 use Rattle.caps.specs.Operation.{isPositive, unchanged, surface, pool, capsResult, Closes}
-
-append-nil : {A : Type 0} (l : List A) → l ++ [] ≡ l
-append-nil [] = refl
-append-nil (x ∷ l) = ap (λ r. x ∷ r) (append-nil l)
-
-append-assoc : {A : Type 0} (k l m : List A) → (k ++ l) ++ m ≡ k ++ (l ++ m)
-append-assoc [] l m = refl
-append-assoc (x ∷ k) l m = ap (λ r. x ∷ r) (append-assoc k l m)
 
 module _ (pool : Pool) (boundary : List OpenEdge) (caps : List Cap) (positive : Bool) (mesh : Mesh) where
   pub closed-meets : (chosen : List Bool) → Selects boundary (outwardCaps pool caps) chosen → DemandThree pool boundary caps positive mesh (closed pool caps positive mesh chosen)

@@ -31,7 +31,7 @@ use Rattle.cap_triangles.specs.Selection.{capsOf, signedArea, outward, isSeed, 
 use Rattle.cap_triangles.specs.Listed.{badCap, badCapPlace, missingEdge, missingPlace}
 use Rattle.caps.specs.declared.mode.BoundaryClosure.{BoundaryClosure}
 use Rattle.caps.specs.declared.mode.BoundaryClosure.the-variants.{None, ClosePositive, CloseNegative}
-use Rattle.cap_closing.specs.Closing.{taken, entered, isLarge, capFacets, ownFacets, closed}
+use Rattle.cap_closing.specs.Closing.{taken, newVertices, vertexFor, closedPoints, capCorners, isLarge, capFacets, ownFacets, closed}
 use Rattle.candidate_surface.specs.Asked.{asked}
 use Rattle.refusals.specs.Answers.{meshOutputs, replyWith}
 use Rattle.caps.specs.Operation.{surface, capTests, capsTests, capsResult}
@@ -177,7 +177,7 @@ unfolding every some keep place insertBy sortBy distinctFrom upFrom flatMap magn
     sameKey sameCorners samePair pairBefore openEdges documented firstRefusal ragged tooMany badIndex inRange epsInRange resolutionInRange boxInRange badBox gridTooFine
     workNeed farKeys roomTests project onFace facesOf byKey renewed listed numberFor insert gridPoint skipped gridAt faceGrid grid enterEdge edgeSurface cornerVertices
     meshPool candidates closureTests strayEdge edgeTests noTwoEnds capsOf signedArea outward isSeed isOpenPair shareEdge selected badCap badCapPlace missingEdge missingPlace
-    taken entered isLarge capFacets ownFacets closed surface capTests capsResult ofBits ofInt round add sub mul div neg lt le eq
+    taken newVertices vertexFor closedPoints capCorners isLarge capFacets ownFacets closed surface capTests capsResult ofBits ofInt round add sub mul div neg lt le eq
 computed = record { c10 = refl; c9 = refl; c13 = refl; c14-near = refl; c14-far = refl; c15-positive = refl; c15-points = refl; c15-negative = refl; c15-above = refl }
 
 pub rules : Rules
@@ -186,7 +186,7 @@ unfolding every some keep place insertBy sortBy distinctFrom upFrom flatMap magn
     sameKey sameCorners samePair pairBefore openEdges documented firstRefusal ragged tooMany badIndex inRange epsInRange resolutionInRange boxInRange badBox gridTooFine
     workNeed farKeys roomTests project onFace facesOf byKey renewed listed numberFor insert gridPoint skipped gridAt faceGrid grid enterEdge edgeSurface cornerVertices
     meshPool candidates closureTests strayEdge edgeTests noTwoEnds capsOf signedArea outward isSeed isOpenPair shareEdge selected badCap badCapPlace missingEdge missingPlace
-    taken entered isLarge capFacets ownFacets closed surface capTests capsResult ofBits ofInt round add sub mul div neg lt le eq
+    taken newVertices vertexFor closedPoints capCorners isLarge capFacets ownFacets closed surface capTests capsResult ofBits ofInt round add sub mul div neg lt le eq
 rules =
     record {
       reply-positive = refl;
