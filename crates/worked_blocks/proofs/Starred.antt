@@ -120,8 +120,13 @@ points1 = -1/2048 ∷ +0 ∷ +0 ∷ +1/2048 ∷ +0 ∷ +0 ∷ []
 
 abbrev pub c1 : Row
 c1 =
-    row {A = List ℤ × Float × List ℕ × Mesh}
-    (map (key 1/1024) (-1/2048 ∷ +1/2048 ∷ []), norm (difference (pt -1/2048 +0 +0) (pt +1/2048 +0 +0)), cleanReply points1 [] (cleanAsked 1/1024) 1280 (6 ∷ 0 ∷ []), cleanResult points1 [] (cleanAsked 1/1024))
+    row {A = List ℤ × Float × List ℕ × Mesh} (
+      map (key 1/1024) (-1/2048 ∷ +1/2048 ∷ []),
+      norm (difference (pt -1/2048 +0 +0) (pt +1/2048 +0 +0)),
+      cleanReply points1 [] (cleanAsked 1/1024) 1280
+          (6 ∷ 0 ∷ []),
+      cleanResult points1 [] (cleanAsked 1/1024),
+    )
     (negsuc 0 ∷ pos 1 ∷ [], 1/1024, 0 ∷ 6 ∷ 0 ∷ [], meshOf points1 [])
 
 -- C3: "the same eps, (±3/8192 on all axes, equal signs): cleaning keeps two, though both have key (0,0,0)"

@@ -60,7 +60,8 @@ returns-2 c =
     let s = c .before .before .before .before .before .before .before .before in
     let a = s .args in
     refused (clipTests (a .vertices .now) (a .facets .now) (clipAsked (a .extents) (a .eps)) (length (a .work .now)))
-    (meshOutputs (clipResult (a .vertices .now) (a .facets .now) (clipAsked (a .extents) (a .eps))) (a .out-vertices .now) (a .out-vertices .now) (a .out-facets .now) (a .out-facets .now)) _
+    (meshOutputs (clipResult (a .vertices .now) (a .facets .now) (clipAsked (a .extents) (a .eps))) (a .out-vertices .now) (a .out-vertices .now) (a .out-facets .now)
+    (a .out-facets .now)) _
     (sym (s .pre) ∙ c .before .found .given .1) (refl, (refl, tt))
 
 pub clip-or-refuse-spec : {M : Type 1} → statement M

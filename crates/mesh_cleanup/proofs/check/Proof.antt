@@ -32,7 +32,8 @@ returns-2 : tie.Need-returns-2
 returns-2 c =
     let s = c .before .before .before .before .before .before .before in
     let a = s .args in
-    number-refused (a .vertices .now) (a .facets .now) (cleanAsked (a .eps)) (a .lent) (sym (c .before .before .before .before .check-lists .ensures) ∙ c .before .before .enum-told2 .given .1)
+    number-refused (a .vertices .now) (a .facets .now) (cleanAsked (a .eps)) (a .lent) (sym (c .before .before .before .before .check-lists .ensures) ∙ c .before .before
+    .enum-told2 .given .1)
     (ap not (and-stop _ _ (sym (c .before .all-in-range .ensures) ∙ not-true _ (c .if1 .taken))))
 
 eps-in-range-requires : tie.Need-eps-in-range-requires

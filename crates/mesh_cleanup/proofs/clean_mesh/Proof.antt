@@ -23,7 +23,8 @@ returns : tie.Need-returns
 returns c =
     let s = c .before .before .before .before .before .before .before .before .before .before .before .before .before .before .before .before .before .before .before in
     let a = s .args in
-    cleaned-up (a .vertices .now) (a .facets .now) (cleanAsked (a .eps)) (c .before .before .before .before .before .before .before .before .before .before .clean-lent .result) (a .work .now)
+    cleaned-up (a .vertices .now) (a .facets .now) (cleanAsked (a .eps)) (c .before .before .before .before .before .before .before .before .before .before .clean-lent
+    .result) (a .work .now)
     (c .before .before .before .before .before .before .before .before .before .before .clean-lent .last .1 .1 .1 .0) (c .before .before .zero-front .last .0)
     (a .out-vertices .now) (c .before .before .before .before .before .before .before .before .before .before .clean-lent .last .1 .1 .1 .1 .0) (a .out-facets .now)
     (c .before .before .before .before .before .before .before .before .before .before .clean-lent .last .1 .1 .1 .1 .1 .0)

@@ -8,8 +8,11 @@ use Rattle.mesh_cleanup.proofs.stage.Tie as tie
 weld-requires : tie.Need-weld-requires
 weld-requires c κs =
     let s = c .before .before .before .before in
-    let a = s .args in
-    (weld-room (a .vertices .now) (a .facets .now) (cleanAsked (a .eps)) (length (a .work .now)) (s .pre), keys-in (a .vertices .now) (a .facets .now) (cleanAsked (a .eps)) (length (a .work .now)) (s .pre))
+    let a = s .args in (
+      weld-room (a .vertices .now) (a .facets .now) (cleanAsked (a .eps)) (length (a .work .now)) (s .pre),
+      keys-in (a .vertices .now) (a .facets .now) (cleanAsked
+          (a .eps)) (length (a .work .now)) (s .pre),
+    )
 
 mul-filter : tie.Need-mul-filter
 mul-filter c = search needs
@@ -24,7 +27,8 @@ filter-requires : tie.Need-filter-requires
 filter-requires c κs =
     let s = c .before .before .before .before .before .before .before .before in
     let a = s .args in
-    numbered (a .vertices .now) (a .facets .now) (cleanAsked (a .eps)) (length (a .work .now)) (s .pre) (c .before .before .before .weld .last .0) (c .before .before .before .weld .kept .0)
+    numbered (a .vertices .now) (a .facets .now) (cleanAsked (a .eps)) (length (a .work .now)) (s .pre) (c .before .before .before .weld .last .0)
+    (c .before .before .before .weld .kept .0)
     (c .before .before .before .weld .result) (c .before .before .before .weld .ensures)
 
 mul-remove-small-disconnected-components-2 : tie.Need-mul-remove-small-disconnected-components-2

@@ -55,7 +55,8 @@ loop-again c =
     (3 * (c .before .before .before .before .before .before .before .loop .k + 1))) (sym (c .before .before .write-point .ensures))
     (vertices-turn (a .vertices .now) (a .m .now) (a .at) (a .n) (s .pre .0 .0) (a .out .now) (c .before .before .before .before .before .before .before .loop .out)
     (c .before .before .before .before .before .before .before .loop .k) (c .before .before .before .before .before .before .before .loop .inv)
-    (c .before .before .before .before .before .before .loop-test .taken) (c .before .before .before .vertex-at .result) (c .before .before .before .vertex-at .ensures ∙ ap (vertexOf (a .vertices .now)) (c .before .before .before .before .before .vertex-in .ensures)))
+    (c .before .before .before .before .before .before .loop-test .taken) (c .before .before .before .vertex-at .result)
+    (c .before .before .before .vertex-at .ensures ∙ ap (vertexOf (a .vertices .now)) (c .before .before .before .before .before .vertex-in .ensures)))
 
 same-length : tie.Need-same-length Inv-loop μ-loop
 same-length c = c .before .loop .inv .same
@@ -67,4 +68,19 @@ returns c =
     vertices-end (a .vertices .now) (a .m .now) (a .at) (a .n) (s .pre .0 .0) (a .out .now) (c .before .loop .out) (c .before .loop .k) (c .before .loop .inv) (c .loop-test .left)
 
 pub write-vertices-spec : {M : Type 1} → statement M
-write-vertices-spec = tie.close (tie.spec Inv-loop μ-loop loop-holds add-vertex-in vertex-in-requires mul-write-point vertex-at-requires write-point-requires add-k loop-less loop-again same-length returns)
+write-vertices-spec =
+    tie.close
+    (tie.spec
+    Inv-loop
+    μ-loop
+    loop-holds
+    add-vertex-in
+    vertex-in-requires
+    mul-write-point
+    vertex-at-requires
+    write-point-requires
+    add-k
+    loop-less
+    loop-again
+    same-length
+    returns)

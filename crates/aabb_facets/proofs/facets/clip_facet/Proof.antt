@@ -45,7 +45,8 @@ returns c =
     let r = room (a .at) w (a .out-vertices .now) (a .out-facets .now) in
     let m = c .before .before .before .before .before .before .before .before .before .before .before .all-marked in
     let g = c .before .before .before .before .before .before .share-facet in (
-      facet-shared (a .vertices .now) (a .facets .now) (a .extents) (a .eps) r (a .i) _ (m .result) (m .ensures ∙ ap (allMarked w) e) (c .before .before .before .before .before .before .before .before .before .before .if1 .taken) (g .ensures .0),
+      facet-shared (a .vertices .now) (a .facets .now) (a .extents) (a .eps) r (a .i) _ (m .result) (m .ensures ∙ ap (allMarked w) e)
+          (c .before .before .before .before .before .before .before .before .before .before .if1 .taken) (g .ensures .0),
       (omega (arith, g .ensures .1), omega (arith, g .ensures .1)),
     )
 
@@ -56,8 +57,24 @@ cut-facet-requires c κs =
     let e = c .before .before .before .before .before .before .before .facet-at .ensures in
     let b0 = s .pre .1 .1 .0 (3 * a .i) (omega (arith, s .pre .1 .0)) in
     let b1 = s .pre .1 .1 .0 (3 * a .i + 1) (omega (arith, s .pre .1 .0)) in
-    let b2 = s .pre .1 .1 .0 (3 * a .i + 2) (omega (arith, s .pre .1 .0)) in
-    (s .pre .0, ((omega (arith, b0 .1, ap (λ (u : Triangle ℕ). u .a) e), (omega (arith, b1 .1, ap (λ (u : Triangle ℕ). u .b) e), omega (arith, b2 .1, ap (λ (u : Triangle ℕ). u .c) e))), s .pre .1 .1 .1 .1))
+    let b2 = s .pre .1 .1 .0 (3 * a .i + 2) (omega (arith, s .pre .1 .0)) in (
+      s .pre .0,
+      (
+        (
+          omega (arith, b0 .1, ap (λ (u : Triangle ℕ). u .a) e),
+          (
+            omega (arith, b1 .1, ap (λ (u : Triangle ℕ). u .b) e),
+            omega (
+              arith,
+              b2 .1,
+              ap (λ
+                  (u : Triangle ℕ). u .c) e,
+            ),
+          ),
+        ),
+        s .pre .1 .1 .1 .1,
+      ),
+    )
 
 same-length-4 : tie.Need-same-length-4
 same-length-4 c = search needs
@@ -76,17 +93,35 @@ same-length-8 c = search needs
 
 returns-2 : tie.Need-returns-2
 returns-2 c =
-    let s = c .before .before .before .before .before .before .before .before .before .before .before .before .before .before .before .before .before .before .before .before .before .before .before .before in
+    let s = c .before .before .before .before .before .before .before .before .before .before .before .before .before .before .before .before .before .before .before
+    .before .before .before .before .before in
     let a = s .args in
     let e = c .before .before .before .before .before .before .before .before .before .before .before .before .before .before .before .before .facet-at .ensures in
     let w = a .ids .now in
     let r = room (a .at) w (a .out-vertices .now) (a .out-facets .now) in
     let m = c .before .before .before .before .before .before .before .before .before .before .before .before .before .before .all-marked in
     let g = c .before .before .before .before .before .before .before .before .cut-facet in (
-      facet-fanned (a .vertices .now) (a .facets .now) (a .extents) (a .eps) r (a .i) _ (m .result) (m .ensures ∙ ap (allMarked w) e) (c .before .before .before .before .before .before .before .before .before .before .before .before .before .if1 .left)
+      facet-fanned (a .vertices .now) (a .facets .now) (a .extents) (a .eps) r (a .i) _ (m .result) (m .ensures ∙ ap (allMarked w) e)
+          (c .before .before .before .before .before .before .before .before .before .before .before .before .before .if1 .left)
           (g .ensures .0 w ∙ ap (λ (u : Triangle ℕ). fanRoom r (clipPolygon (a .extents) (a .eps) faces (vertices (mapped (vertexOf (a .vertices .now)) u)))) e),
       g .ensures .1,
     )
 
 pub clip-facet-spec : {M : Type 1} → statement M
-clip-facet-spec = tie.close (tie.spec facet-at-requires all-marked-requires share-facet-requires same-length same-length-2 same-length-3 returns cut-facet-requires same-length-4 same-length-5 same-length-6 same-length-7 same-length-8 returns-2)
+clip-facet-spec =
+    tie.close
+    (tie.spec
+    facet-at-requires
+    all-marked-requires
+    share-facet-requires
+    same-length
+    same-length-2
+    same-length-3
+    returns
+    cut-facet-requires
+    same-length-4
+    same-length-5
+    same-length-6
+    same-length-7
+    same-length-8
+    returns-2)

@@ -57,4 +57,17 @@ returns-2 c =
     (points-length (s .args .polygon .now) 0 (s .args .n))) (if1 .left) (put-corners .ensures) (put-fan .ensures)
 
 pub put-fanned-spec : {M : Type 1} → statement M
-put-fanned-spec = tie.close (tie.spec returns put-corners-requires sub-put-fan put-fan-requires add-t15 sub-t16 mul-t17 add-t18 same-length same-length-2 returns-2)
+put-fanned-spec =
+    tie.close
+    (tie.spec
+    returns
+    put-corners-requires
+    sub-put-fan
+    put-fan-requires
+    add-t15
+    sub-t16
+    mul-t17
+    add-t18
+    same-length
+    same-length-2
+    returns-2)

@@ -91,4 +91,28 @@ returns-2 c =
     (c .before .before .put-number2 .last .0) (c .before .before .before .before .if1 .left) (c .before .before .put-number2 .ensures)
 
 pub share-vertex-spec : {M : Type 1} → statement M
-share-vertex-spec = tie.close (tie.spec mul-k slice-read-k vertex-at-requires snap-near-bbox-requires push-vertex-requires cast-put-number put-number-requires add-ids mul-ids slice-write-ids add-t26 add-t28 same-length same-length-2 same-length-3 returns sub-put-number cast-put-number-2 put-number-requires-2 add-t13 same-length-4 returns-2)
+share-vertex-spec =
+    tie.close
+    (tie.spec
+    mul-k
+    slice-read-k
+    vertex-at-requires
+    snap-near-bbox-requires
+    push-vertex-requires
+    cast-put-number
+    put-number-requires
+    add-ids
+    mul-ids
+    slice-write-ids
+    add-t26
+    add-t28
+    same-length
+    same-length-2
+    same-length-3
+    returns
+    sub-put-number
+    cast-put-number-2
+    put-number-requires-2
+    add-t13
+    same-length-4
+    returns-2)

@@ -42,4 +42,16 @@ returns c =
     point-put _ _ _ _ _ (s .args .p) (put-double .ensures) (put-double2 .ensures) (put-double3 .ensures)
 
 pub push-vertex-spec : {M : Type 1} → statement M
-push-vertex-spec = tie.close (tie.spec mul-put-double put-double-requires mul-put-double-2 add-put-double put-double-requires-2 mul-put-double-3 add-put-double-2 put-double-requires-3 same-length returns)
+push-vertex-spec =
+    tie.close
+    (tie.spec
+    mul-put-double
+    put-double-requires
+    mul-put-double-2
+    add-put-double
+    put-double-requires-2
+    mul-put-double-3
+    add-put-double-2
+    put-double-requires-3
+    same-length
+    returns)

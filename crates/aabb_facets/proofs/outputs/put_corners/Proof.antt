@@ -71,4 +71,17 @@ returns c =
     ))) ∙ loop .inv .1 .1
 
 pub put-corners-spec : {M : Type 1} → statement M
-put-corners-spec = tie.close (tie.spec Inv-loop μ-loop loop-holds add-t10 point-at-requires push-vertex-requires add-j loop-less loop-again same-length returns)
+put-corners-spec =
+    tie.close
+    (tie.spec
+    Inv-loop
+    μ-loop
+    loop-holds
+    add-t10
+    point-at-requires
+    push-vertex-requires
+    add-j
+    loop-less
+    loop-again
+    same-length
+    returns)

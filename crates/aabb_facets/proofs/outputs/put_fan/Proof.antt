@@ -101,4 +101,31 @@ returns : tie.Need-returns Inv-loop μ-loop
 returns c = sym (fan-end _ _ _ _ _ (omega arith)) ∙ c .before .loop .inv .1 .1
 
 pub put-fan-spec : {M : Type 1} → statement M
-put-fan-spec = tie.close (tie.spec Inv-loop μ-loop loop-holds add-prev add-prev-2 mul-put-number add-put-number cast-put-number put-number-requires mul-put-number-2 add-put-number-2 add-put-number-3 cast-put-number-2 put-number-requires-2 mul-put-number-3 add-put-number-4 add-put-number-5 add-put-number-6 cast-put-number-3 put-number-requires-3 add-j loop-less loop-again same-length returns)
+put-fan-spec =
+    tie.close
+    (tie.spec
+    Inv-loop
+    μ-loop
+    loop-holds
+    add-prev
+    add-prev-2
+    mul-put-number
+    add-put-number
+    cast-put-number
+    put-number-requires
+    mul-put-number-2
+    add-put-number-2
+    add-put-number-3
+    cast-put-number-2
+    put-number-requires-2
+    mul-put-number-3
+    add-put-number-4
+    add-put-number-5
+    add-put-number-6
+    cast-put-number-3
+    put-number-requires-3
+    add-j
+    loop-less
+    loop-again
+    same-length
+    returns)

@@ -21,7 +21,10 @@ same-length-2 c = search needs
 returns : tie.Need-returns
 returns c =
     let a = c .before .before .before .before .before .before .before .before .before .before .before .before .args in
-    c .before .before .snap-corners .ensures ∙ ap (λ (l : List Point). map (snapped (a .extents) (a .eps)) l) (c .before .before .before .before .before .before .before .copy-corners .ensures)
+    c .before .before .snap-corners .ensures ∙ ap (λ (l : List Point). map (snapped (a .extents) (a .eps)) l)
+    (c .before .before .before .before .before .before .before .copy-corners .ensures)
 
 pub snap-in-place-spec : {M : Type 1} → statement M
-snap-in-place-spec = tie.close (tie.spec copy-corners-requires snap-corners-requires same-length same-length-2 returns)
+snap-in-place-spec =
+    tie.close
+    (tie.spec copy-corners-requires snap-corners-requires same-length same-length-2 returns)

@@ -30,7 +30,8 @@ returns : tie.Need-returns
 returns c =
     let a = c .before .before .before .before .before .before .before .before .before .before .before .before .before .before .args in
     let t = c .before .before .before .before .before .before .before .before .before .before .put-triangle in
-    c .before .before .snap-corners .ensures ∙ whole-first (a .extents) (a .eps) 0 (corners (t .last .0) 3) (omega (arith, points-length (t .last .0) 0 3)) (sym (c .before .before .before .before .before .before .all-inside .ensures) ∙ c .before .before .before .before .before .if1 .taken)
+    c .before .before .snap-corners .ensures ∙ whole-first (a .extents) (a .eps) 0 (corners (t .last .0) 3) (omega (arith, points-length (t .last .0) 0 3)) (sym
+    (c .before .before .before .before .before .before .all-inside .ensures) ∙ c .before .before .before .before .before .if1 .taken)
     ∙ ap (λ (l : List Point). clipToPlane (a .extents) (a .eps) l 0) (t .ensures)
 
 walk-sides-requires : tie.Need-walk-sides-requires
@@ -59,10 +60,25 @@ same-length-4 c = search needs
 
 returns-2 : tie.Need-returns-2
 returns-2 c =
-    let a = c .before .before .before .before .before .before .before .before .before .before .before .before .before .before .before .before .before .before .before .before .before .args in
+    let a = c .before .before .before .before .before .before .before .before .before .before .before .before .before .before .before .before .before .before .before
+    .before .before .args in
     let t = c .before .before .before .before .before .before .before .before .before .before .before .before .before .before .before .before .before .put-triangle in
-    c .before .before .before .before .snap-in-place .ensures ∙ ap (λ (l : List Point). map (snapped (a .extents) (a .eps)) l) (c .before .before .before .before .before .before .before .before .before .walk-sides .ensures)
+    c .before .before .before .before .snap-in-place .ensures ∙ ap (λ (l : List Point). map (snapped (a .extents) (a .eps)) l)
+    (c .before .before .before .before .before .before .before .before .before .walk-sides .ensures)
     ∙ unsnapped-snapped (a .extents) (a .eps) 0 (corners (t .last .0) 3) ∙ ap (λ (l : List Point). clipToPlane (a .extents) (a .eps) l 0) (t .ensures)
 
 pub clip-first-spec : {M : Type 1} → statement M
-clip-first-spec = tie.close (tie.spec put-triangle-requires all-inside-requires snap-corners-requires same-length same-length-2 returns walk-sides-requires snap-in-place-requires same-length-3 same-length-4 returns-2)
+clip-first-spec =
+    tie.close
+    (tie.spec
+    put-triangle-requires
+    all-inside-requires
+    snap-corners-requires
+    same-length
+    same-length-2
+    returns
+    walk-sides-requires
+    snap-in-place-requires
+    same-length-3
+    same-length-4
+    returns-2)

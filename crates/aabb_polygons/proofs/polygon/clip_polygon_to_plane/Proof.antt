@@ -50,4 +50,16 @@ returns-3 c =
     c .before .before .before .before .clip-sides .ensures ∙ unsnapped-same (a .extents) (a .eps) (faceOf (a .plane)) (corners (a .polygon .now) (a .n)) (s .pre .1 .1)
 
 pub clip-polygon-to-plane-spec : {M : Type 1} → statement M
-clip-polygon-to-plane-spec = tie.close (tie.spec all-inside-requires same-length returns none-inside-requires same-length-2 returns-2 clip-sides-requires same-length-3 same-length-4 returns-3)
+clip-polygon-to-plane-spec =
+    tie.close
+    (tie.spec
+    all-inside-requires
+    same-length
+    returns
+    none-inside-requires
+    same-length-2
+    returns-2
+    clip-sides-requires
+    same-length-3
+    same-length-4
+    returns-3)

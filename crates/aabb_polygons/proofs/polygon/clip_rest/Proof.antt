@@ -25,7 +25,8 @@ clip-y-requires c κs =
     let s = c .before .before .before .before .before .before .before .before .before .before .before .before in
     let p = c .before .before .before .before .before .before .before .clip-polygon-to-plane in (
       (omega (arith, s .pre .0, p .kept), omega (arith, s .pre .0, p .kept)),
-      next (s .args .polygon .now) (p .last .0) (s .args .n) (p .result) 1 (s .args .extents) (s .args .eps) 4 6 (p .ensures) (s .pre .1 .0 .1) (omega arith) (c .before .before .if1 .left),
+      next (s .args .polygon .now) (p .last .0) (s .args .n) (p .result) 1 (s .args .extents) (s .args .eps) 4 6 (p .ensures) (s .pre .1 .0 .1) (omega arith)
+          (c .before .before .if1 .left),
     )
 
 same-length-3 : tie.Need-same-length-3
@@ -40,4 +41,14 @@ returns-2 c =
     all-go _ _ _ _ _ (p .last .0) (p .result) (p .ensures) _ (c .before .before .before .before .before .before .before .if1 .left) (c .before .before .before .before .clip-y .ensures)
 
 pub clip-rest-spec : {M : Type 1} → statement M
-clip-rest-spec = tie.close (tie.spec clip-polygon-to-plane-requires same-length same-length-2 returns clip-y-requires same-length-3 same-length-4 returns-2)
+clip-rest-spec =
+    tie.close
+    (tie.spec
+    clip-polygon-to-plane-requires
+    same-length
+    same-length-2
+    returns
+    clip-y-requires
+    same-length-3
+    same-length-4
+    returns-2)

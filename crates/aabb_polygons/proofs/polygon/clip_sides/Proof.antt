@@ -37,4 +37,6 @@ returns : tie.Need-returns
 returns c = c .before .before .copy-corners .ensures ∙ c .before .before .before .before .before .before .before .walk-sides .ensures
 
 pub clip-sides-spec : {M : Type 1} → statement M
-clip-sides-spec = tie.close (tie.spec walk-sides-requires copy-corners-requires same-length same-length-2 returns)
+clip-sides-spec =
+    tie.close
+    (tie.spec walk-sides-requires copy-corners-requires same-length same-length-2 returns)

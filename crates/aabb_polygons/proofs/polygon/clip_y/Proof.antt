@@ -25,7 +25,8 @@ clip-polygon-to-plane-requires-2 c κs =
     let s = c .before .before .before .before .before .before .before .before .before .before .before .before in
     let p = c .before .before .before .before .before .before .before .clip-polygon-to-plane in (
       (omega (arith, s .pre .0, p .kept), omega (arith, s .pre .0, p .kept)),
-      next (s .args .polygon .now) (p .last .0) (s .args .n) (p .result) 2 (s .args .extents) (s .args .eps) 6 19 (p .ensures) (s .pre .1 .0 .1) (omega arith) (c .before .before .if1 .left),
+      next (s .args .polygon .now) (p .last .0) (s .args .n) (p .result) 2 (s .args .extents) (s .args .eps) 6 19 (p .ensures) (s .pre .1 .0 .1) (omega arith)
+          (c .before .before .if1 .left),
     )
 
 same-length-3 : tie.Need-same-length-3
@@ -38,14 +39,16 @@ returns-2 : tie.Need-returns-2
 returns-2 c =
     let p = c .before .before .before .before .before .before .before .before .before .before .before .before .before .clip-polygon-to-plane in
     let q = c .before .before .before .before .before .clip-polygon-to-plane2 in
-    all-go _ _ _ _ _ (p .last .0) (p .result) (p .ensures) _ (c .before .before .before .before .before .before .before .before .if1 .left) (all-stop _ _ _ _ _ (q .last .0) (q .result) (q .ensures) (c .if2 .taken))
+    all-go _ _ _ _ _ (p .last .0) (p .result) (p .ensures) _ (c .before .before .before .before .before .before .before .before .if1 .left) (all-stop _ _ _ _ _
+    (q .last .0) (q .result) (q .ensures) (c .if2 .taken))
 
 clip-z-requires : tie.Need-clip-z-requires
 clip-z-requires c κs =
     let s = c .before .before .before .before .before .before .before .before .before .before .before .before .before .before .before .before .before .before .before .before in
     let p = c .before .before .before .before .before .before .before .before .before .before .before .before .before .before .before .clip-polygon-to-plane in
     let q = c .before .before .before .before .before .before .before .clip-polygon-to-plane2 in
-    let small = next (s .args .polygon .now) (p .last .0) (s .args .n) (p .result) 2 (s .args .extents) (s .args .eps) 6 9 (p .ensures) (s .pre .1 .0 .1) (omega arith) (c .before .before .before .before .before .before .before .before .before .before .if1 .left) in (
+    let small = next (s .args .polygon .now) (p .last .0) (s .args .n) (p .result) 2 (s .args .extents) (s .args .eps) 6 9 (p .ensures) (s .pre .1 .0 .1) (omega arith)
+    (c .before .before .before .before .before .before .before .before .before .before .if1 .left) in (
       (omega (arith, s .pre .0, p .kept, q .kept), omega (arith, s .pre .0, p .kept, q .kept)),
       next (p .last .0) (q .last .0) (p .result) (q .result) 3 (s .args .extents) (s .args .eps) 9 13 (q .ensures) (small .0 .1) (omega arith) (c .before .before .if2 .left),
     )
@@ -58,9 +61,26 @@ same-length-6 c = search needs
 
 returns-3 : tie.Need-returns-3
 returns-3 c =
-    let p = c .before .before .before .before .before .before .before .before .before .before .before .before .before .before .before .before .before .before .before .before .clip-polygon-to-plane in
+    let p = c .before .before .before .before .before .before .before .before .before .before .before .before .before .before .before .before .before .before .before
+    .before .clip-polygon-to-plane in
     let q = c .before .before .before .before .before .before .before .before .before .before .before .before .clip-polygon-to-plane2 in
-    all-go _ _ _ _ _ (p .last .0) (p .result) (p .ensures) _ (c .before .before .before .before .before .before .before .before .before .before .before .before .before .before .before .if1 .left) (all-go _ _ _ _ _ (q .last .0) (q .result) (q .ensures) _ (c .before .before .before .before .before .before .before .if2 .left) (c .before .before .before .before .clip-z .ensures))
+    all-go _ _ _ _ _ (p .last .0) (p .result) (p .ensures) _ (c .before .before .before .before .before .before .before .before .before .before .before .before .before
+    .before .before .if1 .left) (all-go _ _ _ _ _ (q .last .0) (q .result) (q .ensures) _ (c .before .before .before .before .before .before .before .if2 .left)
+    (c .before .before .before .before .clip-z .ensures))
 
 pub clip-y-spec : {M : Type 1} → statement M
-clip-y-spec = tie.close (tie.spec clip-polygon-to-plane-requires same-length same-length-2 returns clip-polygon-to-plane-requires-2 same-length-3 same-length-4 returns-2 clip-z-requires same-length-5 same-length-6 returns-3)
+clip-y-spec =
+    tie.close
+    (tie.spec
+    clip-polygon-to-plane-requires
+    same-length
+    same-length-2
+    returns
+    clip-polygon-to-plane-requires-2
+    same-length-3
+    same-length-4
+    returns-2
+    clip-z-requires
+    same-length-5
+    same-length-6
+    returns-3)

@@ -25,7 +25,8 @@ clip-polygon-to-plane-requires-2 c κs =
     let s = c .before .before .before .before .before .before .before .before .before .before .before .before in
     let p = c .before .before .before .before .before .before .before .clip-polygon-to-plane in (
       (omega (arith, s .pre .0, p .kept), omega (arith, s .pre .0, p .kept)),
-      next (s .args .polygon .now) (p .last .0) (s .args .n) (p .result) 4 (s .args .extents) (s .args .eps) 13 19 (p .ensures) (s .pre .1 .0 .1) (omega arith) (c .before .before .if1 .left),
+      next (s .args .polygon .now) (p .last .0) (s .args .n) (p .result) 4 (s .args .extents) (s .args .eps) 13 19 (p .ensures) (s .pre .1 .0 .1) (omega arith)
+          (c .before .before .if1 .left),
     )
 
 same-length-3 : tie.Need-same-length-3
@@ -37,7 +38,18 @@ same-length-4 c = search needs
 returns-2 : tie.Need-returns-2
 returns-2 c =
     let p = c .before .before .before .before .before .before .before .before .before .before .before .before .clip-polygon-to-plane in
-    all-go _ _ _ _ _ (p .last .0) (p .result) (p .ensures) _ (c .before .before .before .before .before .before .before .if1 .left) (all-last _ _ _ _ _ (c .before .before .before .before .clip-polygon-to-plane2 .ensures))
+    all-go _ _ _ _ _ (p .last .0) (p .result) (p .ensures) _ (c .before .before .before .before .before .before .before .if1 .left) (all-last _ _ _ _ _
+    (c .before .before .before .before .clip-polygon-to-plane2 .ensures))
 
 pub clip-z-spec : {M : Type 1} → statement M
-clip-z-spec = tie.close (tie.spec clip-polygon-to-plane-requires same-length same-length-2 returns clip-polygon-to-plane-requires-2 same-length-3 same-length-4 returns-2)
+clip-z-spec =
+    tie.close
+    (tie.spec
+    clip-polygon-to-plane-requires
+    same-length
+    same-length-2
+    returns
+    clip-polygon-to-plane-requires-2
+    same-length-3
+    same-length-4
+    returns-2)

@@ -50,7 +50,18 @@ returns : tie.Need-returns
 returns c =
     let a = c .before .before .before .before .before .before .before .before .before .args in
     let e = c .before .before .before .before .before .before .facet-at .ensures in
-    (λ i. tri (c .before .before .before .before .vertex-in .ensures i) (c .before .before .vertex-in2 .ensures i) (c .vertex-in3 .ensures i)) ∙ ap (mapped (λ v. getD (a .m .now) (a .numbers + v) 0)) e
+    (λ i. tri (c .before .before .before .before .vertex-in .ensures i) (c .before .before .vertex-in2 .ensures i) (c .vertex-in3 .ensures i)) ∙ ap (mapped (λ v. getD
+    (a .m .now) (a .numbers + v) 0)) e
 
 pub corners-of-spec : {M : Type 1} → statement M
-corners-of-spec = tie.close (tie.spec facet-at-requires add-vertex-in vertex-in-requires add-vertex-in-2 vertex-in-requires-2 add-vertex-in-3 vertex-in-requires-3 returns)
+corners-of-spec =
+    tie.close
+    (tie.spec
+    facet-at-requires
+    add-vertex-in
+    vertex-in-requires
+    add-vertex-in-2
+    vertex-in-requires-2
+    add-vertex-in-3
+    vertex-in-requires-3
+    returns)

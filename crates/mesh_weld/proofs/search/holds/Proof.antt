@@ -61,7 +61,8 @@ shared-slice-read-if3 c = search needs
 returns-3 : tie.Need-returns-3
 returns-3 c =
     let s = c .before .before .before .before .before .before .before .before .before .before .before in
-    differ-z (cellAt (s .args .m .now) (11 * s .args .n + 3 * s .args .k)) (s .args .c) (near-of s) (c .before .before .before .before .before .before .if1 .left) (c .before .before .before .if2 .left) (c .if3 .taken)
+    differ-z (cellAt (s .args .m .now) (11 * s .args .n + 3 * s .args .k)) (s .args .c) (near-of s) (c .before .before .before .before .before .before .if1 .left)
+    (c .before .before .before .if2 .left) (c .if3 .taken)
 
 mul-vertex-in : tie.Need-mul-vertex-in
 mul-vertex-in c = search needs
@@ -85,7 +86,31 @@ returns-4 c =
     let s = c .before .before .before .before .before .before .before .before .before .before .before .before .before .before in
     let a = s .args in
     c .is-near .ensures ∙ ap (near (a .eps) (a .p)) (c .before .vertex-at .ensures ∙ ap (vertexOf (a .vs .now)) (c .before .before .vertex-in .ensures))
-    ∙ differ-no (cellAt (s .args .m .now) (11 * s .args .n + 3 * s .args .k)) (s .args .c) (near-of s) (c .before .before .before .before .before .before .before .before .before .if1 .left) (c .before .before .before .before .before .before .if2 .left) (c .before .before .before .if3 .left)
+    ∙ differ-no (cellAt (s .args .m .now) (11 * s .args .n + 3 * s .args .k)) (s .args .c) (near-of s)
+    (c .before .before .before .before .before .before .before .before .before .if1 .left) (c .before .before .before .before .before .before .if2 .left)
+    (c .before .before .before .if3 .left)
 
 pub holds-spec : {M : Type 1} → statement M
-holds-spec = tie.close (tie.spec mul-at mul-at-2 add-at mul-if1 shared-slice-read-if1 returns add-if2 mul-if2 shared-slice-read-if2 returns-2 add-if3 mul-if3 shared-slice-read-if3 returns-3 mul-vertex-in add-vertex-in vertex-in-requires vertex-at-requires is-near-requires returns-4)
+holds-spec =
+    tie.close
+    (tie.spec
+    mul-at
+    mul-at-2
+    add-at
+    mul-if1
+    shared-slice-read-if1
+    returns
+    add-if2
+    mul-if2
+    shared-slice-read-if2
+    returns-2
+    add-if3
+    mul-if3
+    shared-slice-read-if3
+    returns-3
+    mul-vertex-in
+    add-vertex-in
+    vertex-in-requires
+    vertex-at-requires
+    is-near-requires
+    returns-4)
