@@ -10,7 +10,7 @@ use geometry::numbers::CandidateVertexId;
 use geometry::numbers::FacePlace;
 
 // The only way from a place to a candidate: what stands there in the face's list, which begins at `list`.
-pub fn candidate_at(w: &[u64], list: usize, place: FacePlace) -> CandidateVertexId
+pub fn candidate_of_place(w: &[u64], list: usize, place: FacePlace) -> CandidateVertexId
     requires { ⌜ list + place .0 < length (now w) ⌝ }
     ensures { λ r. ⌜ r .0 ≡ getD (now (w .entry)) (list + place .0) 0 ⌝ }
 {
@@ -27,7 +27,7 @@ pub fn note_places(w: &mut [u64], n: usize, face: usize)
     let count = w[face] as usize;
     let mut i = 0;
     while i < count {
-        let id = candidate_at(w, list, FacePlace(i));
+        let id = candidate_of_place(w, list, FacePlace(i));
         w[places + id.0] = i as u64;
         i += 1;
     }

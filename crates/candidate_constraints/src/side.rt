@@ -9,7 +9,7 @@ ghost use Rattle.candidate_pool.specs.Standing.{poolAt};
 ghost use Rattle.candidate_constraints.specs.Constraints.{consecutive};
 ghost use Rattle.candidate_constraints.specs.Steps.{Shown, sidePlaces, sidePairs, NoNan, LowPlaces, Fractioned, Collected, Pushed};
 use crate::pairs::put_pair;
-use crate::places::candidate_at;
+use crate::places::candidate_of_place;
 use box_faces::faces::project;
 use box_faces::sides::candidate_on_face_side;
 use box_faces::sides::face_boundary_side;
@@ -51,7 +51,7 @@ fn collect_side(w: &mut [u64], n: usize, face: usize, side: Side, eps: f64) -> u
     let mut m = 0;
     let mut i = 0;
     while i < count {
-        let p = project(face, point_of(w, candidate_at(w, list, FacePlace(i))));
+        let p = project(face, point_of(w, candidate_of_place(w, list, FacePlace(i))));
         let t = candidate_on_face_side(side, p, eps);
         m += note_fraction(w, at + 2 * m, t, FacePlace(i));
         i += 1;

@@ -59,17 +59,17 @@ loop-holds c =
     let s = c .before .before .before .before in
     (noting-start (s .args .n) (s .args .face) (s .args .w .now), c .before .before .list-at .ensures, c .before .places-at .ensures, refl)
 
-candidate-at-requires : tie.Need-candidate-at-requires Inv-loop μ-loop
-candidate-at-requires c κs = read-in (c .before) .0
+candidate-of-place-requires : tie.Need-candidate-of-place-requires Inv-loop μ-loop
+candidate-of-place-requires c κs = read-in (c .before) .0
 
 add-w : tie.Need-add-w Inv-loop μ-loop
-add-w c = omega (arith, write-in (c .before .before .before), c .before .candidate-at .ensures)
+add-w c = omega (arith, write-in (c .before .before .before), c .before .candidate-of-place .ensures)
 
 mul-w : tie.Need-mul-w Inv-loop μ-loop
-mul-w c = omega (arith, write-in (c .before .before .before), c .before .candidate-at .ensures)
+mul-w c = omega (arith, write-in (c .before .before .before), c .before .candidate-of-place .ensures)
 
 slice-write-w : tie.Need-slice-write-w Inv-loop μ-loop
-slice-write-w c = omega (arith, write-in (c .before .before .before), c .before .candidate-at .ensures)
+slice-write-w c = omega (arith, write-in (c .before .before .before), c .before .candidate-of-place .ensures)
 
 add-i : tie.Need-add-i Inv-loop μ-loop
 add-i c = omega (arith, read-in (c .before .before .before))
@@ -81,7 +81,7 @@ loop-again : tie.Need-loop-again Inv-loop μ-loop
 loop-again c =
     let s = c .before .before .before .before .before .before .before .before .before in
     let loop′ = c .before .before .before .before .loop in (
-      rw (c .before .candidate-at .ensures) (noting-named (s .args .n) (s .args .face) (s .args .w .now) (s .pre .0) (s .pre .1 .1) (s .pre .1 .2) (loop′ .w) (loop′ .i)
+      rw (c .before .candidate-of-place .ensures) (noting-named (s .args .n) (s .args .face) (s .args .w .now) (s .pre .0) (s .pre .1 .1) (s .pre .1 .2) (loop′ .w) (loop′ .i)
           (loop′ .inv .0)
           (c .before .before .before .before .before .before .before .list-at .result) (c .before .before .before .before .before .before .places-at .result) (loop′ .inv .1)
           (loop′ .inv .2) (omega (arith, loop′ .inv .3, c .before .before .before .loop-test .taken))),
@@ -111,7 +111,7 @@ note-places-spec =
     mul-count
     slice-read-count
     loop-holds
-    candidate-at-requires
+    candidate-of-place-requires
     add-w
     mul-w
     slice-write-w

@@ -56,14 +56,14 @@ loop-holds c =
       refl,
     )
 
-candidate-at-requires : tie.Need-candidate-at-requires Inv-loop μ-loop
-candidate-at-requires c κs = turn-in (c .before) .0
+candidate-of-place-requires : tie.Need-candidate-of-place-requires Inv-loop μ-loop
+candidate-of-place-requires c κs = turn-in (c .before) .0
 
 point-of-requires : tie.Need-point-of-requires Inv-loop μ-loop
 point-of-requires c κs =
     let s = c .before .before .before .before .before .before .before .before in
     let loop′ = c .before .before .before .loop in
-    rw (c .candidate-at .ensures) (collected-stored (s .args .eps) (s .args .n) (s .args .face) (s .args .side) (s .args .w .now) (s .pre .0) (s .pre .1 .1) (loop′ .w)
+    rw (c .candidate-of-place .ensures) (collected-stored (s .args .eps) (s .args .n) (s .args .face) (s .args .side) (s .args .w .now) (s .pre .0) (s .pre .1 .1) (loop′ .w)
     (loop′ .m) (loop′ .i) (loop′ .inv .0)
     (c .before .before .before .before .before .before .list-at .result) (loop′ .inv .1) (omega (arith, loop′ .inv .3, c .before .before .loop-test .taken)))
 
@@ -105,7 +105,7 @@ loop-again c =
     let note-fraction′ = c .before .before .note-fraction in
     let project′ = c .before .before .before .before .before .project in
     let candidate-on-face-side′ = c .before .before .before .before .candidate-on-face-side in
-    let read = point-of′ .ensures ∙ ap (λ (d : ℕ). pointAt (loop′ .w) (entryAt d)) (c .before .before .before .before .before .before .before .candidate-at .ensures) in (
+    let read = point-of′ .ensures ∙ ap (λ (d : ℕ). pointAt (loop′ .w) (entryAt d)) (c .before .before .before .before .before .before .before .candidate-of-place .ensures) in (
       collecting-named (s .args .eps) (s .args .n) (s .args .face) (s .args .side) (s .args .w .now) (s .pre .0) (s .pre .1 .1) (loop′ .w) (loop′ .m) (loop′ .i)
           (loop′ .inv .0)
           (c .before .before .before .before .before .before .before .before .before .before .before .before .before .list-at .result) (loop′ .inv .1)
@@ -140,7 +140,7 @@ collect-side-spec =
     mul-count
     slice-read-count
     loop-holds
-    candidate-at-requires
+    candidate-of-place-requires
     point-of-requires
     project-requires
     candidate-on-face-side-requires

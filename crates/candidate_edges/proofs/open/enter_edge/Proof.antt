@@ -14,30 +14,42 @@ use Rattle.candidate_edges.proofs.Turns.{edge-done}
 use Rattle.candidate_edges.proofs.open.enter_edge.Statement.{statement}
 use Rattle.candidate_edges.proofs.open.enter_edge.Tie as tie
 
-abbrev start : tie.After-edge-to → tie.Start
-start c = c .before .before .before .before .before .before .before .before
+abbrev start : tie.After-slice-known2 → tie.Start
+start c = c .before .before .before .before .before
 
--- both ends are vertices of the mesh, and the mask is a word of faces
-entering : (c : tie.After-edge-to) → (c .before .edge-from .result < length (start c .args .vertices .now) / 3) × (c .edge-to .result < length (start
-    c .args .vertices .now) / 3)
-    × (c .before .before .side-mask .result < 64)
-entering c =
+-- the side that the record names
+abbrev side : tie.After-slice-known2 → ℕ
+side c = getD (start c .args .w .now) (c .before .edge-table-at .result + 2 * start c .args .i + 1) 0
+
+named : (c : tie.After-slice-known2) → side c < length (start c .args .facets .now)
+named c =
     let s = start c in
     let a = s .args in
-    let t = c .before .before .before .before .edge-table-at in
+    let t = c .before .edge-table-at in
+    side-low (a .facets .now) (a .w .now) (edgeTableAt (a .n) (length (a .facets .now) / 3)) (t .result) (length (openEdges (threes (a .facets .now)))) (a .i) (s .pre .0 .table)
+    (t .ensures) (s .pre .1)
+
+abbrev read : tie.After-edge-to → tie.After-slice-known2
+read c = c .before .before .before
+
+-- both ends are vertices of the mesh, and the mask is a word of faces
+entering : (c : tie.After-edge-to)
+    → (c .before .edge-from .result < length (start (read c) .args .vertices .now) / 3) × (c .edge-to .result < length (start (read c) .args .vertices .now) / 3)
+    × (c .before .before .side-mask .result < 64)
+entering c =
+    let s = start (read c) in
+    let a = s .args in
     let f = s .pre .0 .fits in
-    let j = getD (a .w .now) (t .result + 2 * a .i + 1) 0 in
-    let named = side-low (a .facets .now) (a .w .now) (edgeTableAt (a .n) (length (a .facets .now) / 3)) (t .result) (length (openEdges (threes (a .facets .now)))) (a .i)
-    (s .pre .0 .table) (t .ensures) (s .pre .1) in
+    let j = side (read c) in
     let e = getD (sides (threes (a .facets .now))) j (0, 0) in (
-      omega (arith, c .before .edge-from .ensures, from-low (a .facets .now) (length (a .vertices .now) / 3) j (f .threes) (f .numbers) named),
-      omega (arith, c .edge-to .ensures, to-low (a .facets .now) (length (a .vertices .now) / 3) j (f .threes) (f .numbers) named),
+      omega (arith, c .before .edge-from .ensures, from-low (a .facets .now) (length (a .vertices .now) / 3) j (f .threes) (f .numbers) (named (read c))),
+      omega (arith, c .edge-to .ensures, to-low (a .facets .now) (length (a .vertices .now) / 3) j (f .threes) (f .numbers) (named (read c))),
       subst (λ (x : ℕ). x < 64) (sym (c .before .before .side-mask .ensures))
           (mask-small (a .extents) (a .eps) (vertex (pointsOf (a .vertices .now)) (e .0)) (vertex (pointsOf (a .vertices .now)) (e .1))),
     )
 
 abbrev start-of : tie.After-open-edges-at → tie.Start
-start-of c = start (c .before .before .before .before .before .before .before .before .before .before)
+start-of c = start (read (c .before .before .before .before .before .before .before .before .before .before))
 
 -- the three words of the open edge
 edge-in : (c : tie.After-open-edges-at)
@@ -67,41 +79,16 @@ slice-read-side : tie.Need-slice-read-side
 slice-read-side c = search needs
 
 side-mask-requires : tie.Need-side-mask-requires
-side-mask-requires c κs =
-    let s = c .before .before .before .before .before in
-    let a = s .args in
-    let t = c .before .edge-table-at in
-    let f = s .pre .0 .fits in (
-      (
-        f .threes,
-        side-low (a .facets .now) (a .w .now) (edgeTableAt (a .n) (length (a .facets .now) / 3)) (t .result) (length (openEdges (threes (a .facets .now)))) (a .i)
-            (s .pre .0 .table) (t .ensures) (s .pre .1),
-      ),
-      f .numbers,
-    )
+side-mask-requires c κs = let f = start c .pre .0 .fits in ((f .threes, named c), f .numbers)
 
 edge-from-requires : tie.Need-edge-from-requires
-edge-from-requires c κs =
-    let s = c .before .before .before .before .before .before in
-    let a = s .args in
-    let t = c .before .before .edge-table-at in (
-      s .pre .0 .fits .threes,
-      side-low (a .facets .now) (a .w .now) (edgeTableAt (a .n) (length (a .facets .now) / 3)) (t .result) (length (openEdges (threes (a .facets .now))))
-          (a .i) (s .pre .0 .table) (t .ensures) (s .pre .1),
-    )
+edge-from-requires c κs = (start (c .before) .pre .0 .fits .threes, named (c .before))
 
 cast-put-edge : tie.Need-cast-put-edge
 cast-put-edge c = search needs
 
 edge-to-requires : tie.Need-edge-to-requires
-edge-to-requires c κs =
-    let s = c .before .before .before .before .before .before .before in
-    let a = s .args in
-    let t = c .before .before .before .edge-table-at in (
-      s .pre .0 .fits .threes,
-      side-low (a .facets .now) (a .w .now) (edgeTableAt (a .n) (length (a .facets .now) / 3)) (t .result) (length (openEdges (threes (a .facets .now))))
-          (a .i) (s .pre .0 .table) (t .ensures) (s .pre .1),
-    )
+edge-to-requires c κs = (start (c .before .before) .pre .0 .fits .threes, named (c .before .before))
 
 cast-put-edge-2 : tie.Need-cast-put-edge-2
 cast-put-edge-2 c = search needs

@@ -1,13 +1,11 @@
 -- `point_of` meets its contract: three words are the bits of the point. Assumes nothing.
-use Prim.Native.Nat.{_+_, _*_}
 use mathlib.Core.Path.{ap}
-use lib.ListN.{getD}
 use Rattle.candidate_pool.specs.Offsets.{entryAt}
 use Rattle.candidate_pool.specs.Standing.{pointAt}
+use Rattle.candidate_pool.proofs.Numbers.{stored-numbers}
 use borrow.Author.Needs.{needs}
 use Rattle.candidate_pool.proofs.pool.point_of.Statement.{statement}
 use Rattle.candidate_pool.proofs.pool.point_of.Tie as tie
-use Rattle.root.proofs.Patterns.{no-nan-pattern}
 
 entry-at-requires : tie.Need-entry-at-requires
 entry-at-requires c κs = search needs
@@ -21,12 +19,8 @@ shared-slice-read-t6 c = search needs
 float-from-bits-t7 : tie.Need-float-from-bits-t7
 float-from-bits-t7 c =
     let s = c .before .before .before in
-    rw (c .before .entry-at .ensures)
-    (search (
-      no-nan-pattern (getD (s .args .w .now) (entryAt (s .args .id .0)) 0) (s .pre .0 .within .x .is-finite),
-      no-nan-pattern (getD (s .args .w .now) (entryAt (s .args .id .0) + 1) 0) (s .pre .0 .within .y .is-finite),
-      no-nan-pattern (getD (s .args .w .now) (entryAt (s .args .id .0) + 2) 0) (s .pre .0 .within .z .is-finite),
-    ))
+    let h = stored-numbers (s .args .w .now) (entryAt (s .args .id .0)) (c .before .entry-at .result) (s .pre .0) (c .before .entry-at .ensures) in
+    search (h .0, h .1, h .2)
 
 add-t8 : tie.Need-add-t8
 add-t8 c = search needs
@@ -40,12 +34,8 @@ shared-slice-read-t11 c = search needs
 float-from-bits-t12 : tie.Need-float-from-bits-t12
 float-from-bits-t12 c =
     let s = c .before .before .before .before in
-    rw (c .before .before .entry-at .ensures)
-    (search (
-      no-nan-pattern (getD (s .args .w .now) (entryAt (s .args .id .0)) 0) (s .pre .0 .within .x .is-finite),
-      no-nan-pattern (getD (s .args .w .now) (entryAt (s .args .id .0) + 1) 0) (s .pre .0 .within .y .is-finite),
-      no-nan-pattern (getD (s .args .w .now) (entryAt (s .args .id .0) + 2) 0) (s .pre .0 .within .z .is-finite),
-    ))
+    let h = stored-numbers (s .args .w .now) (entryAt (s .args .id .0)) (c .before .before .entry-at .result) (s .pre .0) (c .before .before .entry-at .ensures) in
+    search (h .0, h .1, h .2)
 
 add-t13 : tie.Need-add-t13
 add-t13 c = search needs
@@ -59,12 +49,8 @@ shared-slice-read-t16 c = search needs
 float-from-bits-t17 : tie.Need-float-from-bits-t17
 float-from-bits-t17 c =
     let s = c .before .before .before .before .before in
-    rw (c .before .before .before .entry-at .ensures)
-    (search (
-      no-nan-pattern (getD (s .args .w .now) (entryAt (s .args .id .0)) 0) (s .pre .0 .within .x .is-finite),
-      no-nan-pattern (getD (s .args .w .now) (entryAt (s .args .id .0) + 1) 0) (s .pre .0 .within .y .is-finite),
-      no-nan-pattern (getD (s .args .w .now) (entryAt (s .args .id .0) + 2) 0) (s .pre .0 .within .z .is-finite),
-    ))
+    let h = stored-numbers (s .args .w .now) (entryAt (s .args .id .0)) (c .before .before .before .entry-at .result) (s .pre .0) (c .before .before .before .entry-at .ensures) in
+    search (h .0, h .1, h .2)
 
 returns : tie.Need-returns
 returns c = ap (pointAt (c .before .before .before .before .before .args .w .now)) (c .before .before .before .entry-at .ensures)
