@@ -72,7 +72,8 @@ write-face-lists-requires : tie.Need-write-face-lists-requires
 write-face-lists-requires c κs =
     let s = c .before .before .before .before .before .before .before .before .before .before .before .before .before .before .before .before in
     let a = s .args in
-    let l = all-lists-long (a .n) (a .nf) (a .k) (a .listed) (a .total) (a .w .now) (s .pre) _ (c .before .before .before .before .before .before .before .before .before .listed-numbers .ensures .0) in
+    let l = all-lists-long (a .n) (a .nf) (a .k) (a .listed) (a .total) (a .w .now) (s .pre) _
+    (c .before .before .before .before .before .before .before .before .before .listed-numbers .ensures .0) in
     ((s .pre .small, omega (arith, s .pre .size)), (s .pre .short, omega (arith, c .before .before .before .before .before .before .before .if2 .left, l)))
 
 constraints-at-requires : tie.Need-constraints-at-requires
