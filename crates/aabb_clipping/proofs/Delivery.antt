@@ -28,9 +28,10 @@ use Rattle.refusals.specs.declared.reply.Reply.the-variants.{DoneTwo}
 use Rattle.refusals.specs.declared.reply.Reply.the-variants as reply
 use Rattle.refusals.specs.Refusals.{documentedReply, Test, firstRefusal}
 use Rattle.refusals.specs.Answers.{Output, output, meshOutputs, Answer}
-use Rattle.refusals.specs.Front.{ceiling, listTests, badIndex, inRange, epsInRange, boxInRange, badBox, workNeed}
+use Rattle.input_tests.specs.Front.{ceiling, listTests, badIndex, inRange, epsInRange, boxInRange, badBox, workNeed}
 use Rattle.refusals.proofs.Refusals.{holds, passes, none-left, row-passed, row-refused}
-use Rattle.refusals.proofs.Replies.{head-passed, tail-passed, row-front, row-rest, listed}
+use Rattle.refusals.proofs.Replies.{head-passed, tail-passed, row-front, row-rest}
+use Rattle.input_tests.proofs.Lists.{listed}
 use Rattle.refusals.proofs.Answers.{short, done-two}
 use Rattle.aabb_facets.specs.Clipped.{insideBox}
 use Rattle.aabb_facets.proofs.Bounds.{most, inside-most}

@@ -12,7 +12,7 @@ use Rattle.geometry.specs.declared.aabb.AABB.{AABB}
 use Rattle.geometry.specs.Meshes.{Mesh, meshOf}
 use Rattle.refusals.specs.declared.refusal.Refusal.the-variants.{BadNumber, BadBox}
 use Rattle.refusals.specs.Refusals.{Test}
-use Rattle.refusals.specs.Front.{ceiling, listTests, inRange, epsInRange, boxInRange, badBox, workNeed, workTest}
+use Rattle.input_tests.specs.Front.{ceiling, listTests, inRange, epsInRange, boxInRange, badBox, workNeed, workTest}
 use Rattle.aabb_facets.specs.Clipped.{clipped}
 
 pub record ClipAsked : Type 0 where

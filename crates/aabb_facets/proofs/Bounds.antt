@@ -25,7 +25,7 @@ use Rattle.geometry.specs.Triangles.{Triangle, tri, vertices, mapped, threes, f
 use Rattle.geometry.specs.Meshes.{Mesh, meshOf, vertex}
 use Rattle.geometry.proofs.Threes.{length-threes, threes-at, length-flat}
 use Rattle.geometry.proofs.Meshes.{length-pointsOf}
-use Rattle.refusals.specs.Front.{badIndex}
+use Rattle.input_tests.specs.Front.{badIndex}
 use Rattle.aabb_polygons.specs.Polygons.{clipPolygon}
 use Rattle.aabb_polygons.proofs.Walks.{few}
 use Rattle.aabb_facets.specs.Clipped.{Clipping, sharedNumber, insideBox, fan, fanned, shareOnce, sharing, clipFacet, clipFacets, clipped}

@@ -19,7 +19,7 @@ use Rattle.lists.specs.Lists.{upFrom, upTo}
 use Rattle.lists.proofs.Every.{none-at}
 use Rattle.lists.proofs.Places.{of-up, length-up, at-map-up}
 use Rattle.lists.proofs.Sequences.{up-snoc, map-same}
-use Rattle.refusals.specs.Front.{badIndex}
+use Rattle.input_tests.specs.Front.{badIndex}
 use Rattle.geometry.specs.Meshes.{vertexOf}
 use Rattle.lists.proofs.Bools.{and-next, and-stop}
 use Rattle.aabb_facets.specs.Clipped.{insideBox}

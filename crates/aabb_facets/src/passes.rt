@@ -4,7 +4,7 @@ ghost use mathlib.Core.Bool.{false};
 ghost use mathlib.Core.List.{[]};
 ghost use Prim.Native.Nat.{_*_, _/_, _≤_};
 ghost use lib.ListN.{length};
-ghost use Rattle.refusals.specs.Front.{badIndex};
+ghost use Rattle.input_tests.specs.Front.{badIndex};
 ghost use Rattle.geometry.specs.Meshes.{meshOf};
 ghost use Rattle.aabb_facets.specs.Clipped.{clipFacets, clipped};
 ghost use Rattle.aabb_facets.specs.Rooms.{room, markWords, shows, Ran};

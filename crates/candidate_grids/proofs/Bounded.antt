@@ -17,8 +17,8 @@ use Rattle.root.proofs.Powers.{within-pow, mul-pow, add-pow, sub-pow, div-pow}
 use Rattle.geometry.specs.declared.point.Point.{Point}
 use Rattle.geometry.specs.declared.aabb.AABB.{AABB}
 use Rattle.geometry.specs.Boxes.{lowest, highest, axis}
-use Rattle.refusals.specs.Front.{boxInRange}
-use Rattle.refusals.proofs.Ranges.{CornersWithin, box-within}
+use Rattle.input_tests.specs.Front.{boxInRange}
+use Rattle.input_tests.proofs.Ranges.{CornersWithin, box-within}
 use Rattle.box_faces.specs.Faces.{uAxis}
 use Rattle.box_faces.specs.Lines.{lineAt, pointOnFace}
 use Rattle.candidate_pool.specs.Standing.{PointIn}

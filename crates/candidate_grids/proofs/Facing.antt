@@ -28,8 +28,8 @@ use Rattle.geometry.specs.declared.point.Point.{Point}
 use Rattle.geometry.specs.declared.aabb.AABB.{AABB}
 use Rattle.geometry.specs.Boxes.{lowest, highest, axis, isMin}
 use Rattle.geometry.specs.Axes.{segments, gridLine}
-use Rattle.refusals.specs.Front.{boxInRange, byAxis, gridTooFine}
-use Rattle.refusals.proofs.Grids.{not-too-fine, cut-is}
+use Rattle.input_tests.specs.Front.{boxInRange, byAxis, gridTooFine}
+use Rattle.input_tests.proofs.Grids.{not-too-fine, cut-is}
 use Rattle.box_faces.specs.declared.uv.Uv.{Uv}
 use Rattle.box_faces.specs.Faces.{uAxis, vAxis, project}
 use Rattle.box_faces.specs.Lines.{lineAt, pointOnFace}

@@ -15,7 +15,7 @@ use Rattle.lists.specs.Lists.{upFrom, upTo}
 use Rattle.lists.proofs.Sequences.{flat-below, fold-flat}
 use Rattle.geometry.specs.declared.aabb.AABB.{AABB}
 use Rattle.geometry.specs.Axes.{segments, gridSize}
-use Rattle.refusals.specs.Front.{byAxis}
+use Rattle.input_tests.specs.Front.{byAxis}
 use Rattle.box_faces.specs.declared.uv.Uv.{Uv}
 use Rattle.box_faces.specs.Faces.{uAxis, vAxis, project}
 use Rattle.candidate_pool.specs.OpenEdges.{OpenEdge}

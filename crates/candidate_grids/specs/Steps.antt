@@ -32,7 +32,7 @@ use Rattle.geometry.specs.declared.point.Point.{Point}
 use Rattle.geometry.specs.declared.aabb.AABB.{AABB}
 use Rattle.geometry.specs.Boxes.{lowest, highest, axis, isMin}
 use Rattle.geometry.specs.Axes.{segments, gridSize}
-use Rattle.refusals.specs.Front.{boxInRange, badBox, byAxis, gridTooFine}
+use Rattle.input_tests.specs.Front.{boxInRange, badBox, byAxis, gridTooFine}
 use Rattle.box_faces.specs.declared.uv.Uv.{Uv}
 use Rattle.box_faces.specs.Faces.{uv, uAxis, vAxis, project, hasBit}
 use Rattle.box_faces.specs.Lines.{lineAt, pointOnFace}

@@ -46,7 +46,7 @@ use candidate_pool::room::segments_at;
 use geometry::aabb::AABB;
 use geometry::numbers::CandidateVertexId;
 use geometry::point::Point;
-use refusals::grid::segments_of;
+use input_tests::grid::segments_of;
 
 // The open edges of the face worked on, as `count` segments from `at` on, and how near to one a point lies on it.
 pub struct Near {

@@ -20,9 +20,9 @@ use Rattle.root.proofs.Powers.{in-range, within-pow, mul-pow}
 use Rattle.geometry.specs.declared.aabb.AABB.{AABB}
 use Rattle.geometry.specs.Axes.{segments, gridSize}
 use Rattle.geometry.proofs.Meshes.{vertex-at}
-use Rattle.refusals.specs.Front.{badIndex, inRange, resolutionInRange, gridTooFine}
-use Rattle.refusals.proofs.Ranges.{in-range-within}
-use Rattle.refusals.proofs.Grids.{not-too-fine, small-product}
+use Rattle.input_tests.specs.Front.{badIndex, inRange, resolutionInRange, gridTooFine}
+use Rattle.input_tests.proofs.Ranges.{in-range-within}
+use Rattle.input_tests.proofs.Grids.{not-too-fine, small-product}
 use Rattle.candidate_pool.specs.Offsets.{roomEnd}
 use Rattle.candidate_pool.specs.Standing.{PointIn}
 use Rattle.candidate_edges.specs.Steps.{VerticesIn, MeshFits}

@@ -8,7 +8,7 @@ use lib.Ieee.{Float}
 use Rattle.root.specs.Doubles.{_⊗_, 1e-9}
 use Rattle.geometry.specs.declared.aabb.AABB.{AABB}
 use Rattle.geometry.specs.Boxes.{axis}
-use Rattle.refusals.specs.Front.{byAxis}
+use Rattle.input_tests.specs.Front.{byAxis}
 use Rattle.candidate_pool.specs.Pool.{byKey}
 use Rattle.candidate_pool.specs.Setting.{Setting}
 

@@ -18,7 +18,7 @@ use Rattle.geometry.specs.Meshes.{Mesh, meshOf, pointsOf}
 use Rattle.geometry.specs.Axes.{gridSize}
 use Rattle.edges.specs.Edges.{openEdges}
 use Rattle.edges.specs.Table.{edgeKey}
-use Rattle.refusals.specs.Front.{ceiling, inRange, epsInRange, resolutionInRange, boxInRange, badBox, gridTooFine, ListsPass}
+use Rattle.input_tests.specs.Front.{ceiling, inRange, epsInRange, resolutionInRange, boxInRange, badBox, gridTooFine, ListsPass}
 use Rattle.candidate_pool.specs.Offsets.{openEdgesAt, edgeTableAt}
 use Rattle.candidate_pool.specs.Pool.{Pool, byKey, insert}
 use Rattle.candidate_pool.specs.Setting.{Setting}

@@ -4,7 +4,7 @@ ghost use mathlib.Core.Bool.{false};
 ghost use Prim.Native.Nat.{_+_, _*_, _/_, _%_, _≤_, _<_};
 ghost use lib.ListN.{length};
 ghost use Rattle.geometry.specs.Meshes.{meshOf};
-ghost use Rattle.refusals.specs.Front.{gridTooFine};
+ghost use Rattle.input_tests.specs.Front.{gridTooFine};
 ghost use Rattle.candidate_pool.specs.Offsets.{roomEnd};
 ghost use Rattle.candidate_pool.specs.Pool.{byKey};
 ghost use Rattle.candidate_edges.specs.Surface.{edgeSurface};
@@ -17,7 +17,7 @@ use candidate_grids::grids::enter_grids;
 use candidate_pool::pool::clear_pool;
 use candidate_pool::room::edge_table_at;
 use geometry::aabb::AABB;
-use refusals::grid::grid_size;
+use input_tests::grid::grid_size;
 
 // Each vertex and each grid point is at most one candidate.
 pub fn most_candidates(vertices: &[f64], extents: AABB, eps: f64, resolution: f64) -> usize

@@ -19,7 +19,8 @@ use Rattle.root.specs.Root.{rootable}
 use Rattle.geometry.specs.declared.point.Point.{Point}
 use Rattle.geometry.specs.Points.{pt, origin, norm2, normal}
 use Rattle.geometry.specs.Triangles.{Triangle, tri, mapped, vertices}
-use Rattle.geometry.specs.Meshes.{vertex, pointsOf, Named, newNumber, enter}
+use Rattle.geometry.specs.Meshes.{vertex, pointsOf}
+use Rattle.geometry.specs.FirstUse.{Named, newNumber, enter}
 use Rattle.geometry.proofs.Meshes.{length-pointsOf}
 use Rattle.geometry.proofs.Points.{PointWithin, minus-within, cross-within, norm2-rootable}
 use Rattle.mesh_filter.specs.Room.{Below}

@@ -13,7 +13,7 @@ use Rattle.lists.proofs.Mapped.{Each, each-of, of-each}
 use Rattle.lists.proofs.Sequences.{at-map}
 use Rattle.geometry.specs.declared.point.Point.{Point}
 use Rattle.geometry.specs.Triangles.{Triangle, tri, mapped, flat}
-use Rattle.geometry.specs.Meshes.{Named, newNumber, enter}
+use Rattle.geometry.specs.FirstUse.{Named, newNumber, enter}
 use Rattle.geometry.proofs.FirstUse.{news, numberIn, news-points, news-numbers}
 use Rattle.candidate_pool.specs.Pool.{Pool, Candidate, noCandidate, pointOf}
 use Rattle.cap_closing.specs.Closing.{meshWord, newVertices, vertexFor, closedPoints, capCorners}

@@ -19,8 +19,9 @@ use Rattle.root.specs.Doubles.{1e-12}
 use Rattle.geometry.specs.declared.point.Point.{Point}
 use Rattle.geometry.specs.Points.{origin, area2}
 use Rattle.geometry.specs.Triangles.{Triangle, tri, mapped, flat}
-use Rattle.geometry.specs.Meshes.{vertex, Named, newNumber, enter}
-use Rattle.geometry.proofs.Meshes.{enter-cases, enter-length, enter-stays, entered}
+use Rattle.geometry.specs.Meshes.{vertex}
+use Rattle.geometry.specs.FirstUse.{Named, newNumber, enter}
+use Rattle.geometry.proofs.FirstUse.{enter-cases, enter-length, enter-stays, entered}
 use Rattle.cap_closing.specs.Closing.{isLarge}
 
 pub record Grown (n m : Named) : Type 0 where

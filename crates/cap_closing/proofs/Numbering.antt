@@ -22,8 +22,8 @@ use Rattle.lists.proofs.Regions.{view-length, view-at, view-map}
 use Rattle.lists.proofs.Sequences.{map-below}
 use Rattle.geometry.specs.declared.point.Point.{Point}
 use Rattle.geometry.specs.Points.{pt}
-use Rattle.geometry.specs.Meshes.{Named, enter}
-use Rattle.geometry.proofs.Meshes.{enter-new, enter-old}
+use Rattle.geometry.specs.FirstUse.{Named, enter}
+use Rattle.geometry.proofs.FirstUse.{enter-new, enter-old}
 use Rattle.candidate_pool.specs.Offsets.{entryAt}
 use Rattle.candidate_pool.specs.Standing.{countAt}
 use Rattle.cap_closing.specs.Steps.{pointIn, namedAt, NamesEntering, NamesEntered}

@@ -20,7 +20,8 @@ use Rattle.lists.proofs.Regions.{view-same}
 use Rattle.lists.proofs.Sequences.{map-below}
 use Rattle.geometry.specs.declared.point.Point.{Point}
 use Rattle.geometry.specs.Triangles.{Triangle, tri, mapped, vertices}
-use Rattle.geometry.specs.Meshes.{pointsOf, Named, newNumber}
+use Rattle.geometry.specs.Meshes.{pointsOf}
+use Rattle.geometry.specs.FirstUse.{Named, newNumber}
 use Rattle.geometry.proofs.Meshes.{length-pointsOf}
 use Rattle.mesh_filter.specs.Room.{cornersKey, Below}
 use Rattle.candidate_pool.specs.Standing.{countAt}

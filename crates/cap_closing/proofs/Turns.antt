@@ -19,7 +19,8 @@ use Rattle.lists.proofs.Mapped.{Each, each-keep}
 use Rattle.lists.proofs.Multiplicity.{keep-yes, keep-no}
 use Rattle.lists.proofs.Sequences.{flatMap-append, each-mapped}
 use Rattle.geometry.specs.Triangles.{Triangle, tri, mapped, vertices, flat}
-use Rattle.geometry.specs.Meshes.{pointsOf, Named, newNumber, enter}
+use Rattle.geometry.specs.Meshes.{pointsOf}
+use Rattle.geometry.specs.FirstUse.{Named, newNumber, enter}
 use Rattle.geometry.proofs.Meshes.{length-pointsOf}
 use Rattle.mesh_filter.specs.Room.{Below}
 use Rattle.candidate_pool.specs.Offsets.{entryAt}

@@ -14,7 +14,8 @@ use lib.Ieee.{Float}
 use Rattle.lists.specs.Lists.{keep, count, distinct, upTo}
 use Rattle.lists.proofs.Mapped.{Each, each-map}
 use Rattle.geometry.specs.Triangles.{Triangle, tri, mapped, flat}
-use Rattle.geometry.specs.Meshes.{pointsOf, Named, newNumber, enter}
+use Rattle.geometry.specs.Meshes.{pointsOf}
+use Rattle.geometry.specs.FirstUse.{Named, newNumber, enter}
 use Rattle.mesh_filter.specs.Filters.{sameCorners}
 use Rattle.mesh_filter.specs.Room.{Below}
 use Rattle.mesh_filter.proofs.Keys.{same-key}

@@ -27,7 +27,8 @@ use Rattle.lists.specs.Lists.{keep, some, count, upTo}
 use Rattle.lists.specs.Regions.{view, Above}
 use Rattle.geometry.specs.declared.point.Point.{Point}
 use Rattle.geometry.specs.Triangles.{Triangle, tri, mapped, vertices, flat}
-use Rattle.geometry.specs.Meshes.{pointsOf, Named, newNumber, enter}
+use Rattle.geometry.specs.Meshes.{pointsOf}
+use Rattle.geometry.specs.FirstUse.{Named, newNumber, enter}
 use Rattle.mesh_filter.specs.Room.{cornersKey, Below}
 use Rattle.candidate_pool.specs.Offsets.{entryAt, keysAt}
 use Rattle.candidate_pool.specs.Standing.{countAt, pointAt, PointStored}

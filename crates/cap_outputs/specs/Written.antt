@@ -16,7 +16,7 @@ use Rattle.geometry.specs.declared.point.Point.{Point}
 use Rattle.candidate_pool.specs.Offsets.{entryAt}
 use Rattle.geometry.specs.Triangles.{threes}
 use Rattle.geometry.specs.Meshes.{Mesh, pointsOf}
-use Rattle.refusals.specs.Front.{ceiling, ListsPass}
+use Rattle.input_tests.specs.Front.{ceiling, ListsPass}
 use Rattle.candidate_pool.specs.Standing.{countAt, pointAt, PointStored}
 use Rattle.cap_closing.specs.Closing.{ownFacets}
 use Rattle.cap_closing.specs.Entering.{freshAt, leftAt, verticesAt, freshIn, firstsIn}

@@ -13,8 +13,8 @@ use Rattle.refusals.specs.declared.refusal.Checked.{Checked}
 use Rattle.refusals.specs.declared.refusal.Checked.the-variants.{Passed}
 use Rattle.candidate_pool.specs.Offsets.{roomEnd}
 use Rattle.refusals.specs.Refusals.{Passes}
-use Rattle.refusals.specs.Front.{ceiling}
-use Rattle.refusals.proofs.Replies.{cap-listed}
+use Rattle.input_tests.specs.Front.{ceiling}
+use Rattle.input_tests.proofs.Lists.{cap-listed}
 use Rattle.candidate_pool.specs.Pool.{Pool, noCandidate}
 use Rattle.candidate_surface.specs.Asked.{Asked, setting}
 use Rattle.closure_tests.specs.Tests.{closureTests}

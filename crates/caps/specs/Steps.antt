@@ -17,7 +17,7 @@ use Rattle.refusals.specs.declared.refusal.Checked.{Checked}
 use Rattle.refusals.specs.declared.refusal.Checked.the-variants.{Passed}
 use Rattle.candidate_pool.specs.Offsets.{openEdgesAt}
 use Rattle.refusals.specs.Refusals.{firstRefusal}
-use Rattle.refusals.specs.Front.{ceiling, ListsPass, CapListPass}
+use Rattle.input_tests.specs.Front.{ceiling, ListsPass, CapListPass}
 use Rattle.candidate_pool.specs.OpenEdges.{OpenEdge}
 use Rattle.candidate_pool.specs.Pool.{Pool}
 use Rattle.candidate_pool.specs.Standing.{poolAt, edgesAt}

@@ -19,7 +19,7 @@ use mathlib.Core.Path.{_≡_}
 use Rattle.refusals.specs.Refusals.{settle}
 use Rattle.refusals.specs.Answers.{replyIn}
 use Rattle.refusals.specs.Reports.{Reported}
-use Rattle.refusals.specs.Front.{byAxis}
+use Rattle.input_tests.specs.Front.{byAxis}
 use Rattle.candidate_outputs.specs.Outputs.{candidateWords, candidateLengths}
 use Rattle.candidate_surface.specs.Asked.{Asked, asked}
 use Rattle.boundary_closure.specs.Operation.{candidatesTests, candidatesResult}

@@ -8,7 +8,7 @@ use crate::listed::is_alone;
 use crate::listed::place_of;
 use boundary_closure::cap_candidates;
 use geometry::aabb::AABB;
-use refusals::grid::segments_of;
+use input_tests::grid::segments_of;
 use refusals::report::report_reply;
 
 // 1/1024

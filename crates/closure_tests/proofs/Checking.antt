@@ -27,9 +27,10 @@ use Rattle.refusals.specs.declared.refusal.Refusal.the-variants.{BadNumber, Bad
 use Rattle.refusals.specs.declared.refusal.Checked.{Checked}
 use Rattle.refusals.specs.declared.refusal.Checked.the-variants.{Passed, Refused}
 use Rattle.refusals.specs.Refusals.{Test, firstRefusal, Passes}
-use Rattle.refusals.specs.Front.{ceiling, listTests, inRange, epsInRange, resolutionInRange, boxInRange, badBox, gridTooFine, workNeed, farKeys, boxFarKeys}
+use Rattle.input_tests.specs.Front.{ceiling, listTests, inRange, epsInRange, resolutionInRange, boxInRange, badBox, gridTooFine, workNeed, farKeys, boxFarKeys}
 use Rattle.refusals.proofs.Refusals.{holds, passes, none-left, row-passed, row-refused}
-use Rattle.refusals.proofs.Replies.{head-passed, tail-passed, row-front, row-rest, listed, cap-listed}
+use Rattle.refusals.proofs.Replies.{head-passed, tail-passed, row-front, row-rest}
+use Rattle.input_tests.proofs.Lists.{listed, cap-listed}
 use Rattle.candidate_edges.specs.Surface.{edgeFaces}
 use Rattle.candidate_edges.specs.Steps.{MeshFits}
 use Rattle.candidate_surface.specs.Asked.{Asked, oneResolution}

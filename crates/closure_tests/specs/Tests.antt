@@ -13,7 +13,7 @@ use Rattle.geometry.specs.Axes.{gridSize}
 use Rattle.edges.specs.Edges.{sortedPair, openEdges}
 use Rattle.refusals.specs.declared.refusal.Refusal.the-variants.{BadNumber, BadBox, GridTooFine, KeyRange, OpenEdge}
 use Rattle.refusals.specs.Refusals.{Test}
-use Rattle.refusals.specs.Front.{ceiling, listTests, inRange, epsInRange, resolutionInRange, boxInRange, badBox, gridTooFine, workNeed, workTest, farKeys, boxFarKeys}
+use Rattle.input_tests.specs.Front.{ceiling, listTests, inRange, epsInRange, resolutionInRange, boxInRange, badBox, gridTooFine, workNeed, workTest, farKeys, boxFarKeys}
 use Rattle.candidate_edges.specs.Surface.{edgeFaces}
 use Rattle.candidate_surface.specs.Asked.{Asked, oneResolution}
 

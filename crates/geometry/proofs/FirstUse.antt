@@ -1,9 +1,10 @@
 -- Numbers given out by first use (`enter`), told without the table: by the list of those that got a new number, each once, in the order of their first use.
 -- Some have a number from the start (1 more of it in `given`); `cs` are those used. Assumes nothing.
+--   enter-new, enter-old, enter-cases, enter-length, enter-stays, entered   one more use: what is given stays, and the one used has a number
 --   news, numberIn   those that got a new number, and the number of each
 --   news-points      the points: those there were, and behind them those of `news`
 --   news-numbers     the numbers of those used
-use Prim.Native.Nat.{ℕ, _+_, _-_, _<_}
+use Prim.Native.Nat.{ℕ, zero, suc, _+_, _-_, _<_}
 use native.Mathlib.Decide.{ℕ-discrete}
 use native.Mathlib.Omega.{arith}
 use mathlib.Core.Path.{_≡_, refl, sym, ap, subst, _∙_}
@@ -17,8 +18,42 @@ use Rattle.lists.specs.Lists.{some, has, place, keep, distinct, distinctFrom}
 use Rattle.lists.proofs.Mapped.{Each, each-map}
 use Rattle.lists.proofs.Sequences.{some-append, place-front, place-behind}
 use Rattle.geometry.specs.declared.point.Point.{Point}
-use Rattle.geometry.specs.Meshes.{Named, newNumber, enter}
-use Rattle.geometry.proofs.Meshes.{enter-new, enter-old, enter-stays, enter-length, entered}
+use Rattle.geometry.specs.FirstUse.{Named, newNumber, enter}
+
+-- ---- one more use
+module _ (at : ℕ → Point) (n : Named) (v : ℕ) where
+  abbrev next : Named
+  next = record { given = set (n .given) v (length (n .points) + 1); points = n .points ++ (at v ∷ []) }
+
+  pub enter-new : getD (n .given) v 0 ≡ 0 → enter at n v ≡ next
+  unfolding enter
+  enter-new h = ap (λ (b : Bool). cond b next n) (eq-eqb (getD (n .given) v 0) 0 h)
+
+  pub enter-old : 0 < getD (n .given) v 0 → enter at n v ≡ n
+  unfolding enter
+  enter-old h = ap (λ (b : Bool). cond b next n) (ne-eqb (getD (n .given) v 0) 0 (λ e. omega arith))
+
+  -- what holds of a new number and of an old one holds of the one entered
+  pub enter-cases : (P : Named → Type 0) → (getD (n .given) v 0 ≡ 0 → P next) → (0 < getD (n .given) v 0 → P n) → P (enter at n v)
+  enter-cases P f g = go (getD (n .given) v 0) refl
+    where
+      go : (k : ℕ) → getD (n .given) v 0 ≡ k → P (enter at n v)
+      go zero e = subst P (sym (enter-new e)) (f e)
+      go (suc k) e = subst P (sym (enter-old (omega arith))) (g (omega arith))
+
+  pub enter-length : length (enter at n v .given) ≡ length (n .given)
+  enter-length = enter-cases (λ m. length (m .given) ≡ length (n .given)) (λ h. length-set (n .given) v (length (n .points) + 1)) (λ h. refl)
+
+  pub enter-stays : (w : ℕ) → 0 < getD (n .given) w 0 → getD (enter at n v .given) w 0 ≡ getD (n .given) w 0
+  enter-stays w h =
+      enter-cases (λ m. getD (m .given) w 0 ≡ getD (n .given) w 0)
+      (λ e. getD-set-other (n .given) v w (length (n .points) + 1) 0 (λ d. omega (arith, ap (λ (x : ℕ). getD (n .given) x 0) d)))
+      (λ e. refl)
+
+  pub entered : v < length (n .given) → 0 < getD (enter at n v .given) v 0
+  entered h = enter-cases (λ m. 0 < getD (m .given) v 0) (λ e. omega (arith, getD-set-same (n .given) v (length (n .points) + 1) 0 h)) (λ e. e)
+
+-- ---- all uses
 
 module _ (at : ℕ → Point) (given : List ℕ) (points : List Point) where
   abbrev bare : ℕ → Bool

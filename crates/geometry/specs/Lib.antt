@@ -3,4 +3,5 @@ pub mod Numbers
 pub mod Points
 pub mod Boxes
 pub mod Meshes
+pub mod FirstUse
 pub mod Axes

@@ -3,12 +3,9 @@
 --   pointsOf, coordinates  flat coordinates to points, and back
 --   meshLengths            of a mesh as flat lists: coordinates and vertex numbers
 --   vertex, vertexOf       the point of vertex v, of a list of points and of a list of coordinates
---   Named, enter           numbers given out by first use: clipping, cleaning and closing all number vertices so
-use Prim.Native.Nat.{ℕ, _+_, _-_}
-use mathlib.Core.Bool.{cond}
-use mathlib.Core.List.{List, [], _∷_, _++_, map, flatMap}
-use lib.Dec.{eqb}
-use lib.ListN.{getD, set, length}
+use Prim.Native.Nat.{ℕ}
+use mathlib.Core.List.{List, [], _∷_, map, flatMap}
+use lib.ListN.{getD, length}
 use lib.Ieee.{Float}
 use Rattle.geometry.specs.declared.point.Point.{Point}
 use Rattle.geometry.specs.Points.{pt, origin}
@@ -36,18 +33,3 @@ vertex l v = getD l v origin
 
 abbrev pub vertexOf : List Float → ℕ → Point
 vertexOf vs v = vertex (pointsOf vs) v
-
--- of each old number 1 more than its new one, or 0 while it has none; and the vertices numbered so far
-pub record Named : Type 0 where
-  pub given : List ℕ
-  pub points : List Point
-
-abbrev pub newNumber : Named → ℕ → ℕ
-newNumber n v = getD (n .given) v 0 - 1
-
--- v's point is added at its first use, and v gets its number
-unfoldable pub enter : (ℕ → Point) → Named → ℕ → Named
-enter at n v =
-    cond (eqb (getD (n .given) v 0) 0)
-    (record { given = set (n .given) v (length (n .points) + 1); points = n .points ++ (at v ∷ []) })
-    n

@@ -18,7 +18,7 @@ use Rattle.geometry.specs.Triangles.{Triangle, mapped, vertices, threes, flat}
 use Rattle.geometry.specs.Meshes.{Mesh, pointsOf, vertex, vertexOf}
 use Rattle.geometry.proofs.Meshes.{length-pointsOf, vertex-at}
 use Rattle.rounding.specs.Rounding.{farKey}
-use Rattle.refusals.specs.Front.{badIndex, farKeys}
+use Rattle.input_tests.specs.Front.{badIndex, farKeys}
 use Rattle.mesh_weld.specs.Weld.{Welded, weld}
 use Rattle.mesh_weld.specs.Cells.{cells}
 use Rattle.mesh_weld.specs.Room.{KeyIn, KeysIn, Welds}

@@ -20,7 +20,7 @@ use Rattle.refusals.specs.declared.refusal.Refusal.the-variants.{BadNumber, Key
 use Rattle.refusals.specs.declared.reply.Reply.{Reply}
 use Rattle.refusals.specs.Refusals.{documentedReply, Test}
 use Rattle.refusals.specs.Answers.{meshOutputs, Answered}
-use Rattle.refusals.specs.Front.{ceiling, listTests, inRange, epsInRange, workNeed, workTest, farKeys}
+use Rattle.input_tests.specs.Front.{ceiling, listTests, inRange, epsInRange, workNeed, workTest, farKeys}
 use Rattle.mesh_weld.specs.Joining.{Joining}
 use Rattle.mesh_weld.specs.Weld.{Welded, weld}
 use Rattle.mesh_weld.specs.Cells.{cells}

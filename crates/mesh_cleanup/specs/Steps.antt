@@ -8,7 +8,7 @@ use mathlib.Core.List.{List}
 use lib.ListN.{length}
 use lib.Ieee.{Float}
 use Rattle.geometry.specs.Meshes.{Mesh, vertexOf}
-use Rattle.refusals.specs.Front.{ceiling, farKeys, ListsPass}
+use Rattle.input_tests.specs.Front.{ceiling, farKeys, ListsPass}
 use Rattle.mesh_compact.specs.declared.compact.Staged.{Staged}
 use Rattle.mesh_compact.specs.Room.{StagedMesh}
 use Rattle.mesh_cleanup.specs.Clean.{CleanAsked}

@@ -19,7 +19,8 @@ use Rattle.lists.proofs.Sequences.{at-map, map-same}
 use Rattle.geometry.specs.declared.point.Point.{Point}
 use Rattle.geometry.specs.Points.{origin}
 use Rattle.geometry.specs.Triangles.{Triangle, tri, vertices, flat, cornersAt}
-use Rattle.geometry.specs.Meshes.{Mesh, newNumber}
+use Rattle.geometry.specs.Meshes.{Mesh}
+use Rattle.geometry.specs.FirstUse.{newNumber}
 use Rattle.components.specs.Components.{components, componentOf}
 use Rattle.components.specs.Table.{LabelsBelow, ComponentNumbers, ComponentTable, size}
 use Rattle.components.proofs.Numbers.{number-in, size-component}

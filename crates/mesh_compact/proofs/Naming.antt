@@ -13,8 +13,9 @@ use Rattle.lists.specs.Regions.{view}
 use Rattle.lists.proofs.Regions.{view-length, view-at, view-same, view-more}
 use Rattle.lists.proofs.Sequences.{map-same}
 use Rattle.geometry.specs.declared.point.Point.{Point}
-use Rattle.geometry.specs.Meshes.{vertex, Named, newNumber, enter}
-use Rattle.geometry.proofs.Meshes.{enter-new, enter-old, enter-stays, entered}
+use Rattle.geometry.specs.Meshes.{vertex}
+use Rattle.geometry.specs.FirstUse.{Named, newNumber, enter}
+use Rattle.geometry.proofs.FirstUse.{enter-new, enter-old, enter-stays, entered}
 use Rattle.mesh_compact.specs.declared.renumber.Numbered.{Numbered}
 use Rattle.mesh_compact.specs.Room.{numbering, afterVertex, countAfter, Vertexed, Pointed, Naming, Cornered}
 

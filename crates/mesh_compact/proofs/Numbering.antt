@@ -12,7 +12,8 @@ use borrow.Author.Tests.{eq-eqb}
 use Rattle.lists.specs.Lists.{keep, place, distinct}
 use Rattle.lists.proofs.Mapped.{Each, each-map, of-each, keep-all}
 use Rattle.geometry.specs.declared.point.Point.{Point}
-use Rattle.geometry.specs.Meshes.{vertex, newNumber}
+use Rattle.geometry.specs.Meshes.{vertex}
+use Rattle.geometry.specs.FirstUse.{newNumber}
 use Rattle.geometry.proofs.FirstUse.{numberIn, news-points, news-numbers}
 use Rattle.mesh_compact.specs.Room.{numbering}
 

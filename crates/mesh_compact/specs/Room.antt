@@ -22,7 +22,8 @@ use Rattle.lists.specs.Lists.{keep, upTo}
 use Rattle.lists.specs.Regions.{view}
 use Rattle.geometry.specs.declared.point.Point.{Point}
 use Rattle.geometry.specs.Triangles.{Triangle, vertices, flat, cornersAt}
-use Rattle.geometry.specs.Meshes.{Mesh, vertex, Named, newNumber, enter}
+use Rattle.geometry.specs.Meshes.{Mesh, vertex}
+use Rattle.geometry.specs.FirstUse.{Named, newNumber, enter}
 use Rattle.mesh_filter.specs.Filters.{facetAt}
 use Rattle.mesh_compact.specs.declared.renumber.Numbered.{Numbered}
 use Rattle.mesh_compact.specs.declared.compact.Staged.{Staged}

@@ -20,9 +20,8 @@ use Rattle.refusals.specs.declared.refusal.Checked.the-variants.{Passed,
 use Rattle.refusals.specs.declared.reply.Reply.the-variants.{DoneTwo, DoneFour}
 use Rattle.refusals.specs.declared.reply.Reply.the-variants as reply
 use Rattle.refusals.specs.Refusals.{documented, documentedReply, Test, firstRefusal, Passes, numbered, replyTo, settle, Zeroed}
-use Rattle.refusals.specs.Front.{roomTests}
 use Rattle.refusals.specs.Reports.{Reported}
-use Rattle.refusals.specs.Answers.{Output, resultLengths, outputLengths, AllSettled, Answer, Answered, Called}
+use Rattle.refusals.specs.Answers.{roomTests, Output, resultLengths, outputLengths, AllSettled, Answer, Answered, Called}
 use Rattle.refusals.proofs.Refusals.{holds, passes, none-left, row-passed, row-refused, untouched, laid-over}
 use Rattle.refusals.proofs.Replies.{reply-refused, reply-passed, reply-done}
 

@@ -2,7 +2,6 @@
 --   reply-refused, reply-passed    a row of tests in front, that refused or passed
 --   not-done, reply-done           a reply whose number is 0 is no refusal
 --   head-passed, tail-passed, row-front, row-rest   what is known once a row of tests has passed
---   listed, cap-listed             the same of tests 1, 2 and 3
 use Prim.Native.Nat.{ℕ, _/_, _%_, _≤_, _<_}
 use mathlib.Core.Path.{_≡_, refl, ap, _∙_}
 use mathlib.Core.Bool.{Bool, true, false, cond, _||_}
@@ -31,7 +30,6 @@ use Rattle.refusals.specs.declared.refusal.Refusal.the-variants.{
 use Rattle.refusals.specs.declared.refusal.Checked.{Checked}
 use Rattle.refusals.specs.declared.refusal.Checked.the-variants.{Passed, Refused}
 use Rattle.refusals.specs.Refusals.{documented, Test, firstRefusal, numbered, replyTo}
-use Rattle.refusals.specs.Front.{ragged, tooMany, capCeiling, badIndex, listTests, ListsPass, CapListPass, roomTests}
 use Rattle.refusals.proofs.Refusals.{holds, passes, none-left, row-passed, row-refused}
 
 module _ (ts us : List Test) (done : List ℕ) where
@@ -87,39 +85,3 @@ row-front (t ∷ ts) us e = passes (t .0) (t .1) ts (head-passed (t .0) (t .1) (
 pub row-rest : (ts us : List Test) → firstRefusal (ts ++ us) ≡ Passed → firstRefusal us ≡ Passed
 row-rest [] us e = e
 row-rest (t ∷ ts) us e = row-rest ts us (tail-passed (t .0) (t .1) (ts ++ us) e)
-
-module _ (most : ℕ) (vs : List Float) (fs : List ℕ) (caps : ℕ) where
-  abbrev second : List Test
-  second =
-      (tooMany most (length vs) 3 || (tooMany most (length fs) 3 || tooMany capCeiling caps 4), TooMany) ∷ (badIndex (length vs / 3) fs, BadIndex) ∷ []
-
-  pub listed : firstRefusal (listTests most vs fs caps) ≡ Passed → ListsPass most vs fs
-  unfolding ragged tooMany
-  listed e =
-      let r1 = head-passed (ragged (length vs) 3 || (ragged (length fs) 3 || ragged caps 4)) Ragged second e in
-      let e2 = tail-passed (ragged (length vs) 3 || (ragged (length fs) 3 || ragged caps 4)) Ragged second e in
-      let r2 = head-passed (tooMany most (length vs) 3 || (tooMany most (length fs) 3 || tooMany capCeiling caps 4)) TooMany ((badIndex (length vs / 3) fs, BadIndex) ∷ []) e2 in
-      let e3 = tail-passed (tooMany most (length vs) 3 || (tooMany most (length fs) 3 || tooMany capCeiling caps 4)) TooMany ((badIndex (length vs / 3) fs, BadIndex) ∷ []) e2 in
-      let s1 = or-none-right (ragged (length vs) 3) (ragged (length fs) 3 || ragged caps 4) r1 in
-      let s2 = or-none-right (tooMany most (length vs) 3) (tooMany most (length fs) 3 || tooMany capCeiling caps 4) r2 in
-      record {
-        whole-vertices = eqb-true (length vs % 3) 0 (not-false (eqb (length vs % 3) 0) (or-none-left (ragged (length vs) 3) (ragged (length fs) 3 || ragged caps 4) r1));
-        whole-facets = eqb-true (length fs % 3) 0 (not-false (eqb (length fs % 3) 0) (or-none-left (ragged (length fs) 3) (ragged caps 4) s1));
-        few-vertices = ltb-false most (length vs / 3) (or-none-left (tooMany most (length vs) 3) (tooMany most (length fs) 3 || tooMany capCeiling caps 4) r2);
-        few-facets = ltb-false most (length fs / 3) (or-none-left (tooMany most (length fs) 3) (tooMany capCeiling caps 4) s2);
-        below = head-passed (badIndex (length vs / 3) fs) BadIndex [] e3;
-      }
-
-  pub cap-listed : firstRefusal (listTests most vs fs caps) ≡ Passed → CapListPass caps
-  unfolding ragged tooMany
-  cap-listed e =
-      let anyRagged = ragged (length vs) 3 || (ragged (length fs) 3 || ragged caps 4) in
-      let anyMany = tooMany most (length vs) 3 || (tooMany most (length fs) 3 || tooMany capCeiling caps 4) in
-      let r1 = head-passed anyRagged Ragged second e in
-      let r2 = head-passed anyMany TooMany ((badIndex (length vs / 3) fs, BadIndex) ∷ []) (tail-passed anyRagged Ragged second e) in
-      let s1 = or-none-right (ragged (length vs) 3) (ragged (length fs) 3 || ragged caps 4) r1 in
-      let s2 = or-none-right (tooMany most (length vs) 3) (tooMany most (length fs) 3 || tooMany capCeiling caps 4) r2 in
-      record {
-        whole = eqb-true (caps % 4) 0 (not-false (eqb (caps % 4) 0) (or-none-right (ragged (length fs) 3) (ragged caps 4) s1));
-        few = ltb-false capCeiling (caps / 4) (or-none-right (tooMany most (length fs) 3) (tooMany capCeiling caps 4) s2);
-      }

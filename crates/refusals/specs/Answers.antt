@@ -1,4 +1,5 @@
 -- An operation's answer (document 01, "Refusals"): its reply, and what its outputs and the work room end as. One form for every operation. Assumes nothing.
+--   roomTests        12, of the lengths of the results and of the outputs
 --   Output, output   the result that an output is for, what stood there before the call and what stands there after it; elements of any type
 --   meshOutputs      the two outputs of an operation that writes a mesh
 --   resultLengths, outputLengths   the lengths of the results, and of the outputs as they are lent
@@ -10,13 +11,20 @@
 use Prim.Native.Nat.{ℕ}
 use mathlib.Core.Path.{_≡_}
 use mathlib.Core.List.{List, [], _∷_, _++_, map}
+use lib.Dec.{ltb}
 use lib.ListN.{length}
 use lib.Ieee.{Float}
 use Rattle.geometry.specs.Triangles.{flat}
 use Rattle.geometry.specs.Meshes.{Mesh, coordinates}
+use Rattle.refusals.specs.declared.refusal.Refusal.the-variants.{NoRoom}
 use Rattle.refusals.specs.Refusals.{Test, replyTo, settle, Zeroed}
-use Rattle.refusals.specs.Front.{roomTests}
 use Rattle.refusals.specs.Reports.{Reported}
+
+-- 12: "an output is shorter than the result; the first short one counts": results of these lengths, outputs of those
+unfoldable pub roomTests : List ℕ → List ℕ → List Test
+roomTests [] outs = []
+roomTests (n ∷ ns) [] = (ltb 0 n, NoRoom n) ∷ roomTests ns []
+roomTests (n ∷ ns) (o ∷ outs) = (ltb o n, NoRoom n) ∷ roomTests ns outs
 
 pub record Output : Type 1 where
   pub Element : Type 0

@@ -1,7 +1,4 @@
-// The refusals of document 01's table, and the tests that the operations share.
-pub mod boxes;
-pub mod front;
-pub mod grid;
+// The refusals of document 01's table, an operation's reply, and both as a C caller gets them.
 pub mod refusal;
 pub mod reply;
 pub mod report;

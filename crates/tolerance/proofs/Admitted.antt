@@ -18,7 +18,7 @@ use Rattle.geometry.specs.Points.{dot, norm, norm2}
 use Rattle.geometry.proofs.Points.{norm2-within, norm2-plus, norm2-rootable}
 use Rattle.refusals.specs.declared.refusal.Refusal.{Refusal}
 use Rattle.refusals.specs.Refusals.{documented}
-use Rattle.refusals.specs.Front.{boxInRange, badBox, epsInRange}
+use Rattle.input_tests.specs.Front.{boxInRange, badBox, epsInRange}
 use Rattle.tolerance.specs.declared.Tolerance.the-variants.{Of, Refused}
 use Rattle.tolerance.specs.Tolerance.{boxLengths, tolerance, toleranceReply, Tolerated}
 use Rattle.tolerance.proofs.Replies.{sides-within, reply-done}

@@ -14,9 +14,9 @@ use Rattle.refusals.specs.declared.refusal.Checked.{Checked}
 use Rattle.refusals.specs.declared.refusal.Checked.the-variants.{Passed, Refused}
 use Rattle.refusals.specs.declared.refusal.Refusal.the-variants.{BadNumber, BadBox}
 use Rattle.refusals.specs.Refusals.{documented, numbered}
-use Rattle.refusals.specs.Front.{boxInRange, badBox}
+use Rattle.input_tests.specs.Front.{boxInRange, badBox}
 use Rattle.refusals.proofs.Refusals.{holds, passes, none-left}
-use Rattle.refusals.proofs.Ranges.{BoxWithin, box-within}
+use Rattle.input_tests.proofs.Ranges.{BoxWithin, box-within}
 use Rattle.tolerance.specs.Tolerance.{boxLengths, tolerance, toleranceTests, toleranceReply}
 
 pub sides-within : (b : AABB) → boxInRange b ≡ true → PointWithin 31 (boxLengths b)

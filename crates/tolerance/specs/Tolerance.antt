@@ -17,7 +17,7 @@ use Rattle.geometry.specs.Boxes.{lowest, highest}
 use Rattle.geometry.specs.Points.{onAxes, norm2, norm}
 use Rattle.refusals.specs.declared.refusal.Refusal.the-variants.{BadNumber, BadBox}
 use Rattle.refusals.specs.Refusals.{documented, Test, replyTo}
-use Rattle.refusals.specs.Front.{boxInRange, badBox, epsInRange}
+use Rattle.input_tests.specs.Front.{boxInRange, badBox, epsInRange}
 use Rattle.tolerance.specs.declared.Tolerance.{Tolerance}
 use Rattle.tolerance.specs.declared.Tolerance.the-variants.{Of, Refused}
 

@@ -3,8 +3,8 @@ ghost use mathlib.Core.Path.{_≡_};
 ghost use Rattle.tolerance.specs.Tolerance.{boxLengths, Tolerated};
 use geometry::aabb::AABB;
 use geometry::point::Point;
-use refusals::boxes::box_in_range;
-use refusals::boxes::is_bad_box;
+use input_tests::boxes::box_in_range;
+use input_tests::boxes::is_bad_box;
 use refusals::refusal::Refusal;
 use rounding::max;
 

@@ -17,8 +17,8 @@ use Rattle.geometry.specs.Axes.{segments, gridLine, gridSize}
 use Rattle.mesh_weld.specs.Cells.{keyOf, sameKey}
 use Rattle.edges.specs.Edges.{samePair, pairBefore, openEdges}
 use Rattle.refusals.specs.Refusals.{documented, firstRefusal}
-use Rattle.refusals.specs.Answers.{replyWith}
-use Rattle.refusals.specs.Front.{ragged, tooMany, badIndex, inRange, epsInRange, resolutionInRange, boxInRange, badBox, gridTooFine, workNeed, farKeys, roomTests}
+use Rattle.refusals.specs.Answers.{replyWith, roomTests}
+use Rattle.input_tests.specs.Front.{ragged, tooMany, badIndex, inRange, epsInRange, resolutionInRange, boxInRange, badBox, gridTooFine, workNeed, farKeys}
 use Rattle.box_faces.specs.Faces.{project, faceBits, onFace, facesOf}
 use Rattle.box_faces.specs.Sides.{faceSides, betweenEnds, alongSide, onSide}
 use Rattle.candidate_pool.specs.OpenEdges.{openEdgeWords}

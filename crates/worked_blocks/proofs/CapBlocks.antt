@@ -13,14 +13,15 @@ use Rattle.rounding.specs.Rounding.{halfUp, rounded, key, beyond, farKey, ceil,
 use Rattle.geometry.specs.declared.aabb.AABB.{AABB}
 use Rattle.geometry.specs.Points.{along, difference, dot, cross}
 use Rattle.geometry.specs.Triangles.{threes, flat, containsOrientedEdge, sortedVertices}
-use Rattle.geometry.specs.Meshes.{Mesh, coordinates, enter}
+use Rattle.geometry.specs.Meshes.{Mesh, coordinates}
 use Rattle.geometry.specs.Axes.{segments, gridLine, gridSize}
 use Rattle.components.specs.Components.{components}
 use Rattle.mesh_weld.specs.Cells.{keyOf, sameKey}
 use Rattle.mesh_filter.specs.Filters.{sameCorners}
 use Rattle.edges.specs.Edges.{samePair, pairBefore, openEdges}
 use Rattle.refusals.specs.Refusals.{documented, firstRefusal}
-use Rattle.refusals.specs.Front.{ragged, tooMany, badIndex, inRange, epsInRange, resolutionInRange, boxInRange, badBox, gridTooFine, workNeed, farKeys, roomTests}
+use Rattle.refusals.specs.Answers.{roomTests, meshOutputs, replyWith}
+use Rattle.input_tests.specs.Front.{ragged, tooMany, badIndex, inRange, epsInRange, resolutionInRange, boxInRange, badBox, gridTooFine, workNeed, farKeys}
 use Rattle.box_faces.specs.Faces.{project, onFace, facesOf}
 use Rattle.candidate_pool.specs.Pool.{byKey, renewed, listed, numberFor, insert}
 use Rattle.candidate_grids.specs.Grid.{gridPoint, skipped, gridAt, faceGrid, grid}
@@ -33,7 +34,6 @@ use Rattle.caps.specs.declared.mode.BoundaryClosure.{BoundaryClosure}
 use Rattle.caps.specs.declared.mode.BoundaryClosure.the-variants.{None, ClosePositive, CloseNegative}
 use Rattle.cap_closing.specs.Closing.{taken, newVertices, vertexFor, closedPoints, capCorners, isLarge, capFacets, ownFacets, closed}
 use Rattle.candidate_surface.specs.Asked.{asked}
-use Rattle.refusals.specs.Answers.{meshOutputs, replyWith}
 use Rattle.caps.specs.Operation.{surface, capTests, capsTests, capsResult}
 
 abbrev +0 : Float
@@ -173,7 +173,7 @@ pub record Rules : Type 0 where
 
 pub computed : WorkedBlocks
 unfolding every some keep place insertBy sortBy distinctFrom upFrom flatMap magnitude within larger clamped before one unitsOf root rootOfSquare wholeRoot halfUp rounded key
-    beyond farKey ceil wholeUp rounding.segmentsOver along difference dot cross threes containsOrientedEdge sortedVertices enter segments gridLine gridSize first components keyOf
+    beyond farKey ceil wholeUp rounding.segmentsOver along difference dot cross threes containsOrientedEdge sortedVertices segments gridLine gridSize first components keyOf
     sameKey sameCorners samePair pairBefore openEdges documented firstRefusal ragged tooMany badIndex inRange epsInRange resolutionInRange boxInRange badBox gridTooFine
     workNeed farKeys roomTests project onFace facesOf byKey renewed listed numberFor insert gridPoint skipped gridAt faceGrid grid enterEdge edgeSurface cornerVertices
     meshPool candidates closureTests strayEdge edgeTests noTwoEnds capsOf signedArea outward isSeed isOpenPair shareEdge selected badCap badCapPlace missingEdge missingPlace
@@ -182,7 +182,7 @@ computed = record { c10 = refl; c9 = refl; c13 = refl; c14-near = refl; c14-far 
 
 pub rules : Rules
 unfolding every some keep place insertBy sortBy distinctFrom upFrom flatMap magnitude within larger clamped before one unitsOf root rootOfSquare wholeRoot halfUp rounded key
-    beyond farKey ceil wholeUp rounding.segmentsOver along difference dot cross threes containsOrientedEdge sortedVertices enter segments gridLine gridSize first components keyOf
+    beyond farKey ceil wholeUp rounding.segmentsOver along difference dot cross threes containsOrientedEdge sortedVertices segments gridLine gridSize first components keyOf
     sameKey sameCorners samePair pairBefore openEdges documented firstRefusal ragged tooMany badIndex inRange epsInRange resolutionInRange boxInRange badBox gridTooFine
     workNeed farKeys roomTests project onFace facesOf byKey renewed listed numberFor insert gridPoint skipped gridAt faceGrid grid enterEdge edgeSurface cornerVertices
     meshPool candidates closureTests strayEdge edgeTests noTwoEnds capsOf signedArea outward isSeed isOpenPair shareEdge selected badCap badCapPlace missingEdge missingPlace

@@ -17,10 +17,10 @@ use Rattle.geometry.specs.declared.fraction.Fraction.{Fraction}
 use Rattle.geometry.specs.declared.fraction.Fraction.the-variants.{Nothing}
 use Rattle.geometry.specs.Points.{pt, along, difference, dot, cross, norm}
 use Rattle.geometry.specs.Triangles.{threes, sortedVertices}
-use Rattle.geometry.specs.Meshes.{Mesh, meshOf, meshLengths, enter}
+use Rattle.geometry.specs.Meshes.{Mesh, meshOf, meshLengths}
 use Rattle.refusals.specs.Refusals.{documented, firstRefusal}
-use Rattle.refusals.specs.Answers.{replyIn}
-use Rattle.refusals.specs.Front.{ragged, tooMany, badIndex, inRange, epsInRange, resolutionInRange, boxInRange, badBox, gridTooFine, workNeed, farKeys, roomTests}
+use Rattle.refusals.specs.Answers.{replyIn, roomTests}
+use Rattle.input_tests.specs.Front.{ragged, tooMany, badIndex, inRange, epsInRange, resolutionInRange, boxInRange, badBox, gridTooFine, workNeed, farKeys}
 use Rattle.components.specs.Components.{components}
 use Rattle.mesh_weld.specs.Weld.{weldNext, weld}
 use Rattle.mesh_weld.specs.Cells.{keyOf, sameKey, around, near, neighbours, cells}
@@ -215,7 +215,7 @@ of-all a {r} (List·Memᴰ·tail {x} {xs} m) = of-all (a .1) m
 
 computed : All starred
 unfolding every some distinctFrom upFrom threes magnitude within inside snapTo snapped crossing interpolated onPlane crossed sideClipped walk clipToPlane clipPolygon along
-    enter fan fanned insideBox sharedNumber shareOnce sharing clipFacet clipFacets clipped flatMap firstRefusal documented ragged tooMany badIndex inRange epsInRange
+    fan fanned insideBox sharedNumber shareOnce sharing clipFacet clipFacets clipped flatMap firstRefusal documented ragged tooMany badIndex inRange epsInRange
     boxInRange badBox workNeed roomTests clipTests clipResult keep place insertBy sortBy halfUp rounded key beyond farKey farKeys difference dot cross keyOf sameKey around near
     neighbours cells first weldNext weld hasRepeatedCorner isFlat sortedVertices sameCorners isDuplicate filtered passedNext passed components shareVertex isAlone status
     orElse keptFacets renumbered compacted weldedMesh cleanedMesh cleanResult cleanTests larger one unitsOf root rootOfSquare wholeRoot wholeUp ceil rounding.segmentsOver segments

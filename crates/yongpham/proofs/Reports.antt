@@ -20,7 +20,7 @@ use Rattle.refusals.specs.declared.refusal.Checked.the-variants as checked
 use Rattle.refusals.specs.declared.reply.Reply.{Reply}
 use Rattle.refusals.specs.Refusals.{documented, documentedReply, Test, firstRefusal, Passes, numbered, replyTo}
 use Rattle.refusals.specs.Answers.{Output, meshOutputs, Answer, Answered}
-use Rattle.refusals.specs.Front.{ceiling, listTests}
+use Rattle.input_tests.specs.Front.{ceiling, listTests}
 use Rattle.refusals.specs.Reports.{Reported}
 use Rattle.refusals.proofs.Refusals.{holds, row-passed, row-refused}
 use Rattle.refusals.proofs.Answers.{refused, answered, called}

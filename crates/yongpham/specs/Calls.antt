@@ -14,7 +14,7 @@ use Rattle.geometry.specs.declared.aabb.AABB.{AABB}
 use Rattle.refusals.specs.declared.refusal.Refusal.the-variants.{BadNumber}
 use Rattle.refusals.specs.Refusals.{Test}
 use Rattle.refusals.specs.Answers.{meshOutputs, Called}
-use Rattle.refusals.specs.Front.{ceiling, listTests}
+use Rattle.input_tests.specs.Front.{ceiling, listTests}
 use Rattle.candidate_surface.specs.Asked.{Asked}
 use Rattle.caps.specs.declared.mode.BoundaryClosure.{BoundaryClosure}
 use Rattle.caps.specs.declared.mode.BoundaryClosure.the-variants.{None, ClosePositive, CloseNegative}

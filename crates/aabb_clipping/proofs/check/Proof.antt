@@ -1,6 +1,6 @@
 use Rattle.aabb_clipping.proofs.Delivery.{lists-refused, number-refused, box-refused, room-refused, all-passed}
 use Rattle.aabb_clipping.specs.Clip.{clipAsked}
-use Rattle.refusals.proofs.Replies.{listed}
+use Rattle.input_tests.proofs.Lists.{listed}
 use Rattle.lists.proofs.Bools.{and-next, and-stop}
 use borrow.Author.Tests.{not-true, not-false}
 use mathlib.Core.Bool.{not}
@@ -11,12 +11,12 @@ use Rattle.aabb_clipping.proofs.check.Statement.{statement}
 use Rattle.aabb_clipping.proofs.check.Tie as tie
 use Rattle.aabb_clipping.proofs.check.Reads as reads
 use Rattle.aabb_clipping.proofs.check.Lts as lts
-use Rattle.refusals.proofs.boxes.box_in_range.Reads as box-in-range-reads
-use Rattle.refusals.proofs.boxes.is_bad_box.Reads as is-bad-box-reads
-use Rattle.refusals.proofs.front.all_in_range.Reads as all-in-range-reads
-use Rattle.refusals.proofs.front.check_lists.Reads as check-lists-reads
-use Rattle.refusals.proofs.front.eps_in_range.Reads as eps-in-range-reads
-use Rattle.refusals.proofs.front.work_need.Reads as work-need-reads
+use Rattle.input_tests.proofs.boxes.box_in_range.Reads as box-in-range-reads
+use Rattle.input_tests.proofs.boxes.is_bad_box.Reads as is-bad-box-reads
+use Rattle.input_tests.proofs.all_in_range.Reads as all-in-range-reads
+use Rattle.input_tests.proofs.check_lists.Reads as check-lists-reads
+use Rattle.input_tests.proofs.eps_in_range.Reads as eps-in-range-reads
+use Rattle.input_tests.proofs.work_need.Reads as work-need-reads
 
 check-lists-requires : tie.Need-check-lists-requires
 check-lists-requires c κs = search needs

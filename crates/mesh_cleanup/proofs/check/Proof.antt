@@ -1,6 +1,6 @@
 use Rattle.mesh_cleanup.proofs.Delivery.{lists-refused, number-refused, room-refused, key-refused, all-passed}
 use Rattle.mesh_cleanup.specs.Clean.{cleanAsked}
-use Rattle.refusals.proofs.Replies.{listed}
+use Rattle.input_tests.proofs.Lists.{listed}
 use Rattle.lists.proofs.Bools.{and-next, and-stop}
 use native.Mathlib.Omega.{arith}
 use borrow.Author.Tests.{not-true, not-false}

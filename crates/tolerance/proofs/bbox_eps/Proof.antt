@@ -15,8 +15,8 @@ use Rattle.tolerance.proofs.bbox_eps.Tie as tie
 use Rattle.tolerance.proofs.bbox_eps.Reads as reads
 use Rattle.tolerance.proofs.bbox_eps.Lts as lts
 use Rattle.geometry.proofs.point.Point.norm.Reads as norm-reads
-use Rattle.refusals.proofs.boxes.box_in_range.Reads as box-in-range-reads
-use Rattle.refusals.proofs.boxes.is_bad_box.Reads as is-bad-box-reads
+use Rattle.input_tests.proofs.boxes.box_in_range.Reads as box-in-range-reads
+use Rattle.input_tests.proofs.boxes.is_bad_box.Reads as is-bad-box-reads
 use Rattle.rounding.proofs.max.Reads as max-reads
 use Rattle.tolerance.proofs.sides.Reads as sides-reads
 

@@ -8,7 +8,7 @@ use Rattle.lists.specs.Lists.{upTo}
 use Rattle.root.specs.Bounds.{Within}
 use Rattle.geometry.specs.Boxes.{lowest, highest, axis}
 use Rattle.geometry.specs.Axes.{segments}
-use Rattle.refusals.specs.Front.{byAxis}
+use Rattle.input_tests.specs.Front.{byAxis}
 use Rattle.box_faces.specs.Faces.{uAxis, vAxis}
 use Rattle.box_faces.specs.Lines.{lineAt}
 use Rattle.candidate_pool.specs.Standing.{countAt}

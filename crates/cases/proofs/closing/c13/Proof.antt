@@ -1,5 +1,5 @@
 use Rattle.root.specs.Doubles.{zeroF, oneF}
-use Rattle.refusals.specs.Front.{byAxis}
+use Rattle.input_tests.specs.Front.{byAxis}
 use Rattle.geometry.specs.Axes.{segments}
 use Rattle.geometry.specs.declared.aabb.AABB.{AABB}
 use Rattle.cases.proofs.Lists.{facet-number, facet-value}
@@ -17,7 +17,7 @@ use Rattle.cases.proofs.closing.c13.Reads as reads
 use Rattle.cases.proofs.closing.c13.Lts as lts
 use Rattle.cases.proofs.closing.box_to.Reads as box-to-reads
 use Rattle.cases.proofs.closing.reply_to_facet.Reads as reply-to-facet-reads
-use Rattle.refusals.proofs.grid.segments_of.Reads as segments-of-reads
+use Rattle.input_tests.proofs.grid.segments_of.Reads as segments-of-reads
 
 box-to-requires : tie.Need-box-to-requires
 box-to-requires c κs = search needs

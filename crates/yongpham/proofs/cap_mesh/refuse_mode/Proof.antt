@@ -4,7 +4,7 @@ use Rattle.yongpham.proofs.cap_mesh.refuse_mode.Statement.{statement}
 use Rattle.yongpham.proofs.cap_mesh.refuse_mode.Tie as tie
 use Rattle.yongpham.proofs.cap_mesh.refuse_mode.Reads as reads
 use Rattle.yongpham.proofs.cap_mesh.refuse_mode.Lts as lts
-use Rattle.refusals.proofs.front.check_lists.Reads as check-lists-reads
+use Rattle.input_tests.proofs.check_lists.Reads as check-lists-reads
 use Rattle.refusals.proofs.report.report_refusal.Reads as report-refusal-reads
 
 check-lists-requires : tie.Need-check-lists-requires

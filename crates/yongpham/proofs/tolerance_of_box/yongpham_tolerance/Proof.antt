@@ -1,5 +1,5 @@
 use Rattle.yongpham.proofs.Reports.{tolerance-done, tolerance-refused}
-use Rattle.refusals.proofs.Ranges.{eps-is-number}
+use Rattle.input_tests.proofs.Ranges.{eps-is-number}
 use borrow.Author.Needs.{needs}
 use Rattle.yongpham.proofs.tolerance_of_box.yongpham_tolerance.Statement.{statement}
 use Rattle.yongpham.proofs.tolerance_of_box.yongpham_tolerance.Tie as tie
