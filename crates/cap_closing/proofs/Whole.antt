@@ -15,6 +15,7 @@ use Rattle.lists.specs.Lists.{keep, count, distinct, upTo}
 use Rattle.lists.proofs.Mapped.{Each, each-map}
 use Rattle.geometry.specs.Triangles.{Triangle, tri, mapped, flat}
 use Rattle.geometry.specs.Meshes.{pointsOf, Named, newNumber, enter}
+use Rattle.records.specs.Buffer.{keyIn}
 use Rattle.mesh_filter.specs.Filters.{sameCorners}
 use Rattle.mesh_filter.specs.Room.{Below}
 use Rattle.mesh_filter.proofs.Keys.{same-key}
@@ -29,7 +30,7 @@ use Rattle.cap_triangles.proofs.Good.{turned-corners, turned-low}
 use Rattle.cap_selection.specs.Chosen.{chosenIn}
 use Rattle.cap_closing.specs.Closing.{taken, entered, isLarge, capFacets}
 use Rattle.cap_closing.specs.Entering.{MeshWords, takenIn, namedFor, firstsIn, Closed}
-use Rattle.cap_closing.specs.Steps.{pointIn, namedAt, NamesEntering, Shaped, leftFacet, capAtRoom, isTaken, takenAt, Taking, Appending, keyIn, isFirst, bit, Started, Found}
+use Rattle.cap_closing.specs.Steps.{pointIn, namedAt, NamesEntering, Shaped, leftFacet, capAtRoom, isTaken, takenAt, Taking, Appending, isFirst, bit, Started, Found}
 use Rattle.cap_closing.proofs.Growth.{fold-cong}
 use Rattle.cap_closing.proofs.Upwards.{map-keep-up, at-place}
 use Rattle.cap_closing.proofs.Numbering.{most-vertices}

@@ -13,6 +13,8 @@ use lib.ListN.{length, getD}
 use lib.Seq.{getD-take}
 use Rattle.lists.proofs.Orders.{cases}
 use Rattle.records.specs.Buffer.{recordOf}
+use Rattle.sorting.specs.Sorting.{SortedPlaces}
+use Rattle.sorting.proofs.Places.{sorted-places}
 use Rattle.sorting.proofs.Sorting.{SortedPart}
 use Rattle.edges.specs.Edges.{samePair}
 use Rattle.edges.specs.Table.{edgeKey, nextSide}
@@ -21,7 +23,7 @@ use Rattle.edges.proofs.Sides.{next-in}
 use Rattle.cap_triangles.specs.Room.{turnedAt, pairRecordsAt, numbersAt, Above, CapReady}
 use Rattle.cap_triangles.proofs.Kept.{above-more, above-less}
 use Rattle.cap_pairs.specs.Pairs.{edgePair, pairAt, Numbered}
-use Rattle.cap_pairs.specs.Steps.{sideWords, Recorded, SortedPairs, FirstsPut, TablesFor}
+use Rattle.cap_pairs.specs.Steps.{sideWords, Recorded, FirstsPut, TablesFor}
 use Rattle.cap_pairs.proofs.Ends.{pair-edge, pair-side, pair-kept, pair-small, word-small, three}
 use Rattle.cap_pairs.proofs.Ordering as ordering
 use Rattle.candidate_pool.specs.Offsets.{openEdgesAt}
@@ -96,8 +98,8 @@ module _ (n nf k : ℕ) (capList w w1 : List ℕ) (r : CapReady n nf k capList w
       sort-room = omega (arith, r .ready .supplied .size, r .edges, above2 .long)
 
       module _ (w3 : List ℕ) (s : SortedPart w2 w3 a p) where
-        pub sorted-there : SortedPairs w3 a p
-        sorted-there = ordering.sorted-pairs K w2 w3 a p sort-room records-there s
+        pub sorted-there : SortedPlaces w3 a p
+        sorted-there = sorted-places K w2 w3 a p sort-room records-there s
 
         pub numbers-room : (numbers : ℕ) → numbers ≡ numbersAt n nf nc → (a + 2 * p ≤ numbers) × (numbers + p ≤ length w3)
         numbers-room numbers en = (omega (arith, r .edges), omega (arith, r .ready .supplied .size, r .edges, above2 .long, s .same))
