@@ -17,7 +17,14 @@ use edges::next_side;
 use records::put_by_payload;
 use records::run_end;
 use sorting::sort_records;
-use words::pack_edge;
+
+// Two candidates in one word, the same either way round.
+fn pair_word(a: u64, b: u64) -> u64
+    requires { ⌜ (a < 4294967296) × (b < 4294967296) ⌝ }
+    ensures { λ r. ⌜ r ≡ edgeKey (a, b) ⌝ }
+{
+    words::pack_edge(a, b)
+}
 
 // The pair of an open edge in one word. One that kept one end has no face, and gets the word of no triangle's side.
 fn edge_word(w: &[u64], at: usize) -> u64
@@ -27,7 +34,7 @@ fn edge_word(w: &[u64], at: usize) -> u64
     if w[at + 2] == 0 {
         return 0;
     }
-    pack_edge(w[at], w[at + 1])
+    pair_word(w[at], w[at + 1])
 }
 
 // Records of the k open edges.
@@ -56,7 +63,7 @@ fn put_sides(w: &mut [u64], n: usize, nf: usize, nc: usize, k: usize)
     let records = records_at(n, nf, nc) + 2 * k;
     let mut s = 0;
     while s < 3 * nc {
-        w[records + 2 * s] = pack_edge(w[turned + s], w[turned + next_side(s)]);
+        w[records + 2 * s] = pair_word(w[turned + s], w[turned + next_side(s)]);
         w[records + 2 * s + 1] = (k + s) as u64;
         s += 1;
     }
