@@ -30,7 +30,7 @@ use Rattle.cap_triangles.proofs.Good.{turned-corners, turned-low}
 use Rattle.cap_selection.specs.Chosen.{chosenIn}
 use Rattle.cap_closing.specs.Closing.{taken, isLarge, capFacets}
 use Rattle.cap_closing.specs.Entering.{MeshWords, takenIn, facetsFor, firstsIn, Closed}
-use Rattle.cap_closing.specs.Steps.{pointIn, namedAt, NamesEntering, Shaped, leftFacet, capAtRoom, isTaken, takenAt, Taking, Appending, keyIn, isFirst, bit, Started, Found}
+use Rattle.cap_closing.specs.Steps.{pointIn, namedAt, NamesEntering, Shaped, leftFacet, capAtRoom, isTaken, takenAt, Taking, Appending, isFirst, bit, Started, Found}
 use Rattle.cap_closing.proofs.Growth.{fold-cong}
 use Rattle.cap_closing.proofs.Upwards.{map-keep-up, at-place}
 use Rattle.cap_closing.proofs.Numbering.{most-vertices}
@@ -41,6 +41,7 @@ use Rattle.cap_closing.proofs.Remaining.{entering-kept, named-kept}
 use Rattle.cap_closing.proofs.Turns.{cap-kept, taken-kept, taken-low}
 use Rattle.cap_closing.proofs.Places.{distinct-places}
 use Rattle.cap_closing.proofs.Beginning.{named-first, point-of-is}
+use Rattle.records.specs.Buffer.{keyIn}
 
 module _ (n nf : ℕ) (capList : List ℕ) (w : List ℕ) (T : TurnedReady n nf capList w) where
   abbrev nc : ℕ

@@ -12,8 +12,7 @@
 --   Turned            triangle i was passed over, or appended
 --   Taking            the triangles have candidates, and components that there are
 --   Appending         the first i triangles are through
---   keyIn, placeIn    of record j its key and its place
---   isStart           no record just before record j has its key      isFirst    no earlier place has the key of place i
+--   isFirst           no earlier place has the key of place i
 --   bit               a truth value as a word                Started    what `start_entering` leaves
 --   FirstsMarked            what `mark_firsts` leaves              Found      what `find_firsts` leaves
 use Prim.Native.Nat.{ℕ, _+_, _*_, _-_, _/_, _≤_, _<_}
@@ -35,6 +34,7 @@ use Rattle.candidate_pool.specs.Standing.{countAt, pointAt, PointStored}
 use Rattle.candidate_edges.specs.Steps.{VerticesIn}
 use Rattle.cap_triangles.specs.Room.{turnedAt, componentsAt, seededAt}
 use Rattle.cap_closing.specs.Closing.{isLarge}
+use Rattle.records.specs.Buffer.{keyIn, payloadIn}
 
 abbrev pub pointIn : List ℕ → ℕ → Point
 pointIn w c = pointAt w (entryAt c)
@@ -126,15 +126,6 @@ pub record Appending (vs : List Float) (b n nf nc : ℕ) (positive : Bool) (i le
   pub facets : LeftAre b n nc left w' (keep (isLarge (namedAt b n nc (length vs / 3) (pointsOf vs) w' .points))
       (map (mapped (newNumber (namedAt b n nc (length vs / 3) (pointsOf vs) w'))) (takenAt n nf nc positive w i)))
 
-abbrev pub keyIn : List ℕ → ℕ → ℕ → ℕ
-keyIn w records j = getD w (records + 2 * j) 0
-
-abbrev pub placeIn : List ℕ → ℕ → ℕ → ℕ
-placeIn w records j = getD w (records + 2 * j + 1) 0
-
-unfoldable pub isStart : List ℕ → ℕ → ℕ → Bool
-isStart w records j = cond (eqb j 0) true (not (eqb (keyIn w records j) (keyIn w records (j - 1))))
-
 unfoldable pub isFirst : (ℕ → ℕ) → ℕ → Bool
 isFirst key i = not (some (λ j. eqb (key j) (key i)) (upTo i))
 
@@ -146,9 +137,9 @@ pub record Started (b n nc nv : ℕ) (w w' : List ℕ) : Type 0 where
   pub own : getD w' (b + 2 * n + 8 * nc) 0 ≡ nv
   pub given : (c : ℕ) → c < countAt w → getD w' (b + c) 0 ≡ getD w (entryAt c + 3) 0
 
-pub record FirstsMarked (records firsts left i r : ℕ) (w w' : List ℕ) : Type 0 where
-  pub marks : (j : ℕ) → j < i → getD w' (firsts + placeIn w records j) 0 ≡ bit (isStart w records j)
-  pub counted : r ≡ count (isStart w records) (upTo i)
+pub record FirstsMarked (records firsts left r : ℕ) (w w' : List ℕ) : Type 0 where
+  pub marks : (j : ℕ) → j < left → getD w' (firsts + payloadIn w records j) 0 ≡ bit (isFirst (keyIn w records) j)
+  pub counted : r ≡ count (isFirst (keyIn w records)) (upTo left)
   pub long : length w' ≡ length w
   pub below : (x : ℕ) → x < firsts → getD w' x 0 ≡ getD w x 0
   pub beyond : (x : ℕ) → firsts + left ≤ x → getD w' x 0 ≡ getD w x 0

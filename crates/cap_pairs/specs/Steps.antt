@@ -2,9 +2,6 @@
 --   SmallEdge      an open edge's two candidates fit the packing, where it has a face
 --   sideWords      side s of the turned triangles, as two words of the room
 --   Recorded       m records were written, of the pairs P 0, P 1, .., numbered from `first` on
---   keyIn, whichIn the key of record i, and the edge or side that it is of
---   SortedPairs    p records in ascending order of their keys, of edges and sides that differ
---   FirstOf        m is the place of the first record with the key of record i
 --   FirstsPut      by the edge or side of each record stands the place of the first record with its key
 --   Added          a word of faces got the faces that p has
 --   Noted          to each word that was 0 were added the bits of those of 0 .. m - 1 that are aimed at it
@@ -19,12 +16,13 @@ use mathlib.Core.List.{List}
 use lib.Dec.{eqb, leb, ltb}
 use lib.ListN.{length, getD}
 use Rattle.lists.specs.Lists.{some, upTo}
-use Rattle.records.specs.Buffer.{recordOf}
+use Rattle.records.specs.Buffer.{recordOf, payloadIn}
 use Rattle.lists.specs.Regions.{Above}
 use Rattle.box_faces.specs.Faces.{hasBit}
 use Rattle.edges.specs.Table.{edgeKey, nextSide}
 use Rattle.cap_triangles.specs.Room.{numbersAt, upAt, downAt, heldAt, capsEnd}
 use Rattle.candidate_pool.specs.Offsets.{openEdgesAt}
+use Rattle.records.specs.Runs.{FirstOf}
 
 abbrev pub SmallEdge : List ℕ → ℕ → Type 0
 SmallEdge w at = (getD w (at + 2) 0 ≡ 0 → ⊥) → (getD w at 0 < 4294967296) × (getD w (at + 1) 0 < 4294967296)
@@ -36,25 +34,9 @@ pub record Recorded (P : ℕ → ℕ × ℕ) (w w' : List ℕ) (at first m : ℕ
   pub above : Above at w w'
   pub done : (j : ℕ) → j < m → recordOf w' (at + 2 * j) ≡ (edgeKey (P j), first + j)
 
-abbrev pub keyIn : List ℕ → ℕ → ℕ → ℕ
-keyIn w at i = getD w (at + 2 * i) 0
-
-abbrev pub whichIn : List ℕ → ℕ → ℕ → ℕ
-whichIn w at i = getD w (at + 2 * i + 1) 0
-
-pub record SortedPairs (w : List ℕ) (at p : ℕ) : Type 0 where
-  pub ascend : (i j : ℕ) → i ≤ j → j < p → keyIn w at i ≤ keyIn w at j
-  pub low : (i : ℕ) → i < p → whichIn w at i < p
-  pub differ : (i j : ℕ) → i < j → j < p → whichIn w at i ≡ whichIn w at j → ⊥
-
-pub record FirstOf (w : List ℕ) (at i m : ℕ) : Type 0 where
-  pub low : m ≤ i
-  pub same : keyIn w at m ≡ keyIn w at i
-  pub none : (j : ℕ) → j < m → keyIn w at j ≡ keyIn w at i → ⊥
-
 pub record FirstsPut (w w' : List ℕ) (at numbers p : ℕ) : Type 0 where
   pub above : Above numbers w w'
-  pub first : (i : ℕ) → i < p → FirstOf w at i (getD w' (numbers + whichIn w at i) 0)
+  pub first : (i : ℕ) → i < p → FirstOf w at i (getD w' (numbers + payloadIn w at i) 0)
 
 pub record Added (w w' : List ℕ) (at : ℕ) (p : ℕ → Bool) : Type 0 where
   pub long : length w' ≡ length w

@@ -2,21 +2,29 @@
 // `edge_tris` and `boundary_edges` are tables by such a number.
 ghost use mathlib.Core.Path.{_≡_};
 ghost use Prim.Native.Nat.{ℕ, _+_, _*_, _≤_, _<_};
-ghost use mathlib.Core.Bool.{cond};
-ghost use lib.Dec.{eqb};
 ghost use lib.ListN.{length, getD};
+ghost use Rattle.sorting.specs.Sorting.{SortedPlaces};
 ghost use Rattle.edges.specs.Table.{edgeKey};
 ghost use Rattle.cap_triangles.specs.Room.{CapReady, turnedAt, pairRecordsAt};
 ghost use Rattle.cap_pairs.specs.Pairs.{edgePair, Numbered};
-ghost use Rattle.cap_pairs.specs.Steps.{SmallEdge, sideWords, Recorded, keyIn, SortedPairs, FirstsPut, TablesFor};
+ghost use Rattle.cap_pairs.specs.Steps.{SmallEdge, sideWords, Recorded, FirstsPut, TablesFor};
 ghost use Rattle.candidate_pool.specs.Offsets.{openEdgesAt};
 use candidate_pool::room::open_edges_at;
 use cap_triangles::room::numbers_at;
 use cap_triangles::room::records_at;
 use cap_triangles::room::turned_at;
 use edges::next_side;
+use records::put_by_payload;
+use records::run_end;
 use sorting::sort_records;
-use words::pack_edge;
+
+// Two candidates in one word, the same either way round.
+fn pair_word(a: u64, b: u64) -> u64
+    requires { ⌜ (a < 4294967296) × (b < 4294967296) ⌝ }
+    ensures { λ r. ⌜ r ≡ edgeKey (a, b) ⌝ }
+{
+    words::pack_edge(a, b)
+}
 
 // The pair of an open edge in one word. One that kept one end has no face, and gets the word of no triangle's side.
 fn edge_word(w: &[u64], at: usize) -> u64
@@ -26,7 +34,7 @@ fn edge_word(w: &[u64], at: usize) -> u64
     if w[at + 2] == 0 {
         return 0;
     }
-    pack_edge(w[at], w[at + 1])
+    pair_word(w[at], w[at + 1])
 }
 
 // Records of the k open edges.
@@ -55,37 +63,23 @@ fn put_sides(w: &mut [u64], n: usize, nf: usize, nc: usize, k: usize)
     let records = records_at(n, nf, nc) + 2 * k;
     let mut s = 0;
     while s < 3 * nc {
-        w[records + 2 * s] = pack_edge(w[turned + s], w[turned + next_side(s)]);
+        w[records + 2 * s] = pair_word(w[turned + s], w[turned + next_side(s)]);
         w[records + 2 * s + 1] = (k + s) as u64;
         s += 1;
-    }
-}
-
-// Where the run of records with the key of record i begins, if that of the record before it begins at `first`.
-fn run_start(w: &[u64], records: usize, first: usize, i: usize) -> usize
-    requires { ⌜ (first ≤ i) × (records + 2 * i < length (now w)) ⌝ }
-    ensures { λ r. ⌜ r ≡ cond (eqb (keyIn (now (w .entry)) records i) (keyIn (now (w .entry)) records first)) first i ⌝ }
-{
-    if w[records + 2 * i] == w[records + 2 * first] {
-        first
-    } else {
-        i
     }
 }
 
 // The number of a pair is the place of its first record among p sorted ones.
 fn number_records(w: &mut [u64], records: usize, numbers: usize, p: usize)
     requires { ⌜ (records + 2 * p ≤ numbers) × (numbers + p ≤ length (now w)) ⌝ }
-    requires { ⌜ SortedPairs (now w) records p ⌝ }
+    requires { ⌜ SortedPlaces (now w) records p ⌝ }
     ensures { λ _. ⌜ FirstsPut (now (w .entry)) (now (w .exit)) records numbers p ⌝ }
 {
-    let mut first = 0;
     let mut i = 0;
     while i < p {
-        first = run_start(w, records, first, i);
-        let which = w[records + 2 * i + 1] as usize;
-        w[numbers + which] = first as u64;
-        i += 1;
+        let end = run_end(w, records, p, i);
+        put_by_payload(w, records, numbers, i, end, i as u64);
+        i = end;
     }
 }
 

@@ -2,6 +2,8 @@
 --   runs-append          a run in front of a list that begins with another key
 --   run-cut              what `run_end` found by comparing keys is a run
 --   runs-nil, run-at     no records; the run at a place of words that are as they were;   first-key   the key of a run in words
+--   KeysPart, part-start, part-next, run-first   from run to run of ascending keys; the first of a key is where its run begins
+--   put-none, put-more   a word by the payload of each record
 --   by-runs              what holds of no records, and with one run more in front of greater keys, holds of every ascending list
 --   runs-distinct        the keys of the runs of an ascending list are its different keys
 use Prim.Native.Nat.{ℕ, zero, suc, _+_, _*_, _-_, _≤_, _<_}
@@ -9,16 +11,18 @@ use mathlib.Core.Bool.{Bool, true, false, cond, _||_}
 use mathlib.Core.List.{List, [], _∷_, _++_, map}
 use mathlib.Core.Logic.{_⊎_, inl, inr, ⊎-elim}
 use mathlib.Core.Path.{_≡_, refl, sym, ap, subst, _∙_}
+use native.Mathlib.Decide.{ℕ-discrete}
 use native.Mathlib.Omega.{arith}
 use borrow.Author.Tests.{eqb-true, eqb-false, eq-eqb, ne-eqb}
 use lib.Dec.{eqb}
-use lib.ListN.{length, getD}
+use lib.ListN.{length, getD, set, length-set}
+use lib.Seq.{getD-set-same, getD-set-other}
 use Rattle.lists.specs.Lists.{some, distinct, distinctFrom}
 use Rattle.lists.specs.Order.{AtMostAll, Ascending}
 use Rattle.lists.proofs.Mapped.{Each, each-map, each-places}
 use Rattle.lists.proofs.Orders.{cases}
-use Rattle.records.specs.Buffer.{recordOf, recordsAt}
-use Rattle.records.specs.Runs.{joinRun, runs, firstKey, Run}
+use Rattle.records.specs.Buffer.{recordOf, recordsAt, keyIn, payloadIn}
+use Rattle.records.specs.Runs.{joinRun, runs, firstKey, Run, FirstOf, PayloadsPut}
 use Rattle.records.specs.Records.{recordBefore}
 use Rattle.records.proofs.Comparing.{at-most-key}
 use Rattle.records.proofs.Records.{le-or-lt, length-records-at, records-at-get, records-at-add, records-at-same}
@@ -143,6 +147,62 @@ run-at m₀ m at n i e r f =
 
     there : (j k : ℕ) → i ≤ j → j + k ≤ n → recordsAt m (at + 2 * j) k ≡ recordsAt m₀ (at + 2 * j) k
     there j k a b = records-at-same m₀ m (at + 2 * j) k (λ x h. f (at + 2 * j + x) (omega arith) (omega arith))
+
+-- ---- a loop from run to run of records with ascending keys: those before place i have lesser keys than those from it on
+abbrev pub KeysAscend : List ℕ → ℕ → ℕ → Type 0
+KeysAscend m at n = (i j : ℕ) → i ≤ j → j < n → keyIn m at i ≤ keyIn m at j
+
+abbrev pub KeysPart : List ℕ → ℕ → ℕ → ℕ → Type 0
+KeysPart m at n i = (j k : ℕ) → j < i → i ≤ k → k < n → keyIn m at j < keyIn m at k
+
+pub part-start : (m : List ℕ) (at n : ℕ) → KeysPart m at n 0
+part-start m at n j k h l g = absurd (omega arith)
+
+module _ (m : List ℕ) (at n i e : ℕ) (r : Run m at n i e) (p : KeysPart m at n i) where
+  pub run-first : (j : ℕ) → i ≤ j → j < e → FirstOf m at j i
+  run-first j l h =
+      record { low = l; same = sym (r .same j l h); none = λ k g q. let x = p k j g l (omega (arith, r .within)) in omega arith }
+
+  pub part-next : KeysAscend m at n → KeysPart m at n e
+  part-next a j k h l g =
+      ⊎-elim
+      (λ (q : i ≤ j).
+      let x = r .same j q h in
+      let y : keyIn m at i ≤ keyIn m at e = a i e (omega (arith, r .more)) (omega arith) in
+      let z = a e k l g in
+      let ne : (keyIn m at e ≡ keyIn m at i → ⊥) = r .next (omega arith) in
+      omega arith)
+      (λ (q : j < i). p j k q (omega (arith, r .more)) g) (le-or-lt i j)
+
+-- ---- a word by the payload of each record
+module _ (m₀ : List ℕ) (at to i x : ℕ) where
+  pub put-none : PayloadsPut m₀ m₀ at to i i x
+  put-none = record { long = refl; put = λ j l h. absurd (omega arith); rest = λ y f. refl }
+
+  module _ (m : List ℕ) (e : ℕ) (r : PayloadsPut m₀ m at to i e x) (begun : i ≤ e) (behind : at + 2 * e + 1 < to) where
+    -- the records stand before the words
+    pub payload-now : payloadIn m at e ≡ payloadIn m₀ at e
+    payload-now = r .rest (at + 2 * e + 1) (λ j l h q. omega arith)
+
+    pub put-more : to + payloadIn m₀ at e < length m₀ → PayloadsPut m₀ (set m (to + payloadIn m at e) x) at to i (e + 1) x
+    put-more room =
+        subst (λ (y : ℕ). PayloadsPut m₀ (set m (to + y) x) at to i (e + 1) x) (sym payload-now)
+        (record {
+          long = length-set m place x ∙ r .long;
+          put = λ j l h. each j l h (ℕ-discrete (payloadIn m₀ at j) (payloadIn m₀ at e));
+          rest = λ y f. getD-set-other m place y x 0 (f e begun (omega arith)) ∙ r .rest y (λ j l h. f j l (omega arith));
+        })
+      where
+        place : ℕ
+        place = to + payloadIn m₀ at e
+
+        each : (j : ℕ) → i ≤ j → j < e + 1 → Dec (payloadIn m₀ at j ≡ payloadIn m₀ at e) → getD (set m place x) (to + payloadIn m₀ at j) 0 ≡ x
+        each j l h (yes q) = ap (λ (y : ℕ). getD (set m place x) (to + y) 0) q ∙ getD-set-same m place x 0 (omega (arith, r .long))
+        each j l h (no n) =
+            getD-set-other m place (to + payloadIn m₀ at j) x 0 (λ q. n (omega arith)) ∙ r .put j l (before (λ q. n (ap (payloadIn m₀ at) q)) h)
+          where
+            before : (j ≡ e → ⊥) → j < e + 1 → j < e
+            before n h = omega arith
 
 -- ---- of ascending lists
 at-most-each : (r : ℕ × ℕ) (l : List (ℕ × ℕ)) → AtMostAll recordBefore r l → Each (λ y. r .0 ≤ y .0) l

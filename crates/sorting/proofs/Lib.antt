@@ -1,2 +1,3 @@
 pub mod Halves
 pub mod Sorting
+pub mod Places

@@ -5,10 +5,11 @@ use native.Mathlib.Omega.{arith}
 use borrow.Rule.Slice.PartMut.{putMid}
 use borrow.Author.Needs.{needs}
 use lib.ListN.{length}
+use Rattle.records.specs.Buffer.{payloadIn}
 use Rattle.sorting.proofs.Sorting.{sorted-part}
 use Rattle.cap_triangles.specs.Room.{closingAt}
-use Rattle.cap_closing.specs.Steps.{placeIn, Found}
-use Rattle.cap_closing.proofs.Sorted.{places-low, places-once, found}
+use Rattle.cap_closing.specs.Steps.{Found}
+use Rattle.cap_closing.proofs.Sorted.{sorted-there, found}
 use Rattle.cap_closing.proofs.firsts.find_firsts.Statement.{statement}
 use Rattle.cap_closing.proofs.firsts.find_firsts.Tie as tie
 
@@ -49,10 +50,10 @@ mark-firsts-requires c κs =
     let room : m + 4 * a .left ≤ length (a .w .now) = (let x = R .3 in let y = R .4 in omega arith) in
     let S = sorted-part (a .w .now) (c .before .before .before .before .sort-records .last .0) m (a .left) room (c .before .before .before .before .sort-records .ensures) in
     let w₁ = putMid m (m + 4 * a .left - m) (a .w .now) (c .before .before .before .before .sort-records .last .0) in
-    let whole = subst (λ (k : ℕ). (j : ℕ) → j < a .left → placeIn (a .w .now) k j ≡ j) (sym t) (s .pre .1) in
+    let whole = subst (λ (k : ℕ). (j : ℕ) → j < a .left → payloadIn (a .w .now) k j ≡ j) (sym t) (s .pre .1) in
     let f = c .firsts-at .ensures in (
       (let x = R .3 in omega arith, let x = R .3 in let y = R .4 in let l = S .same in omega arith),
-      (places-low (a .w .now) w₁ m (a .left) room S whole, places-once (a .w .now) w₁ m (a .left) room S whole),
+      sorted-there (a .w .now) w₁ m (a .left) room S whole,
     )
 
 same-length : tie.Need-same-length
@@ -70,7 +71,7 @@ returns c =
     let S = sorted-part (a .w .now) (c .before .before .before .before .before .before .before .sort-records .last .0) m (a .left) room
     (c .before .before .before .before .before .before .before .sort-records .ensures) in
     let w₁ = putMid m (m + 4 * a .left - m) (a .w .now) (c .before .before .before .before .before .before .before .sort-records .last .0) in
-    let whole = subst (λ (k : ℕ). (j : ℕ) → j < a .left → placeIn (a .w .now) k j ≡ j) (sym t) (s .pre .1) in
+    let whole = subst (λ (k : ℕ). (j : ℕ) → j < a .left → payloadIn (a .w .now) k j ≡ j) (sym t) (s .pre .1) in
     subst (λ (k : ℕ). Found k (b + 2 * a .n + 7 * a .nc) (a .left) (c .before .before .mark-firsts .result) (a .w .now) (c .before .before .mark-firsts .last .0)) t
     (subst (λ (k : ℕ). Found m k (a .left) (c .before .before .mark-firsts .result) (a .w .now) (c .before .before .mark-firsts .last .0))
     (c .before .before .before .firsts-at .ensures) (found (a .w .now) w₁ m (a .left) room S whole (c .before .before .before .firsts-at .result)

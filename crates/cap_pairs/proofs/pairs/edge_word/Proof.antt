@@ -26,30 +26,30 @@ returns c =
     sym (ap edgeKey (cond-true (eqb (getD (a .w .now) (a .at + 2) 0) 0) (0, 0) (getD (a .w .now) (a .at) 0, getD (a .w .now) (a .at + 1) 0) (0, 0)
     (eq-eqb (getD (a .w .now) (a .at + 2) 0) 0 (branch .taken)) refl))
 
-mul-pack-edge : tie.Need-mul-pack-edge
-mul-pack-edge c = search needs
+mul-pair-word : tie.Need-mul-pair-word
+mul-pair-word c = search needs
 
-shared-slice-read-pack-edge : tie.Need-shared-slice-read-pack-edge
-shared-slice-read-pack-edge c = search needs
+shared-slice-read-pair-word : tie.Need-shared-slice-read-pair-word
+shared-slice-read-pair-word c = search needs
 
-add-pack-edge : tie.Need-add-pack-edge
-add-pack-edge c = search needs
+add-pair-word : tie.Need-add-pair-word
+add-pair-word c = search needs
 
-mul-pack-edge-2 : tie.Need-mul-pack-edge-2
-mul-pack-edge-2 c = search needs
+mul-pair-word-2 : tie.Need-mul-pair-word-2
+mul-pair-word-2 c = search needs
 
-shared-slice-read-pack-edge-2 : tie.Need-shared-slice-read-pack-edge-2
-shared-slice-read-pack-edge-2 c = search needs
+shared-slice-read-pair-word-2 : tie.Need-shared-slice-read-pair-word-2
+shared-slice-read-pair-word-2 c = search needs
 
-pack-edge-requires : tie.Need-pack-edge-requires
-pack-edge-requires c κs = c .before .before .before .before .before .pre .1 (c .before .before .if1 .left)
+pair-word-requires : tie.Need-pair-word-requires
+pair-word-requires c κs = c .before .before .before .before .before .pre .1 (c .before .before .if1 .left)
 
 returns-2 : tie.Need-returns-2
 returns-2 c =
     let a = c .before .before .before .before .before .before .args in
     let branch = c .before .before .before .if1 in
-    let pack-edge′ = c .pack-edge in
-    pack-edge′ .ensures ∙ sym (ap edgeKey (cond-false (eqb (getD (a .w .now) (a .at + 2) 0) 0) (0, 0) (getD (a .w .now) (a .at) 0, getD (a .w .now) (a .at + 1) 0)
+    let pair-word′ = c .pair-word in
+    pair-word′ .ensures ∙ sym (ap edgeKey (cond-false (eqb (getD (a .w .now) (a .at + 2) 0) 0) (0, 0) (getD (a .w .now) (a .at) 0, getD (a .w .now) (a .at + 1) 0)
     (getD (a .w .now) (a .at) 0, getD (a .w .now) (a .at + 1) 0) (ne-eqb (getD (a .w .now) (a .at + 2) 0) 0 (branch .left)) refl))
 
 pub edge-word-spec : {M : Type 1} → statement M
@@ -60,10 +60,10 @@ edge-word-spec =
     mul-if1
     shared-slice-read-if1
     returns
-    mul-pack-edge
-    shared-slice-read-pack-edge
-    add-pack-edge
-    mul-pack-edge-2
-    shared-slice-read-pack-edge-2
-    pack-edge-requires
+    mul-pair-word
+    shared-slice-read-pair-word
+    add-pair-word
+    mul-pair-word-2
+    shared-slice-read-pair-word-2
+    pair-word-requires
     returns-2)

@@ -1,15 +1,15 @@
--- `number_records` meets its contract: `first` is where the run of the record before begins, and each record so far has its number. Assumes nothing.
-use Rattle.cap_pairs.proofs.Recording.{Numbering, numbering-start, which-low, numbering-turn, numbering-end}
-use native.Mathlib.Omega.{arith}
+-- `number_records` meets its contract: the runs before i have their number. Assumes nothing.
 use Prim.Native.Nat.{_-_}
+use native.Mathlib.Omega.{arith}
+use Rattle.cap_pairs.proofs.Recording.{Numbering, numbering-start, which-room, numbering-turn, numbering-end}
 use Rattle.cap_pairs.proofs.pairs.number_records.Statement.{statement}
 use Rattle.cap_pairs.proofs.pairs.number_records.Tie as tie
 
 abbrev Inv-loop : tie.InvT-loop
-Inv-loop w₀ records numbers p first₀ i₀ w first i = Numbering w₀ records numbers p w first i
+Inv-loop w₀ records numbers p i₀ w i = Numbering w₀ records numbers p w i
 
 abbrev μ-loop : tie.MeasureT-loop
-μ-loop w₀ records numbers p first₀ i₀ w first i = p - i
+μ-loop w₀ records numbers p i₀ w i = p - i
 
 loop-holds : tie.Need-loop-holds Inv-loop μ-loop
 loop-holds c =
@@ -17,69 +17,43 @@ loop-holds c =
     let a = s .args in
     numbering-start (a .w .now) (a .records) (a .numbers) (a .p) (s .pre .1) (s .pre .0 .0) (s .pre .0 .1)
 
-run-start-requires : tie.Need-run-start-requires Inv-loop μ-loop
-run-start-requires c κs = omega arith
+run-end-requires : tie.Need-run-end-requires Inv-loop μ-loop
+run-end-requires c κs =
+    let s = c .before .before .before .before in
+    let l = c .before .before .loop in
+    (c .before .loop-test .taken, omega (arith, l .inv .above .long, s .pre .0))
 
-mul-which : tie.Need-mul-which Inv-loop μ-loop
-mul-which c = omega arith
-
-add-which : tie.Need-add-which Inv-loop μ-loop
-add-which c = omega arith
-
-add-which-2 : tie.Need-add-which-2 Inv-loop μ-loop
-add-which-2 c = omega arith
-
-mul-which-2 : tie.Need-mul-which-2 Inv-loop μ-loop
-mul-which-2 c = omega arith
-
-slice-read-which : tie.Need-slice-read-which Inv-loop μ-loop
-slice-read-which c = omega arith
-
-add-w : tie.Need-add-w Inv-loop μ-loop
-add-w c =
+put-by-payload-requires : tie.Need-put-by-payload-requires Inv-loop μ-loop
+put-by-payload-requires c κs =
     let s = c .before .before .before .before .before .before in
     let a = s .args in
     let l = c .before .before .before .before .loop in
-    omega (arith, which-low (a .w .now) (a .records) (a .numbers) (a .p) (s .pre .1) (s .pre .0 .0) (s .pre .0 .1) (l .w) (l .first) (l .i) (l .inv) (omega arith))
-
-mul-w : tie.Need-mul-w Inv-loop μ-loop
-mul-w c =
-    let s = c .before .before .before .before .before .before in
-    let a = s .args in
-    let l = c .before .before .before .before .loop in
-    omega (arith, which-low (a .w .now) (a .records) (a .numbers) (a .p) (s .pre .1) (s .pre .0 .0) (s .pre .0 .1) (l .w) (l .first) (l .i) (l .inv) (omega arith))
-
-slice-write-w : tie.Need-slice-write-w Inv-loop μ-loop
-slice-write-w c =
-    let s = c .before .before .before .before .before .before in
-    let a = s .args in
-    let l = c .before .before .before .before .loop in
-    omega (arith, which-low (a .w .now) (a .records) (a .numbers) (a .p) (s .pre .1) (s .pre .0 .0) (s .pre .0 .1) (l .w) (l .first) (l .i) (l .inv) (omega arith))
-
-add-i : tie.Need-add-i Inv-loop μ-loop
-add-i c = omega arith
+    let r = c .before .run-end in (
+      (omega (arith, r .ensures .more), omega (arith, r .ensures .within, s .pre .0)),
+      which-room (a .w .now) (a .records) (a .numbers) (a .p) (s .pre .1) (s .pre .0 .0) (s .pre .0 .1) (l .w) (l .i) (r .result) (l .inv) (r .ensures),
+    )
 
 loop-less : tie.Need-loop-less Inv-loop μ-loop
-loop-less c = omega arith
+loop-less c = let r = c .before .before .before .before .run-end in omega (arith, r .ensures .more, r .ensures .within)
 
 loop-again : tie.Need-loop-again Inv-loop μ-loop
 loop-again c =
-    let s = c .before .before .before .before .before .before in
+    let s = c .before .before .before .before .before .before .before .before .before in
     let a = s .args in
-    let l = c .before .before .before .before .loop in
-    let run-start′ = c .before .run-start in
-    numbering-turn (a .w .now) (a .records) (a .numbers) (a .p) (s .pre .1) (s .pre .0 .0) (s .pre .0 .1) (l .w) (l .first) (l .i) (l .inv) (omega arith) (run-start′ .result)
-    (run-start′ .ensures)
+    let l = c .before .before .before .before .before .before .before .loop in
+    let r = c .before .before .before .before .run-end in
+    let n = c .before .before .put-by-payload in
+    numbering-turn (a .w .now) (a .records) (a .numbers) (a .p) (s .pre .1) (s .pre .0 .0) (s .pre .0 .1) (l .w) (l .i) (r .result) (l .inv) (r .ensures) (n .last .0) (n .ensures)
 
 same-length : tie.Need-same-length Inv-loop μ-loop
-same-length c = omega arith
+same-length c = c .before .loop .inv .above .long
 
 returns : tie.Need-returns Inv-loop μ-loop
 returns c =
     let s = c .before .before .before in
     let a = s .args in
     let l = c .before .loop in
-    numbering-end (a .w .now) (a .records) (a .numbers) (a .p) (s .pre .1) (s .pre .0 .0) (s .pre .0 .1) (l .w) (l .first) (l .i) (l .inv) (omega arith)
+    numbering-end (a .w .now) (a .records) (a .numbers) (a .p) (s .pre .1) (s .pre .0 .0) (s .pre .0 .1) (l .w) (l .i) (l .inv) (omega arith)
 
 pub number-records-spec : {M : Type 1} → statement M
 number-records-spec =
@@ -88,16 +62,8 @@ number-records-spec =
     Inv-loop
     μ-loop
     loop-holds
-    run-start-requires
-    mul-which
-    add-which
-    add-which-2
-    mul-which-2
-    slice-read-which
-    add-w
-    mul-w
-    slice-write-w
-    add-i
+    run-end-requires
+    put-by-payload-requires
     loop-less
     loop-again
     same-length

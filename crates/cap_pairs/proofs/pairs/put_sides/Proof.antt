@@ -37,20 +37,20 @@ loop-holds c =
 mul-loop : tie.Need-mul-loop Inv-loop μ-loop
 mul-loop c = omega arith
 
-add-pack-edge : tie.Need-add-pack-edge Inv-loop μ-loop
-add-pack-edge c = omega arith
+add-pair-word : tie.Need-add-pair-word Inv-loop μ-loop
+add-pair-word c = omega arith
 
-mul-pack-edge : tie.Need-mul-pack-edge Inv-loop μ-loop
-mul-pack-edge c = omega arith
+mul-pair-word : tie.Need-mul-pair-word Inv-loop μ-loop
+mul-pair-word c = omega arith
 
-slice-read-pack-edge : tie.Need-slice-read-pack-edge Inv-loop μ-loop
-slice-read-pack-edge c = omega arith
+slice-read-pair-word : tie.Need-slice-read-pair-word Inv-loop μ-loop
+slice-read-pair-word c = omega arith
 
 next-side-requires : tie.Need-next-side-requires Inv-loop μ-loop
 next-side-requires c κs = omega arith
 
-add-pack-edge-2 : tie.Need-add-pack-edge-2 Inv-loop μ-loop
-add-pack-edge-2 c =
+add-pair-word-2 : tie.Need-add-pair-word-2 Inv-loop μ-loop
+add-pair-word-2 c =
     let s = c .before .before .before .before .before .before .before in
     let a = s .args in
     let turned-at′ = c .before .before .before .before .before .turned-at in
@@ -63,8 +63,8 @@ add-pack-edge-2 c =
           (omega arith) (l .inv .0) (omega arith) (next-side′ .result) (next-side′ .ensures),
     )
 
-mul-pack-edge-2 : tie.Need-mul-pack-edge-2 Inv-loop μ-loop
-mul-pack-edge-2 c =
+mul-pair-word-2 : tie.Need-mul-pair-word-2 Inv-loop μ-loop
+mul-pair-word-2 c =
     let s = c .before .before .before .before .before .before .before in
     let a = s .args in
     let turned-at′ = c .before .before .before .before .before .turned-at in
@@ -77,8 +77,8 @@ mul-pack-edge-2 c =
           (omega arith) (l .inv .0) (omega arith) (next-side′ .result) (next-side′ .ensures),
     )
 
-slice-read-pack-edge-2 : tie.Need-slice-read-pack-edge-2 Inv-loop μ-loop
-slice-read-pack-edge-2 c =
+slice-read-pair-word-2 : tie.Need-slice-read-pair-word-2 Inv-loop μ-loop
+slice-read-pair-word-2 c =
     let s = c .before .before .before .before .before .before .before .before in
     let a = s .args in
     let turned-at′ = c .before .before .before .before .before .before .turned-at in
@@ -91,8 +91,8 @@ slice-read-pack-edge-2 c =
           (omega arith) (l .inv .0) (omega arith) (next-side′ .result) (next-side′ .ensures),
     )
 
-pack-edge-requires : tie.Need-pack-edge-requires Inv-loop μ-loop
-pack-edge-requires c κs =
+pair-word-requires : tie.Need-pair-word-requires Inv-loop μ-loop
+pair-word-requires c κs =
     let s = c .before .before .before .before .before .before .before .before in
     let a = s .args in
     let turned-at′ = c .before .before .before .before .before .before .turned-at in
@@ -146,9 +146,9 @@ loop-again c =
     let records-at′ = c .before .before .before .before .before .before .records-at in
     let l = c .before .before .before .before .before .loop in
     let next-side′ = c .before .before .next-side in
-    let pack-edge′ = c .pack-edge in (
+    let pair-word′ = c .pair-word in (
       side-turn (a .w .now) (l .w) (a .n) (a .nf) (a .nc) (a .k) (turned-at′ .result) (records-at′ .result + 2 * a .k) (l .s) (s .pre .0) (turned-at′ .ensures) (omega arith)
-          (l .inv .0) (omega arith) (next-side′ .result) (pack-edge′ .result) (a .k + l .s) (next-side′ .ensures) (pack-edge′ .ensures) refl,
+          (l .inv .0) (omega arith) (next-side′ .result) (pair-word′ .result) (a .k + l .s) (next-side′ .ensures) (pair-word′ .ensures) refl,
       omega arith,
     )
 
@@ -177,14 +177,14 @@ put-sides-spec =
     add-records
     loop-holds
     mul-loop
-    add-pack-edge
-    mul-pack-edge
-    slice-read-pack-edge
+    add-pair-word
+    mul-pair-word
+    slice-read-pair-word
     next-side-requires
-    add-pack-edge-2
-    mul-pack-edge-2
-    slice-read-pack-edge-2
-    pack-edge-requires
+    add-pair-word-2
+    mul-pair-word-2
+    slice-read-pair-word-2
+    pair-word-requires
     mul-w
     add-w
     mul-w-2
