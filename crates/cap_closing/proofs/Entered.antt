@@ -4,7 +4,7 @@
 use Prim.Native.Nat.{ℕ, _+_, _-_, _<_}
 use mathlib.Core.Path.{_≡_, refl, sym, ap, subst, _∙_}
 use mathlib.Core.Bool.{Bool, cond}
-use mathlib.Core.List.{List, [], _∷_, _++_, map, foldl, List·Memᴰ}
+use mathlib.Core.List.{List, [], _∷_, _++_, map, foldl, flatMap, List·Memᴰ}
 use lib.Dec.{eqb}
 use lib.ListN.{length, getD, length-map}
 use Rattle.lists.specs.Lists.{keep, place, distinct}
@@ -22,6 +22,7 @@ abbrev pub entered : Pool → List Point → List (Triangle ℕ) → Named
 entered pool points ts = foldl (enter (pointOf pool)) (record { given = map (λ c. c .mesh) (pool .all); points = points }) (flat ts)
 
 mapped-same : (f g : ℕ → ℕ) (ts : List (Triangle ℕ)) → Each (λ v. f v ≡ g v) (flat ts) → map (mapped f) ts ≡ map (mapped g) ts
+unfolding flatMap
 mapped-same f g [] e = refl
 mapped-same f g (t ∷ ts) e = λ i. tri (e .0 i) (e .1 .0 i) (e .1 .1 .0 i) ∷ mapped-same f g ts (e .1 .1 .1) i
 

@@ -19,6 +19,7 @@ use Rattle.lists.specs.Lists.{keep, upTo}
 use Rattle.lists.specs.Regions.{view, Above}
 use Rattle.geometry.specs.Triangles.{Triangle, tri}
 use Rattle.geometry.specs.Meshes.{pointsOf}
+use Rattle.geometry.specs.declared.point.Point.{Point}
 use Rattle.candidate_pool.specs.Offsets.{entryAt}
 use Rattle.candidate_pool.specs.Standing as standing
 use Rattle.candidate_pool.specs.Standing.{poolAt, pointAt}
