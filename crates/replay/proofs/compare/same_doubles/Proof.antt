@@ -43,7 +43,9 @@ same-double-requires : tie.Need-same-double-requires Inv-loop μ-loop
 same-double-requires c κs = search needs
 
 returns : tie.Need-returns Inv-loop μ-loop
-returns c = passed-stop _ _ _ (c .before .before .before .before .loop-test .taken) (λ s. clash (is-true _ (c .before .same-double .ensures .complete s)) (not-true _ (c .if1 .taken)))
+returns c =
+    passed-stop _ _ _ (c .before .before .before .before .loop-test .taken)
+    (λ s. clash (is-true (c .before .same-double .result) (c .before .same-double .ensures .complete s)) (not-true (c .before .same-double .result) (c .if1 .taken)))
 
 add-i : tie.Need-add-i Inv-loop μ-loop
 add-i c = search needs
@@ -54,7 +56,7 @@ loop-less c = search needs
 loop-again : tie.Need-loop-again Inv-loop μ-loop
 loop-again c =
     passed-more _ _ _ (c .before .before .before .before .before .loop .inv) (c .before .before .before .before .loop-test .taken)
-    (c .before .same-double .ensures .sound (yes (not-false _ (c .if1 .left))))
+    (c .before .same-double .ensures .sound (yes (not-false (c .before .same-double .result) (c .if1 .left))))
 
 returns-2 : tie.Need-returns-2 Inv-loop μ-loop
 returns-2 c = passed-end _ _ _ (c .before .loop .inv) (c .loop-test .left)
