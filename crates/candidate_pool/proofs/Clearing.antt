@@ -10,7 +10,8 @@ use Rattle.lists.specs.Regions.{view, PartZeroed}
 use Rattle.chains.proofs.Entering.{linked-none}
 use Rattle.candidate_pool.specs.Offsets.{keysAt, chainAt, listAt, joinedAt, poolEnd}
 use Rattle.candidate_pool.specs.Pool.{noPool}
-use Rattle.candidate_pool.specs.Room.{keyAt, keyBucket, KeyTable}
+use Rattle.mesh_weld.specs.Room.{cellAt}
+use Rattle.candidate_pool.specs.Room.{keyBucket, KeyTable}
 use Rattle.candidate_pool.specs.Standing.{countAt, poolAt, Tidy, Cleared}
 use Rattle.candidate_pool.proofs.Tidying.{tidy-none}
 use Rattle.candidate_pool.proofs.Reading.{pool-is}
@@ -42,7 +43,7 @@ module _ (eps : Float) (n : ℕ) (w u t v : List ℕ) (at to : ℕ) (at-is : at 
         small = small;
         room = omega (arith, long);
         few = omega arith;
-        linked = linked-none (λ i. keyBucket n (keyAt v (keysAt n + 3 * i))) v (chainAt n) n (omega (arith, long)) chain-zero;
+        linked = linked-none (λ i. keyBucket n (cellAt v (keysAt n + 3 * i))) v (chainAt n) n (omega (arith, long)) chain-zero;
       })
 
   pub cleared : Cleared eps n w v

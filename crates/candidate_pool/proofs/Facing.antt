@@ -24,7 +24,8 @@ use Rattle.box_faces.specs.Faces.{hasBit}
 use Rattle.mesh_weld.specs.Cells.{keyOf}
 use Rattle.candidate_pool.specs.Offsets.{entryAt, keysAt, listsAt, listAt, joinedAt}
 use Rattle.candidate_pool.specs.Pool.{Candidate, Pool, noCandidate, faceList, renewed, added, listed}
-use Rattle.candidate_pool.specs.Room.{keyWords, keyAt}
+use Rattle.mesh_weld.specs.Room.{cellAt}
+use Rattle.candidate_pool.specs.Room.{keyWords}
 use Rattle.candidate_pool.specs.Standing.{facesIn, candidate, countAt, pointAt, candidateAt, poolAt, PointStored, Tidy, Holds, withFace, FaceAdded}
 use Rattle.candidate_pool.proofs.Listing.{keep-faces, has-kept, has-one, listed-at}
 use Rattle.candidate_pool.proofs.Tidying.{tidy-faces}
@@ -243,7 +244,7 @@ module _ (eps : Float) (n : ℕ) (w : List ℕ) (h : Holds eps n w) (id f : ℕ)
             tidy = subst Tidy (sym face-pool) (tidy-faces pool id (f ∷ []) id-in (h .tidy));
           }
         where
-          keys : (c : ℕ) → c < countAt w → keyAt facePut (keysAt n + 3 * c) ≡ keyWords (keyOf eps (pointAt facePut (entryAt c)))
+          keys : (c : ℕ) → c < countAt w → cellAt facePut (keysAt n + 3 * c) ≡ keyWords (keyOf eps (pointAt facePut (entryAt c)))
           keys c r =
               key-same w facePut (keysAt n + 3 * c) (λ i s. table-words (keysAt n + 3 * c + i) (omega arith) (omega (arith, h .table .few)))
               ∙ h .keys c r

@@ -26,7 +26,8 @@ use Rattle.chains.proofs.Firsts.{linkTo-places, places-link}
 use Rattle.mesh_weld.specs.Cells.{keyOf, same, sameKey}
 use Rattle.candidate_pool.specs.Offsets.{keysAt}
 use Rattle.candidate_pool.specs.Pool.{byKey}
-use Rattle.candidate_pool.specs.Room.{keyWords, keyAt, sameWords}
+use Rattle.mesh_weld.specs.Room.{cellAt, sameCell}
+use Rattle.candidate_pool.specs.Room.{keyWords}
 use Rattle.candidate_pool.proofs.Searching.{keyIs}
 
 -- ---- keys fit
@@ -72,8 +73,8 @@ word-same j k f g =
     (λ t. ne-eqb (keyWord j) (keyWord k)
     (λ e. subst (λ (b : Bool). T (not b)) (ap (λ i. same i k) (same-word j k f g e) ∙ same-self k) t))
 
-pub words-keys : (eps : Float) (p q : Point) → sameWords (keyWords (keyOf eps p)) (keyWords (keyOf eps q)) ≡ sameKey (keyOf eps p) (keyOf eps q)
-unfolding sameWords sameKey keyOf
+pub words-keys : (eps : Float) (p q : Point) → sameCell (keyWords (keyOf eps p)) (keyWords (keyOf eps q)) ≡ sameKey (keyOf eps p) (keyOf eps q)
+unfolding sameKey keyOf
 words-keys eps p q =
     let x = word-same (key eps (p .x)) (key eps (q .x)) (key-fits eps (p .x)) (key-fits eps (q .x)) in
     let y = word-same (key eps (p .y)) (key eps (q .y)) (key-fits eps (p .y)) (key-fits eps (q .y)) in
@@ -82,10 +83,10 @@ words-keys eps p q =
 
 -- ---- the search
 
-pub found-is : (eps : Float) (p : Point) (l : List Point) (w : List ℕ) (n : ℕ) → ((i : ℕ) → i < length l → keyAt w (keysAt n + 3 * i) ≡ keyWords (keyOf eps (getD l i origin))) →
+pub found-is : (eps : Float) (p : Point) (l : List Point) (w : List ℕ) (n : ℕ) → ((i : ℕ) → i < length l → cellAt w (keysAt n + 3 * i) ≡ keyWords (keyOf eps (getD l i origin))) →
     linkTo (keyIs w n (keyWords (keyOf eps p))) (upTo (length l)) ≡ linkOf (byKey eps .find p l)
 unfolding byKey
 found-is eps p l w n stands =
     linkTo-places (λ q. sameKey (keyOf eps q) (keyOf eps p)) origin l (keyIs w n (keyWords (keyOf eps p)))
-    (λ i h. ap (λ k. sameWords k (keyWords (keyOf eps p))) (stands i h) ∙ words-keys eps (getD l i origin) p)
+    (λ i h. ap (λ k. sameCell k (keyWords (keyOf eps p))) (stands i h) ∙ words-keys eps (getD l i origin) p)
     ∙ places-link (λ q. sameKey (keyOf eps q) (keyOf eps p)) origin l

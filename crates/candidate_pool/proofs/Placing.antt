@@ -29,9 +29,10 @@ use Rattle.chains.proofs.Firsts.{link-none, link-some}
 use Rattle.chains.proofs.Entering.{linked-cong, linked-same}
 use Rattle.mesh_weld.specs.Cells.{keyOf}
 use Rattle.candidate_pool.specs.Offsets.{entryAt, keysAt, chainAt, listsAt, listAt}
-use Rattle.candidate_pool.specs.declared.keys.KeyWords.{KeyWords}
+use Rattle.mesh_weld.specs.declared.cells.Cell.{Cell}
 use Rattle.candidate_pool.specs.Pool.{Candidate, Pool, noCandidate, byKey, renewed, enteredAs, listed, placeFor, numberFor, insert}
-use Rattle.candidate_pool.specs.Room.{keyWords, keyAt, sameWords, keyBucket, KeyTable}
+use Rattle.mesh_weld.specs.Room.{cellAt, sameCell}
+use Rattle.candidate_pool.specs.Room.{keyWords, keyBucket, KeyTable}
 use Rattle.candidate_pool.specs.Standing.{facesIn, candidate, countAt, pointAt, candidateAt, poolAt, PointIn, PointStored, Tidy, Holds, RoomFor, Inserted}
 use Rattle.candidate_pool.specs.Steps.{BitsOf, pointPut, candidatePut}
 use Rattle.candidate_pool.proofs.Listing.{keep-faces, has-kept}
@@ -54,9 +55,9 @@ table-kept n u w t count long same =
       room = omega (arith, t .room);
       few = t .few;
       linked =
-          linked-cong (λ i. keyBucket n (keyAt u (keysAt n + 3 * i))) (λ i. keyBucket n (keyAt w (keysAt n + 3 * i))) w (chainAt n) n (countAt u)
+          linked-cong (λ i. keyBucket n (cellAt u (keysAt n + 3 * i))) (λ i. keyBucket n (cellAt w (keysAt n + 3 * i))) w (chainAt n) n (countAt u)
           (λ i h. ap (keyBucket n) (sym (key-same u w (keysAt n + 3 * i) (λ j r. same (keysAt n + 3 * i + j) (omega arith) (omega (arith, t .few))))))
-          (linked-same (λ i. keyBucket n (keyAt u (keysAt n + 3 * i))) u w (chainAt n) n (countAt u) long
+          (linked-same (λ i. keyBucket n (cellAt u (keysAt n + 3 * i))) u w (chainAt n) n (countAt u) long
           (λ i h. same (chainAt n + i) (omega arith) (omega (arith, t .few))) (t .linked));
     })
 
@@ -101,19 +102,19 @@ module _ (eps : Float) (n : ℕ) (w : List ℕ) (h : Holds eps n w) (p : Point) 
   abbrev id : ℕ
   id = countAt w
 
-  abbrev key : KeyWords
+  abbrev key : Cell
   key = keyWords (keyOf eps p)
 
   abbrev new : List ℕ
   new = candidatePut w n id p m key b
 
   put : Pushed n id p m key w new
-  put = pushed w n id p m key (h .size) less b b-low (tail-room w n id p m key (h .size) less (λ i. keyBucket n (keyAt w (keysAt n + 3 * i))) b b-low (h .table .linked))
+  put = pushed w n id p m key (h .size) less b b-low (tail-room w n id p m key (h .size) less (λ i. keyBucket n (cellAt w (keysAt n + 3 * i))) b b-low (h .table .linked))
 
   old-word : (c i : ℕ) → c < id → i < 5 → getD new (entryAt c + i) 0 ≡ getD w (entryAt c + i) 0
   old-word c i k r = put .rest (entryAt c + i) (λ e. omega arith) (λ j s e. omega arith) (λ j s e. omega arith) (λ j s e. omega arith)
 
-  old-key : (c : ℕ) → c < id → keyAt new (keysAt n + 3 * c) ≡ keyAt w (keysAt n + 3 * c)
+  old-key : (c : ℕ) → c < id → cellAt new (keysAt n + 3 * c) ≡ cellAt w (keysAt n + 3 * c)
   old-key c k =
       key-same w new (keysAt n + 3 * c)
       (λ i r. put .rest (keysAt n + 3 * c + i) (λ e. omega arith) (λ j s e. omega arith) (λ j s e. omega arith) (λ j s e. omega arith))
@@ -160,10 +161,10 @@ module _ (eps : Float) (n : ℕ) (w : List ℕ) (h : Holds eps n w) (p : Point) 
           room = omega (arith, h .table .room, put .long);
           few = omega arith;
           linked =
-              pushed-linked w n id p m key (h .size) less b b-low (tail-room w n id p m key (h .size) less (λ i. keyBucket n (keyAt w (keysAt n + 3 * i))) b b-low
+              pushed-linked w n id p m key (h .size) less b b-low (tail-room w n id p m key (h .size) less (λ i. keyBucket n (cellAt w (keysAt n + 3 * i))) b b-low
               (h .table .linked))
-              (λ i. keyBucket n (keyAt new (keysAt n + 3 * i))) (b-is ∙ ap (keyBucket n) (sym (put .key)))
-              (linked-cong (λ i. keyBucket n (keyAt w (keysAt n + 3 * i))) (λ i. keyBucket n (keyAt new (keysAt n + 3 * i))) w (chainAt n) n id
+              (λ i. keyBucket n (cellAt new (keysAt n + 3 * i))) (b-is ∙ ap (keyBucket n) (sym (put .key)))
+              (linked-cong (λ i. keyBucket n (cellAt w (keysAt n + 3 * i))) (λ i. keyBucket n (cellAt new (keysAt n + 3 * i))) w (chainAt n) n id
               (λ i k. ap (keyBucket n) (sym (old-key i k))) (h .table .linked));
         });
         keys = λ c k. keys c (omega (arith, put .count)) (ℕ-discrete c id);
@@ -173,7 +174,7 @@ module _ (eps : Float) (n : ℕ) (w : List ℕ) (h : Holds eps n w) (p : Point) 
         tidy = subst Tidy (sym (push-pool q)) (tidy-insert (byKey eps) (poolAt n w) (candidate p m []) (key-lawful eps) (h .tidy));
       }
     where
-      keys : (c : ℕ) → c < id + 1 → Dec (c ≡ id) → keyAt new (keysAt n + 3 * c) ≡ keyWords (keyOf eps (pointAt new (entryAt c)))
+      keys : (c : ℕ) → c < id + 1 → Dec (c ≡ id) → cellAt new (keysAt n + 3 * c) ≡ keyWords (keyOf eps (pointAt new (entryAt c)))
       keys c k (yes e) = rw e (put .key ∙ ap (λ (q : Point). keyWords (keyOf eps q)) (sym new-point))
       keys c k (no d) =
           let r : c < id = omega arith in
@@ -331,10 +332,10 @@ module _ (eps : Float) (n : ℕ) (w : List ℕ) (h : Holds eps n w) (p : Point) 
           tidy = subst Tidy (sym moved-pool) (tidy-insert (byKey eps) (poolAt n w) (candidate p m []) (key-lawful eps) (h .tidy));
         }
       where
-        key-kept : (c : ℕ) → keyAt moved (keysAt n + 3 * c) ≡ keyAt w (keysAt n + 3 * c)
+        key-kept : (c : ℕ) → cellAt moved (keysAt n + 3 * c) ≡ cellAt w (keysAt n + 3 * c)
         key-kept c = key-same w moved (keysAt n + 3 * c) (λ i s. back-same (keysAt n + 3 * c + i) (omega arith))
 
-        keys : (c : ℕ) → c < countAt w → Dec (c ≡ id) → keyAt moved (keysAt n + 3 * c) ≡ keyWords (keyOf eps (pointAt moved (entryAt c)))
+        keys : (c : ℕ) → c < countAt w → Dec (c ≡ id) → cellAt moved (keysAt n + 3 * c) ≡ keyWords (keyOf eps (pointAt moved (entryAt c)))
         keys c k (yes e) = rw e (key-kept id ∙ link-key eps n w h (candidate p m []) id found ∙ ap (λ (q : Point). keyWords (keyOf eps q)) (sym point-is))
         keys c k (no d) = key-kept c ∙ h .keys c k ∙ ap (λ (q : Point). keyWords (keyOf eps q)) (sym (point-same w moved (entryAt c) (λ i s. other-word c i d (omega arith))))
 
@@ -347,11 +348,11 @@ module _ (eps : Float) (n : ℕ) (w : List ℕ) (h : Holds eps n w) (p : Point) 
 
 -- ---- as the code has it: the key's words, their bucket, and the link that the search answers
 
-module _ (eps : Float) (n : ℕ) (w : List ℕ) (h : Holds eps n w) (p : Point) (m : ℕ) (k : KeyWords) (b link : ℕ)
+module _ (eps : Float) (n : ℕ) (w : List ℕ) (h : Holds eps n w) (p : Point) (m : ℕ) (k : Cell) (b link : ℕ)
     (key-is : k ≡ keyWords (keyOf eps p)) (in-bucket : InBucket (mixed (k .x) (k .y) (k .z)) n b)
-    (searched : link ≡ linkTo (λ i. sameWords (keyAt w (keysAt n + 3 * i)) k) (upTo (countAt w))) where
+    (searched : link ≡ linkTo (λ i. sameCell (cellAt w (keysAt n + 3 * i)) k) (upTo (countAt w))) where
   linked : link ≡ linkOf (placeFor (byKey eps) (poolAt n w) (candidate p m []))
-  linked = searched ∙ ap (λ (q : KeyWords). linkTo (keyIs w n q) (upTo (countAt w))) key-is ∙ link-is eps n w h (candidate p m [])
+  linked = searched ∙ ap (λ (q : Cell). linkTo (keyIs w n q) (upTo (countAt w))) key-is ∙ link-is eps n w h (candidate p m [])
 
   hit : (link ≡ 0 → ⊥) → placeFor (byKey eps) (poolAt n w) (candidate p m []) ≡ just (link - 1)
   hit some = link-some (placeFor (byKey eps) (poolAt n w) (candidate p m [])) link linked some
@@ -368,7 +369,7 @@ module _ (eps : Float) (n : ℕ) (w : List ℕ) (h : Holds eps n w) (p : Point) 
   pub placed-new : (v : List ℕ) → link ≡ 0 → RoomFor eps n w (candidate p m []) → PointIn p → BitsOf p → v ≡ candidatePut w n (countAt w) p m k b
       → Inserted eps n (candidate p m []) w v
   placed-new v z room within bits e =
-      subst (λ (u : List ℕ). Inserted eps n (candidate p m []) w u) (sym (e ∙ ap (λ (q : KeyWords). candidatePut w n (countAt w) p m q b) key-is))
+      subst (λ (u : List ℕ). Inserted eps n (candidate p m []) w u) (sym (e ∙ ap (λ (q : Cell). candidatePut w n (countAt w) p m q b) key-is))
       (push-inserted eps n w h p m within bits (miss-room z room) b (in-bucket .is ∙ ap (keyBucket n) key-is) (in-bucket .low) (miss z))
 
   pub placed-moved : (v : List ℕ) → (link ≡ 0 → ⊥) → (m ≡ 0 → ⊥) → PointIn p → BitsOf p → v ≡ pointPut w (link - 1) p m → Inserted eps n (candidate p m []) w v

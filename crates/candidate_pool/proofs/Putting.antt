@@ -17,8 +17,8 @@ use Rattle.geometry.specs.declared.point.Point.{Point}
 use Rattle.chains.specs.Chains.{Linked, linkedIn}
 use Rattle.chains.proofs.Entering.{linked-same, linked-more, tail-le, entered-length, entered-rest}
 use Rattle.candidate_pool.specs.Offsets.{entryAt, keysAt, chainAt, poolEnd}
-use Rattle.candidate_pool.specs.declared.keys.KeyWords.{KeyWords}
-use Rattle.candidate_pool.specs.Room.{keyAt}
+use Rattle.mesh_weld.specs.declared.cells.Cell.{Cell}
+use Rattle.mesh_weld.specs.Room.{cellAt}
 use Rattle.candidate_pool.specs.Standing.{countAt}
 use Rattle.candidate_pool.specs.Steps.{pointPut, keyPut, candidatePut}
 use Rattle.candidate_pool.proofs.Searching.{key-words-are}
@@ -59,7 +59,7 @@ module _ (w : List ℕ) (at a b c d : ℕ) where
     pub four-at3 : getD four (at + 3) 0 ≡ d
     four-at3 = getD-set-same (set (set (set w at a) (at + 1) b) (at + 2) c) (at + 3) d 0 (simp length-set (omega arith))
 
-module _ (w : List ℕ) (at : ℕ) (key : KeyWords) where
+module _ (w : List ℕ) (at : ℕ) (key : Cell) where
   pub three-long : length (keyPut w at key) ≡ length w
   three-long = simp length-set
 
@@ -69,7 +69,7 @@ module _ (w : List ℕ) (at : ℕ) (key : KeyWords) where
       ∙ getD-set-other (set w at (key .x)) (at + 1) x (key .y) 0 (out 1 (omega arith))
       ∙ getD-set-other w at x (key .x) 0 (λ e. out 0 (omega arith) (omega arith))
 
-  pub three-at : at + 2 < length w → keyAt (keyPut w at key) at ≡ key
+  pub three-at : at + 2 < length w → cellAt (keyPut w at key) at ≡ key
   three-at room =
       key-words-are
       (getD-set-other (set (set w at (key .x)) (at + 1) (key .y)) (at + 2) at (key .z) 0 (λ e. omega arith)
@@ -79,13 +79,13 @@ module _ (w : List ℕ) (at : ℕ) (key : KeyWords) where
       ∙ getD-set-same (set w at (key .x)) (at + 1) (key .y) 0 (simp length-set (omega arith)))
       (getD-set-same (set (set w at (key .x)) (at + 1) (key .y)) (at + 2) (key .z) 0 (simp length-set (omega arith)))
 
-pub key-same : (u w : List ℕ) (at : ℕ) → ((i : ℕ) → i < 3 → getD w (at + i) 0 ≡ getD u (at + i) 0) → keyAt w at ≡ keyAt u at
+pub key-same : (u w : List ℕ) (at : ℕ) → ((i : ℕ) → i < 3 → getD w (at + i) 0 ≡ getD u (at + i) 0) → cellAt w at ≡ cellAt u at
 key-same u w at same =
     key-words-are (ap (λ (x : ℕ). getD w x 0) (omega arith) ∙ same 0 (omega arith) ∙ ap (λ (x : ℕ). getD u x 0) (omega arith)) (same 1 (omega arith)) (same 2 (omega arith))
 
 -- ---- a new candidate
 
-pub record Pushed (n id : ℕ) (p : Point) (m : ℕ) (k : KeyWords) (w w' : List ℕ) : Type 0 where
+pub record Pushed (n id : ℕ) (p : Point) (m : ℕ) (k : Cell) (w w' : List ℕ) : Type 0 where
   pub long : length w' ≡ length w
   pub count : countAt w' ≡ id + 1
   pub x : getD w' (entryAt id) 0 ≡ toBits binary64 (p .x)
@@ -93,10 +93,10 @@ pub record Pushed (n id : ℕ) (p : Point) (m : ℕ) (k : KeyWords) (w w' : List
   pub z : getD w' (entryAt id + 2) 0 ≡ toBits binary64 (p .z)
   pub mesh : getD w' (entryAt id + 3) 0 ≡ m
   pub mask : getD w' (entryAt id + 4) 0 ≡ 0
-  pub key : keyAt w' (keysAt n + 3 * id) ≡ k
+  pub key : cellAt w' (keysAt n + 3 * id) ≡ k
   pub rest : (x : ℕ) → (x ≡ 6 → ⊥) → Outside x (entryAt id) 5 → Outside x (keysAt n + 3 * id) 3 → Outside x (chainAt n) (n + n + (id + 1)) → getD w' x 0 ≡ getD w x 0
 
-module _ (w : List ℕ) (n id : ℕ) (p : Point) (m : ℕ) (k : KeyWords) (size : poolEnd n ≤ length w) (less : id < n) where
+module _ (w : List ℕ) (n id : ℕ) (p : Point) (m : ℕ) (k : Cell) (size : poolEnd n ≤ length w) (less : id < n) where
   abbrev w1 : List ℕ
   w1 = set w 6 (id + 1)
 

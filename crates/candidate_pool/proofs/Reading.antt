@@ -34,7 +34,8 @@ use Rattle.chains.proofs.Firsts.{places-link, link-found}
 use Rattle.mesh_weld.specs.Cells.{keyOf, sameKey}
 use Rattle.candidate_pool.specs.Offsets.{entryAt, keysAt, listsAt, listAt, joinedAt, poolEnd}
 use Rattle.candidate_pool.specs.Pool.{Candidate, noCandidate, faceList, byKey, placeFor, pointOf}
-use Rattle.candidate_pool.specs.Room.{keyWords, keyAt}
+use Rattle.mesh_weld.specs.Room.{cellAt}
+use Rattle.candidate_pool.specs.Room.{keyWords}
 use Rattle.candidate_pool.specs.Standing.{facesIn, countAt, pointAt, candidateAt, poolAt, Holds, RoomFor, Tidy}
 use Rattle.candidate_pool.proofs.Listing.{at-faces, faces-same}
 use Rattle.candidate_pool.proofs.Searching.{keyIs, words-same}
@@ -137,7 +138,7 @@ module _ (eps : Float) (n : ℕ) (w : List ℕ) (h : Holds eps n w) where
   pub link-low : (e : Candidate) (i : ℕ) → placeFor (byKey eps) (poolAt n w) e ≡ some i → i < countAt w
   link-low e i q = omega (arith, key-lawful eps .found (e .point) points i q .0, points-long)
 
-  pub link-key : (e : Candidate) (i : ℕ) → placeFor (byKey eps) (poolAt n w) e ≡ some i → keyAt w (keysAt n + 3 * i) ≡ keyWords (keyOf eps (e .point))
+  pub link-key : (e : Candidate) (i : ℕ) → placeFor (byKey eps) (poolAt n w) e ≡ some i → cellAt w (keysAt n + 3 * i) ≡ keyWords (keyOf eps (e .point))
   unfolding byKey
   link-key e i q =
       let t : Point → Bool = λ p. sameKey (keyOf eps p) (keyOf eps (e .point)) in

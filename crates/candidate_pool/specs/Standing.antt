@@ -33,7 +33,8 @@ use Rattle.box_faces.specs.Faces.{hasBit}
 use Rattle.candidate_pool.specs.OpenEdges.{OpenEdge, openEdge}
 use Rattle.candidate_pool.specs.Offsets.{entryAt, keysAt, listAt, joinedAt, poolEnd}
 use Rattle.candidate_pool.specs.Pool.{Candidate, Pool, noCandidate, noPool, faceList, renewed, listed, byKey, placeFor, numberFor, insert}
-use Rattle.candidate_pool.specs.Room.{keyWords, keyAt, KeyTable}
+use Rattle.mesh_weld.specs.Room.{cellAt}
+use Rattle.candidate_pool.specs.Room.{keyWords, KeyTable}
 
 abbrev pub facesIn : ℕ → List ℕ
 facesIn mask = keep (hasBit mask) faces
@@ -75,7 +76,7 @@ pub record Tidy (p : Pool) : Type 0 where
 pub record Holds (eps : Float) (n : ℕ) (w : List ℕ) : Type 0 where
   pub size : poolEnd n ≤ length w
   pub table : KeyTable w n (countAt w)
-  pub keys : (c : ℕ) → c < countAt w → keyAt w (keysAt n + 3 * c) ≡ keyWords (keyOf eps (pointAt w (entryAt c)))
+  pub keys : (c : ℕ) → c < countAt w → cellAt w (keysAt n + 3 * c) ≡ keyWords (keyOf eps (pointAt w (entryAt c)))
   pub stored : (c : ℕ) → c < countAt w → PointStored w (entryAt c)
   pub masks : (c : ℕ) → c < countAt w → getD w (entryAt c + 4) 0 < 64
   pub lengths : (f : ℕ) → f < 6 → getD w f 0 ≤ n

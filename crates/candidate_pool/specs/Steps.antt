@@ -13,7 +13,7 @@ use Rattle.geometry.specs.declared.point.Point.{Point}
 use Rattle.geometry.specs.Points.{origin}
 use Rattle.chains.specs.Chains.{linkedIn}
 use Rattle.candidate_pool.specs.Offsets.{entryAt, keysAt, chainAt, joinedAt}
-use Rattle.candidate_pool.specs.declared.keys.KeyWords.{KeyWords}
+use Rattle.mesh_weld.specs.declared.cells.Cell.{Cell}
 use Rattle.candidate_pool.specs.Pool.{Pool, noCandidate, renewed, listed}
 use Rattle.candidate_pool.specs.Standing.{candidate, facesIn, poolAt, Holds}
 
@@ -28,10 +28,10 @@ pointPut w id p mesh =
     (set (set (set w (entryAt id) (toBits binary64 (p .x))) (entryAt id + 1) (toBits binary64 (p .y))) (entryAt id + 2) (toBits binary64 (p .z)))
     (entryAt id + 3) mesh
 
-abbrev pub keyPut : List ℕ → ℕ → KeyWords → List ℕ
+abbrev pub keyPut : List ℕ → ℕ → Cell → List ℕ
 keyPut w at key = set (set (set w at (key .x)) (at + 1) (key .y)) (at + 2) (key .z)
 
-abbrev pub candidatePut : List ℕ → ℕ → ℕ → Point → ℕ → KeyWords → ℕ → List ℕ
+abbrev pub candidatePut : List ℕ → ℕ → ℕ → Point → ℕ → Cell → ℕ → List ℕ
 candidatePut w n id p mesh key b =
     linkedIn (keyPut (set (pointPut (set w 6 (id + 1)) id p mesh) (entryAt id + 4) 0) (keysAt n + 3 * id) key) (chainAt n) n id b
 

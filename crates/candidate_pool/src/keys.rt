@@ -7,36 +7,31 @@ ghost use Rattle.lists.specs.Lists.{upTo};
 ghost use Rattle.chains.specs.Links.{linkTo};
 ghost use Rattle.mesh_weld.specs.Cells.{keyOf};
 ghost use Rattle.candidate_pool.specs.Offsets.{keysAt};
-ghost use Rattle.candidate_pool.specs.Room.{keyWords, keyAt, sameWords, keyBucket, KeyTable};
+ghost use Rattle.mesh_weld.specs.Room.{cellAt, sameCell};
+ghost use Rattle.candidate_pool.specs.Room.{keyWords, keyBucket, KeyTable};
 use crate::room::chain_at;
 use crate::room::keys_at;
 use chains::first;
 use chains::next;
 use geometry::point::Point;
+use mesh_weld::cells::Cell;
 use rounding::key_word;
 use rounding::quantized_key;
 
-// A point's key, each number as a word.
-pub struct KeyWords {
-    pub x: u64,
-    pub y: u64,
-    pub z: u64,
-}
-
 // `quantized_point_key`. It is total: beyond the range of keys the nearest one of it.
-pub fn quantized_point_key(p: Point, eps: f64) -> KeyWords
+pub fn quantized_point_key(p: Point, eps: f64) -> Cell
     ensures { λ r. ⌜ r ≡ keyWords (keyOf eps p) ⌝ }
 {
-    KeyWords {
+    Cell {
         x: key_word(quantized_key(p.x, eps)),
         y: key_word(quantized_key(p.y, eps)),
         z: key_word(quantized_key(p.z, eps)),
     }
 }
 
-fn is_key_at(w: &[u64], at: usize, key: KeyWords) -> bool
+fn is_key_at(w: &[u64], at: usize, key: Cell) -> bool
     requires { ⌜ at + 2 < length (now w) ⌝ }
-    ensures { λ r. ⌜ r ≡ sameWords (keyAt (now (w .entry)) at) key ⌝ }
+    ensures { λ r. ⌜ r ≡ sameCell (cellAt (now (w .entry)) at) key ⌝ }
 {
     if w[at] == key.x {
         if w[at + 1] == key.y {
@@ -50,10 +45,10 @@ fn is_key_at(w: &[u64], at: usize, key: KeyWords) -> bool
 }
 
 // The link to the first of `count` candidates with the key, by the chain of its bucket b.
-pub fn find_key(w: &[u64], n: usize, count: usize, key: KeyWords, b: usize) -> u64
+pub fn find_key(w: &[u64], n: usize, count: usize, key: Cell, b: usize) -> u64
     requires { ⌜ KeyTable (now w) n count ⌝ }
     requires { ⌜ (b ≡ keyBucket n key) × (b < n) ⌝ }
-    ensures { λ r. ⌜ r ≡ linkTo (λ i. sameWords (keyAt (now (w .entry)) (keysAt n + 3 * i)) key) (upTo count) ⌝ }
+    ensures { λ r. ⌜ r ≡ linkTo (λ i. sameCell (cellAt (now (w .entry)) (keysAt n + 3 * i)) key) (upTo count) ⌝ }
 {
     let mut link = first(w, chain_at(n), b);
     while link != 0 {

@@ -9,7 +9,6 @@ ghost use Rattle.candidate_pool.specs.Pool.{byKey, numberFor};
 ghost use Rattle.candidate_pool.specs.Room.{KeyTable};
 ghost use Rattle.candidate_pool.specs.Standing.{facesIn, countAt, pointAt, poolAt, candidate, PointIn, PointStored, Holds, RoomFor, Inserted, VertexInserted, FaceAdded, Cleared};
 ghost use Rattle.candidate_pool.specs.Steps.{BitsOf, pointPut, candidatePut, FacesAdded};
-use crate::keys::KeyWords;
 use crate::keys::find_key;
 use crate::keys::quantized_point_key;
 use crate::room::chain_at;
@@ -23,6 +22,7 @@ use chains::enter;
 use geometry::numbers::CandidateVertexId;
 use geometry::numbers::MeshVertexId;
 use geometry::point::Point;
+use mesh_weld::cells::Cell;
 use words::zero_part;
 
 // "mesh vertex + 1 or 0", as it stands in a candidate: 0 where it has no mesh vertex.
@@ -62,7 +62,7 @@ fn push_candidate(
     n: usize,
     p: Point,
     mesh: MeshWord,
-    key: KeyWords,
+    key: Cell,
     b: usize,
 ) -> CandidateVertexId
     requires { ⌜ PointIn p × (countAt (now w) < n) × (b < n) ⌝ }

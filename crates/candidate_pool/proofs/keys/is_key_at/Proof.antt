@@ -1,4 +1,4 @@
-use Rattle.candidate_pool.specs.Room.{sameWords}
+use Rattle.mesh_weld.specs.Room.{sameCell}
 use borrow.Author.Tests.{eq-eqb, ne-eqb}
 use borrow.Author.Needs.{needs}
 use Rattle.candidate_pool.proofs.keys.is_key_at.Statement.{statement}
@@ -29,15 +29,12 @@ shared-slice-read-result : tie.Need-shared-slice-read-result
 shared-slice-read-result c = search needs
 
 returns : tie.Need-returns
-unfolding sameWords
 returns c = simp (eq-eqb _ _ (c .before .before .before .before .before .if1 .taken), eq-eqb _ _ (c .before .before .if2 .taken))
 
 returns-2 : tie.Need-returns-2
-unfolding sameWords
 returns-2 c = simp (eq-eqb _ _ (c .before .before .before .if1 .taken), ne-eqb _ _ (c .if2 .left))
 
 returns-3 : tie.Need-returns-3
-unfolding sameWords
 returns-3 c = simp (ne-eqb _ _ (c .if1 .left))
 
 pub is-key-at-spec : {M : Type 1} → statement M

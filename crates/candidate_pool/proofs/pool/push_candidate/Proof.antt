@@ -4,7 +4,8 @@ use mathlib.Core.Path.{refl, ap}
 use lib.ListN.{getD, length, length-set}
 use native.Mathlib.Omega.{arith}
 use Rattle.candidate_pool.specs.Offsets.{keysAt}
-use Rattle.candidate_pool.specs.Room.{keyAt, keyBucket}
+use Rattle.mesh_weld.specs.Room.{cellAt}
+use Rattle.candidate_pool.specs.Room.{keyBucket}
 use Rattle.candidate_pool.proofs.Putting.{enter-asks, put-all, put-long}
 use borrow.Author.Needs.{needs}
 use Rattle.candidate_pool.proofs.pool.push_candidate.Statement.{statement}
@@ -98,7 +99,7 @@ enter-requires c κs =
     enter-asks (s .args .w .now) (s .args .n) (getD (s .args .w .now) 6 0) (s .args .p) (s .args .mesh .0) (s .args .key) (s .pre .1 .1) (s .pre .0 .1)
     (put-point′ .last .0) (put-point′ .last .0) (entry-at′ .result) (keys-at′ .result) (chain-at′ .result) (s .args .b)
     (put-point′ .ensures .0) (entry-at′ .ensures) (keys-at′ .ensures) (chain-at′ .ensures)
-    (λ i. keyBucket (s .args .n) (keyAt (s .args .w .now) (keysAt (s .args .n) + 3 * i))) (s .pre .0 .2) (s .pre .1 .0 .linked)
+    (λ i. keyBucket (s .args .n) (cellAt (s .args .w .now) (keysAt (s .args .n) + 3 * i))) (s .pre .0 .2) (s .pre .1 .0 .linked)
 
 same-length : tie.Need-same-length
 same-length c =
