@@ -1,7 +1,7 @@
 // Candidates entered among the mesh vertices: boundary_closure.rs, `materialize_candidate`.
 ghost use mathlib.Core.Path.{_≡_};
 ghost use mathlib.Core.List.{[], _∷_};
-ghost use Prim.Native.Nat.{ℕ, _+_, _*_, _/_, _≤_, _<_};
+ghost use Prim.Native.Nat.{ℕ, _+_, _-_, _*_, _/_, _≤_, _<_};
 ghost use lib.ListN.{length, getD};
 ghost use Rattle.geometry.specs.Meshes.{vertex, pointsOf};
 ghost use Rattle.candidate_pool.specs.Standing.{countAt};
@@ -11,6 +11,7 @@ use crate::room::fresh_at;
 use crate::room::given_at;
 use crate::room::vertices_at;
 use candidate_pool::pool::point_of;
+use candidate_pool::room::entry_at;
 use geometry::numbers::CandidateVertexId;
 use geometry::numbers::MeshVertexId;
 use geometry::point::Point;
@@ -26,7 +27,7 @@ pub fn start_entering(w: &mut [u64], n: usize, nf: usize, nc: usize, nv: usize)
     w[vertices_at(n, nf, nc)] = nv as u64;
     let mut c = 0;
     while c < count {
-        w[given + c] = w[8 + 5 * c + 3];
+        w[given + c] = w[entry_at(CandidateVertexId(c)) + 3];
         c += 1;
     }
 }
@@ -57,6 +58,22 @@ pub fn materialize_candidate(
     MeshVertexId(v)
 }
 
+// The candidate that became v, a new vertex behind the nv of the mesh.
+fn candidate_of_vertex(
+    w: &[u64],
+    n: usize,
+    nf: usize,
+    nc: usize,
+    nv: usize,
+    v: MeshVertexId,
+) -> CandidateVertexId
+    requires { ⌜ (nf < 268435456) × (nv ≤ v .0) × (v .0 < getD (now w) (closingAt n nf nc + 2 * n + 8 * nc) 0) ⌝ }
+    requires { ⌜ NamesEntering (closingAt n nf nc) n nc nv (now w) ⌝ }
+    ensures { λ r. ⌜ r .0 ≡ getD (now (w .entry)) (closingAt n nf nc + n + (v .0 - nv)) 0 ⌝ }
+{
+    CandidateVertexId(w[fresh_at(n, nf, nc) + (v.0 - nv)] as usize)
+}
+
 // The point of a vertex of the mesh, or of a new one.
 pub fn entered_point(
     w: &[u64],
@@ -75,6 +92,5 @@ pub fn entered_point(
     if v.0 < nv {
         return vertex_at(vertices, v);
     }
-    let id = w[fresh_at(n, nf, nc) + (v.0 - nv)] as usize;
-    point_of(w, CandidateVertexId(id))
+    point_of(w, candidate_of_vertex(w, n, nf, nc, nv, v))
 }

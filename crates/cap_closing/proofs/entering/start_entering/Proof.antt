@@ -40,8 +40,8 @@ loop-holds c =
     let R = s .pre in
     (copy-none b (a .n) (set (a .w .now) (c .vertices-at .result) (a .nv)) (omega arith), omega arith)
 
-mul-w-2 : tie.Need-mul-w-2 Inv-loop μ-loop
-mul-w-2 c =
+entry-at-requires : tie.Need-entry-at-requires Inv-loop μ-loop
+entry-at-requires c κs =
     let s = c .before .before .before .before .before .before in
     let a = s .args in
     let R = s .pre in
@@ -53,115 +53,113 @@ mul-w-2 c =
 
 add-w : tie.Need-add-w Inv-loop μ-loop
 add-w c =
-    let s = c .before .before .before .before .before .before in
+    let s = c .before .before .before .before .before .before .before in
     let a = s .args in
     let R = s .pre in
-    let l = c .before .loop .inv .0 .long ∙ length-set (a .w .now) (c .before .before .vertices-at .result) (a .nv) in
-    let e = c .before .before .before .before .given-at .ensures in
+    let l = c .before .before .loop .inv .0 .long ∙ length-set (a .w .now) (c .before .before .before .vertices-at .result) (a .nv) in
+    let e = c .before .before .before .before .before .given-at .ensures in
     let q = R .3 in
     let z = R .4 in
+    let x = c .entry-at .ensures in
     omega arith
 
-add-w-2 : tie.Need-add-w-2 Inv-loop μ-loop
-add-w-2 c =
-    let s = c .before .before .before .before .before .before in
+mul-w-2 : tie.Need-mul-w-2 Inv-loop μ-loop
+mul-w-2 c =
+    let s = c .before .before .before .before .before .before .before in
     let a = s .args in
     let R = s .pre in
-    let l = c .before .loop .inv .0 .long ∙ length-set (a .w .now) (c .before .before .vertices-at .result) (a .nv) in
-    let e = c .before .before .before .before .given-at .ensures in
+    let l = c .before .before .loop .inv .0 .long ∙ length-set (a .w .now) (c .before .before .before .vertices-at .result) (a .nv) in
+    let e = c .before .before .before .before .before .given-at .ensures in
     let q = R .3 in
     let z = R .4 in
-    omega arith
-
-mul-w-3 : tie.Need-mul-w-3 Inv-loop μ-loop
-mul-w-3 c =
-    let s = c .before .before .before .before .before .before in
-    let a = s .args in
-    let R = s .pre in
-    let l = c .before .loop .inv .0 .long ∙ length-set (a .w .now) (c .before .before .vertices-at .result) (a .nv) in
-    let e = c .before .before .before .before .given-at .ensures in
-    let q = R .3 in
-    let z = R .4 in
+    let x = c .entry-at .ensures in
     omega arith
 
 slice-read-w : tie.Need-slice-read-w Inv-loop μ-loop
 slice-read-w c =
-    let s = c .before .before .before .before .before .before .before in
+    let s = c .before .before .before .before .before .before .before .before in
     let a = s .args in
     let R = s .pre in
-    let l = c .before .before .loop .inv .0 .long ∙ length-set (a .w .now) (c .before .before .before .vertices-at .result) (a .nv) in
-    let e = c .before .before .before .before .before .given-at .ensures in
+    let l = c .before .before .before .loop .inv .0 .long ∙ length-set (a .w .now) (c .before .before .before .before .vertices-at .result) (a .nv) in
+    let e = c .before .before .before .before .before .before .given-at .ensures in
     let q = R .3 in
     let z = R .4 in
+    let x = c .before .entry-at .ensures in
     omega arith
 
-add-w-3 : tie.Need-add-w-3 Inv-loop μ-loop
-add-w-3 c =
-    let s = c .before .before .before .before .before .before .before in
+add-w-2 : tie.Need-add-w-2 Inv-loop μ-loop
+add-w-2 c =
+    let s = c .before .before .before .before .before .before .before .before in
     let a = s .args in
     let R = s .pre in
-    let l = c .before .before .loop .inv .0 .long ∙ length-set (a .w .now) (c .before .before .before .vertices-at .result) (a .nv) in
-    let e = c .before .before .before .before .before .given-at .ensures in
+    let l = c .before .before .before .loop .inv .0 .long ∙ length-set (a .w .now) (c .before .before .before .before .vertices-at .result) (a .nv) in
+    let e = c .before .before .before .before .before .before .given-at .ensures in
     let q = R .3 in
     let z = R .4 in
+    let x = c .before .entry-at .ensures in
     omega arith
 
-mul-w-4 : tie.Need-mul-w-4 Inv-loop μ-loop
-mul-w-4 c =
-    let s = c .before .before .before .before .before .before .before in
+mul-w-3 : tie.Need-mul-w-3 Inv-loop μ-loop
+mul-w-3 c =
+    let s = c .before .before .before .before .before .before .before .before in
     let a = s .args in
     let R = s .pre in
-    let l = c .before .before .loop .inv .0 .long ∙ length-set (a .w .now) (c .before .before .before .vertices-at .result) (a .nv) in
-    let e = c .before .before .before .before .before .given-at .ensures in
+    let l = c .before .before .before .loop .inv .0 .long ∙ length-set (a .w .now) (c .before .before .before .before .vertices-at .result) (a .nv) in
+    let e = c .before .before .before .before .before .before .given-at .ensures in
     let q = R .3 in
     let z = R .4 in
+    let x = c .before .entry-at .ensures in
     omega arith
 
 slice-write-w-2 : tie.Need-slice-write-w-2 Inv-loop μ-loop
 slice-write-w-2 c =
-    let s = c .before .before .before .before .before .before .before in
+    let s = c .before .before .before .before .before .before .before .before in
     let a = s .args in
     let R = s .pre in
-    let l = c .before .before .loop .inv .0 .long ∙ length-set (a .w .now) (c .before .before .before .vertices-at .result) (a .nv) in
-    let e = c .before .before .before .before .before .given-at .ensures in
+    let l = c .before .before .before .loop .inv .0 .long ∙ length-set (a .w .now) (c .before .before .before .before .vertices-at .result) (a .nv) in
+    let e = c .before .before .before .before .before .before .given-at .ensures in
     let q = R .3 in
     let z = R .4 in
+    let x = c .before .entry-at .ensures in
     omega arith
 
 add-c : tie.Need-add-c Inv-loop μ-loop
 add-c c =
-    let s = c .before .before .before .before .before .before .before in
+    let s = c .before .before .before .before .before .before .before .before in
     let a = s .args in
     let R = s .pre in
-    let l = c .before .before .loop .inv .0 .long ∙ length-set (a .w .now) (c .before .before .before .vertices-at .result) (a .nv) in
-    let e = c .before .before .before .before .before .given-at .ensures in
+    let l = c .before .before .before .loop .inv .0 .long ∙ length-set (a .w .now) (c .before .before .before .before .vertices-at .result) (a .nv) in
+    let e = c .before .before .before .before .before .before .given-at .ensures in
     let q = R .3 in
     let z = R .4 in
+    let x = c .before .entry-at .ensures in
     omega arith
 
 loop-less : tie.Need-loop-less Inv-loop μ-loop
 loop-less c =
-    let s = c .before .before .before .before .before .before .before in
+    let s = c .before .before .before .before .before .before .before .before in
     let a = s .args in
     let R = s .pre in
-    let l = c .before .before .loop .inv .0 .long ∙ length-set (a .w .now) (c .before .before .before .vertices-at .result) (a .nv) in
-    let e = c .before .before .before .before .before .given-at .ensures in
+    let l = c .before .before .before .loop .inv .0 .long ∙ length-set (a .w .now) (c .before .before .before .before .vertices-at .result) (a .nv) in
+    let e = c .before .before .before .before .before .before .given-at .ensures in
     let q = R .3 in
     let z = R .4 in
+    let x = c .before .entry-at .ensures in
     omega arith
 
 loop-again : tie.Need-loop-again Inv-loop μ-loop
 loop-again c =
-    let s = c .before .before .before .before .before .before .before in
+    let s = c .before .before .before .before .before .before .before .before in
     let a = s .args in
     let b = closingAt (a .n) (a .nf) (a .nc) in
     let R = s .pre in
-    let k = length-set (a .w .now) (c .before .before .before .vertices-at .result) (a .nv) in
+    let k = length-set (a .w .now) (c .before .before .before .before .vertices-at .result) (a .nv) in
     let q = R .3 in
-    let z = R .4 in (
-      copy-more b (a .n) (set (a .w .now) (c .before .before .before .vertices-at .result) (a .nv)) (omega arith) (c .before .before .loop .w) (c .before .before .loop .c)
-          (omega arith) (omega arith) (c .before .before .loop .inv .0) (c .before .before .before .before .before .given-at .result)
-          (c .before .before .before .before .before .given-at .ensures),
+    let z = R .4 in
+    rw (c .before .entry-at .ensures) (
+      copy-more b (a .n) (set (a .w .now) (c .before .before .before .before .vertices-at .result) (a .nv)) (omega arith) (c .before .before .before .loop .w) (c .before .before .before .loop .c)
+          (omega arith) (omega arith) (c .before .before .before .loop .inv .0) (c .before .before .before .before .before .before .given-at .result)
+          (c .before .before .before .before .before .before .given-at .ensures),
       omega arith,
     )
 
@@ -193,13 +191,12 @@ start-entering-spec =
     mul-w
     slice-write-w
     loop-holds
-    mul-w-2
+    entry-at-requires
     add-w
+    mul-w-2
+    slice-read-w
     add-w-2
     mul-w-3
-    slice-read-w
-    add-w-3
-    mul-w-4
     slice-write-w-2
     add-c
     loop-less
