@@ -4,7 +4,6 @@
 --   Absent P i n      no number from i up to, not including, n has the property
 --   First P i n v     v is the link to the first number from i up to n with the property
 --   Last P n v        v is the link to the last number below n with the property
---   orElse            the first of two links that is one
 use Prim.Native.Nat.{ℕ, zero, suc, _+_, _≤_, _<_}
 use mathlib.Core.Path.{_≡_}
 use mathlib.Core.Bool.{Bool, cond}
@@ -44,8 +43,3 @@ pub record Final (P : ℕ → Type 0) (n k : ℕ) : Type 0 where
 pub record Last (P : ℕ → Type 0) (n v : ℕ) : Type 0 where
   pub none : v ≡ 0 → Absent P 0 n
   pub some : (k : ℕ) → v ≡ suc k → Final P n k
-
--- the first link that is one
-abbrev pub orElse : ℕ → ℕ → ℕ
-orElse zero v = v
-orElse (suc k) v = suc k

@@ -1,10 +1,9 @@
 use Rattle.lists.specs.Regions.{view}
-use mathlib.Core.List.{map}
+use mathlib.Core.List.{map, List}
 use Rattle.mesh_cleanup.proofs.Outputs.{vertices-start, vertex-room, vertices-turn, vertices-end}
 use Rattle.words.proofs.Overlay.{Writing}
 use Rattle.geometry.specs.Meshes.{coordinates, vertexOf}
 use lib.Ieee.{Float}
-use mathlib.Core.List.{List}
 use native.Mathlib.Omega.{arith}
 use Prim.Native.Nat.{_+_, _*_, _-_}
 use mathlib.Core.Path.{sym, ap, subst, _∙_}

@@ -1,11 +1,9 @@
-use mathlib.Core.Path.{subst⁻¹}
+use mathlib.Core.Path.{subst⁻¹, _≡_, refl, sym, ap, _∙_}
 use lib.Dec.{T}
 use Rattle.root.specs.Root.{rootable}
 use Rattle.root.specs.Doubles.{_⊕_, _⊗_, larger, oneF}
 use Rattle.box_faces.specs.declared.uv.Uv.{Uv}
-use Rattle.box_faces.specs.Segments.{segmentLength, segmentBound}
-use Rattle.box_faces.specs.Segments.{segmentBound, uvDifference}
-use mathlib.Core.Path.{_≡_, refl, sym, ap, _∙_}
+use Rattle.box_faces.specs.Segments.{segmentLength, segmentBound, uvDifference}
 use borrow.Author.Needs.{needs}
 use Rattle.box_faces.proofs.segments.segment_bound.Statement.{statement}
 use Rattle.box_faces.proofs.segments.segment_bound.Tie as tie

@@ -1,6 +1,5 @@
 use Rattle.root.specs.Doubles.{_⊘_, larger}
 use Rattle.box_faces.specs.Sides.{betweenEnds, alongSide}
-use Rattle.box_faces.specs.Sides.{alongSide}
 use mathlib.Core.Path.{_≡_, refl, sym, ap, _∙_}
 use borrow.Author.Needs.{needs}
 use Rattle.box_faces.proofs.sides.along_side.Statement.{statement}

@@ -1,12 +1,9 @@
-use lib.ListN.{getD}
-use mathlib.Core.Path.{_≡_}
-use Prim.Native.Nat.{ℕ}
+use lib.ListN.{getD, length}
+use mathlib.Core.Path.{_≡_, refl, ap}
+use Prim.Native.Nat.{ℕ, _+_, _*_, _-_, _≤_}
 use Rattle.lists.proofs.Blocks.{BlocksStored, blocks-start, blocks-turn, blocks-room, blocks-long, blocks-end}
 use Rattle.cap_outputs.proofs.Blocks.{capBlock}
-use lib.ListN.{length}
 use native.Mathlib.Omega.{arith}
-use mathlib.Core.Path.{refl, ap}
-use Prim.Native.Nat.{_+_, _*_, _-_, _≤_}
 use Rattle.cap_outputs.proofs.outputs.write_caps.Statement.{statement}
 use Rattle.cap_outputs.proofs.outputs.write_caps.Tie as tie
 

@@ -6,9 +6,7 @@ use Rattle.box_faces.specs.Faces.{bitCount}
 use lib.ListN.{length, getD}
 use mathlib.Core.Path.{refl}
 use Prim.Native.Nat.{_+_, _*_, _-_, _/_}
-use Rattle.cap_pairs.proofs.Rows.{RowWalk, row-start, row-fits, row-stop, row-more, row-end}
 use native.Mathlib.Omega.{arith}
-use Prim.Native.Nat.{_+_, _-_}
 use Rattle.cap_pairs.proofs.missing.missing_place.Statement.{statement}
 use Rattle.cap_pairs.proofs.missing.missing_place.Tie as tie
 

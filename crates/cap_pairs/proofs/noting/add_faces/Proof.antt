@@ -6,8 +6,6 @@ use Rattle.cap_pairs.proofs.Adding.{Below, adding-start, adding-skip, a
 use Rattle.cap_pairs.specs.Steps.{Added}
 use native.Mathlib.Omega.{arith}
 use mathlib.Core.Logic.{⊎-elim}
-use mathlib.Core.Path.{sym, _∙_}
-use Prim.Native.Nat.{_-_, _≤_}
 use Rattle.cap_pairs.proofs.noting.add_faces.Statement.{statement}
 use Rattle.cap_pairs.proofs.noting.add_faces.Tie as tie
 

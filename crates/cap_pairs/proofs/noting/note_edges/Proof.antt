@@ -1,6 +1,5 @@
 -- `note_edges` meets its contract: the faces of the first i open edges are added to the words of their pairs. Assumes nothing.
 use Rattle.cap_pairs.proofs.Targets.{three-fits, edge-fits, edge-in, edge-in-1, number-in, number-fits, note-edge-asks, note-edge-turn}
-use Rattle.cap_pairs.proofs.Targets.{note-edge-asks, note-edge-turn}
 use Rattle.cap_pairs.proofs.Adding.{noted-start}
 use Rattle.cap_pairs.specs.Steps.{Noted, edgeMask, edgeTarget}
 use Rattle.box_faces.specs.Faces.{hasBit}

@@ -1,7 +1,6 @@
 -- `note_faces` meets its contract: three tables cleared, the open edges noted and then the sides. Assumes nothing.
 use Rattle.cap_pairs.proofs.Tables.{up-room, down-room, held-room, tables-cleared, numbers-cleared, zeros-cleared, tables-noted, numbers-noted, zeros-noted, sides-faces, above-all, known}
 use mathlib.Core.Path.{refl, _∙_}
-use Rattle.cap_pairs.proofs.Tables.{tables-cleared, numbers-cleared, zeros-cleared, tables-noted, numbers-noted, zeros-noted, sides-faces, above-all, known}
 use borrow.Author.Needs.{needs}
 use Rattle.cap_pairs.proofs.noting.note_faces.Statement.{statement}
 use Rattle.cap_pairs.proofs.noting.note_faces.Tie as tie

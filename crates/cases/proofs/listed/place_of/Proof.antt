@@ -1,5 +1,4 @@
 use Rattle.cases.proofs.Rows.{first-none, first-more, first-all}
-use Rattle.cases.proofs.Rows.{first-all}
 use Prim.Native.Nat.{ℕ, _-_, _≤_, _<_}
 use borrow.Author.Count.{below-none, below-more}
 use mathlib.Core.Bool.{false}

@@ -1,6 +1,5 @@
 use borrow.Author.Tests.{not-true, not-false}
-use Rattle.mesh_compact.proofs.Loop.{corner0, corner1, corner2}
-use Rattle.mesh_compact.proofs.Loop.{passed-over, numbered}
+use Rattle.mesh_compact.proofs.Loop.{corner0, corner1, corner2, passed-over, numbered}
 use Prim.Native.Nat.{_+_, _*_}
 use native.Mathlib.Omega.{arith}
 use mathlib.Core.Path.{sym, _∙_}

@@ -1,6 +1,5 @@
-use Rattle.replay.proofs.Agreeing.{same-box}
+use Rattle.replay.proofs.Agreeing.{same-box, tolerance-decides}
 use Rattle.replay.proofs.Deciding.{refuted, stops, passes}
-use Rattle.replay.proofs.Agreeing.{tolerance-decides}
 use denote.Ref.{now}
 use borrow.Author.Needs.{needs}
 use Rattle.replay.proofs.agreement.tolerance_agrees.Statement.{statement}

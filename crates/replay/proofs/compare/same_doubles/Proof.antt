@@ -1,11 +1,10 @@
 use borrow.Author.Tests.{not-true, not-false}
-use Rattle.replay.proofs.Deciding.{clash}
+use Rattle.replay.proofs.Deciding.{clash, Passed, passed-start, passed-more, passed-stop, passed-end}
 use Rattle.replay.specs.Agreement.{SameDouble}
 use lib.Ieee.{nan}
 use mathlib.Core.Path.{_≡_, sym, ap, _∙_}
 use lib.ListN.{length, getD}
 use Prim.Native.Nat.{_+_, _-_, _≤_}
-use Rattle.replay.proofs.Deciding.{Passed, passed-start, passed-more, passed-stop, passed-end}
 use borrow.Author.Needs.{needs}
 use native.Mathlib.Omega.{arith}
 use Rattle.replay.proofs.compare.same_doubles.Statement.{statement}

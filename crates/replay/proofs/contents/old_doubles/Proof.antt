@@ -2,8 +2,7 @@ use Rattle.replay.specs.Contents.{oldDouble}
 use mathlib.Core.Path.{_≡_, refl}
 use lib.ListN.{length}
 use Prim.Native.Nat.{_+_, _-_}
-use Rattle.replay.proofs.Filling.{next-double}
-use Rattle.replay.proofs.Filling.{Filling, filling-start, filling-turn, filling-end}
+use Rattle.replay.proofs.Filling.{next-double, Filling, filling-start, filling-turn, filling-end}
 use borrow.Author.Needs.{needs}
 use native.Mathlib.Omega.{arith}
 use Rattle.replay.proofs.contents.old_doubles.Statement.{statement}

@@ -1,6 +1,5 @@
-use Rattle.replay.proofs.Tallying.{tally-start, tally-more, tally-stop, tally-end}
+use Rattle.replay.proofs.Tallying.{tally-start, tally-more, tally-stop, tally-end, Tallying}
 use denote.Ref.{now}
-use Rattle.replay.proofs.Tallying.{Tallying}
 use lib.ListN.{length}
 use Prim.Native.Nat.{_-_}
 use borrow.Author.Needs.{needs}

@@ -1,10 +1,9 @@
-use Rattle.replay.proofs.Deciding.{clash}
+use Rattle.replay.proofs.Deciding.{clash, Passed, passed-start, passed-more, passed-stop, passed-end}
 use mathlib.Core.Bool.{false}
 use lib.Ieee.{nanBits, binary64}
 use mathlib.Core.Path.{_≡_, sym, ap, _∙_}
 use lib.ListN.{length, getD}
 use Prim.Native.Nat.{_+_, _-_, _≤_}
-use Rattle.replay.proofs.Deciding.{Passed, passed-start, passed-more, passed-stop, passed-end}
 use borrow.Author.Needs.{needs}
 use native.Mathlib.Omega.{arith}
 use Rattle.replay.proofs.layout.are_numbers.Statement.{statement}

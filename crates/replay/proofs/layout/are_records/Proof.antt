@@ -1,6 +1,5 @@
-use Rattle.replay.proofs.Tallying.{walking-start, walking-more, walking-stuck, walking-over, walking-end}
+use Rattle.replay.proofs.Tallying.{walking-start, walking-more, walking-stuck, walking-over, walking-end, Walking}
 use denote.Ref.{now}
-use Rattle.replay.proofs.Tallying.{Walking}
 use lib.ListN.{length}
 use Prim.Native.Nat.{_-_}
 use borrow.Author.Needs.{needs}

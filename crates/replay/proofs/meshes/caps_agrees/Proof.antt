@@ -1,5 +1,4 @@
-use Rattle.replay.proofs.Agreeing.{same-box, caps-reply, caps-result, lent-caps}
-use Rattle.replay.proofs.Agreeing.{outputs-within, mesh-called, answer-decides}
+use Rattle.replay.proofs.Agreeing.{same-box, caps-reply, caps-result, lent-caps, outputs-within, mesh-called, answer-decides}
 use denote.Ref.{now}
 use borrow.Author.Needs.{needs}
 use Rattle.replay.proofs.meshes.caps_agrees.Statement.{statement}
