@@ -31,13 +31,14 @@ use lib.Ieee.Exact.{round-exact}
 use lib.Ieee.Scale.{round-same}
 use Rattle.root.specs.Doubles.{finite, negative, one, unitsOf}
 use Rattle.root.specs.Bounds.{Nearest, Within}
+use Rattle.root.specs.Drawn.{WholeRoot}
 use Rattle.root.specs.Root.{rootable, IsRoot, wholeRoot, rootOfSquare, root, Rooted}
 use Rattle.root.proofs.Scaling.{shift}
 use Rattle.root.proofs.Grid.{lt-or-ge}
 use Rattle.root.proofs.Patterns.{Is, units-is, finite-is, plain-pattern, written, on-grid, units-small, units-even}
 use Rattle.root.proofs.Nearest.{round-nearest, round-sign, nearest-same, nearest-at-least}
 use Rattle.root.proofs.Bounds.{Held, held-pow, round-within}
-use Rattle.root.proofs.WholeRoot.{WholeRoot, whole-root, whole-small, exact-above, exact-below, between-above, between-below, OnGrid, square-on-grid}
+use Rattle.root.proofs.WholeRoot.{whole-root, whole-small, exact-above, exact-below, between-above, between-below, OnGrid, square-on-grid}
 use Rattle.root.proofs.Root.{root-unique, root-le, root-ge, root-within}
 use Rattle.root.proofs.RootAt.{rootable-finite}
 

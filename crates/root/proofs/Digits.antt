@@ -1,131 +1,213 @@
--- The root of a whole number, a digit at a time. Nothing here is about doubles. Assumes nothing.
-use mathlib.Core.Path.{_≡_, refl, sym, ap, _∙_, subst}
-use Prim.Native.Nat.{ℕ, zero, suc, _+_, _-_, _*_, _/_, _^_, _≤_, _<_}
-use native.Mathlib.Nat.{mul-comm, mul-assoc, add-mul, mul-add, two-pow-succ, mul-one, one-mul, zero-mul, add-zero, sub-zero}
+-- The root of a whole number drawn a digit at a time, as on paper. Nothing here is about doubles. Assumes nothing.
+use mathlib.Core.Path.{_≡_, refl, sym, ap, ap₂, _∙_, subst, subst₂}
+use mathlib.Core.Logic.{_⊎_, inl, inr}
+use Prim.Native.Nat.{ℕ, _+_, _-_, _*_, _/_, _%_, _^_, _≤_, _<_}
+use native.Mathlib.Nat.{
+  mul-comm,
+  mul-assoc,
+  add-mul,
+  mul-add,
+  add-comm,
+  add-zero,
+  mul-le-mul,
+  le-trans,
+  lt-of-lt-of-le,
+  lt-irrefl,
+  div-lt-iff-lt-mul,
+  div-div-eq-div-mul,
+  div-eq-of-lt,
+}
 use native.Mathlib.Omega.{arith}
-use mathlib.Core.Bool.{Bool, true, false, cond, not}
-use lib.Dec.{T, leb, leb→le, nleb→lt}
-use lib.Pow.{pow-pos}
+use mathlib.Core.Bool.{Bool, true, false}
+use lib.Dec.{leb}
+use borrow.Author.Tests.{leb-true, leb-false}
+use mir.Val.{boolByte}
+use lib.Pow.{pow-pos, pow-add, pow-mono, shr-shr}
+use lib.Bits.{bitAnd, and-mask}
+use Rattle.root.specs.Drawn.{WholeRoot, Drawn, Appended}
 use Rattle.root.specs.Digits.{Digits}
+use Rattle.root.proofs.Grid.{lt-or-ge}
 
--- d is a power of two
-abbrev pub Pow : ℕ → Type 0
-Pow d = (k : ℕ) × (d ≡ 2 ^ k)
+-- ---- `Drawn` by a sum and a bound
 
--- Of the root of n: q is what is found, d is the weight of its last digit, and y * d is what q * q leaves of n.
-pub record State (n q d y : ℕ) : Type 0 where
-  pub total : y * d + q * q ≡ n
-  pub below : y < 2 * q + d
-  pub room : q + d ≤ 2 ^ 53
-  pub least : 2 ^ 52 ≤ q
-  pub pow : Pow d
+next-square : (r : ℕ) → (r + 1) * (r + 1) ≡ r * r + 2 * r + 1
+next-square r = simp (add-mul, mul-add) (omega arith)
 
--- ---- the next digit, 1 where t goes into y
+twice-square : (r : ℕ) → 2 * r * (2 * r) ≡ 4 * (r * r)
+twice-square r = omega (arith, mul-assoc 2 r (2 * r), mul-comm r (2 * r), mul-assoc 2 r r)
 
--- the digit as the sum's highest bit has it
-pub digit-bit : (t y : ℕ) → t < 2 ^ 63 → y < 2 ^ 63 → (y + 2 ^ 63 - t) / 2 ^ 63 ≡ cond (leb t y) 1 0
-digit-bit t y a b = go (leb t y) (leb→le t y) (nleb→lt t y)
-  where
-    go : (p : Bool) → (T p → t ≤ y) → (T (not p) → y < t) → (y + 2 ^ 63 - t) / 2 ^ 63 ≡ cond p 1 0
-    go true f g = let h : t ≤ y = f tt in omega arith
-    go false f g = let h : y < t = g tt in omega arith
+pub drawn : (n r y : ℕ) → r * r + y ≡ n → y ≤ 2 * r → Drawn n r y
+drawn n r y e l = record { largest = record { reaches = omega arith; next = omega (arith, next-square r) }; left = e }
 
--- what is taken off y, and what is added to the root
-pub record Taken (next t y d : ℕ) : Type 0 where
-  pub off : next * t ≤ y
-  pub bit : next ≤ 1
-  pub small : next * t ≤ t
-  pub part : next * d ≤ d
-
-by-digit : (P : ℕ → Type 0) (next t y : ℕ) → next ≡ cond (leb t y) 1 0 → (t ≤ y → P 1) → (y < t → P 0) → P next
-by-digit P next t y e f g = subst P (sym e) (go (leb t y) (leb→le t y) (nleb→lt t y))
-  where
-    go : (p : Bool) → (T p → t ≤ y) → (T (not p) → y < t) → P (cond p 1 0)
-    go true h k = f (h tt)
-    go false h k = g (k tt)
-
-pub taken : (next t y d : ℕ) → next ≡ cond (leb t y) 1 0 → Taken next t y d
-taken next t y d e =
-    by-digit (λ (k : ℕ). Taken k t y d) next t y e (λ (h : t ≤ y). record { off = omega arith; bit = omega arith; small = omega arith; part = omega arith })
-    (λ (h : y < t). record { off = omega arith; bit = omega arith; small = omega arith; part = omega arith })
+-- nothing is brought down yet
+pub undrawn : Drawn 0 0 0
+undrawn = drawn 0 0 0 refl (omega arith)
 
 -- ---- a step
 
-half-of : (d p : ℕ) → d ≡ p + p → (d / 2 ≡ p) × (d ≡ d / 2 + d / 2)
-half-of d p e = omega arith
-
-no-one : (d : ℕ) → d ≡ 1 → 1 < d → ⊥
-no-one d e h = omega arith
-
-pub halve : (d : ℕ) → Pow d → 1 < d → Pow (d / 2) × (d ≡ d / 2 + d / 2)
-halve d (zero, e) h = absurd (no-one d e h)
-halve d (suc k, e) h =
-    let z = half-of d (2 ^ k) (e ∙ two-pow-succ k) in
-    ((k, z .0), z .1)
-
--- the two ways of a step, where d is h + h
-double : (y h d : ℕ) → d ≡ h + h → 2 * y * h ≡ y * d
-double y h d e = simp (e, mul-add) (omega (arith, mul-assoc 2 y h))
-
-module _ {n q d y : ℕ} (s : State n q d y) (more : 1 < d) where
-  abbrev h : ℕ
-  h = d / 2
-
-  e : d ≡ h + h
-  e = halve d (s .pow) more .1
-
-  digit-zero : 2 * y < 2 * q + h → State n q h (2 * y)
-  digit-zero l = record {
-    total = ap (λ (x : ℕ). x + q * q) (double y h d e) ∙ s .total;
-    below = l;
-    room = omega (arith, e, s .room);
-    least = s .least;
-    pow = halve d (s .pow) more .0;
-  }
-
-  expand : (a b : ℕ) → (a + b) * (a + b) ≡ a * a + 2 * (a * b) + b * b
-  expand a b = simp (add-mul, mul-add) (omega (arith, mul-comm b a))
-
-  one-total : (z : ℕ) → z + (2 * q + h) ≡ 2 * y → z * h + (q + h) * (q + h) ≡ y * d + q * q
-  one-total z p =
-      let a : z * h + (2 * q * h + h * h) ≡ 2 * y * h = ap (λ (x : ℕ). z * h + x) (sym (add-mul (2 * q) h h)) ∙ sym (add-mul z (2 * q + h) h) ∙ ap (λ (x : ℕ). x * h) p in
-      omega (arith, a, double y h d e, expand q h, mul-assoc 2 q h)
-
-  digit-one : 2 * q + h ≤ 2 * y → State n (q + h) h (2 * y - (2 * q + h))
+module _ (r y p : ℕ) (B : y ≤ 2 * r) (P : p < 4) where
+  pub digit-one : 4 * r + 1 ≤ 4 * y + p → Appended 1 p r y (2 * r + 1) (4 * y + p - (4 * r + 1))
   digit-one l = record {
-    total = one-total (2 * y - (2 * q + h)) (omega arith) ∙ s .total;
-    below = omega (arith, e, s .below);
-    room = omega (arith, e, s .room);
-    least = omega (arith, s .least);
-    pow = halve d (s .pow) more .0;
+    drawn = λ n d. drawn (n * 4 + p) (2 * r + 1) (4 * y + p - (4 * r + 1)) (omega (arith, next-square (2 * r), twice-square r, d .left)) (omega arith);
+    kept = omega arith;
+    below = omega arith;
   }
 
-  pub step : (next : ℕ) → next ≡ cond (leb (2 * q + h) (2 * y)) 1 0 → State n (q + next * h) h (2 * y - next * (2 * q + h))
-  step next e =
-      by-digit (λ (k : ℕ). State n (q + k * h) h (2 * y - k * (2 * q + h))) next (2 * q + h) (2 * y) e
-      (λ (l : 2 * q + h ≤ 2 * y). simp one-mul (digit-one l))
-      (λ (l : 2 * y < 2 * q + h). simp (zero-mul, add-zero, sub-zero) (digit-zero l))
+  pub digit-zero : 4 * y + p < 4 * r + 1 → Appended 1 p r y (2 * r) (4 * y + p)
+  digit-zero l = record {
+    drawn = λ n d. drawn (n * 4 + p) (2 * r) (4 * y + p) (omega (arith, twice-square r, d .left)) (omega arith);
+    kept = omega arith;
+    below = omega arith;
+  }
 
--- at the last digit
-pub last-up : {n q y : ℕ} → State n q 1 y → q < y → Digits n (q + 1)
-last-up {n} {q} {y} s l =
-    let t : y + q * q ≡ n = ap (λ (x : ℕ). x + q * q) (sym (mul-one y)) ∙ s .total in
-    let x : (q + 1) * (q + 1) ≡ q * q + 2 * q + 1 = simp (add-mul, mul-add) (omega arith) in
-    record { over = omega (arith, s .below, t, x); under = omega (arith, s .below, t, x); least = omega (arith, s .least); most = omega (arith, s .room) }
+-- a digit is a truth value as a number
+pub digit-most : (b : Bool) → boolByte b ≤ 1
+digit-most true = omega arith
+digit-most false = omega arith
 
-pub last-same : {n q y : ℕ} → State n q 1 y → y ≤ q → Digits n q
-last-same {n} {q} {y} s l =
-    let t : y + q * q ≡ n = ap (λ (x : ℕ). x + q * q) (sym (mul-one y)) ∙ s .total in
-    record { over = omega (arith, t); under = omega (arith, s .least, t); least = s .least; most = omega (arith, s .room) }
+-- as the code has it: R, t and z are the root moved up by one digit, 4 * root + 1, and the rest with the pair behind it
+module _ {r y p R t z : ℕ} (B : y ≤ 2 * r) (P : p < 4) (R= : R ≡ 2 * r) (t= : t ≡ 4 * r + 1) (z= : z ≡ 4 * y + p) where
+  pub append-one : leb t z ≡ true → Appended 1 p r y (R + boolByte (leb t z)) (z - t)
+  append-one e =
+      let l : t ≤ z = leb-true t z e in
+      subst₂ (Appended 1 p r y) (sym (ap₂ _+_ R= (ap boolByte e))) (sym (ap₂ _-_ z= t=)) (digit-one r y p B P (omega arith))
 
-first-total : (m : ℕ) → 2 ^ 52 ≤ m → (m - 2 ^ 52) * 2 ^ 52 + 2 ^ 52 * 2 ^ 52 ≡ m * 2 ^ 52
-first-total m h = omega arith
+  pub append-zero : leb t z ≡ false → Appended 1 p r y (R + boolByte (leb t z)) z
+  append-zero e =
+      let l : z < t = leb-false t z e in
+      subst₂ (Appended 1 p r y) (sym (ap₂ _+_ R= (ap boolByte e) ∙ add-zero (2 * r))) (sym z=) (digit-zero r y p B P (omega arith))
 
-pub first : (m : ℕ) → 2 ^ 52 ≤ m → m < 2 ^ 54 → State (m * 2 ^ 52) (2 ^ 52) (2 ^ 52) (m - 2 ^ 52)
-first m a b = record { total = first-total m a; below = omega arith; room = omega arith; least = omega arith; pow = (52, refl) }
+-- ---- steps one after the other
 
-is-one : (d p : ℕ) → d ≡ p → 0 < p → d ≤ 1 → d ≡ 1
-is-one d p e a b = omega arith
+pub none-appended : {root rest : ℕ} → rest ≤ 2 * root → Appended 0 0 root rest root rest
+none-appended {root} {rest} l = record { drawn = λ n d. subst (λ (m : ℕ). Drawn m root rest) (same n) d; kept = omega arith; below = l }
+  where
+    same : (n : ℕ) → n ≡ n * 1 + 0
+    same n = omega arith
 
-pub at-one : {n q d y : ℕ} → State n q d y → d ≤ 1 → State n q 1 y
-at-one {n} {q} {d} {y} s l = subst (λ (x : ℕ). State n q x y) (is-one d (2 ^ (s .pow .0)) (s .pow .1) (pow-pos (s .pow .0)) l) s
+pub appended-then : {k w root rest r y j v r′ y′ : ℕ} → Appended k w root rest r y → Appended j v r y r′ y′ → Appended (k + j) (w * 2 ^ (2 * j) + v) root rest r′ y′
+appended-then {k} {w} {root} {rest} {r} {y} {j} {v} {r′} {y′} a b = record {
+  drawn = λ n d. subst (λ (m : ℕ). Drawn m r′ y′) (behind n) (b .drawn (n * 2 ^ (2 * k) + w) (a .drawn n d));
+  kept =
+      ap (λ (x : ℕ). r′ / x) (ap (λ (x : ℕ). 2 ^ x) (add-comm k j) ∙ pow-add 2 j k) ∙ sym (div-div-eq-div-mul r′ (2 ^ j) (2 ^ k)) ∙ ap (λ (x : ℕ). x / 2 ^ k) (b .kept) ∙ a .kept;
+  below = b .below;
+}
+  where
+    digits : 2 ^ (2 * k) * 2 ^ (2 * j) ≡ 2 ^ (2 * (k + j))
+    digits = sym (pow-add 2 (2 * k) (2 * j)) ∙ ap (λ (x : ℕ). 2 ^ x) (sym (mul-add 2 k j))
+
+    behind : (n : ℕ) → (n * 2 ^ (2 * k) + w) * 2 ^ (2 * j) + v ≡ n * 2 ^ (2 * (k + j)) + (w * 2 ^ (2 * j) + v)
+    behind n = omega (arith, add-mul (n * 2 ^ (2 * k)) w (2 ^ (2 * j)), mul-assoc n (2 ^ (2 * k)) (2 ^ (2 * j)) ∙ ap (λ (x : ℕ). n * x) digits)
+
+-- a root of k more digits
+pub appended-room : {k w root rest r y : ℕ} → Appended k w root rest r y → r < (root + 1) * 2 ^ k
+appended-room {k} {w} {root} {rest} {r} {y} a = div-lt-iff-lt-mul (pow-pos k) .0 (omega (arith, a .kept))
+
+-- ---- the digits of a word: k pairs of them are brought down, and `left` pairs are not
+pub record Down (root rest word pairs left r y : ℕ) : Type 0 where
+  pub k : ℕ
+  pub turns : k + left ≡ pairs
+  pub digits : Appended k (word / 2 ^ (2 * left)) root rest r y
+
+pub down-start : {root rest word pairs : ℕ} → rest ≤ 2 * root → word < 2 ^ (2 * pairs) → Down root rest word pairs pairs root rest
+down-start {root} {rest} l h = record { k = 0; turns = omega arith; digits = subst (λ (x : ℕ). Appended 0 x root rest root rest) (sym (div-eq-of-lt h)) (none-appended l) }
+
+-- the pair that comes next
+pair-is : (word left : ℕ) → bitAnd (word / 2 ^ (2 * left)) 3 ≡ word / 2 ^ (2 * left) % 4
+pair-is word left = and-mask (word / 2 ^ (2 * left)) 2
+
+-- what a step asks
+pub down-asks : {root rest word pairs left r y : ℕ} → Down root rest word pairs left r y → root < 2 ^ 30 → pairs ≤ 32 → 0 < left
+    → (r < 2 ^ 61) × (y ≤ 2 * r) × (bitAnd (word / 2 ^ (2 * (left - 1))) 3 < 4)
+down-asks {root} {rest} {word} {pairs} {left} {r} {y} d h l m =
+    (lt-of-lt-of-le (appended-room (d .digits)) (mul-le-mul up (pow-mono few)), d .digits .below, omega (arith, pair-is word (left - 1)))
+  where
+    up : root + 1 ≤ 2 ^ 30
+    up = omega arith
+
+    few : d .k ≤ 31
+    few = omega (arith, d .turns)
+
+pub down-step : {root rest word pairs left r y r′ y′ : ℕ} → Down root rest word pairs left r y → 0 < left → Appended 1 (bitAnd (word / 2 ^ (2 * (left - 1))) 3) r y r′ y′
+    → Down root rest word pairs (left - 1) r′ y′
+down-step {root} {rest} {word} {pairs} {left} {r} {y} {r′} {y′} d l a = record {
+  k = d .k + 1;
+  turns = omega (arith, d .turns);
+  digits = subst (λ (x : ℕ). Appended (d .k + 1) x root rest r′ y′) split (appended-then (d .digits) a);
+}
+  where
+    q : ℕ
+    q = word / 2 ^ (2 * (left - 1))
+
+    before : word / 2 ^ (2 * left) ≡ q / 4
+    before = ap (λ (x : ℕ). word / 2 ^ x) (two left l) ∙ sym (shr-shr word (2 * (left - 1)) 2)
+      where
+        two : (left : ℕ) → 0 < left → 2 * left ≡ 2 * (left - 1) + 2
+        two left l = omega arith
+
+    split : word / 2 ^ (2 * left) * 4 + bitAnd q 3 ≡ q
+    split = omega (arith, before, pair-is word (left - 1))
+
+pub down-end : {root rest word pairs left r y : ℕ} → Down root rest word pairs left r y → left ≤ 0 → Appended pairs word root rest r y
+down-end {root} {rest} {word} {pairs} {left} {r} {y} d l = subst (λ (x : ℕ). Appended x word root rest r y) all (subst (λ (x : ℕ). Appended (d .k) x root rest r y) whole (d .digits))
+  where
+    none : left ≡ 0
+    none = omega arith
+
+    all : d .k ≡ pairs
+    all = omega (arith, d .turns)
+
+    whole : word / 2 ^ (2 * left) ≡ word
+    whole = ap (λ (x : ℕ). word / 2 ^ (2 * x)) none ∙ one word
+      where
+        one : (w : ℕ) → w / 1 ≡ w
+        one w = omega arith
+
+-- ---- from the digits of a root twice as large to the nearest whole number
+
+-- at a last digit of 0 and of 1
+even-digits : (n p : ℕ) → WholeRoot (4 * n) (2 * p) → 2 ^ 52 ≤ p → p ≤ 2 ^ 53 → Digits n p
+even-digits n p w l m = record { over = omega (arith, w, twice-square p, next-square (2 * p)); under = omega (arith, w, twice-square p); least = l; most = m }
+
+odd-digits : (n p : ℕ) → WholeRoot (4 * n) (2 * p + 1) → 2 ^ 52 ≤ p + 1 → p + 1 ≤ 2 ^ 53 → Digits n (p + 1)
+odd-digits n p w l m = record {
+  over = omega (arith, w, twice-square p, next-square (2 * p), next-square (2 * p + 1), next-square p);
+  under = omega (arith, w, twice-square p, next-square (2 * p), next-square p);
+  least = l;
+  most = m;
+}
+
+parity : (q : ℕ) → ((p : ℕ) × (q ≡ 2 * p)) ⊎ ((p : ℕ) × (q ≡ 2 * p + 1))
+parity q = elim (lt-or-ge (q % 2) 1) [ inl l ↦ inl (q / 2, omega arith) | inr l ↦ inr (q / 2, omega arith) ]
+
+nearest-digits : (n q : ℕ) → WholeRoot (4 * n) q → 2 ^ 53 ≤ q → q < 2 ^ 54 → Digits n ((q + 1) / 2)
+nearest-digits n q w l m = elim (parity q) [
+  | inl e ↦ subst (Digits n) (sym (half-even q (e .0) (e .1))) (even-digits n (e .0) (subst (λ (x : ℕ). WholeRoot (4 * n) x) (e .1) w) (omega (arith, e .1)) (omega (arith, e .1)))
+  | inr e ↦ subst (Digits n) (sym (half-odd q (e .0) (e .1))) (odd-digits n (e .0) (subst (λ (x : ℕ). WholeRoot (4 * n) x) (e .1) w) (omega (arith, e .1)) (omega (arith, e .1)))
+]
+  where
+    half-even : (q p : ℕ) → q ≡ 2 * p → (q + 1) / 2 ≡ p
+    half-even q p e = omega arith
+
+    half-odd : (q p : ℕ) → q ≡ 2 * p + 1 → (q + 1) / 2 ≡ p + 1
+    half-odd q p e = omega arith
+
+-- a root of a number of at least 2 ^ 106 has 54 digits
+enough : (n q : ℕ) → WholeRoot n q → 2 ^ 106 ≤ n → 2 ^ 53 ≤ q
+enough n q w h = elim (lt-or-ge q (2 ^ 53)) [
+  | inl l ↦ absurd (lt-irrefl n (lt-of-lt-of-le (w .next) (le-trans (mul-le-mul (up q l) (up q l)) h)))
+  | inr l ↦ l
+]
+  where
+    up : (q : ℕ) → q < 2 ^ 53 → q + 1 ≤ 2 ^ 53
+    up q l = omega arith
+
+-- the root of m * 2 ^ 54, drawn in two words
+pub root-digits : {m r y r′ y′ : ℕ} → 2 ^ 52 ≤ m → Appended 27 m 0 0 r y → Appended 27 0 r y r′ y′ → Digits (m * 2 ^ 52) ((r′ + 1) / 2)
+root-digits {m} {r} {y} {r′} {y′} h a b =
+    let c = appended-then a b in
+    let w : WholeRoot (4 * (m * 2 ^ 52)) r′ = subst (λ (n : ℕ). WholeRoot n r′) (whole m) (c .drawn 0 undrawn .largest) in
+    nearest-digits (m * 2 ^ 52) r′ w (enough (4 * (m * 2 ^ 52)) r′ w (omega arith)) (appended-room c)
+  where
+    whole : (m : ℕ) → 0 * 2 ^ 108 + (m * 2 ^ 54 + 0) ≡ 4 * (m * 2 ^ 52)
+    whole m = omega arith

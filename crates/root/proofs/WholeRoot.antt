@@ -1,4 +1,4 @@
--- The largest whole number whose square is at most n, as specs/Root.antt computes it. Nothing here is about doubles. Assumes nothing.
+-- The largest whole number whose square is at most n (`WholeRoot` of specs/Drawn.antt), as specs/Root.antt computes it. Nothing here is about doubles. Assumes nothing.
 use mathlib.Core.Path.{_≡_, refl, sym, ap, _∙_}
 use mathlib.Core.Logic.{_⊎_, inl, inr}
 use mathlib.Core.Bool.{Bool, true, false, cond, not}
@@ -6,13 +6,9 @@ use Prim.Native.Nat.{ℕ, zero, suc, _+_, _*_, _/_, _^_, _≤_, _<_}
 use native.Mathlib.Nat.{mul-add, add-mul, mul-assoc, mul-comm, mul-one, mul-le-mul, lt-of-lt-of-le, lt-irrefl, two-pow-succ, pow-succ', pow-suc, zero-lt-suc}
 use native.Mathlib.Omega.{arith}
 use lib.Dec.{T, leb, leb→le, nleb→lt}
+use Rattle.root.specs.Drawn.{WholeRoot}
 use Rattle.root.specs.Root.{wholeRoot}
 use Rattle.root.proofs.Grid.{lt-or-ge, sq-lt}
-
--- r is the largest whole number whose square is at most n
-pub record WholeRoot (n r : ℕ) : Type 0 where
-  pub reaches : r * r ≤ n
-  pub next : n < (r + 1) * (r + 1)
 
 -- a root of n / 4, doubled, is the root of n or one less
 four : (a : ℕ) → (a + a) * (a + a) ≡ 4 * (a * a)

@@ -1,45 +1,60 @@
 // The square root of a double, correctly rounded, from its bit pattern (document 01, module 1). No floating-point operation is made:
-// the root's binary digits are drawn one by one by shifts and subtractions.
+// the root's binary digits are drawn one by one, as on paper, by shifts and subtractions.
 ghost use mathlib.Core.Path.{_≡_};
-ghost use mathlib.Core.Bool.{cond};
 ghost use Prim.Native.Nat.{_+_, _*_, _^_, _≤_, _<_};
-ghost use lib.Dec.{T, leb};
+ghost use lib.Dec.{T};
 ghost use Rattle.root.specs.Root.{rootable, Rooted};
 ghost use Rattle.root.specs.Patterns.{patternUnits};
+ghost use Rattle.root.specs.Drawn.{Appended};
 ghost use Rattle.root.specs.Digits.{Digits, RootAt};
 
 // 2^52: the weight of a pattern's exponent field, and of the leading digit of a significand
 const LEAD: u64 = 4503599627370496;
 
-// 2^63
-const HIGH: u64 = 9223372036854775808;
-
-// 1 if t is at most y, else 0. There is no branch, since the digits of a root are as good as random and a branch on them is mispredicted
-// every other time: the sum has the bit of 2^63 exactly if t is at most y.
-fn digit(t: u64, y: u64) -> u64
-    requires { ⌜ (t < 2 ^ 63) × (y < 2 ^ 63) ⌝ }
-    ensures { λ r. ⌜ r ≡ cond (leb t y) 1 0 ⌝ }
-{
-    (y + HIGH - t) / HIGH
+// What is drawn of a root so far, and what its square leaves of the digits brought down so far.
+pub struct Drawing {
+    pub root: u64,
+    pub rest: u64,
 }
 
-// The whole number nearest to the root of m * 2^52, for m from 2^52 up to 2^54. A digit at a time: q is the root so far, d the weight of
-// its last digit, and y * d what q * q leaves of m * 2^52.
+// One step of a root on paper, in base two: the next two digits of the number are brought down behind the rest, 4 * root + 1 is tried, taken off if it goes,
+// and the digit is appended to the root. The digits of a root are as good as random: a choice of the rest, and no branch on the digit, makes the step fast.
+pub fn draw(s: Drawing, pair: u64) -> Drawing
+    requires { ⌜ (s .root < 2 ^ 61) × (s .rest ≤ 2 * s .root) × (pair < 4) ⌝ }
+    ensures { λ r. ⌜ Appended 1 pair (s .root) (s .rest) (r .root) (r .rest) ⌝ }
+{
+    let rest: u64 = (s.rest << 2) + pair;
+    let trial: u64 = (s.root << 2) + 1;
+    let goes: bool = trial <= rest;
+    Drawing {
+        root: (s.root << 1) + goes as u64,
+        rest: if goes { rest - trial } else { rest },
+    }
+}
+
+// The digits of a word brought down, two by two: a digit of the root for each pair.
+pub fn bring_down(s: Drawing, word: u64, pairs: u64) -> Drawing
+    requires { ⌜ (pairs ≤ 32) × (word < 2 ^ (2 * pairs)) × (s .rest ≤ 2 * s .root) × (s .root < 2 ^ 30) ⌝ }
+    ensures { λ r. ⌜ Appended pairs word (s .root) (s .rest) (r .root) (r .rest) ⌝ }
+{
+    let mut drawing: Drawing = s;
+    let mut left: u64 = pairs;
+    while 0 < left {
+        left = left - 1;
+        drawing = draw(drawing, (word >> (2 * left)) & 3);
+    }
+    drawing
+}
+
+// The whole number nearest to the root of m * 2^52, for m from 2^52 up to 2^54. Of the root of m * 2^54, which is twice as large, 54 digits are drawn;
+// the last one rounds.
 fn root_digits(m: u64) -> u64
     requires { ⌜ (2 ^ 52 ≤ m) × (m < 2 ^ 54) ⌝ }
     ensures { λ r. ⌜ Digits (m * 2 ^ 52) r ⌝ }
 {
-    let mut q: u64 = LEAD;
-    let mut d: u64 = LEAD;
-    let mut y: u64 = m - LEAD;
-    while 1 < d {
-        d = d / 2;
-        let t: u64 = 2 * q + d;
-        let next: u64 = digit(t, 2 * y);
-        y = 2 * y - next * t;
-        q = q + next * d;
-    }
-    if q < y { q + 1 } else { q }
+    let upper: Drawing = bring_down(Drawing { root: 0, rest: 0 }, m, 27);
+    let lower: Drawing = bring_down(upper, 0, 27);
+    (lower.root + 1) >> 1
 }
 
 // The pattern of the root of digits * 2^exp, a square of units. Half of an even exponent is the root's own.
