@@ -9,6 +9,8 @@ use native.Mathlib.Nat.{
   mul-add,
   add-comm,
   add-zero,
+  zero-add,
+  zero-mul,
   mul-le-mul,
   le-trans,
   lt-of-lt-of-le,
@@ -27,37 +29,37 @@ use lib.Bits.{bitAnd, and-mask}
 use Rattle.root.specs.Drawn.{WholeRoot, Drawn, Appended}
 use Rattle.root.specs.Digits.{Digits}
 use Rattle.root.proofs.Grid.{lt-or-ge}
+use Rattle.root.proofs.WholeRoot.{double, halved}
 
 -- ---- `Drawn` by a sum and a bound
 
 next-square : (r : ℕ) → (r + 1) * (r + 1) ≡ r * r + 2 * r + 1
 next-square r = simp (add-mul, mul-add) (omega arith)
 
-twice-square : (r : ℕ) → 2 * r * (2 * r) ≡ 4 * (r * r)
-twice-square r = omega (arith, mul-assoc 2 r (2 * r), mul-comm r (2 * r), mul-assoc 2 r r)
-
 pub drawn : (n r y : ℕ) → r * r + y ≡ n → y ≤ 2 * r → Drawn n r y
 drawn n r y e l = record { largest = record { reaches = omega arith; next = omega (arith, next-square r) }; left = e }
 
 -- nothing is brought down yet
-pub undrawn : Drawn 0 0 0
+undrawn : Drawn 0 0 0
 undrawn = drawn 0 0 0 refl (omega arith)
+
+-- "after each digit": from nothing on, the root of the 2 * k digits brought down
+pub from-nothing : {k w r y : ℕ} → Appended k w 0 0 r y → Drawn w r y
+from-nothing {k} {w} {r} {y} a = subst (λ (n : ℕ). Drawn n r y) (ap (λ (n : ℕ). n + w) (zero-mul (2 ^ (2 * k))) ∙ zero-add w) (a .drawn 0 undrawn)
 
 -- ---- a step
 
 module _ (r y p : ℕ) (B : y ≤ 2 * r) (P : p < 4) where
   pub digit-one : 4 * r + 1 ≤ 4 * y + p → Appended 1 p r y (2 * r + 1) (4 * y + p - (4 * r + 1))
   digit-one l = record {
-    drawn = λ n d. drawn (n * 4 + p) (2 * r + 1) (4 * y + p - (4 * r + 1)) (omega (arith, next-square (2 * r), twice-square r, d .left)) (omega arith);
+    drawn = λ n d. drawn (n * 4 + p) (2 * r + 1) (4 * y + p - (4 * r + 1)) (omega (arith, next-square (2 * r), double r, d .left)) (omega arith);
     kept = omega arith;
-    below = omega arith;
   }
 
   pub digit-zero : 4 * y + p < 4 * r + 1 → Appended 1 p r y (2 * r) (4 * y + p)
   digit-zero l = record {
-    drawn = λ n d. drawn (n * 4 + p) (2 * r) (4 * y + p) (omega (arith, twice-square r, d .left)) (omega arith);
+    drawn = λ n d. drawn (n * 4 + p) (2 * r) (4 * y + p) (omega (arith, double r, d .left)) (omega arith);
     kept = omega arith;
-    below = omega arith;
   }
 
 -- a digit is a truth value as a number
@@ -79,8 +81,8 @@ module _ {r y p R t z : ℕ} (B : y ≤ 2 * r) (P : p < 4) (R= : R ≡ 2 * r) (t
 
 -- ---- steps one after the other
 
-pub none-appended : {root rest : ℕ} → rest ≤ 2 * root → Appended 0 0 root rest root rest
-none-appended {root} {rest} l = record { drawn = λ n d. subst (λ (m : ℕ). Drawn m root rest) (same n) d; kept = omega arith; below = l }
+none-appended : (root rest : ℕ) → Appended 0 0 root rest root rest
+none-appended root rest = record { drawn = λ n d. subst (λ (m : ℕ). Drawn m root rest) (same n) d; kept = omega arith }
   where
     same : (n : ℕ) → n ≡ n * 1 + 0
     same n = omega arith
@@ -90,7 +92,6 @@ appended-then {k} {w} {root} {rest} {r} {y} {j} {v} {r′} {y′} a b = record {
   drawn = λ n d. subst (λ (m : ℕ). Drawn m r′ y′) (behind n) (b .drawn (n * 2 ^ (2 * k) + w) (a .drawn n d));
   kept =
       ap (λ (x : ℕ). r′ / x) (ap (λ (x : ℕ). 2 ^ x) (add-comm k j) ∙ pow-add 2 j k) ∙ sym (div-div-eq-div-mul r′ (2 ^ j) (2 ^ k)) ∙ ap (λ (x : ℕ). x / 2 ^ k) (b .kept) ∙ a .kept;
-  below = b .below;
 }
   where
     digits : 2 ^ (2 * k) * 2 ^ (2 * j) ≡ 2 ^ (2 * (k + j))
@@ -99,7 +100,13 @@ appended-then {k} {w} {root} {rest} {r} {y} {j} {v} {r′} {y′} a b = record {
     behind : (n : ℕ) → (n * 2 ^ (2 * k) + w) * 2 ^ (2 * j) + v ≡ n * 2 ^ (2 * (k + j)) + (w * 2 ^ (2 * j) + v)
     behind n = omega (arith, add-mul (n * 2 ^ (2 * k)) w (2 ^ (2 * j)), mul-assoc n (2 ^ (2 * k)) (2 ^ (2 * j)) ∙ ap (λ (x : ℕ). n * x) digits)
 
--- a root of k more digits
+-- what a further step asks: the rest is what the next square is above it
+pub appended-below : {k w root rest r y : ℕ} → rest ≤ 2 * root → Appended k w root rest r y → y ≤ 2 * r
+appended-below {k} {w} {root} {rest} {r} {y} l a =
+    let d = a .drawn (root * root + rest) (drawn (root * root + rest) root rest refl l) in
+    omega (arith, next-square r, d .left, d .largest .next)
+
+-- and how large a root of k more digits is
 pub appended-room : {k w root rest r y : ℕ} → Appended k w root rest r y → r < (root + 1) * 2 ^ k
 appended-room {k} {w} {root} {rest} {r} {y} a = div-lt-iff-lt-mul (pow-pos k) .0 (omega (arith, a .kept))
 
@@ -109,18 +116,18 @@ pub record Down (root rest word pairs left r y : ℕ) : Type 0 where
   pub turns : k + left ≡ pairs
   pub digits : Appended k (word / 2 ^ (2 * left)) root rest r y
 
-pub down-start : {root rest word pairs : ℕ} → rest ≤ 2 * root → word < 2 ^ (2 * pairs) → Down root rest word pairs pairs root rest
-down-start {root} {rest} l h = record { k = 0; turns = omega arith; digits = subst (λ (x : ℕ). Appended 0 x root rest root rest) (sym (div-eq-of-lt h)) (none-appended l) }
+pub down-start : (root rest : ℕ) {word pairs : ℕ} → word < 2 ^ (2 * pairs) → Down root rest word pairs pairs root rest
+down-start root rest h = record { k = 0; turns = omega arith; digits = subst (λ (x : ℕ). Appended 0 x root rest root rest) (sym (div-eq-of-lt h)) (none-appended root rest) }
 
 -- the pair that comes next
 pair-is : (word left : ℕ) → bitAnd (word / 2 ^ (2 * left)) 3 ≡ word / 2 ^ (2 * left) % 4
 pair-is word left = and-mask (word / 2 ^ (2 * left)) 2
 
 -- what a step asks
-pub down-asks : {root rest word pairs left r y : ℕ} → Down root rest word pairs left r y → root < 2 ^ 30 → pairs ≤ 32 → 0 < left
+pub down-asks : {root rest word pairs left r y : ℕ} → Down root rest word pairs left r y → rest ≤ 2 * root → root < 2 ^ 30 → pairs ≤ 32 → 0 < left
     → (r < 2 ^ 61) × (y ≤ 2 * r) × (bitAnd (word / 2 ^ (2 * (left - 1))) 3 < 4)
-down-asks {root} {rest} {word} {pairs} {left} {r} {y} d h l m =
-    (lt-of-lt-of-le (appended-room (d .digits)) (mul-le-mul up (pow-mono few)), d .digits .below, omega (arith, pair-is word (left - 1)))
+down-asks {root} {rest} {word} {pairs} {left} {r} {y} d b h l m =
+    (lt-of-lt-of-le (appended-room (d .digits)) (mul-le-mul up (pow-mono few)), appended-below b (d .digits), omega (arith, pair-is word (left - 1)))
   where
     up : root + 1 ≤ 2 ^ 30
     up = omega arith
@@ -167,21 +174,18 @@ down-end {root} {rest} {word} {pairs} {left} {r} {y} d l = subst (λ (x : ℕ). 
 
 -- at a last digit of 0 and of 1
 even-digits : (n p : ℕ) → WholeRoot (4 * n) (2 * p) → 2 ^ 52 ≤ p → p ≤ 2 ^ 53 → Digits n p
-even-digits n p w l m = record { over = omega (arith, w, twice-square p, next-square (2 * p)); under = omega (arith, w, twice-square p); least = l; most = m }
+even-digits n p w l m = record { over = omega (arith, w, double p, next-square (2 * p)); under = omega (arith, w, double p); least = l; most = m }
 
 odd-digits : (n p : ℕ) → WholeRoot (4 * n) (2 * p + 1) → 2 ^ 52 ≤ p + 1 → p + 1 ≤ 2 ^ 53 → Digits n (p + 1)
 odd-digits n p w l m = record {
-  over = omega (arith, w, twice-square p, next-square (2 * p), next-square (2 * p + 1), next-square p);
-  under = omega (arith, w, twice-square p, next-square (2 * p), next-square p);
+  over = omega (arith, w, double p, next-square (2 * p), next-square (2 * p + 1), next-square p);
+  under = omega (arith, w, double p, next-square (2 * p), next-square p);
   least = l;
   most = m;
 }
 
-parity : (q : ℕ) → ((p : ℕ) × (q ≡ 2 * p)) ⊎ ((p : ℕ) × (q ≡ 2 * p + 1))
-parity q = elim (lt-or-ge (q % 2) 1) [ inl l ↦ inl (q / 2, omega arith) | inr l ↦ inr (q / 2, omega arith) ]
-
 nearest-digits : (n q : ℕ) → WholeRoot (4 * n) q → 2 ^ 53 ≤ q → q < 2 ^ 54 → Digits n ((q + 1) / 2)
-nearest-digits n q w l m = elim (parity q) [
+nearest-digits n q w l m = elim (halved q) [
   | inl e ↦ subst (Digits n) (sym (half-even q (e .0) (e .1))) (even-digits n (e .0) (subst (λ (x : ℕ). WholeRoot (4 * n) x) (e .1) w) (omega (arith, e .1)) (omega (arith, e .1)))
   | inr e ↦ subst (Digits n) (sym (half-odd q (e .0) (e .1))) (odd-digits n (e .0) (subst (λ (x : ℕ). WholeRoot (4 * n) x) (e .1) w) (omega (arith, e .1)) (omega (arith, e .1)))
 ]
@@ -206,8 +210,8 @@ enough n q w h = elim (lt-or-ge q (2 ^ 53)) [
 pub root-digits : {m r y r′ y′ : ℕ} → 2 ^ 52 ≤ m → Appended 27 m 0 0 r y → Appended 27 0 r y r′ y′ → Digits (m * 2 ^ 52) ((r′ + 1) / 2)
 root-digits {m} {r} {y} {r′} {y′} h a b =
     let c = appended-then a b in
-    let w : WholeRoot (4 * (m * 2 ^ 52)) r′ = subst (λ (n : ℕ). WholeRoot n r′) (whole m) (c .drawn 0 undrawn .largest) in
+    let w : WholeRoot (4 * (m * 2 ^ 52)) r′ = subst (λ (n : ℕ). WholeRoot n r′) (whole m) (from-nothing c .largest) in
     nearest-digits (m * 2 ^ 52) r′ w (enough (4 * (m * 2 ^ 52)) r′ w (omega arith)) (appended-room c)
   where
-    whole : (m : ℕ) → 0 * 2 ^ 108 + (m * 2 ^ 54 + 0) ≡ 4 * (m * 2 ^ 52)
+    whole : (m : ℕ) → m * 2 ^ 54 + 0 ≡ 4 * (m * 2 ^ 52)
     whole m = omega arith

@@ -14,7 +14,7 @@ use Rattle.root.proofs.Grid.{lt-or-ge, sq-lt}
 four : (a : ℕ) → (a + a) * (a + a) ≡ 4 * (a * a)
 four a = simp (add-mul, mul-add) (omega arith)
 
-double : (a : ℕ) → 2 * a * (2 * a) ≡ 4 * (a * a)
+pub double : (a : ℕ) → 2 * a * (2 * a) ≡ 4 * (a * a)
 double a = ap (λ (z : ℕ). z * z) (two a) ∙ four a
   where
     two : (a : ℕ) → 2 * a ≡ a + a
@@ -98,7 +98,7 @@ small : (w n : ℕ) → w * w ≡ n → n < 2 ^ 54 → OnGrid w
 small w n e h = record { places = 0; digits = w; is = sym (mul-one w); few = small-root w n e h }
 
 -- an odd number's square is odd
-halved : (w : ℕ) → ((v : ℕ) × (w ≡ 2 * v)) ⊎ ((v : ℕ) × (w ≡ 2 * v + 1))
+pub halved : (w : ℕ) → ((v : ℕ) × (w ≡ 2 * v)) ⊎ ((v : ℕ) × (w ≡ 2 * v + 1))
 halved zero = inl (0, refl)
 halved (suc w) = elim (halved w) [ inl e ↦ inr (e .0, odd w (e .0) (e .1)) | inr e ↦ inl (e .0 + 1, even w (e .0) (e .1)) ]
   where

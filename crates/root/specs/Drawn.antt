@@ -18,4 +18,3 @@ pub record Drawn (n r y : ℕ) : Type 0 where
 pub record Appended (k w root rest r y : ℕ) : Type 0 where
   pub drawn : (n : ℕ) → Drawn n root rest → Drawn (n * 2 ^ (2 * k) + w) r y
   pub kept : r / 2 ^ k ≡ root
-  pub below : y ≤ 2 * r

@@ -18,7 +18,8 @@ pub struct Drawing {
 }
 
 // One step of a root on paper, in base two: the next two digits of the number are brought down behind the rest, 4 * root + 1 is tried, taken off if it goes,
-// and the digit is appended to the root. The digits of a root are as good as random: a choice of the rest, and no branch on the digit, makes the step fast.
+// and the digit is appended to the root. The digits of a root are as good as random, and a branch on them is mispredicted every other time: so the digit is a
+// truth value as a number, and the rest is chosen from two.
 pub fn draw(s: Drawing, pair: u64) -> Drawing
     requires { ⌜ (s .root < 2 ^ 61) × (s .rest ≤ 2 * s .root) × (pair < 4) ⌝ }
     ensures { λ r. ⌜ Appended 1 pair (s .root) (s .rest) (r .root) (r .rest) ⌝ }

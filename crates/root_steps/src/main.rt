@@ -6,6 +6,7 @@ ghost use mathlib.Core.Path.{_≡_};
 ghost use Prim.Native.Nat.{_^_, _<_};
 ghost use lib.Ieee.{binary64, toBits};
 ghost use Rattle.root.specs.Doubles.{bits};
+ghost use Rattle.root.specs.Drawn.{Drawn};
 ghost use Rattle.root.specs.Root.{root};
 use root::Drawing;
 use spelling::print_binary;
@@ -36,12 +37,18 @@ fn root_of_two() -> u64
     f64::to_bits(root::sqrt(2.0))
 }
 
-// The root of 2 to the last digit of a double. In pairs 2 is 10, and behind the point come as many pairs 00 as are asked for: 54 digits are drawn, one more than
-// a double has, which rounds.
-fn print_two() {
+// The root of 2 with 106 zeros behind it. In pairs 2 is 10, and behind the point come as many pairs 00 as are asked for.
+fn print_digits_of_two() -> Drawing
+    ensures { λ r. ⌜ Drawn (2 ^ 107) (r .root) (r .rest) × (r .root < 2 ^ 54) ⌝ }
+{
     let upper = print_steps(Drawing { root: 0, rest: 0 }, 2 * LEAD, 27, 0, 0);
-    let lower = print_steps(upper, 0, 27, 27, 0);
-    if lower.root & 1 == 1 {
+    print_steps(upper, 0, 27, 27, 0)
+}
+
+// The root of 2 to the last digit of a double: 54 digits are drawn, one more than a double has, which rounds.
+fn print_two() {
+    let end = print_digits_of_two();
+    if end.root & 1 == 1 {
         io::write_all(
             1,
             b"\nThe last digit is 1: the root lies above the middle of two doubles, and is rounded up.\n",
@@ -53,7 +60,7 @@ fn print_two() {
         );
     }
     io::write_all(1, b"rounded to 53 digits          ");
-    print_binary((lower.root + 1) >> 1, 0);
+    print_binary((end.root + 1) >> 1, 0);
     let bits = root_of_two();
     io::write_all(1, b"\nthe digits of sqrt(2.0)       ");
     print_binary(LEAD + bits % LEAD, 0);

@@ -10,7 +10,7 @@ abbrev μ-loop : tie.MeasureT-loop
 μ-loop word pairs drawing₀ left₀ drawing left = left
 
 loop-holds : tie.Need-loop-holds Inv-loop μ-loop
-loop-holds c = down-start (c .pre .2) (c .pre .1)
+loop-holds c = down-start (c .args .s .root) (c .args .s .rest) (c .pre .1)
 
 sub-left : tie.Need-sub-left Inv-loop μ-loop
 sub-left c = omega arith
@@ -22,7 +22,7 @@ shr-draw : tie.Need-shr-draw Inv-loop μ-loop
 shr-draw c = omega (arith, c .before .loop .inv .turns)
 
 draw-requires : tie.Need-draw-requires Inv-loop μ-loop
-draw-requires c κs = down-asks (c .before .loop .inv) (c .before .before .pre .3) (c .before .before .pre .0) (c .loop-test .taken)
+draw-requires c κs = down-asks (c .before .loop .inv) (c .before .before .pre .2) (c .before .before .pre .3) (c .before .before .pre .0) (c .loop-test .taken)
 
 loop-less : tie.Need-loop-less Inv-loop μ-loop
 loop-less c = omega arith

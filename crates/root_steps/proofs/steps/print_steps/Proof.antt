@@ -10,7 +10,7 @@ abbrev μ-loop : tie.MeasureT-loop
 μ-loop word pairs done from drawing₀ left₀ drawing left = left
 
 loop-holds : tie.Need-loop-holds Inv-loop μ-loop
-loop-holds c = down-start (c .pre .2) (c .pre .1)
+loop-holds c = down-start (c .args .s .root) (c .args .s .rest) (c .pre .1)
 
 sub-left : tie.Need-sub-left Inv-loop μ-loop
 sub-left c = omega arith
@@ -22,7 +22,7 @@ shr-pair : tie.Need-shr-pair Inv-loop μ-loop
 shr-pair c = omega (arith, c .before .loop .inv .turns)
 
 draw-requires : tie.Need-draw-requires Inv-loop μ-loop
-draw-requires c κs = down-asks (c .before .loop .inv) (c .before .before .pre .3) (c .before .before .pre .0) (c .loop-test .taken)
+draw-requires c κs = down-asks (c .before .loop .inv) (c .before .before .pre .2) (c .before .before .pre .3) (c .before .before .pre .0) (c .loop-test .taken)
 
 add-print-step : tie.Need-add-print-step Inv-loop μ-loop
 add-print-step c = omega arith
@@ -33,7 +33,7 @@ sub-print-step c = omega (arith, c .before .before .loop .inv .turns)
 print-step-requires : tie.Need-print-step-requires Inv-loop μ-loop
 print-step-requires c κs =
     let p = c .before .before .before .pre in
-    let a = down-asks (c .before .before .loop .inv) (p .3) (p .0) (c .before .loop-test .taken) in
+    let a = down-asks (c .before .before .loop .inv) (p .2) (p .3) (p .0) (c .before .loop-test .taken) in
     (a .0, a .1, a .2, p .5)
 
 loop-less : tie.Need-loop-less Inv-loop μ-loop
