@@ -1,5 +1,5 @@
 // For tests only, and no part of the product: leaves of the library under C names of their own, so that a program outside can compare and time them:
-// root, rounding and cell key on any bit pattern; clearing and sorting; components and chains. None has a `requires`: what a table asks is tested first.
+// root, rounding and cell key on any bit pattern, the root of a whole number; clearing and sorting; components and chains. None has a `requires`: what a table asks is tested first.
 ghost use mathlib.Core.Bool.{false, true};
 ghost use mathlib.Core.Path.{_≡_};
 ghost use Prim.Native.Nat.{ℕ, _*_, _+_, _/_, _<_, _≤_};
@@ -11,8 +11,10 @@ ghost use Rattle.chains.specs.Links.{linkTo};
 ghost use Rattle.components.specs.Table.{ComponentTable};
 ghost use Rattle.leaf_exports.specs.Exports.{LinksFound, BelowUpTo, RootOr};
 ghost use Rattle.lists.specs.Regions.{view};
+ghost use Rattle.root.specs.Drawn.{WholeRoot};
 ghost use Rattle.rounding.specs.Rounding.{halfAway, key};
 ghost use Rattle.sorting.specs.Sorting.{SortedRecords};
+use root::Drawing;
 
 // The square root of x; x itself where it is a NaN, infinite or below zero.
 #[no_mangle]
@@ -26,6 +28,15 @@ pub extern "C" fn export_sqrt(x: f64) -> f64
         }
     }
     x
+}
+
+// The largest whole number whose square does not exceed n, drawn from its 32 pairs of digits.
+#[no_mangle]
+pub extern "C" fn export_whole_root(n: u64) -> u64
+    ensures { λ r. ⌜ WholeRoot n r ⌝ }
+{
+    let drawing = root::bring_down(Drawing { root: 0, rest: 0 }, n, 32);
+    drawing.root
 }
 
 // x to a whole number, a half going away from zero; x itself where it is not finite.

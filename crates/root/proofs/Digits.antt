@@ -23,7 +23,8 @@ use native.Mathlib.Omega.{arith}
 use mathlib.Core.Bool.{Bool, true, false}
 use lib.Dec.{leb}
 use borrow.Author.Tests.{leb-true, leb-false}
-use mir.Val.{boolByte}
+use mir.Syntax.{w64}
+use mir.Val.{Fits, boolByte}
 use lib.Pow.{pow-pos, pow-add, pow-mono, shr-shr}
 use lib.Bits.{bitAnd, and-mask}
 use Rattle.root.specs.Drawn.{WholeRoot, Drawn, Appended}
@@ -62,10 +63,10 @@ module _ (r y p : ℕ) (B : y ≤ 2 * r) (P : p < 4) where
     kept = omega arith;
   }
 
--- a digit is a truth value as a number
-pub digit-most : (b : Bool) → boolByte b ≤ 1
-digit-most true = omega arith
-digit-most false = omega arith
+-- a digit is a truth value as a number, and the root has room for it
+pub digit-fits : (r : ℕ) (b : Bool) → r < 2 ^ 61 → Fits w64 (r * 2 % 2 ^ 64 + boolByte b)
+digit-fits r true h = omega arith
+digit-fits r false h = omega arith
 
 -- as the code has it: R, t and z are the root moved up by one digit, 4 * root + 1, and the rest with the pair behind it
 module _ {r y p R t z : ℕ} (B : y ≤ 2 * r) (P : p < 4) (R= : R ≡ 2 * r) (t= : t ≡ 4 * r + 1) (z= : z ≡ 4 * y + p) where
