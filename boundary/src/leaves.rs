@@ -2,6 +2,7 @@
 
 extern "C" {
     fn export_sqrt(x: f64) -> f64;
+    fn export_whole_root(n: u64) -> u64;
     fn export_round(x: f64) -> f64;
     fn export_cell_key(x: f64, eps: f64) -> i64;
     fn export_sort_records(words: *mut u64, length: usize);
@@ -27,8 +28,13 @@ extern "C" {
 
 /// The square root; a NaN, an infinity or a number below 0 comes back.
 pub fn sqrt(x: f64) -> f64 {
-    // SAFETY: takes a plain number and touches no memory of ours; so do the next two.
+    // SAFETY: takes a plain number and touches no memory of ours; so do the next three.
     unsafe { export_sqrt(x) }
+}
+
+/// The largest whole number whose square does not exceed n.
+pub fn whole_root(n: u64) -> u64 {
+    unsafe { export_whole_root(n) }
 }
 
 /// A whole number, halves away from zero; what is not finite comes back.

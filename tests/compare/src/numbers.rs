@@ -1,4 +1,4 @@
-//! Root, rounding and cell key beside the machine's own `sqrt`, `round` and cast.
+//! Root, rounding, cell key and the root of a whole number beside the machine's own `sqrt`, `round`, cast and `isqrt`.
 
 use crate::random::Random;
 use crate::report::Row;
@@ -48,8 +48,11 @@ pub fn double(random: &mut Random) -> f64 {
         0 | 1 => f64::from_bits(bits),
         // Below 2^64, where rounding acts.
         2 => f64::from_bits(bits & 0x800f_ffff_ffff_ffff | (1000 + bits % 90) << 52),
-        // Subnormals, also those of a few bits.
-        3 => f64::from_bits(bits & 0x800f_ffff_ffff_ffff >> (bits >> 52 & 31)),
+        // Subnormals, of each number of digits alike.
+        3 => {
+            let lead = 1u64 << ((bits >> 52 & 0x7ff) % 52);
+            f64::from_bits(bits & (1 << 63) | lead | bits & (lead - 1))
+        }
         // Powers of two and their neighbours.
         4 => near(random, f64::from_bits((bits % 2047) << 52)),
         // Halves and their neighbours.
@@ -102,9 +105,22 @@ fn coordinate_and_eps(random: &mut Random) -> (f64, f64) {
     }
 }
 
+/// A whole number of any size; half of them are squares or a step from one.
+fn whole(random: &mut Random) -> u64 {
+    let bits = random.bits() >> random.below(64);
+    if random.one_in(2) {
+        bits
+    } else {
+        let root = bits & u32::MAX as u64;
+        (root * root)
+            .wrapping_add(random.below(3) as u64)
+            .wrapping_sub(1)
+    }
+}
+
 pub fn rows(options: &Options) -> Vec<Row> {
     type Probe = fn(&mut Random) -> (u64, u64, String);
-    let probes: [(&'static str, Probe); 3] = [
+    let probes: [(&'static str, Probe); 4] = [
         ("root", |random| {
             let x = double(random);
             let (o, m) = (leaves::sqrt(x).to_bits(), machine::root(x).to_bits());
@@ -140,6 +156,19 @@ pub fn rows(options: &Options) -> Vec<Row> {
             let text = || format!("x {:016x} eps {:016x}", x.to_bits(), eps.to_bits());
             (o, m, if o == m { String::new() } else { text() })
         }),
+        ("whole root", |random| {
+            let n = whole(random);
+            let (o, m) = (leaves::whole_root(n), n.isqrt());
+            (
+                o,
+                m,
+                if o == m {
+                    String::new()
+                } else {
+                    format!("n {n:016x}")
+                },
+            )
+        }),
     ];
     let mut rows = Vec::new();
     for (name, probe) in probes {
@@ -161,4 +190,23 @@ pub fn rows(options: &Options) -> Vec<Row> {
         rows.push(row);
     }
     rows
+}
+
+#[cfg(test)]
+mod tests {
+    use super::double;
+    use crate::random::Random;
+
+    #[test]
+    fn every_size_of_a_subnormal_occurs() {
+        let mut random = Random::new(1, "root", 0);
+        let mut seen = [false; 52];
+        for _ in 0..100_000 {
+            let bits = double(&mut random).to_bits() & !(1 << 63);
+            if 0 < bits && bits < 1 << 52 {
+                seen[bits.ilog2() as usize] = true;
+            }
+        }
+        assert_eq!(seen, [true; 52]);
+    }
 }
