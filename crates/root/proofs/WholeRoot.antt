@@ -46,6 +46,19 @@ whole-root (suc k) n h =
     go s a c true f g = record { reaches = f tt; next = c }
     go s a c false f g = record { reaches = a; next = g tt }
 
+-- no other number is
+not-below : {n r s : ℕ} → WholeRoot n r → WholeRoot n s → r < s → ⊥
+not-below {n} {r} {s} a b l = let h : (r + 1) * (r + 1) ≤ s * s = mul-le-mul (up r s l) (up r s l) in omega (arith, a .next, b .reaches)
+  where
+    up : (r s : ℕ) → r < s → r + 1 ≤ s
+    up r s l = omega arith
+
+pub whole-unique : {n r s : ℕ} → WholeRoot n r → WholeRoot n s → r ≡ s
+whole-unique {n} {r} {s} a b = elim (lt-or-ge r s) [
+  | inl l ↦ absurd (not-below a b l)
+  | inr l ↦ elim (lt-or-ge s r) [ inl m ↦ absurd (not-below b a m) | inr m ↦ omega arith ]
+]
+
 -- it has no more than k digits
 pub whole-small : (k n : ℕ) → wholeRoot k n < 2 ^ k
 unfolding wholeRoot
