@@ -1,9 +1,8 @@
 -- The root of a whole number drawn a digit at a time, as on paper. Nothing here is about doubles. Assumes nothing.
 use mathlib.Core.Path.{_≡_, refl, sym, ap, ap₂, _∙_, subst, subst₂}
-use mathlib.Core.Logic.{_⊎_, inl, inr}
+use mathlib.Core.Logic.{inl, inr}
 use Prim.Native.Nat.{ℕ, _+_, _-_, _*_, _/_, _%_, _^_, _≤_, _<_}
 use native.Mathlib.Nat.{
-  mul-comm,
   mul-assoc,
   add-mul,
   mul-add,
@@ -29,13 +28,10 @@ use lib.Pow.{pow-pos, pow-add, pow-mono, shr-shr}
 use lib.Bits.{bitAnd, and-mask}
 use Rattle.root.specs.Drawn.{WholeRoot, Drawn, Appended}
 use Rattle.root.specs.Digits.{Digits}
-use Rattle.root.proofs.Grid.{lt-or-ge}
-use Rattle.root.proofs.WholeRoot.{double, halved}
+use Rattle.root.proofs.Grid.{lt-or-ge, double, next-square}
+use Rattle.root.proofs.WholeRoot.{halved}
 
 -- ---- `Drawn` by a sum and a bound
-
-next-square : (r : ℕ) → (r + 1) * (r + 1) ≡ r * r + 2 * r + 1
-next-square r = simp (add-mul, mul-add) (omega arith)
 
 pub drawn : (n r y : ℕ) → r * r + y ≡ n → y ≤ 2 * r → Drawn n r y
 drawn n r y e l = record { largest = record { reaches = omega arith; next = omega (arith, next-square r) }; left = e }

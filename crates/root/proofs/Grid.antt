@@ -78,6 +78,12 @@ module _ (q h p k : ℕ) (Q : 2 ^ 52 ≤ q) (P : p < 2 ^ 53) where
           le-trans (le-of-eq (ap (λ (x : ℕ). x + w) e ∙ sym (suc-mul (p * 2 ^ (k - h)) w))) (mul-le-mul-right w (lt-of-mul-lt-mul-right w (lt-of-le-of-lt (le-of-eq (sym e)) l)))
 
 -- ---- squares
+pub double : (a : ℕ) → 2 * a * (2 * a) ≡ 4 * (a * a)
+double a = omega (arith, mul-assoc 2 a (2 * a), mul-comm a (2 * a), mul-assoc 2 a a)
+
+pub next-square : (r : ℕ) → (r + 1) * (r + 1) ≡ r * r + 2 * r + 1
+next-square r = simp (add-mul, mul-add) (omega arith)
+
 pub sq-lt : (a b : ℕ) → a < b → a * a < b * b
 sq-lt a b h = lt-of-le-of-lt (mul-le-mul-left a (le-of-lt h)) (mul-lt-mul-of-pos-right h (pos a b h))
   where
@@ -86,16 +92,15 @@ sq-lt a b h = lt-of-le-of-lt (mul-le-mul-left a (le-of-lt h)) (mul-lt-mul-of-pos
 
 -- 4 * (m * (w * w)) against ((2q ± 1) * w) ^ 2
 sq-over : (m q : ℕ) → m ≤ q * q + q → 4 * m < (2 * q + 1) * (2 * q + 1)
-sq-over m q h =
-    let x : (2 * q + 1) * (2 * q + 1) ≡ 4 * (q * q) + 4 * q + 1 = simp (add-mul, mul-add) (omega (arith, mul-assoc 2 q (2 * q), mul-comm q (2 * q), mul-assoc 2 q q)) in
-    omega arith
+sq-over m q h = omega (arith, next-square (2 * q), double q)
 
 sq-under : (m q r : ℕ) → q * q < m + q → r + 1 ≡ q + q → r * r < 4 * m
 sq-under m q r h e =
-    let x : (r + 1) * (r + 1) ≡ r * r + 2 * r + 1 = simp (add-mul, mul-add) (omega arith) in
-    let y : (q + q) * (q + q) ≡ 4 * (q * q) = simp (add-mul, mul-add) (omega arith) in
-    let z : (r + 1) * (r + 1) ≡ (q + q) * (q + q) = ap (λ (t : ℕ). t * t) e in
-    omega arith
+    let z : (r + 1) * (r + 1) ≡ 2 * q * (2 * q) = ap (λ (t : ℕ). t * t) (e ∙ twice q) in
+    omega (arith, next-square r, double q)
+  where
+    twice : (q : ℕ) → q + q ≡ 2 * q
+    twice q = omega arith
 
 module _ (m q h p k : ℕ) (d : Digits m q) (low : 2 ^ 104 ≤ m) (P : p < 2 ^ 53) where
   abbrev W : ℕ

@@ -3,23 +3,14 @@ use mathlib.Core.Path.{_≡_, refl, sym, ap, _∙_}
 use mathlib.Core.Logic.{_⊎_, inl, inr}
 use mathlib.Core.Bool.{Bool, true, false, cond, not}
 use Prim.Native.Nat.{ℕ, zero, suc, _+_, _*_, _/_, _^_, _≤_, _<_}
-use native.Mathlib.Nat.{mul-add, add-mul, mul-assoc, mul-comm, mul-one, mul-le-mul, lt-of-lt-of-le, lt-irrefl, two-pow-succ, pow-succ', pow-suc, zero-lt-suc}
+use native.Mathlib.Nat.{mul-assoc, mul-comm, mul-one, mul-le-mul, lt-of-lt-of-le, lt-irrefl, two-pow-succ, pow-succ', pow-suc, zero-lt-suc}
 use native.Mathlib.Omega.{arith}
 use lib.Dec.{T, leb, leb→le, nleb→lt}
 use Rattle.root.specs.Drawn.{WholeRoot}
 use Rattle.root.specs.Root.{wholeRoot}
-use Rattle.root.proofs.Grid.{lt-or-ge, sq-lt}
+use Rattle.root.proofs.Grid.{lt-or-ge, double, next-square, sq-lt}
 
 -- a root of n / 4, doubled, is the root of n or one less
-four : (a : ℕ) → (a + a) * (a + a) ≡ 4 * (a * a)
-four a = simp (add-mul, mul-add) (omega arith)
-
-pub double : (a : ℕ) → 2 * a * (2 * a) ≡ 4 * (a * a)
-double a = ap (λ (z : ℕ). z * z) (two a) ∙ four a
-  where
-    two : (a : ℕ) → 2 * a ≡ a + a
-    two a = omega arith
-
 lower : (n r : ℕ) → WholeRoot (n / 4) r → 2 * r * (2 * r) ≤ n
 lower n r w = omega (arith, double r)
 
@@ -138,11 +129,8 @@ square-on-grid q (suc (suc k)) w h e = elim (halved w) [
     quartered : (v : ℕ) → w ≡ 2 * v → v * v ≡ q * 2 ^ k
     quartered v a = omega (arith, square, ap (λ (z : ℕ). z * z) a ∙ double v)
 
-    expand : (v : ℕ) → (2 * v + 1) * (2 * v + 1) ≡ 4 * (v * v) + 4 * v + 1
-    expand v = simp (add-mul, mul-add) (omega (arith, double v))
-
     no : (v : ℕ) → w ≡ 2 * v + 1 → ⊥
-    no v a = omega (arith, square, ap (λ (z : ℕ). z * z) a ∙ expand v)
+    no v a = omega (arith, square, ap (λ (z : ℕ). z * z) a, next-square (2 * v), double v)
 
     up : (v : ℕ) → w ≡ 2 * v → OnGrid v → OnGrid w
     up v a g = record {

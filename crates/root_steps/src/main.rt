@@ -3,17 +3,28 @@ mod spelling;
 mod steps;
 
 ghost use mathlib.Core.Path.{_≡_};
-ghost use Prim.Native.Nat.{_^_, _<_};
+ghost use Prim.Native.Nat.{_^_, _≤_, _<_};
 ghost use lib.Ieee.{binary64, toBits};
 ghost use Rattle.root.specs.Doubles.{bits};
 ghost use Rattle.root.specs.Drawn.{Drawn};
 ghost use Rattle.root.specs.Root.{root};
 use root::Drawing;
-use spelling::print_binary;
+use spelling::spell;
 use steps::print_steps;
 
 // 2^52: the weight of a pattern's exponent field, and of the leading digit of a significand
 const LEAD: u64 = 4503599627370496;
+
+// Writes n in base two between two texts, in a field of 57 places without the first `from` of them.
+fn print_row(label: &[u8], n: u64, from: usize, end: &[u8])
+    requires { ⌜ from ≤ 57 ⌝ }
+{
+    let mut text = [0u8; 57];
+    spell(&mut text, n);
+    io::write_all(1, label);
+    io::write_all(1, &text[from..]);
+    io::write_all(1, end);
+}
 
 // The root of a whole number of four pairs of digits.
 fn print_whole(n: u64)
@@ -59,12 +70,20 @@ fn print_two() {
             b"\nThe last digit is 0: the root lies below the middle of two doubles, and is rounded down.\n",
         );
     }
-    io::write_all(1, b"rounded to 53 digits          ");
-    print_binary((end.root + 1) >> 1, 0);
+    print_row(
+        b"rounded to 53 digits          ",
+        (end.root + 1) >> 1,
+        0,
+        b"\n",
+    );
     let bits = root_of_two();
-    io::write_all(1, b"\nthe digits of sqrt(2.0)       ");
-    print_binary(LEAD + bits % LEAD, 0);
-    io::write_all(1, b"\nsqrt(2.0) has the bit pattern ");
+    print_row(
+        b"the digits of sqrt(2.0)       ",
+        LEAD + bits % LEAD,
+        0,
+        b"\n",
+    );
+    io::write_all(1, b"sqrt(2.0) has the bit pattern ");
     io::print_hex(1, bits, 16);
     io::write_all(1, b"\n");
 }

@@ -1,6 +1,5 @@
 // A number in base two as text.
 ghost use mathlib.Core.Path.{_≡_};
-ghost use Prim.Native.Nat.{_≤_};
 ghost use Rattle.root_steps.specs.Spelling.{Spelled};
 ghost use Rattle.root_steps.specs.Spelling.{glyph as Spelling·glyph};
 
@@ -12,7 +11,7 @@ fn glyph(n: u64, blank: u8) -> u8
 }
 
 // The digits of n, right in the text, with spaces in front.
-fn spell(text: &mut [u8], n: u64)
+pub fn spell(text: &mut [u8], n: u64)
     ensures { λ _. ⌜ Spelled (now (text .exit)) n ⌝ }
 {
     let mut at = text.len();
@@ -24,13 +23,4 @@ fn spell(text: &mut [u8], n: u64)
         rest = rest / 2;
         blank = b' ';
     }
-}
-
-// Writes n in base two in a field of 57 places, without the first `from` of them.
-pub fn print_binary(n: u64, from: usize)
-    requires { ⌜ from ≤ 57 ⌝ }
-{
-    let mut text = [0u8; 57];
-    spell(&mut text, n);
-    io::write_all(1, &text[from..]);
 }

@@ -2,17 +2,9 @@
 ghost use mathlib.Core.Path.{_≡_};
 ghost use Prim.Native.Nat.{_+_, _*_, _^_, _≤_, _<_};
 ghost use Rattle.root.specs.Drawn.{Appended};
-use crate::spelling::print_binary;
+use crate::print_row;
 use root::Drawing;
 use root::draw;
-
-fn print_row(label: &[u8], n: u64, from: usize, end: &[u8])
-    requires { ⌜ from ≤ 57 ⌝ }
-{
-    io::write_all(1, label);
-    print_binary(n, from);
-    io::write_all(1, end);
-}
 
 fn print_heading(step: u64, pair: u64)
     requires { ⌜ pair < 4 ⌝ }
