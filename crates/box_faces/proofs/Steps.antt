@@ -4,15 +4,18 @@
 --   le-same           a comparison of equal numbers
 --   uv-is             u and v by their coordinates
 --   segment-length-is   a segment's length by its two coordinates
+--   segment-length-pow  how long it is, at most
 --   far-off, near-by  the two answers of `point_on_segment2`
 --   line-is           geometry's grid line is `lineAt` for the segments that the axis needs
-use Prim.Native.Nat.{ℕ, zero, suc, _<_}
+use Prim.Native.Nat.{ℕ, zero, suc, _^_, _≤_, _<_}
 use mathlib.Core.Path.{_≡_, refl, sym, ap, subst, _∙_}
 use mathlib.Core.Bool.{Bool, true, false}
 use native.Mathlib.Omega.{arith}
 use lib.Ieee.{Float, lt, le}
 use Rattle.root.specs.Doubles.{_⊕_, _⊖_, _⊗_, magnitude}
-use Rattle.root.specs.Root.{root}
+use Rattle.root.specs.Bounds.{Within}
+use Rattle.hypot.specs.Length.{hypotenuse}
+use Rattle.hypot.proofs.Computed.{hypotenuse-pow}
 use Rattle.geometry.specs.declared.point.Point.{Point}
 use Rattle.geometry.specs.declared.aabb.AABB.{AABB}
 use Rattle.geometry.specs.Points.{along}
@@ -46,9 +49,12 @@ le-same e f t = sym (λ i. le (e i) (f i)) ∙ t
 pub uv-is : {u v x y : Float} → u ≡ x → v ≡ y → _≡_ {A = Uv} (uv u v) (uv x y)
 uv-is e f = λ i. uv (e i) (f i)
 
-pub segment-length-is : (d : Uv) → segmentLength d ≡ root (d .u ⊗ d .u ⊕ d .v ⊗ d .v)
+pub segment-length-is : (d : Uv) → segmentLength d ≡ hypotenuse (d .u) (d .v)
 unfolding segmentLength
 segment-length-is d = refl
+
+pub segment-length-pow : (d : Uv) (i : ℕ) → i ≤ 1021 → Within (2 ^ i) (d .u) → Within (2 ^ i) (d .v) → Within (2 ^ suc i) (segmentLength d)
+segment-length-pow d i I h g = subst (λ (x : Float). Within (2 ^ suc i) x) (sym (segment-length-is d)) (hypotenuse-pow (d .u) (d .v) i I h g)
 
 module _ (bound tolerance : Float) (p a b : Uv) {ab ap bp : Uv} {m : Float} (eab : ab ≡ uvDifference b a) (eap : ap ≡ uvDifference p a) (ebp : bp ≡ uvDifference p b)
     (em : m ≡ magnitude (ab .u ⊗ ap .v ⊖ ab .v ⊗ ap .u)) where

@@ -7,13 +7,13 @@
 use mathlib.Core.Bool.{Bool, not, _&&_}
 use lib.Ieee.{Float, lt, le}
 use Rattle.root.specs.Doubles.{_⊕_, _⊖_, _⊗_, oneF, magnitude, larger}
-use Rattle.root.specs.Root.{root}
+use Rattle.hypot.specs.Length.{hypotenuse}
 use Rattle.box_faces.specs.declared.uv.Uv.{Uv}
 use Rattle.box_faces.specs.Faces.{uv}
 
--- "Segment length there is the root of the sum of squares, each operation rounded"
+-- "the double nearest the exact root of the exact sum, the even one where two are equally near" (document 02, E3)
 unfoldable pub segmentLength : Uv → Float
-segmentLength d = root (d .u ⊗ d .u ⊕ d .v ⊗ d .v)
+segmentLength d = hypotenuse (d .u) (d .v)
 
 abbrev pub uvDifference : Uv → Uv → Uv
 uvDifference p q = uv (p .u ⊖ q .u) (p .v ⊖ q .v)

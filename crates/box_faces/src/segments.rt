@@ -1,11 +1,11 @@
 // boundary_closure.rs, `point_on_segment2`. The length of a segment does not depend on the point, so its bound is computed once for each segment.
 ghost use mathlib.Core.Path.{_≡_};
-ghost use lib.Dec.{T};
-ghost use Rattle.root.specs.Root.{rootable};
-ghost use Rattle.root.specs.Doubles.{_⊕_, _⊖_, _⊗_};
+ghost use Prim.Native.Nat.{_^_};
+ghost use Rattle.root.specs.Bounds.{Within};
+ghost use Rattle.root.specs.Doubles.{_⊖_};
 ghost use Rattle.box_faces.specs.Segments.{uvDifference, segmentLength, segmentBound, onSegmentBy};
 use crate::uv::Uv;
-use root::sqrt;
+use hypot::hypot;
 use rounding::abs;
 use rounding::max;
 
@@ -20,14 +20,14 @@ pub fn sub(p: Uv, q: Uv) -> Uv
 
 // of a segment with the extent d
 pub fn segment_length(d: Uv) -> f64
-    requires { ⌜ T (rootable (d .u ⊗ d .u ⊕ d .v ⊗ d .v)) ⌝ }
+    requires { ⌜ Within (2 ^ 1021) (d .u) × Within (2 ^ 1021) (d .v) ⌝ }
     ensures { λ r. ⌜ r ≡ segmentLength d ⌝ }
 {
-    sqrt(d.u * d.u + d.v * d.v)
+    hypot(d.u, d.v)
 }
 
 pub fn segment_bound(tolerance: f64, a: Uv, b: Uv) -> f64
-    requires { ⌜ T (rootable ((b .u ⊖ a .u) ⊗ (b .u ⊖ a .u) ⊕ (b .v ⊖ a .v) ⊗ (b .v ⊖ a .v))) ⌝ }
+    requires { ⌜ Within (2 ^ 1021) (b .u ⊖ a .u) × Within (2 ^ 1021) (b .v ⊖ a .v) ⌝ }
     ensures { λ r. ⌜ r ≡ segmentBound tolerance a b ⌝ }
 {
     let length = segment_length(sub(b, a));

@@ -2,7 +2,7 @@
 --   segment-put       five stores put a segment there
 --   UvIn, project-in  bounded coordinates: a bounded point projects to such
 --   end-in            so does a stored candidate
---   edge-rootable     the squared length of a projected edge has a root
+--   edge-in           the extents of a projected edge are bounded
 --   bound-in, segment-in   its bound is finite, and so are all five numbers
 --   gathered          the edge is stored as the segment that its face's points are tested against
 use Prim.Native.Nat.{ℕ, zero, suc, _+_, _*_, _^_, _≤_}
@@ -14,18 +14,16 @@ use lib.ListN.{length, getD, set, length-set}
 use lib.Seq.{getD-set-same, getD-set-other}
 use lib.Ieee.{Float, binary64, ofBits, toBits, fits}
 use lib.Ieee.Bits.{ofBits-toBits}
-use lib.Ieee.Fits.{add-fits}
 use Rattle.lists.specs.Regions.{Outside}
-use Rattle.root.specs.Doubles.{_⊕_, _⊖_, _⊗_, oneF, finite}
+use Rattle.root.specs.Doubles.{_⊖_, oneF, finite}
 use Rattle.root.specs.Bounds.{Within}
-use Rattle.root.specs.Root.{rootable}
-use Rattle.root.proofs.Powers.{within-pow, mul-pow, sub-pow, root-pow, two-squares, two-rootable, larger-within}
+use Rattle.root.proofs.Powers.{within-pow, mul-pow, sub-pow, larger-within}
 use Rattle.geometry.specs.declared.point.Point.{Point}
 use Rattle.geometry.specs.Points.{along}
 use Rattle.box_faces.specs.declared.uv.Uv.{Uv}
 use Rattle.box_faces.specs.Faces.{uv, uAxis, vAxis, project}
 use Rattle.box_faces.specs.Segments.{segmentLength, uvDifference, segmentBound, onSegmentBy, onSegment}
-use Rattle.box_faces.proofs.Steps.{segment-length-is}
+use Rattle.box_faces.proofs.Steps.{segment-length-pow}
 use Rattle.candidate_pool.specs.Offsets.{entryAt}
 use Rattle.candidate_pool.specs.Standing.{pointAt, PointIn, PointStored}
 use Rattle.candidate_grids.specs.Steps.{double, SegmentIn, startAt, endAt, hitAt, SegmentPut, SegmentGathered}
@@ -124,15 +122,12 @@ module _ (a b : Uv) (ha : UvIn a) (hb : UvIn b) where
   dv : Within (2 ^ 49) (b .v ⊖ a .v)
   dv = sub-pow 48 (lit≤ tt) (hb .v) (ha .v)
 
-  pub edge-rootable : T (rootable ((b .u ⊖ a .u) ⊗ (b .u ⊖ a .u) ⊕ (b .v ⊖ a .v) ⊗ (b .v ⊖ a .v)))
-  edge-rootable = two-rootable 49 (lit≤ tt) du dv
+  pub edge-in : Within (2 ^ 1021) (b .u ⊖ a .u) × Within (2 ^ 1021) (b .v ⊖ a .v)
+  edge-in = (within-pow 49 1021 (lit≤ tt) du, within-pow 49 1021 (lit≤ tt) dv)
 
   length-in : Within (2 ^ 50) (segmentLength (uvDifference b a))
   length-in =
-      subst (λ (x : Float). Within (2 ^ 50) x) (sym (segment-length-is (uvDifference b a)))
-      (root-pow ((b .u ⊖ a .u) ⊗ (b .u ⊖ a .u) ⊕ (b .v ⊖ a .v) ⊗ (b .v ⊖ a .v)) 50 (lit≤ tt)
-      (add-fits binary64 ((b .u ⊖ a .u) ⊗ (b .u ⊖ a .u)) ((b .v ⊖ a .v) ⊗ (b .v ⊖ a .v)))
-      edge-rootable (within-pow 99 100 (lit≤ tt) (two-squares 49 (lit≤ tt) du dv)))
+      segment-length-pow (uvDifference b a) 49 (lit≤ tt) du dv
 
   one-in : Within (2 ^ 50) oneF
   unfolding ofBits

@@ -12,20 +12,11 @@ use Rattle.root.specs.Doubles.{finite, negative, one, unitsOf}
 use Rattle.root.specs.Bounds.{Within}
 use Rattle.root.specs.Patterns.{patternUnits}
 use Rattle.root.proofs.Grid.{lt-or-ge, sq-lt}
-use Rattle.root.proofs.Patterns.{Is, plain-pattern, units-is, sign-is, finite-is, no-nan, same-units}
-use Rattle.root.proofs.Order.{pattern-less, unsigned, finite-unsigned, finite-less}
+use Rattle.root.proofs.Patterns.{Is, plain-pattern, units-is, sign-is, finite-is, no-nan, same-units, placed}
+use Rattle.root.proofs.Order.{pattern-less, pattern-le, pattern-back, unsigned, finite-unsigned, finite-less}
 use Rattle.root.proofs.Bounds.{within-units}
 use Rattle.hypot.specs.Length.{fourSquares, IsHypot}
 use Rattle.hypot.specs.Placing.{LengthAt}
-use Rattle.hypot.proofs.Rounding.{placed}
-
--- ---- patterns and units are in one order
-
-pub pattern-le : {a b : ℕ} → a ≤ b → patternUnits a ≤ patternUnits b
-pattern-le {a} {b} h = elim (eq-or-lt-of-le h) [ inl e ↦ le-of-eq (ap patternUnits e) | inr l ↦ le-of-lt (pattern-less a b l) ]
-
-pub pattern-back : {a b : ℕ} → patternUnits a < patternUnits b → a < b
-pattern-back {a} {b} h = elim (lt-or-ge a b) [ inl l ↦ l | inr l ↦ absurd (lt-irrefl (patternUnits a) (lt-of-lt-of-le h (pattern-le l))) ]
 
 -- ---- the double with the pattern b
 

@@ -8,27 +8,12 @@ use native.Mathlib.Omega.{arith}
 use lib.Pow.{pow-pos}
 use Rattle.root.specs.Patterns.{patternUnits}
 use Rattle.root.proofs.Grid.{lt-or-ge, sq-lt}
-use Rattle.root.proofs.Patterns.{written, small-pattern}
+use Rattle.root.proofs.Patterns.{placed}
 use Rattle.root.proofs.Order.{pattern-less}
 use Rattle.hypot.specs.Placing.{Near, LengthAt, Placed}
 
 pub next-times : (a w : ℕ) → (a + 1) * w ≡ a * w + w
 next-times a w = simp add-mul (omega arith)
-
--- ---- the units of a pattern with the digits p and the exponent j
-
-pub placed : (j p : ℕ) → (0 < j → 2 ^ 52 ≤ p) → p ≤ 2 ^ 53 → patternUnits (j * 2 ^ 52 + p) ≡ p * 2 ^ j
-placed zero p f l = elim (lt-or-ge p (2 ^ 52)) [
-  | inl h ↦ small-pattern (0 * 2 ^ 52 + p) (field p h) ∙ digits p h
-  | inr h ↦ written 0 p h l
-]
-  where
-    field : (p : ℕ) → p < 2 ^ 52 → (0 * 2 ^ 52 + p) / 2 ^ 52 ≡ 0
-    field p h = omega arith
-
-    digits : (p : ℕ) → p < 2 ^ 52 → (0 * 2 ^ 52 + p) % 2 ^ 52 ≡ p * 1
-    digits p h = omega arith
-placed (suc j) p f l = written (suc j) p (f (zero-lt-suc j)) l
 
 -- ---- a pattern b whose double is P units, with the next at P + u: the root lies between P and the middle, or on it
 

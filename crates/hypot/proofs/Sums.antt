@@ -9,10 +9,11 @@ use lib.Pow.{pow-pos, pow-add, pow-mono}
 use Rattle.root.specs.Patterns.{patternUnits}
 use Rattle.root.specs.Drawn.{Drawn, Appended}
 use Rattle.root.proofs.Grid.{lt-or-ge, double}
+use Rattle.root.proofs.Patterns.{placed}
 use Rattle.root.proofs.Digits.{from-nothing, appended-then, appended-below, appended-room}
 use Rattle.hypot.specs.Placing.{Parts, Summed, Near, LengthAt, Placed, RootOf}
 use Rattle.hypot.proofs.Products.{two-four, four-pos, four-most}
-use Rattle.hypot.proofs.Rounding.{next-times, placed, even-stays}
+use Rattle.hypot.proofs.Rounding.{next-times, even-stays}
 
 -- ---- the root q of z, whose square leaves y, is that of four times the sum of the squares of m * 2 ^ (k + d) and l * 2 ^ k
 

@@ -5,6 +5,7 @@ pub mod Grid
 pub mod Nearest
 pub mod Doubles
 pub mod Order
+pub mod Ties
 pub mod Bounds
 pub mod Root
 pub mod RootAt

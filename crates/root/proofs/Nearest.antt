@@ -120,6 +120,36 @@ half w r b a Ordering·eq e l c = go (w % 2) (small w)
 closest-half : (a b : ℕ) → 0 < b → (2 * a ≤ (2 * closest a b + 1) * b) × (2 * closest a b * b ≤ 2 * a + b)
 closest-half a b B = half (a / b) (a % b) b a (compare (a % b * 2) b) (div-add-mod' a b) (mod-lt a B) (cmp (a % b * 2) b)
 
+-- and where it is just half a b off, it is even
+half-even : (w r b a : ℕ) (o : Ordering) → w * b + r ≡ a → r < b → Cmp o (r * 2) b → (2 * a ≡ (2 * nearest w o + 1) * b) ⊎ (2 * nearest w o * b ≡ 2 * a + b) → nearest w o % 2 ≡ 0
+half-even w r b a Ordering·eq e l c t = even w
+  where
+    even : (w : ℕ) → (w + w % 2) % 2 ≡ 0
+    even w = omega arith
+half-even w r b a Ordering·lt e l c t = absurd (elim t [
+  | inl h ↦ over (w * b) a r b e c (h ∙ add-mul (2 * w) 1 b) (mul-assoc 2 w b)
+  | inr h ↦ under (w * b) a r b e l (sym (mul-assoc 2 w b) ∙ h)
+])
+  where
+    over : (x a r b : ℕ) {y : ℕ} → x + r ≡ a → r * 2 < b → 2 * a ≡ y + 1 * b → y ≡ 2 * x → ⊥
+    over x a r b e c h i = omega arith
+
+    under : (x a r b : ℕ) → x + r ≡ a → r < b → 2 * x ≡ 2 * a + b → ⊥
+    under x a r b e l h = omega arith
+half-even w r b a Ordering·gt e l c t = absurd (elim t [
+  | inl h ↦ over (w * b) a r b e l (h ∙ add-mul (2 * suc w) 1 b) (mul-assoc 2 (suc w) b ∙ ap (λ (x : ℕ). 2 * x) (suc-mul w b))
+  | inr h ↦ under (w * b) a r b e c (sym (mul-assoc 2 (suc w) b ∙ ap (λ (x : ℕ). 2 * x) (suc-mul w b)) ∙ h)
+])
+  where
+    over : (x a r b : ℕ) {y : ℕ} → x + r ≡ a → r < b → 2 * a ≡ y + 1 * b → y ≡ 2 * (x + b) → ⊥
+    over x a r b e l h i = omega arith
+
+    under : (x a r b : ℕ) → x + r ≡ a → b < r * 2 → 2 * (x + b) ≡ 2 * a + b → ⊥
+    under x a r b e c h = omega arith
+
+closest-even : (a b : ℕ) → 0 < b → (2 * a ≡ (2 * closest a b + 1) * b) ⊎ (2 * closest a b * b ≡ 2 * a + b) → closest a b % 2 ≡ 0
+closest-even a b B = half-even (a / b) (a % b) b a (compare (a % b * 2) b) (div-add-mod' a b) (mod-lt a B) (cmp (a % b * 2) b)
+
 -- ---- what `round` keeps of n / den, as Q * 2 ^ k units
 module _ (n den : ℕ) (D : 0 < den) where
   abbrev k : ℕ
@@ -149,7 +179,7 @@ module _ (n den : ℕ) (D : 0 < den) where
       in-use : (z : ℕ) → 0 < z - 53 → 52 + (z - 53) < z
       in-use z h = omega arith
 
-  lead : 0 < k → 2 ^ 52 ≤ Q
+  pub lead : 0 < k → 2 ^ 52 ≤ Q
   lead h = le-trans (le-div-iff-mul-le U .1 (full h)) (nearest-ge (n / u) (compare (n % u * 2) u))
 
   twice : (a : ℕ) → 2 * (Q * w) * den ≡ 2 * Q * u
@@ -169,14 +199,21 @@ module _ (n den : ℕ) (D : 0 < den) where
         next : (a b : ℕ) → a < b → a + 1 ≤ b
         next a b l = omega arith
 
-    pub nearest-above : Q * w < Y → 2 * n ≤ (Q * w + Y) * den
-    nearest-above l = le-trans (closest-half n u U .0) (le-trans (le-of-eq (odd-times (Q * w) w den Q)) (mul-le-mul-right den (far (Q * w) w Y (gap-up l))))
+    -- half a unit above Q is no more than half the way to Y
+    half-up : Q * w < Y → (2 * Q + 1) * u ≤ (Q * w + Y) * den
+    half-up l = le-trans (le-of-eq odd-times) (mul-le-mul-right den (far (Q * w) w Y (gap-up l)))
       where
         far : (a w b : ℕ) → a + w ≤ b → 2 * a + w ≤ a + b
         far a w b x = omega arith
 
-        odd-times : (a w d q : ℕ) → (2 * Q + 1) * u ≡ (2 * (Q * 2 ^ k) + 2 ^ k) * den
-        odd-times a w d q = simp (add-mul, mul-assoc, mul-comm, mul-left-comm, one-mul)
+        odd-times : (2 * Q + 1) * u ≡ (2 * (Q * 2 ^ k) + 2 ^ k) * den
+        odd-times = simp (add-mul, mul-assoc, mul-comm, mul-left-comm, one-mul)
+
+    pub nearest-above : Q * w < Y → 2 * n ≤ (Q * w + Y) * den
+    nearest-above l = le-trans (closest-half n u U .0) (half-up l)
+
+    pub even-above : Q * w < Y → 2 * n ≡ (Q * w + Y) * den → Q % 2 ≡ 0
+    even-above l e = closest-even n u U (inl (le-antisymm (closest-half n u U .0) (le-trans (half-up l) (le-of-eq (sym e)))))
 
     gap-down : (k ≡ 0) ⊎ (2 ^ 52 < Q) → Y < Q * w → Y + w ≤ Q * w
     gap-down (inl z) l = subst (λ (x : ℕ). Y + x ≤ Q * w) (sym (ap (λ (x : ℕ). 2 ^ x) z)) (next Y (Q * w) l)
@@ -185,29 +222,43 @@ module _ (n den : ℕ) (D : 0 < den) where
         next a b l = omega arith
     gap-down (inr h) l = next-down Q k p j (le-of-lt h) P h l
 
-    clear : (k ≡ 0) ⊎ (2 ^ 52 < Q) → Y < Q * w → (Q * w + Y) * den ≤ 2 * n
-    clear c l =
-        cut ((Q * w + Y) * den) (w * den) (2 * Q * u) (2 * n) u (le-trans (le-of-eq (sym (add-mul (Q * w + Y) w den)))
-        (le-trans (mul-le-mul-right den (far (Q * w) w Y (gap-down c l))) (le-of-eq (twice 0)))) (closest-half n u U .1) (mul-comm w den)
+    -- half a unit below Q is no less than half the way to Y
+    half-down : (k ≡ 0) ⊎ (2 ^ 52 < Q) → Y < Q * w → (Q * w + Y) * den + u ≤ 2 * Q * u
+    half-down c l =
+        le-trans (le-of-eq (ap (λ (x : ℕ). (Q * w + Y) * den + x) (mul-comm den w) ∙ sym (add-mul (Q * w + Y) w den)))
+        (le-trans (mul-le-mul-right den (far (Q * w) w Y (gap-down c l))) (le-of-eq (twice 0)))
       where
         far : (a w b : ℕ) → b + w ≤ a → a + b + w ≤ 2 * a
         far a w b x = omega arith
 
-        cut : (a b c d e : ℕ) → a + b ≤ c → c ≤ d + e → b ≡ e → a ≤ d
-        cut a b c d e x y z = omega arith
-
-    edge : 0 < k → Q ≤ 2 ^ 52 → Y < Q * w → (Q * w + Y) * den ≤ 2 * n
+    -- a power of two: below it doubles are closer to each other, but n / den is no less than it
+    edge : 0 < k → Q ≤ 2 ^ 52 → Y < Q * w → (Q * w + Y) * den < 2 * n
     edge h g l =
-        le-trans (mul-le-mul-right den (le-of-lt (less (Q * w) Y l)))
+        lt-of-lt-of-le (mul-lt-mul-of-pos-right (less (Q * w) Y l) D)
         (le-trans (le-of-eq (twice 0 ∙ mul-assoc 2 Q u)) (mul-le-mul-left 2 (le-trans (mul-le-mul-right u g) (full h))))
       where
         less : (a b : ℕ) → b < a → a + b < 2 * a
         less a b x = omega arith
 
+    by-edge : ((k ≡ 0) ⊎ (2 ^ 52 < Q)) ⊎ ((0 < k) × (Q ≤ 2 ^ 52))
+    by-edge = elim (eq-zero-or-pos k) [
+      | inl z ↦ inl (inl z)
+      | inr h ↦ elim (lt-or-ge (2 ^ 52) Q) [ inl g ↦ inl (inr g) | inr g ↦ inr (h, g) ]
+    ]
+
     pub nearest-below : Y < Q * w → (Q * w + Y) * den ≤ 2 * n
-    nearest-below l = elim (eq-zero-or-pos k) [
-      | inl z ↦ clear (inl z) l
-      | inr h ↦ elim (lt-or-ge (2 ^ 52) Q) [ inl g ↦ clear (inr g) l | inr g ↦ edge h g l ]
+    nearest-below l = elim by-edge [
+      | inl c ↦ cut ((Q * w + Y) * den) u (2 * Q * u) (2 * n) (half-down c l) (closest-half n u U .1)
+      | inr c ↦ le-of-lt (edge (c .0) (c .1) l)
+    ]
+      where
+        cut : (a u c d : ℕ) → a + u ≤ c → c ≤ d + u → a ≤ d
+        cut a u c d x y = omega arith
+
+    pub even-below : Y < Q * w → 2 * n ≡ (Q * w + Y) * den → Q % 2 ≡ 0
+    even-below l e = elim by-edge [
+      | inl c ↦ closest-even n u U (inr (le-antisymm (closest-half n u U .1) (le-trans (le-of-eq (ap (λ (x : ℕ). x + u) e)) (half-down c l))))
+      | inr c ↦ absurd (lt-irrefl (2 * n) (lt-of-le-of-lt (le-of-eq e) (edge (c .0) (c .1) l)))
     ]
 
 -- ---- a finite result of `round`

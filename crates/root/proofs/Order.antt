@@ -3,7 +3,7 @@ use mathlib.Core.Path.{_≡_, refl, sym, ap, _∙_, subst}
 use mathlib.Core.Logic.{_⊎_, inl, inr}
 use mathlib.Core.Bool.{Bool, true, false, not, _&&_, _||_, Bool·beq}
 use Prim.Native.Nat.{ℕ, zero, suc, _+_, _*_, _/_, _%_, _^_, _≤_, _<_}
-use native.Mathlib.Nat.{mul-lt-mul-of-pos-right, mul-le-mul, mul-le-mul-right, mod-lt, le-trans, le-of-eq, lt-of-lt-of-le, lt-of-le-of-lt, mul-one, eq-or-lt-of-le}
+use native.Mathlib.Nat.{mul-lt-mul-of-pos-right, mul-le-mul, mul-le-mul-right, mod-lt, le-trans, le-of-eq, le-of-lt, le-antisymm, lt-of-lt-of-le, lt-of-le-of-lt, lt-irrefl, mul-one, eq-or-lt-of-le}
 use native.Mathlib.Omega.{arith}
 use lib.IntN.{ℤ}
 use lib.Dec.{T, ltb, eqb, ltb→lt, lt→ltb, eqb→eq, not-T, lit<}
@@ -57,40 +57,29 @@ pattern-less a b l = lt-of-le-of-lt (le-of-eq (pattern-is a)) (lt-of-lt-of-le (e
     fields : (a b : ℕ) → a < b → (a / 2 ^ 52 < b / 2 ^ 52) ⊎ ((a / 2 ^ 52 ≡ b / 2 ^ 52) × (a % 2 ^ 52 < b % 2 ^ 52))
     fields a b l = elim (lt-or-ge (a / 2 ^ 52) (b / 2 ^ 52)) [ inl h ↦ inl h | inr h ↦ inr (omega arith) ]
 
+pub pattern-le : {a b : ℕ} → a ≤ b → patternUnits a ≤ patternUnits b
+pattern-le {a} {b} h = elim (eq-or-lt-of-le h) [ inl e ↦ le-of-eq (ap patternUnits e) | inr l ↦ le-of-lt (pattern-less a b l) ]
+
+pub pattern-back : {a b : ℕ} → patternUnits a < patternUnits b → a < b
+pattern-back {a} {b} h = elim (lt-or-ge a b) [ inl l ↦ l | inr l ↦ absurd (lt-irrefl (patternUnits a) (lt-of-lt-of-le h (pattern-le l))) ]
+
+pub pattern-same : {a b : ℕ} → patternUnits a ≡ patternUnits b → a ≡ b
+pattern-same {a} {b} e = le-antisymm (no-more (le-of-eq e)) (no-more (le-of-eq (sym e)))
+  where
+    no-more : {a b : ℕ} → patternUnits a ≤ patternUnits b → a ≤ b
+    no-more {a} {b} h = elim (lt-or-ge b a) [ inl l ↦ absurd (lt-irrefl (patternUnits a) (lt-of-le-of-lt h (pattern-less b a l))) | inr l ↦ l ]
+
 -- so tests of patterns are those of units
 
 pattern-ltb : (a b : ℕ) → ltb (patternUnits a) (patternUnits b) ≡ ltb a b
 pattern-ltb a b =
-    same-test (ltb (patternUnits a) (patternUnits b)) (ltb a b) (λ t. lt→ltb a b (back (ltb→lt (patternUnits a) (patternUnits b) t)))
+    same-test (ltb (patternUnits a) (patternUnits b)) (ltb a b) (λ t. lt→ltb a b (pattern-back (ltb→lt (patternUnits a) (patternUnits b) t)))
     (λ t. lt→ltb (patternUnits a) (patternUnits b) (pattern-less a b (ltb→lt a b t)))
-  where
-    no : (u v : ℕ) → u < v → v < u → ⊥
-    no u v h k = omega arith
-
-    same : (u v : ℕ) → u < v → u ≡ v → ⊥
-    same u v h e = omega arith
-
-    back : patternUnits a < patternUnits b → a < b
-    back h = elim (lt-or-ge a b) [
-      | inl l ↦ l
-      | inr l ↦ elim (eq-or-lt-of-le l) [
-        | inl e ↦ absurd (same (patternUnits a) (patternUnits b) h (ap patternUnits (sym e)))
-        | inr g ↦ absurd (no (patternUnits a) (patternUnits b) h (pattern-less b a g))
-      ]
-    ]
 
 pattern-eqb : (a b : ℕ) → eqb (patternUnits a) (patternUnits b) ≡ eqb a b
 pattern-eqb a b =
-    same-test (eqb (patternUnits a) (patternUnits b)) (eqb a b) (λ t. eq→eqb (back (eqb→eq (patternUnits a) (patternUnits b) t))) (λ t. eq→eqb (ap patternUnits (eqb→eq a b t)))
-  where
-    same : (u v : ℕ) → u < v → u ≡ v → ⊥
-    same u v h e = omega arith
-
-    back : patternUnits a ≡ patternUnits b → a ≡ b
-    back e = elim (lt-or-ge a b) [
-      | inl l ↦ absurd (same (patternUnits a) (patternUnits b) (pattern-less a b l) e)
-      | inr l ↦ elim (eq-or-lt-of-le l) [ inl g ↦ sym g | inr g ↦ absurd (same (patternUnits b) (patternUnits a) (pattern-less b a g) (sym e)) ]
-    ]
+    same-test (eqb (patternUnits a) (patternUnits b)) (eqb a b) (λ t. eq→eqb (pattern-same (eqb→eq (patternUnits a) (patternUnits b) t)))
+    (λ t. eq→eqb (ap patternUnits (eqb→eq a b t)))
 
 -- ---- signs and patterns
 

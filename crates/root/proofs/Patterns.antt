@@ -3,7 +3,7 @@ use mathlib.Core.Path.{_≡_, refl, sym, ap, _∙_, subst}
 use mathlib.Core.Logic.{_⊎_, inl, inr}
 use mathlib.Core.Bool.{Bool, true, false, not, cond}
 use Prim.Native.Nat.{ℕ, zero, suc, _+_, _-_, _*_, _/_, _%_, _^_, _≤_, _<_}
-use native.Mathlib.Nat.{mul-assoc, mul-one, mul-right-comm, mod-lt, mod-eq-of-lt, mul-div-cancel, eq-or-lt-of-le, pow-succ', two-pow-succ, mul-add, le-of-eq, lt-of-lt-of-le, lt-of-le-of-lt}
+use native.Mathlib.Nat.{mul-assoc, mul-one, mul-right-comm, mod-lt, mod-eq-of-lt, mul-div-cancel, eq-or-lt-of-le, pow-succ', two-pow-succ, mul-add, le-of-eq, lt-of-lt-of-le, lt-of-le-of-lt, zero-lt-suc}
 use native.Mathlib.Omega.{arith}
 use lib.Dec.{T, leb, eqb, lit≤, eqb→eq, eqb-refl, not-T}
 use lib.Arith.{lt→nleb}
@@ -13,6 +13,7 @@ use lib.Ieee.{Float, nan, inf, fin, binary64, up, down, size, odd, fits, ofField
 use lib.Ieee.Bits.{ofBits-toBits, toBits-lt, nanBits-is, is-false, cond-no}
 use lib.Ieee.Fits.{down-pos}
 use lib.Ieee.Exact.{HasValue, odd-sign}
+use Rattle.root.proofs.Grid.{lt-or-ge}
 use Rattle.root.proofs.Scaling.{shift}
 use Rattle.root.specs.Doubles.{finite, negative, one, unitsOf}
 use Rattle.root.specs.Patterns.{fieldUnits, patternUnits}
@@ -234,6 +235,20 @@ no-nan-pattern b p = subst (λ (t : Bool). T (not t)) (sym (nanBits-is binary64 
 pub small-pattern : (b : ℕ) → b / 2 ^ 52 ≡ 0 → patternUnits b ≡ b % 2 ^ 52
 unfolding fieldUnits
 small-pattern b h = pattern-is b ∙ ap (λ (x : ℕ). fieldUnits x (b % 2 ^ 52)) h
+
+-- `written` for the smallest exponent too, where there may be no leading digit
+pub placed : (h q : ℕ) → (0 < h → 2 ^ 52 ≤ q) → q ≤ 2 ^ 53 → patternUnits (h * 2 ^ 52 + q) ≡ q * 2 ^ h
+placed zero q f l = elim (lt-or-ge q (2 ^ 52)) [
+  | inl g ↦ small-pattern (0 * 2 ^ 52 + q) (field q g) ∙ digits q g
+  | inr g ↦ written 0 q g l
+]
+  where
+    field : (q : ℕ) → q < 2 ^ 52 → (0 * 2 ^ 52 + q) / 2 ^ 52 ≡ 0
+    field q g = omega arith
+
+    digits : (q : ℕ) → q < 2 ^ 52 → (0 * 2 ^ 52 + q) % 2 ^ 52 ≡ q * 1
+    digits q g = omega arith
+placed (suc h) q f l = written (suc h) q (f (zero-lt-suc h)) l
 
 pub large-pattern : (b : ℕ) → (b / 2 ^ 52 ≡ 0 → ⊥) → (2 ^ 52 + b % 2 ^ 52) * 2 ^ (b / 2 ^ 52 + 1073) ≡ patternUnits b * 2 ^ 1074
 large-pattern b n = go (b / 2 ^ 52) n ∙ ap (λ (x : ℕ). x * 2 ^ 1074) (sym (pattern-is b))

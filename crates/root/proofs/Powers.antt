@@ -48,9 +48,6 @@ module _ {x y : Float} (i : ℕ) where
       subst (λ (B : ℕ). Within B (x ⊘ y)) (sym (pow-add 2 i j))
       (div-within binary64 (mul-pos (pow-pos i) (pow-pos j)) (subst (λ (B : ℕ). Held binary64 B) (pow-add 2 i j) (held-pow (i + j) l)) (ratio-bounds h k))
 
-pub root-pow : (x : Float) (i : ℕ) → i ≤ 1023 → T (fits binary64 x) → T (rootable x) → Within (2 ^ (i + i)) x → Within (2 ^ i) (root x)
-root-pow x i l F p h = computed-within x F p (2 ^ i) (held-pow i l) (subst (λ (B : ℕ). Within B x) (pow-add 2 i i) h)
-
 -- ---- sums of squares, whose root is a length
 
 module _ {x y : Float} (i : ℕ) (l : suc (suc (i + i)) ≤ 1023) (h : Within (2 ^ i) x) (k : Within (2 ^ i) y) where
@@ -60,14 +57,11 @@ module _ {x y : Float} (i : ℕ) (l : suc (suc (i + i)) ≤ 1023) (h : Within (2
   two-less : i + i ≤ 1023
   two-less = omega arith
 
-  pub two-squares : Within (2 ^ suc (i + i)) (x ⊗ x ⊕ y ⊗ y)
+  two-squares : Within (2 ^ suc (i + i)) (x ⊗ x ⊕ y ⊗ y)
   two-squares = add-pow (i + i) one-less (mul-pow i i two-less h h) (mul-pow i i two-less k k)
 
   two-plus : negative (x ⊗ x ⊕ y ⊗ y) ≡ false
   two-plus = add-plus binary64 (mul-pow i i two-less h h) (mul-pow i i two-less k k) (square-plus binary64 h) (square-plus binary64 k)
-
-  pub two-rootable : T (rootable (x ⊗ x ⊕ y ⊗ y))
-  two-rootable = plain-rootable two-squares two-plus
 
   pub three-squares : {z : Float} → Within (2 ^ i) z → Within (2 ^ suc (suc (i + i))) (x ⊗ x ⊕ y ⊗ y ⊕ z ⊗ z)
   three-squares m = add-pow (suc (i + i)) l two-squares (within-pow (i + i) (suc (i + i)) (omega arith) (mul-pow i i two-less m m))

@@ -21,8 +21,11 @@ bring-down-requires-2 c κs =
 
 add-t8 : tie.Need-add-t8
 add-t8 c =
-    omega (arith, root-of (c .before .before .before .before .before .pre .2) (c .before .before .before .before .sum-squares .ensures) (c .before .before .before .bring-down .ensures)
-    (c .before .before .bring-down2 .ensures) .little)
+    omega (
+      arith,
+      root-of (c .before .before .before .before .before .pre .2) (c .before .before .before .before .sum-squares .ensures) (c .before .before .before .bring-down .ensures)
+          (c .before .before .bring-down2 .ensures) .little,
+    )
 
 pub drawn-root-spec : {M : Type 1} → statement M
 drawn-root-spec = tie.close (tie.spec sum-squares-requires bring-down-requires bring-down-requires-2 add-t8 returns)

@@ -42,14 +42,14 @@ returns : tie.Need-returns
 returns c =
     let s = c .before .before in
     let b = c .hypot-bits .result in
-    measured (s .args .x) (s .args .y) (held-x s) (held-y s) (s .pre .0) (s .pre .1) (ofBits binary64 b) (ofBits-fits binary64 b)
+    measured (s .args .x) (s .args .y) 1021 (omega arith) (s .pre .0) (s .pre .1) (ofBits binary64 b) (ofBits-fits binary64 b)
     (larger-second (s .args .x) (s .args .y) (held-x s) (held-y s) (s .pre .0 .is-finite) (s .pre .1 .is-finite) (c .hypot-bits .ensures))
 
 returns-2 : tie.Need-returns-2
 returns-2 c =
     let s = c .before .before in
     let b = c .hypot-bits2 .result in
-    measured (s .args .x) (s .args .y) (held-x s) (held-y s) (s .pre .0) (s .pre .1) (ofBits binary64 b) (ofBits-fits binary64 b)
+    measured (s .args .x) (s .args .y) 1021 (omega arith) (s .pre .0) (s .pre .1) (ofBits binary64 b) (ofBits-fits binary64 b)
     (larger-first (s .args .x) (s .args .y) (held-x s) (held-y s) (s .pre .0 .is-finite) (s .pre .1 .is-finite) (c .hypot-bits2 .ensures))
 
 pub hypot-spec : {M : Type 1} → statement M

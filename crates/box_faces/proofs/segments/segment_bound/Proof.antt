@@ -1,7 +1,7 @@
 use mathlib.Core.Path.{subst⁻¹, _≡_, refl, sym, ap, _∙_}
-use lib.Dec.{T}
-use Rattle.root.specs.Root.{rootable}
-use Rattle.root.specs.Doubles.{_⊕_, _⊗_, larger, oneF}
+use Prim.Native.Nat.{_^_}
+use Rattle.root.specs.Bounds.{Within}
+use Rattle.root.specs.Doubles.{_⊗_, larger, oneF}
 use Rattle.box_faces.specs.declared.uv.Uv.{Uv}
 use Rattle.box_faces.specs.Segments.{segmentLength, segmentBound, uvDifference}
 use borrow.Author.Needs.{needs}
@@ -17,7 +17,7 @@ sub-requires : tie.Need-sub-requires
 sub-requires c κs = search needs
 
 segment-length-requires : tie.Need-segment-length-requires
-segment-length-requires c κs = subst⁻¹ (λ (d : Uv). T (rootable (d .u ⊗ d .u ⊕ d .v ⊗ d .v))) (c .sub .ensures) (c .before .pre)
+segment-length-requires c κs = subst⁻¹ (λ (d : Uv). Within (2 ^ 1021) (d .u) × Within (2 ^ 1021) (d .v)) (c .sub .ensures) (c .before .pre)
 
 max-requires : tie.Need-max-requires
 max-requires c κs = search needs

@@ -1,5 +1,5 @@
 use borrow.Author.Needs.{needs}
-use Rattle.candidate_grids.proofs.Segmenting.{bound-in, end-in, UvIn, edge-rootable, segment-in, gathered}
+use Rattle.candidate_grids.proofs.Segmenting.{bound-in, end-in, UvIn, edge-in, segment-in, gathered}
 use Rattle.candidate_grids.proofs.grids.gather_segment.Statement.{statement}
 use Rattle.candidate_grids.proofs.grids.gather_segment.Tie as tie
 
@@ -43,7 +43,7 @@ second-in c = end-in _ _ _ _ _ (start c .pre .to) (c .before .point-of2 .ensures
 
 -- which of the two bounds is meant is looked for, so that this does not say which end goes where
 segment-bound-requires : tie.Need-segment-bound-requires
-segment-bound-requires c κs = let A = first-in c in let B = second-in c in edge-rootable _ _ (search needs) (search needs)
+segment-bound-requires c κs = let A = first-in c in let B = second-in c in edge-in _ _ (search needs) (search needs)
 
 put-segment-requires : tie.Need-put-segment-requires
 put-segment-requires c κs =
