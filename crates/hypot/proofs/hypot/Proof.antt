@@ -1,11 +1,11 @@
-use mathlib.Core.Path.{sym, subst}
+use mathlib.Core.Path.{sym, _∙_, subst}
 use Prim.Native.Nat.{ℕ, _≤_, _<_}
 use native.Mathlib.Omega.{arith}
 use lib.Dec.{T}
 use lib.Ieee.{binary64, fits, ofBits}
 use lib.Ieee.Bits.{ofBits-fits}
 use Rattle.root.proofs.Patterns.{no-nan, no-nan-pattern}
-use Rattle.hypot.proofs.Length.{bits-finite, within-pattern, larger-first, larger-second}
+use Rattle.hypot.proofs.Length.{bits-finite, within-pattern, is-hypot, four-patterns, four-turned}
 use Rattle.hypot.proofs.Computed.{measured}
 use Rattle.hypot.proofs.hypot.Statement.{statement}
 use Rattle.hypot.proofs.hypot.Tie as tie
@@ -42,15 +42,16 @@ returns : tie.Need-returns
 returns c =
     let s = c .before .before in
     let b = c .hypot-bits .result in
+    let e = four-patterns (s .args .y) (s .args .x) (held-y s) (held-x s) (s .pre .1 .is-finite) (s .pre .0 .is-finite) in
     measured (s .args .x) (s .args .y) 1021 (omega arith) (s .pre .0) (s .pre .1) (ofBits binary64 b) (ofBits-fits binary64 b)
-    (larger-second (s .args .x) (s .args .y) (held-x s) (held-y s) (s .pre .0 .is-finite) (s .pre .1 .is-finite) (c .hypot-bits .ensures))
+    (is-hypot (c .hypot-bits .ensures) (s .args .x) (s .args .y) (e ∙ four-turned (s .args .x) (s .args .y)))
 
 returns-2 : tie.Need-returns-2
 returns-2 c =
     let s = c .before .before in
     let b = c .hypot-bits2 .result in
     measured (s .args .x) (s .args .y) 1021 (omega arith) (s .pre .0) (s .pre .1) (ofBits binary64 b) (ofBits-fits binary64 b)
-    (larger-first (s .args .x) (s .args .y) (held-x s) (held-y s) (s .pre .0 .is-finite) (s .pre .1 .is-finite) (c .hypot-bits2 .ensures))
+    (is-hypot (c .hypot-bits2 .ensures) (s .args .x) (s .args .y) (four-patterns (s .args .x) (s .args .y) (held-x s) (held-y s) (s .pre .0 .is-finite) (s .pre .1 .is-finite)))
 
 pub hypot-spec : {M : Type 1} → statement M
 hypot-spec =
