@@ -1,5 +1,5 @@
 -- From patterns to doubles: what `hypot` promises, and that only one double is so. Assumes nothing.
-use mathlib.Core.Path.{_≡_, refl, sym, ap, _∙_, subst}
+use mathlib.Core.Path.{_≡_, refl, sym, ap, _∙_, subst, subst₂}
 use mathlib.Core.Logic.{_⊎_, inl, inr}
 use mathlib.Core.Bool.{false}
 use Prim.Native.Nat.{ℕ, _+_, _-_, _*_, _%_, _^_, _≤_, _<_}
@@ -97,13 +97,11 @@ module _ {v b : ℕ} (L : LengthAt v b) (x y : Float) (four : v ≡ fourSquares 
 
     z-above : unitsOf r < unitsOf z → fourSquares x y ≤ fourMiddle r z
     z-above l =
-        le-trans (le-of-eq (sym four))
-        (le-trans (above-at L (unsigned z) (pattern-back (lt-of-le-of-lt (le-of-eq (sym r-is)) (lt-of-lt-of-le l (le-of-eq z-is))))) (le-of-eq (sym with-z)))
+        subst₂ _≤_ four (sym with-z) (above-at L (unsigned z) (pattern-back (subst₂ _<_ r-is z-is l)))
 
     z-below : unitsOf z < unitsOf r → fourMiddle r z ≤ fourSquares x y
     z-below l =
-        le-trans (le-of-eq with-z)
-        (le-trans (below-at L (unsigned z) (pattern-back (lt-of-le-of-lt (le-of-eq (sym z-is)) (lt-of-lt-of-le l (le-of-eq r-is))))) (le-of-eq four))
+        subst₂ _≤_ (sym with-z) four (below-at L (unsigned z) (pattern-back (subst₂ _<_ z-is r-is l)))
 
     z-even : (unitsOf r ≡ unitsOf z → ⊥) → fourSquares x y ≡ fourMiddle r z → toBits binary64 r % 2 ≡ 0
     z-even n e =
@@ -150,7 +148,7 @@ module _ (x y : Float) {r s : Float} (F : T (fits binary64 r)) (G : T (fits bina
 
   order : unsigned s < unsigned r
   order =
-      pattern-back (lt-of-le-of-lt (le-of-eq (sym (finite-unsigned s G (b .is-finite)))) (lt-of-lt-of-le l (le-of-eq (finite-unsigned r F (a .is-finite)))))
+      pattern-back (subst₂ _<_ (finite-unsigned s G (b .is-finite)) (finite-unsigned r F (a .is-finite)) l)
 
   -- the double behind s
   between : unsigned s + 1 < unsigned r → ⊥
@@ -158,8 +156,8 @@ module _ (x y : Float) {r s : Float} (F : T (fits binary64 r)) (G : T (fits bina
       let c = unsigned s + 1 in
       let z = ofBits binary64 c in
       let B : c + 1 < 2047 * 2 ^ 52 = omega (arith, finite-less r F (a .is-finite)) in
-      let lo : unitsOf s < unitsOf z = lt-of-le-of-lt (le-of-eq (finite-unsigned s G (b .is-finite))) (lt-of-lt-of-le (pattern-less (unsigned s) c (after (unsigned s))) (le-of-eq (sym (bits-units c B)))) in
-      let hi : unitsOf z < unitsOf r = lt-of-le-of-lt (le-of-eq (bits-units c B)) (lt-of-lt-of-le (pattern-less c (unsigned r) h) (le-of-eq (sym (finite-unsigned r F (a .is-finite))))) in
+      let lo = subst₂ _<_ (sym (finite-unsigned s G (b .is-finite))) (sym (bits-units c B)) (pattern-less (unsigned s) c (after (unsigned s))) in
+      let hi = subst₂ _<_ (sym (bits-units c B)) (sym (finite-unsigned r F (a .is-finite))) (pattern-less c (unsigned r) h) in
       lt-irrefl (fourSquares x y)
       (lt-of-le-of-lt (b .above z (ofBits-fits binary64 c) (bits-finite c B) lo)
       (lt-of-lt-of-le (sq-lt (unitsOf s + unitsOf z) (unitsOf s + unitsOf r) (add (unitsOf s) hi)) (le-of-eq (turned ∙ sym tie))))
@@ -172,16 +170,21 @@ module _ (x y : Float) {r s : Float} (F : T (fits binary64 r)) (G : T (fits bina
 
   clash : ⊥
   clash = elim (eq-or-lt-of-le (up (unsigned s) (unsigned r) order)) [
-    | inl g ↦ odd (unsigned s) (unsigned r) (toBits binary64 s) (toBits binary64 r) refl refl g
-        (b .even r F (a .is-finite) (differ (unitsOf s) (unitsOf r) l) (tie ∙ sym turned)) (a .even s G (b .is-finite) (λ (g : unitsOf r ≡ unitsOf s). differ (unitsOf s) (unitsOf r) l (sym g)) tie)
+    | inl g ↦ odd (unsigned s) (unsigned r) (toBits binary64 s) (toBits binary64 r) refl refl g s-even r-even
     | inr g ↦ between g
   ]
     where
-      up : (a b : ℕ) → a < b → a + 1 ≤ b
-      up a b l = omega arith
-
       differ : (a b : ℕ) → a < b → a ≡ b → ⊥
       differ a b l e = omega arith
+
+      s-even : toBits binary64 s % 2 ≡ 0
+      s-even = b .even r F (a .is-finite) (differ (unitsOf s) (unitsOf r) l) (tie ∙ sym turned)
+
+      r-even : toBits binary64 r % 2 ≡ 0
+      r-even = a .even s G (b .is-finite) (λ (g : unitsOf r ≡ unitsOf s). differ (unitsOf s) (unitsOf r) l (sym g)) tie
+
+      up : (a b : ℕ) → a < b → a + 1 ≤ b
+      up a b l = omega arith
 
       odd : (a b c d : ℕ) → a ≡ c % 2 ^ 63 → b ≡ d % 2 ^ 63 → a + 1 ≡ b → c % 2 ≡ 0 → d % 2 ≡ 0 → ⊥
       odd a b c d e f g h k = omega arith

@@ -40,8 +40,8 @@ stays v b t B l r h k = record {
         (sq-lt (twiceMiddle c) t (subst (λ (x : ℕ). patternUnits c + patternUnits x < t) (sym g) (less (patternUnits b) (patternUnits c) t (pattern-less c b (last c b g)) l))) r
 
 -- it is beyond the middle between b's double and the next, or on it, and below the next
-rises : (v b t : ℕ) → b + 1 + 1 < 2047 * 2 ^ 52 → twiceMiddle b * twiceMiddle b ≤ v → v < t * t → t ≤ 2 * patternUnits (b + 1) → (v ≡ twiceMiddle b * twiceMiddle b → (b + 1) % 2 ≡ 0)
-    → LengthAt v (b + 1)
+rises : (v b t : ℕ) → b + 1 + 1 < 2047 * 2 ^ 52 → twiceMiddle b * twiceMiddle b ≤ v → v < t * t → t ≤ 2 * patternUnits (b + 1)
+    → (v ≡ twiceMiddle b * twiceMiddle b → (b + 1) % 2 ≡ 0) → LengthAt v (b + 1)
 rises v b t B l h r k = record {
   plain = B;
   above = le-of-lt over;

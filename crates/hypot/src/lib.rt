@@ -1,5 +1,6 @@
 // The length of a segment from its extents: the double nearest the exact root of the exact sum of their squares, the even one where two are equally near
-// (request E3). From the bit patterns, with no floating-point operation: the sum is whole, and its root's digits are drawn as on paper (crate root, `draw`).
+// (document 02, E3). No floating-point operation is made: of the two bit patterns the sum of the squares is a whole number, and the digits of its root are drawn
+// as on paper, like those of `sqrt` (crate root).
 ghost use mathlib.Core.Path.{_≡_};
 ghost use Prim.Native.Nat.{_+_, _*_, _^_, _≤_, _<_};
 ghost use Rattle.root.specs.Bounds.{Within};
@@ -103,7 +104,8 @@ fn drawn_root(m: u64, l: u64, d: u64) -> Halves
     }
 }
 
-// The pattern of q half units of 2^j, rounded to a whole one: at a half by what is more, and where nothing is, to the even one. A carry goes into the exponent's field.
+// The pattern of q half units of 2^j, rounded to a whole one: up from a half if there is more, and where there is no more, to the even one.
+// A carry goes into the exponent's field.
 fn place(j: u64, q: u64, more: u64) -> u64
     requires { ⌜ (j < 2045) × (q < 2 ^ 54) × (0 < j → 2 ^ 53 ≤ q) ⌝ }
     ensures { λ r. ⌜ Placed j q more r ⌝ }

@@ -98,7 +98,7 @@ fn root_of_bits(b: u64) -> u64
     }
 }
 
-// The double nearest to the square root of x; -0.0 of -0.0. Serves the tolerance, the cap area and the segment length.
+// The double nearest to the square root of x; -0.0 of -0.0. Serves the tolerance and the cap area.
 pub fn sqrt(x: f64) -> f64
     requires { ⌜ T (rootable x) ⌝ }
     ensures { λ r. ⌜ Rooted x r ⌝ }

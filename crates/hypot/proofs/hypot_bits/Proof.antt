@@ -3,6 +3,16 @@ use borrow.Author.Needs.{needs}
 use Rattle.hypot.proofs.hypot_bits.Statement.{statement}
 use Rattle.hypot.proofs.hypot_bits.Tie as tie
 
+returns : tie.Need-returns
+returns c = far-length (c .before .before .exponent .ensures .0) (c .before .exponent2 .ensures .0) (c .before .before .exponent .ensures .1) (c .if1 .taken)
+
+returns-2 : tie.Need-returns-2
+returns-2 c =
+    let a = c .before .before .before .before in
+    let p = a .exponent .ensures .0 in
+    let q = c .before .before .before .exponent2 .ensures .0 in
+    near-length p q (order p q (a .before .pre .0)) (c .before .drawn-root .ensures) (c .settle .ensures)
+
 exponent-requires : tie.Need-exponent-requires
 exponent-requires c κs = search needs
 
@@ -11,9 +21,6 @@ exponent-requires-2 c κs = search needs
 
 sub-d : tie.Need-sub-d
 sub-d c = order (c .before .exponent .ensures .0) (c .exponent2 .ensures .0) (c .before .before .pre .0)
-
-returns : tie.Need-returns
-returns c = far-length (c .before .before .exponent .ensures .0) (c .before .exponent2 .ensures .0) (c .before .before .exponent .ensures .1) (c .if1 .taken)
 
 mul-drawn-root : tie.Need-mul-drawn-root
 mul-drawn-root c = search needs
@@ -31,10 +38,12 @@ drawn-root-requires : tie.Need-drawn-root-requires
 drawn-root-requires c κs = search needs
 
 settle-requires : tie.Need-settle-requires
-settle-requires c κs = (c .before .before .before .exponent .ensures .1, c .drawn-root .ensures .few, root-lead (c .before .before .before .exponent .ensures .0) (c .before .before .exponent2 .ensures .0) (order (c .before .before .before .exponent .ensures .0) (c .before .before .exponent2 .ensures .0) (c .before .before .before .before .pre .0)) (c .drawn-root .ensures), c .drawn-root .ensures .little)
-
-returns-2 : tie.Need-returns-2
-returns-2 c = near-length (c .before .before .before .before .exponent .ensures .0) (c .before .before .before .exponent2 .ensures .0) (order (c .before .before .before .before .exponent .ensures .0) (c .before .before .before .exponent2 .ensures .0) (c .before .before .before .before .before .pre .0)) (c .before .drawn-root .ensures) (c .settle .ensures)
+settle-requires c κs =
+    let a = c .before .before .before in
+    let p = a .exponent .ensures .0 in
+    let q = c .before .before .exponent2 .ensures .0 in
+    let r = c .drawn-root .ensures in
+    (a .exponent .ensures .1, r .few, root-lead p q (order p q (a .before .pre .0)) r, r .little)
 
 pub hypot-bits-spec : {M : Type 1} → statement M
 hypot-bits-spec =

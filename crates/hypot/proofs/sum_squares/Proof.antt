@@ -3,6 +3,11 @@ use borrow.Author.Needs.{needs}
 use Rattle.hypot.proofs.sum_squares.Statement.{statement}
 use Rattle.hypot.proofs.sum_squares.Tie as tie
 
+returns : tie.Need-returns
+returns c =
+    let s = c .before .before .before .before in
+    summed (s .before .before .square .ensures) (s .before .square2 .ensures) (s .divided .ensures)
+
 mul-square : tie.Need-mul-square
 mul-square c = search needs
 
@@ -26,9 +31,6 @@ add-t8 c = search needs
 
 add-t10 : tie.Need-add-t10
 add-t10 c = search needs
-
-returns : tie.Need-returns
-returns c = summed (c .before .before .before .before .before .before .square .ensures) (c .before .before .before .before .before .square2 .ensures) (c .before .before .before .before .divided .ensures)
 
 pub sum-squares-spec : {M : Type 1} → statement M
 sum-squares-spec =
