@@ -1,15 +1,19 @@
--- The two tests before a root are `rootable`. Assumes nothing.
-use mathlib.Core.Path.{_≡_, refl, sym, ap, _∙_, subst}
+-- The two tests before a root are `rootable`, and those before a length are the bounds that it asks. Assumes nothing.
+use mathlib.Core.Path.{_≡_, refl, sym, ap, ap₂, _∙_, subst}
 use mathlib.Core.Bool.{Bool, true, false, _&&_, _||_}
-use Prim.Native.Nat.{ℕ, zero, suc, _*_, _<_}
+use Prim.Native.Nat.{ℕ, zero, suc, _*_, _^_, _<_}
 use native.Mathlib.Nat.{zero-mul, mul-pos, zero-lt-suc}
 use native.Mathlib.Omega.{arith}
 use lib.IntN.{ℤ, pos}
-use lib.Dec.{T, eqb, ltb, lt→ltb, eqb→eq}
-use lib.Ieee.{Float, nan, inf, fin, binary64, up, down, div, lt, le, eq, ofBits}
-use lib.Ieee.Fits.{up-pos, and-l}
+use lib.Dec.{T, T-not, eqb, ltb, lt→ltb, eqb→eq}
+use lib.Ieee.{Float, nan, inf, fin, binary64, up, down, div, neg, lt, le, eq, ofBits}
+use lib.Ieee.Fits.{up-pos, and-l, and-r}
 use Rattle.root.specs.Doubles.{zeroF, oneF}
+use Rattle.root.specs.Bounds.{Within}
 use Rattle.root.specs.Root.{rootable}
+use Rattle.root.proofs.Bounds.{within-tests}
+use Rattle.hypot.specs.Length.{Measured}
+use Rattle.leaf_exports.specs.Exports.{inReach, LengthOr}
 
 infinity-is : div binary64 oneF zeroF ≡ inf false
 unfolding div ofBits
@@ -76,3 +80,18 @@ first-fails x h r = subst T (ap (λ (z : Float). le z x) (sym zero-is) ∙ h) (a
 
 pub second-fails : (x : Float) → lt x (div binary64 oneF zeroF) ≡ false → T (rootable x) → ⊥
 second-fails x h r = subst T (ap (lt x) (sym infinity-is) ∙ h) (under x r)
+
+-- ---- before a length
+
+pub reaches : (x : Float) → inReach x ≡ true → Within (2 ^ 1021) x
+unfolding inReach ofBits neg
+reaches x e =
+    let h = subst T (sym e) tt in
+    let top = fin false 1 (pos 1021) in
+    within-tests x 1 1021 (and-r (le (neg top) x) (le x top) h) (and-l (le (neg top) x) (le x top) h)
+
+pub length-found : (x y : Float) {r : Float} → inReach x ≡ true → inReach y ≡ true → Measured x y r → LengthOr x y r
+length-found x y a b m = record { found = λ _. m; other = λ p. absurd (T-not (inReach x && inReach y) p (subst T (sym (ap₂ _&&_ a b)) tt)) }
+
+pub length-other : (x y : Float) → inReach x && inReach y ≡ false → LengthOr x y x
+length-other x y e = record { found = λ p. absurd (subst T e p); other = λ _. refl }

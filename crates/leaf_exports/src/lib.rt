@@ -1,5 +1,5 @@
 // For tests only, and no part of the product: leaves of the library under C names of their own, so that a program outside can compare and time them:
-// root, rounding and cell key on any bit pattern, the root of a whole number; clearing and sorting; components and chains. None has a `requires`: what a table asks is tested first.
+// root, length, rounding and cell key on any bit pattern, the root of a whole number; clearing and sorting; components and chains. None has a `requires`: what a table asks is tested first.
 ghost use mathlib.Core.Bool.{false, true};
 ghost use mathlib.Core.Path.{_≡_};
 ghost use Prim.Native.Nat.{ℕ, _*_, _+_, _/_, _<_, _≤_};
@@ -9,7 +9,7 @@ ghost use Rattle.chains.specs.ByWord.{wordBucket};
 ghost use Rattle.chains.specs.Chains.{Linked};
 ghost use Rattle.chains.specs.Links.{linkTo};
 ghost use Rattle.components.specs.Table.{ComponentTable};
-ghost use Rattle.leaf_exports.specs.Exports.{LinksFound, BelowUpTo, RootOr};
+ghost use Rattle.leaf_exports.specs.Exports.{LinksFound, BelowUpTo, RootOr, LengthOr, inReach};
 ghost use Rattle.lists.specs.Regions.{view};
 ghost use Rattle.root.specs.Drawn.{WholeRoot};
 ghost use Rattle.rounding.specs.Rounding.{halfAway, key};
@@ -25,6 +25,27 @@ pub extern "C" fn export_sqrt(x: f64) -> f64
     if 0.0 <= x {
         if x < infinity {
             return root::sqrt(x);
+        }
+    }
+    x
+}
+
+// Is x at most 2^1021 in magnitude? A NaN is not.
+fn in_reach(x: f64) -> bool
+    ensures { λ r. ⌜ r ≡ inReach x ⌝ }
+{
+    let bound: f64 = f64::from_bits(9205357638345293824);
+    if -bound <= x { x <= bound } else { false }
+}
+
+// The length of a segment with the extents x and y; x itself where one of them is a NaN or beyond 2^1021.
+#[no_mangle]
+pub extern "C" fn export_hypot(x: f64, y: f64) -> f64
+    ensures { λ r. ⌜ LengthOr x y r ⌝ }
+{
+    if in_reach(x) {
+        if in_reach(y) {
+            return hypot::hypot(x, y);
         }
     }
     x
