@@ -35,7 +35,7 @@ use Rattle.root.proofs.Nearest.{round-nearest, round-sign, nearest-same}
 use Rattle.root.proofs.Ties.{round-even}
 use Rattle.root.proofs.Bounds.{held-pow, round-within, within-units}
 use Rattle.root.proofs.WholeRoot.{whole-root, whole-unique}
-use Rattle.hypot.specs.Length.{fourSquares, IsHypot, hypotenuse, Measured}
+use Rattle.hypot.specs.Length.{fourSquares, IsHypot, more, hypotenuse, Measured}
 use Rattle.hypot.proofs.Length.{hypot-unique}
 
 pub hypotenuse-fits : (x y : Float) → T (fits binary64 (hypotenuse x y))
@@ -73,11 +73,11 @@ module _ {v w c : ℕ} (W : WholeRoot v w) (which : ((w * w ≡ v) × (c ≡ 0))
     | inr h ↦ absurd (lt-irrefl v (lt-of-le-of-lt (le-of-eq (e ∙ ap (λ (x : ℕ). x * x) (sym same))) (h .0)))
   ]
     where
-      more : (s : ℕ) → s < s + 1
-      more s = omega arith
+      after : (s : ℕ) → s < s + 1
+      after s = omega arith
 
       same : w ≡ s
-      same = whole-unique W (record { reaches = le-of-eq (sym e); next = lt-of-le-of-lt (le-of-eq e) (sq-lt s (s + 1) (more s)) })
+      same = whole-unique W (record { reaches = le-of-eq (sym e); next = lt-of-le-of-lt (le-of-eq e) (sq-lt s (s + 1) (after s)) })
 
       sum : (w c s : ℕ) → w ≡ s → c ≡ 0 → 2 * w + c ≡ 2 * s
       sum w c s e f = omega arith
@@ -92,7 +92,7 @@ module _ (x y : Float) (i : ℕ) (I : i ≤ 1021) (h : Within (2 ^ i) x) (g : Wi
   w = wholeRoot 2100 v
 
   abbrev c : ℕ
-  c = cond (eqb (w * w) v) 0 1
+  c = more v w
 
   abbrev res : Float
   res = round binary64 false (2 * w + c) (4 * one)

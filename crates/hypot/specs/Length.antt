@@ -3,7 +3,7 @@
 --   fourSquares x y     the square of twice the root of the sum
 --   fourMiddle r z      the square of twice the middle between two doubles
 --   IsHypot x y r       no double is nearer to the root than r; where another is as near, r is the even one. Only one double is so (`hypot-unique`, proofs/Length.antt)
---   hypotenuse          the length, computed
+--   more, hypotenuse    the length, computed
 --   Measured x y r      both: what `hypot` promises. That `hypotenuse x y` meets IsHypot is a law (`hypotenuse-meets`, proofs/Computed.antt)
 use Prim.Native.Nat.{ℕ, _+_, _*_, _%_, _≤_, _<_}
 use mathlib.Core.Path.{_≡_}
@@ -29,10 +29,14 @@ pub record IsHypot (x y r : Float) : Type 0 where
   pub below : (z : Float) → T (fits binary64 z) → T (finite z) → unitsOf z < unitsOf r → fourMiddle r z ≤ fourSquares x y
   pub even : (z : Float) → T (fits binary64 z) → T (finite z) → (unitsOf r ≡ unitsOf z → ⊥) → fourSquares x y ≡ fourMiddle r z → toBits binary64 r % 2 ≡ 0
 
+-- is the root of n more than r?
+abbrev pub more : ℕ → ℕ → ℕ
+more n r = cond (eqb (r * r) n) 0 1
+
 -- Twice the root is r units, or lies between r and r + 1: there it rounds as r + 1 / 2 does, since twice a middle between two doubles is whole. So the sum is
 -- taken four times and the rounded fraction has a 4 below it: with half of that, lengths below 2 ^ 53 units would round wrongly.
 unfoldable pub hypotenuse : Float → Float → Float
-hypotenuse x y = let n = fourSquares x y in let r = wholeRoot 2100 n in round binary64 false (2 * r + cond (eqb (r * r) n) 0 1) (4 * one)
+hypotenuse x y = let n = fourSquares x y in let r = wholeRoot 2100 n in round binary64 false (2 * r + more n r) (4 * one)
 
 pub record Measured (x y r : Float) : Type 0 where
   pub nearest : IsHypot x y r
