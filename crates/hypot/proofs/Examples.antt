@@ -18,12 +18,13 @@ zeros : hypotenuse (bits 0x8000_0000_0000_0000) (bits 0x8000_0000_0000_0000) ≡
 unfolding hypotenuse wholeRoot unitsOf one ofBits round
 zeros = refl
 
--- a tie down, 5648698870706361 and 9570174947579680: exactly 11112877550805689; and one up, 7793029643642033 and 6078427112063040: exactly 9883247805420367
-tie-down : hypotenuse (bits 0x4334_1176_31a1_b0b9) (bits 0x4341_0002_ff18_2b90) ≡ bits 0x4343_bd8d_376c_915c
+-- Two ties, in units of 2 ^ -22. 7200000080000000 and 6500000180000001 have the length 9700000180000001: it needs 54 digits, and the even neighbour is the lower.
+-- 9000000180000000 and 4800000300000003 have 10200000300000003: here it is the upper.
+tie-down : hypotenuse (bits 0x41d9_945c_a726_b400) (bits 0x41d7_17b7_39c4_d501) ≡ bits 0x41e1_3b0c_a486_6a80
 unfolding hypotenuse wholeRoot unitsOf one ofBits round
 tie-down = refl
 
-tie-up : hypotenuse (bits 0x433b_afb8_1ba2_24b1) (bits 0x4335_984c_18ce_c040) ≡ bits 0x4341_8e61_7955_a9a8
+tie-up : hypotenuse (bits 0x41df_f973_d5b5_1500) (bits 0x41d1_0d93_28cd_a303) ≡ bits 0x41e2_1e6c_514b_9182
 unfolding hypotenuse wholeRoot unitsOf one ofBits round
 tie-up = refl
 
