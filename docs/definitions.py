@@ -21,6 +21,7 @@ LIST = [
     ("words/Overlay", "an output after a result was written to its front"),
     ("root/Doubles", "IEEE 754's operations under short names, constants, comparisons, a double as whole units"),
     ("root/Root", "the square root: nearer than every other double; and computed"),
+    ("hypot/Length", "the length of a segment: the nearest double, the even one of two; and computed"),
     ("rounding/Rounding", "halves away from zero, the key of a coordinate, the segments of an axis"),
     ("geometry/Triangles", "three of a kind: sides, the opposite turn, flat lists taken by threes"),
     ("geometry/Points", "difference, dot and cross product, length, double area, each operation rounded"),
