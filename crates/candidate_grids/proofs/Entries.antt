@@ -91,9 +91,8 @@ module _ (eps : Float) (n : ℕ) (g : ℕ → List Candidate) (w : List ℕ) whe
   entered-none most H = record { pool = refl; holds = H; few = omega arith; grown = grown-none n w; long = refl; rest = λ x h. refl }
 
   -- l is what the turn with i entered
-  pub entered-more : (v u : List ℕ) (l : List Candidate) (i most more total : ℕ) → PointsEntered eps n (flatMap g (upTo i)) most w v → l ≡ g i → PointsEntered eps n l more v u → most + more ≡
-      total
-      → PointsEntered eps n (flatMap g (upTo (i + 1))) total w u
+  pub entered-more : (v u : List ℕ) (l : List Candidate) (i most more total : ℕ) → PointsEntered eps n (flatMap g (upTo i)) most w v → l ≡ g i
+      → PointsEntered eps n l more v u → most + more ≡ total → PointsEntered eps n (flatMap g (upTo (i + 1))) total w u
   entered-more v u l i most more total a e b q =
       record {
         pool = fold-flat (insert (byKey eps)) (poolAt n w) (poolAt n v) (poolAt n u) g i (a .pool) (b .pool ∙ ap (foldl (insert (byKey eps)) (poolAt n v)) e);

@@ -3,7 +3,22 @@ use mathlib.Core.Path.{_≡_, refl, sym, ap, _∙_, subst}
 use mathlib.Core.Logic.{_⊎_, inl, inr}
 use mathlib.Core.Bool.{Bool, true, false, not, cond}
 use Prim.Native.Nat.{ℕ, zero, suc, _+_, _-_, _*_, _/_, _%_, _^_, _≤_, _<_}
-use native.Mathlib.Nat.{mul-assoc, mul-one, mul-right-comm, mod-lt, mod-eq-of-lt, mul-div-cancel, eq-or-lt-of-le, pow-succ', two-pow-succ, mul-add, le-of-eq, lt-of-lt-of-le, lt-of-le-of-lt, zero-lt-suc}
+use native.Mathlib.Nat.{
+  mul-assoc,
+  mul-one,
+  mul-right-comm,
+  mod-lt,
+  mod-eq-of-lt,
+  mul-div-cancel,
+  eq-or-lt-of-le,
+  pow-succ',
+  two-pow-succ,
+  mul-add,
+  le-of-eq,
+  lt-of-lt-of-le,
+  lt-of-le-of-lt,
+  zero-lt-suc,
+}
 use native.Mathlib.Omega.{arith}
 use lib.Dec.{T, leb, eqb, lit≤, eqb→eq, eqb-refl, not-T}
 use lib.Arith.{lt→nleb}
