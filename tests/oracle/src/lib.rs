@@ -30,7 +30,9 @@ mod clip;
 mod refusals;
 mod reply;
 mod tolerance;
+mod whole;
 
+pub mod length;
 pub mod reference;
 
 #[cfg(test)]
