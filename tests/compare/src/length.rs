@@ -33,9 +33,9 @@ pub fn probe(random: &mut Random) -> Probed {
 /// Two numbers in either order, with all signs.
 fn pair(random: &mut Random) -> (f64, f64) {
     let (x, y) = match random.below(16) {
-        0 | 1 => tie(random),
+        0 | 1 => tied(random),
         2 | 3 => {
-            let (x, y) = tie(random);
+            let (x, y) = tied(random);
             (near(random, x), y)
         }
         4 | 5 => near_tie(random),
@@ -62,26 +62,29 @@ fn scaled(x: f64, exponent: i32) -> f64 {
     x * 2f64.powi(exponent / 2) * 2f64.powi(exponent - exponent / 2)
 }
 
-/// Two sides of a right triangle of whole numbers, whose third is odd and has 54 digits, so that
-/// it lies exactly between two doubles: (m^2 - n^2, 2mn, m^2 + n^2), so many times. An m^2 + n^2
-/// that is odd is 1 above a multiple of four; so the third goes down to the even double if
-/// `times` is 1 above a multiple of four, else up.
-fn tie(random: &mut Random) -> (f64, f64) {
+/// Two sides of a right triangle of whole numbers and the third, which is odd and has 54 digits, so
+/// that it lies exactly between two doubles: (m^2 - n^2, 2mn, m^2 + n^2), so many times. An odd
+/// m^2 + n^2 is 1 above a multiple of four; so the third goes down to the even double if `times`
+/// is 1 above a multiple of four, else up.
+pub fn tie(random: &mut Random) -> [u64; 3] {
     loop {
         let times = 2 * random.below(16) as u64 + 1;
         let most = ((1 << 54) / times).isqrt();
         let m = most / 2 + random.bits() % (most / 2);
         let n = random.bits() % m;
-        let [first, second, third] = [m * m - n * n, 2 * m * n, m * m + n * n].map(|s| times * s);
-        // The first side is odd as the third is, the second even.
-        if third % 2 == 1 && third.ilog2() == 53 && first < 1 << 53 {
-            let exponent = random.below(1074 + 967 + 1) as i32 - 1074;
-            return (
-                scaled(first as f64, exponent),
-                scaled(second as f64, exponent),
-            );
+        let sides = [m * m - n * n, 2 * m * n, m * m + n * n].map(|side| times * side);
+        // The first is odd as the third is, and has to be a double; the second is even.
+        if sides[2] % 2 == 1 && sides[2].ilog2() == 53 && sides[0] < 1 << 53 {
+            return sides;
         }
     }
+}
+
+/// The two sides of such a triangle, of any size.
+fn tied(random: &mut Random) -> (f64, f64) {
+    let [x, y, _] = tie(random);
+    let exponent = random.below(1074 + 967 + 1) as i32 - 1074;
+    (scaled(x as f64, exponent), scaled(y as f64, exponent))
 }
 
 /// A number x, and another that brings the length near the middle of r and the double above it,

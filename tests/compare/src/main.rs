@@ -28,6 +28,7 @@ mod clip;
 mod damaged;
 mod early;
 mod full;
+mod grid_points;
 mod length;
 mod lent;
 mod meshes;
