@@ -36,6 +36,8 @@ pub mod length;
 pub mod reference;
 
 #[cfg(test)]
+mod edge_lengths;
+#[cfg(test)]
 mod findings;
 #[cfg(test)]
 mod lent;
