@@ -2,6 +2,7 @@
 
 extern "C" {
     fn export_sqrt(x: f64) -> f64;
+    fn export_hypot(x: f64, y: f64) -> f64;
     fn export_whole_root(n: u64) -> u64;
     fn export_round(x: f64) -> f64;
     fn export_cell_key(x: f64, eps: f64) -> i64;
@@ -28,8 +29,13 @@ extern "C" {
 
 /// The square root; a NaN, an infinity or a number below 0 comes back.
 pub fn sqrt(x: f64) -> f64 {
-    // SAFETY: takes a plain number and touches no memory of ours; so do the next three.
+    // SAFETY: takes a plain number and touches no memory of ours; so do the next four.
     unsafe { export_sqrt(x) }
+}
+
+/// The root of the sum of both squares; the first comes back where either is a NaN or larger than 2^1021 in magnitude.
+pub fn hypot(x: f64, y: f64) -> f64 {
+    unsafe { export_hypot(x, y) }
 }
 
 /// The largest whole number whose square does not exceed n.

@@ -7,7 +7,8 @@
 //!
 //! Document 01 allows three changes of behaviour: "that Rust with its open edges
 //! sorted before use, its triangulation replaced by the supplied list, and its
-//! `hypot` replaced by module 5's length". The edits marked BEHAVIOUR are these.
+//! `hypot` replaced by module 5's length". Document 02, E3, replaces that length "and
+//! the oracle's length with it". The edits marked BEHAVIOUR are these.
 //! The others only make the files compile on their own (BUILD) or let the
 //! wrapper and its tests reach a private item (DOOR).
 
@@ -61,10 +62,12 @@ pub const EDITS: &[Edit] = &[
     Edit {
         file: CLOSURE,
         old: "ab[0].hypot(ab[1])",
-        new: "(ab[0] * ab[0] + ab[1] * ab[1]).sqrt()",
+        new: "crate::length::length(ab[0], ab[1])",
         times: 1,
-        why: "BEHAVIOUR. \"Segment length there is the root of the sum of squares, each \
-              operation rounded; the Rust calls `hypot`, whose last digit is open.\"",
+        why: "BEHAVIOUR. Document 02, E3: \"Replace the length by the double nearest the exact \
+              root of the exact sum, the even one where two are equally near.\" The Rust calls \
+              `hypot`, whose last digit the standard library leaves open. src/length.rs chooses \
+              between this length, document 01's before it, and `hypot` itself for timing.",
     },
     Edit {
         file: CLOSURE,

@@ -2,6 +2,7 @@
 
 use crate::boxes::{self, LARGEST};
 use crate::chosen;
+use crate::grid_points;
 use crate::lent::Lent;
 use crate::meshes;
 use crate::numbers::near;
@@ -89,7 +90,8 @@ pub fn boundary(random: &mut Random, number: u64) -> Request {
     let mut request = match number % 8 {
         0 => lattice_facet(random, number / 8),
         1 => on_faces(random),
-        2 => near_grid_points(random),
+        2 if number / 8 % 3 == 2 => grid_points::at_length_bound(random),
+        2 => grid_points::near_grid_points(random),
         3 if random.one_in(4) => few_candidates(random),
         3 => same_cells(random),
         4 => repeated_and_closed(random),
@@ -222,54 +224,6 @@ fn on_faces(random: &mut Random) -> Request {
         *x = x.clamp(-LARGEST, LARGEST);
     }
     Request::new("on faces", vertices, list, extents, eps)
-}
-
-/// An open edge on a face that passes a grid point at the skip test's bound: beside
-/// it, at resolution x 1e-9 times the larger of 1 and the length over the length,
-/// or beyond its end. The point lies at 0, where doubles are dense. In the largest
-/// box the bound is near 1, so that the last digit of the length decides.
-fn near_grid_points(random: &mut Random) -> Request {
-    let half = random.pick(&[0.25, 1.0, 100.0, LARGEST / 2.0, LARGEST / 2.0]);
-    let large = half > 1e6;
-    let extents = [-half, -half, -half, half, half, half];
-    let resolution = half / (1 + random.below(2)) as f64;
-    let tolerance = resolution * 1e-9;
-    // The edge runs from -d to d, shifted sideways.
-    let scale = if large { 4.0 } else { half };
-    let d = [random.between(0.05, 0.9), random.pick(&[0.0, 0.3, -0.7])].map(|x| scale * x);
-    let length = 2.0 * (d[0] * d[0] + d[1] * d[1]).sqrt();
-    let aside = tolerance * length.max(1.0) / length * random.pick(&[0.0, 0.5, 1.0, 1.0, 1.0, 2.0]);
-    let aside = near(random, aside);
-    let shift = [-aside * 2.0 * d[1] / length, aside * 2.0 * d[0] / length];
-    let mut ends = [
-        [shift[0] - d[0], shift[1] - d[1]],
-        [shift[0] + d[0], shift[1] + d[1]],
-    ];
-    if random.one_in(4) {
-        // Along the line y = 0, its end short of the point by the end test's bound.
-        let short = tolerance * tolerance / d[0] * random.pick(&[1.0, 0.5, 2.0]);
-        ends = [[-d[0], 0.0], [-near(random, short).abs(), 0.0]];
-    }
-    let third = [
-        half * random.between(-1.0, 1.0),
-        half * random.pick(&[-1.0, 0.9]),
-    ];
-    let face = random.below(6);
-    let mut vertices = Vec::new();
-    for [u, v] in [ends[0], ends[1], third] {
-        let plane = extents[face / 2 + 3 * (face % 2)];
-        vertices.extend([[plane, u, v], [u, plane, v], [u, v, plane]][face / 2]);
-    }
-    let mut facets = vec![0, 1, 2];
-    facets.rotate_left(random.below(3));
-    let eps = if large {
-        1e-9
-    } else {
-        random.pick(&[0.0, 1e-10, 1e-12])
-    };
-    let mut request = Request::new("near grid points", vertices, facets, extents, eps);
-    request.resolution = resolution;
-    request
 }
 
 /// Corners that share a cell with others, with grid points or with the box's

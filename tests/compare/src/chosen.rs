@@ -55,6 +55,13 @@ impl Chosen {
 
 const UNIT: Extents = [0.0, 0.0, 0.0, 1.0, 1.0, 1.0];
 
+/// A facet beside the grid point (0, 0, 0) of the box from (-1, -1, 0) to (1, 1, 1).
+const KEPT: [[f64; 3]; 3] = [
+    [0.0, 1.45e-9, 0.0],
+    [0.8, -0.83999999855, 0.0],
+    [0.5, 0.5, 0.0],
+];
+
 fn power(exponent: i32) -> f64 {
     2f64.powi(exponent)
 }

@@ -28,6 +28,8 @@ mod clip;
 mod damaged;
 mod early;
 mod full;
+mod grid_points;
+mod length;
 mod lent;
 mod meshes;
 mod numbers;
@@ -60,7 +62,7 @@ pub struct Options {
     /// Number of the first request, and how many of each operation.
     pub first: u64,
     pub requests: u64,
-    /// How many numbers for each of root, rounding and cell key.
+    /// How many numbers for each row of them.
     pub numbers: u64,
     pub only: Option<String>,
     /// Runs the oracle in our library's place: exercises the generators alone.

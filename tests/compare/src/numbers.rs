@@ -1,5 +1,7 @@
-//! Root, rounding, cell key and the root of a whole number beside the machine's own `sqrt`, `round`, cast and `isqrt`.
+//! Root, rounding, cell key and the root of a whole number beside the machine's own `sqrt`, `round`, cast and `isqrt`; the length
+//! of two numbers beside the oracle's (length.rs).
 
+use crate::length;
 use crate::random::Random;
 use crate::report::Row;
 use crate::Options;
@@ -40,6 +42,12 @@ pub fn near(random: &mut Random, x: f64) -> f64 {
     }
 }
 
+/// A subnormal of these bits, each number of digits alike.
+pub fn subnormal(bits: u64) -> f64 {
+    let lead = 1u64 << ((bits >> 52 & 0x7ff) % 52);
+    f64::from_bits(bits & (1 << 63) | lead | bits & (lead - 1))
+}
+
 /// Bit patterns from every part of the format, with those at which a root or a
 /// rounding goes wrong first.
 pub fn double(random: &mut Random) -> f64 {
@@ -48,11 +56,7 @@ pub fn double(random: &mut Random) -> f64 {
         0 | 1 => f64::from_bits(bits),
         // Below 2^64, where rounding acts.
         2 => f64::from_bits(bits & 0x800f_ffff_ffff_ffff | (1000 + bits % 90) << 52),
-        // Subnormals, of each number of digits alike.
-        3 => {
-            let lead = 1u64 << ((bits >> 52 & 0x7ff) % 52);
-            f64::from_bits(bits & (1 << 63) | lead | bits & (lead - 1))
-        }
+        3 => subnormal(bits),
         // Powers of two and their neighbours.
         4 => near(random, f64::from_bits((bits % 2047) << 52)),
         // Halves and their neighbours.
@@ -118,72 +122,68 @@ fn whole(random: &mut Random) -> u64 {
     }
 }
 
+/// Ours and what is expected, as bits, and the input as text if they differ.
+pub type Probed = (u64, u64, String);
+
+/// Both answers for one input, which is told by words and bits.
+pub fn probed(ours: u64, expected: u64, input: &[(&str, u64)]) -> Probed {
+    let text = |(name, bits): &(&str, u64)| format!("{name} {bits:016x}");
+    let input = if ours == expected {
+        String::new()
+    } else {
+        input.iter().map(text).collect::<Vec<_>>().join(" ")
+    };
+    (ours, expected, input)
+}
+
+fn root(random: &mut Random) -> Probed {
+    let x = double(random);
+    let (ours, machine) = (leaves::sqrt(x), machine::root(x));
+    probed(ours.to_bits(), machine.to_bits(), &[("x", x.to_bits())])
+}
+
+fn rounding(random: &mut Random) -> Probed {
+    let x = double(random);
+    let (ours, machine) = (leaves::round(x), machine::round(x));
+    probed(ours.to_bits(), machine.to_bits(), &[("x", x.to_bits())])
+}
+
+fn cell_key(random: &mut Random) -> Probed {
+    let (x, eps) = coordinate_and_eps(random);
+    let (ours, machine) = (leaves::cell_key(x, eps), machine::cell_key(x, eps));
+    let input = [("x", x.to_bits()), ("eps", eps.to_bits())];
+    probed(ours as u64, machine as u64, &input)
+}
+
+fn whole_root(random: &mut Random) -> Probed {
+    let n = whole(random);
+    probed(leaves::whole_root(n), n.isqrt(), &[("n", n)])
+}
+
+type Probe = fn(&mut Random) -> Probed;
+const PROBES: [(&str, Probe); 5] = [
+    ("root", root),
+    ("length", length::probe),
+    ("rounding", rounding),
+    ("cell key", cell_key),
+    ("whole root", whole_root),
+];
+
 pub fn rows(options: &Options) -> Vec<Row> {
-    type Probe = fn(&mut Random) -> (u64, u64, String);
-    let probes: [(&'static str, Probe); 4] = [
-        ("root", |random| {
-            let x = double(random);
-            let (o, m) = (leaves::sqrt(x).to_bits(), machine::root(x).to_bits());
-            (
-                o,
-                m,
-                if o == m {
-                    String::new()
-                } else {
-                    format!("x {:016x}", x.to_bits())
-                },
-            )
-        }),
-        ("rounding", |random| {
-            let x = double(random);
-            let (o, m) = (leaves::round(x).to_bits(), machine::round(x).to_bits());
-            (
-                o,
-                m,
-                if o == m {
-                    String::new()
-                } else {
-                    format!("x {:016x}", x.to_bits())
-                },
-            )
-        }),
-        ("cell key", |random| {
-            let (x, eps) = coordinate_and_eps(random);
-            let (o, m) = (
-                leaves::cell_key(x, eps) as u64,
-                machine::cell_key(x, eps) as u64,
-            );
-            let text = || format!("x {:016x} eps {:016x}", x.to_bits(), eps.to_bits());
-            (o, m, if o == m { String::new() } else { text() })
-        }),
-        ("whole root", |random| {
-            let n = whole(random);
-            let (o, m) = (leaves::whole_root(n), n.isqrt());
-            (
-                o,
-                m,
-                if o == m {
-                    String::new()
-                } else {
-                    format!("n {n:016x}")
-                },
-            )
-        }),
-    ];
     let mut rows = Vec::new();
-    for (name, probe) in probes {
+    for (name, probe) in PROBES {
         if options.leaves_out(name) {
             continue;
         }
         let mut row = Row::new(name);
         let mut random = Random::new(options.seed, name, 0);
         for _ in 0..options.numbers {
-            let (ours, machine, input) = probe(&mut random);
+            let (ours, expected, input) = probe(&mut random);
             row.requests += 1;
             row.replies[0] += 1;
-            if ours != machine {
+            if ours != expected {
                 row.differs(1, || {
-                    format!("{input}: ours {ours:016x}, machine {machine:016x}")
+                    format!("{input}: ours {ours:016x}, expected {expected:016x}")
                 });
             }
         }

@@ -48,7 +48,7 @@ const REPLAYED: &[Replayed] = &[
     // A result is long: the refusals are chosen by hand, and what is generated writes.
     Replayed {
         name: "candidates",
-        most: 170,
+        most: 173,
         largest: 280,
         of_a_kind: 2,
         any_reply: false,

@@ -30,9 +30,13 @@ mod clip;
 mod refusals;
 mod reply;
 mod tolerance;
+mod whole;
 
+pub mod length;
 pub mod reference;
 
+#[cfg(test)]
+mod edge_lengths;
 #[cfg(test)]
 mod findings;
 #[cfg(test)]

@@ -1,6 +1,7 @@
 //! Requests chosen by hand for candidates.
 
-use super::{ample, box_faults, in_rooms, list_faults, number_faults, power, Chosen, Room, UNIT};
+use super::{ample, box_faults, in_rooms, list_faults, number_faults, power};
+use super::{Chosen, Room, KEPT, UNIT};
 use crate::boxes::LARGEST;
 use crate::request::Request;
 use oracle::Extents;
@@ -70,6 +71,7 @@ pub fn chosen() -> Vec<Chosen> {
     let behind = [worked_blocks(), edges(), points(), sides()].concat();
     let exact = [
         grids(),
+        lengths(),
         list_faults(&base),
         number_faults(&base),
         some_box_faults(&base),
@@ -383,6 +385,23 @@ fn grids() -> Vec<Request> {
     ]
 }
 
+/// A grid point that the last digit of an edge's length keeps or skips; tests/oracle/src/edge_lengths.rs says how these were
+/// found, and has both answers.
+fn lengths() -> Vec<Request> {
+    let beside = |corners: [[f64; 3]; 3], half: f64, eps: f64| {
+        let extents = [-half, -half, 0.0, half, half, 1.0];
+        mesh("lengths", &corners, LONE, extents, eps, half)
+    };
+    let tie = |second: [f64; 3]| beside([[1e-8, 1.0, 0.0], second, [0.0, 2.0, 0.0]], 1e9, 1e-9);
+    vec![
+        // The exact length, 1.16, keeps the point; document 01's, a step longer, would skip it.
+        beside(KEPT, 1.0, 0.0),
+        // A root equally near to two doubles: down to the even one, which keeps the point; up, which skips it.
+        tie([536_870_920.0, -7.0 - power(-24), 0.0]),
+        tie([905_969_682.0, -17.0 - 3.0 * power(-24), 0.0]),
+    ]
+}
+
 /// Each corner a step beyond its bound, and equal to its opposite; the lowest in all ways.
 fn some_box_faults(base: &Request) -> Vec<Request> {
     let few = |place: usize| place < 6 || place % 6 == 1 || place % 6 == 4;
@@ -491,4 +510,30 @@ fn in_order(base: &Request) -> Vec<Request> {
             r.facets[0] = 99;
         }),
     ]
+}
+
+#[cfg(test)]
+mod tests {
+    use crate::candidates::OPERATION;
+    use crate::chosen::{Chosen, Room};
+    use crate::lent::{Lent, Old};
+    use oracle::length::{by, exact, Rule};
+
+    /// Each of them has another answer by the length that it is there to rule out.
+    #[test]
+    fn lengths_decide() {
+        let other = [
+            Rule::Rounded,
+            Rule::Other(|x, y| exact(x, y).next_up()),
+            Rule::Other(|x, y| exact(x, y).next_down()),
+        ];
+        let mut work = Lent::new(0, Old::Junk);
+        for (request, rule) in super::lengths().into_iter().zip(other) {
+            let room = Room::Exact;
+            let request = Chosen { request, room }.with_room(&OPERATION, &mut work);
+            let expected = (OPERATION.oracle)(&request, &mut work);
+            assert_eq!(expected.reply.number, 0);
+            assert!(by(rule, || (OPERATION.oracle)(&request, &mut work)) != expected);
+        }
+    }
 }

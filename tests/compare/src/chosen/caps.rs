@@ -1,7 +1,7 @@
 //! Requests chosen by hand for caps: where its rules show, each refusal that is its own, and
 //! the two points at which the mesh comes back unchanged.
 
-use super::{ample, in_rooms, power, Chosen, Room, UNIT};
+use super::{ample, in_rooms, power, Chosen, Room, KEPT, UNIT};
 use crate::boxes::LARGEST;
 use crate::request::Request;
 use oracle::Extents;
@@ -222,6 +222,14 @@ fn taken_over(mode: u32) -> Request {
     request
 }
 
+/// A cap with the grid point that the exact length of an open edge keeps; by document 01's length its number would be one of
+/// another face, and test 10 would refuse it.
+fn kept_point() -> Request {
+    let extents = [-1.0, -1.0, 0.0, 1.0, 1.0, 1.0];
+    let list = [[4, 0, 1, 19], [4, 0, 1, 2]];
+    facet("a kept point", KEPT, (extents, 0.0), &list, NEGATIVE)
+}
+
 /// Numbers that are no mode: refused as 4, behind 1, 2 and 3 and before all others.
 fn no_mode() -> Vec<Chosen> {
     let with = |mode, room, change: fn(&mut Request)| {
@@ -308,6 +316,7 @@ pub fn chosen() -> Vec<Chosen> {
         requests.extend(unchanged(mode));
         requests.push(taken_over(mode));
     }
+    requests.push(kept_point());
     let mut all: Vec<Chosen> = requests.into_iter().map(ample).collect();
     all.extend(in_rooms(&square("C15", 1.0, &all_faces(), NEGATIVE)));
     all.extend(no_mode());
@@ -359,6 +368,7 @@ mod tests {
         has("closed", NEGATIVE, 0, 12, 12);
         has("a list of junk", 0, 0, 12, 6);
         has("taken over", POSITIVE, 0, 27, 36);
+        has("a kept point", NEGATIVE, 0, 12, 6);
         has("no mode", u32::MAX, 4, 0, 0);
         for number in [1, 3, 4] {
             has("no mode", 3, number, 0, 0);
