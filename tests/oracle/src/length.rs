@@ -2,8 +2,8 @@
 //!
 //! Document 02, E3: "the double nearest the exact root of the exact sum, the even
 //! one where two are equally near", the sum being that of the squares of the two
-//! differences, which are doubles. Found by these words themselves, over whole
-//! numbers of any size, so that no rounding has a part in it. The machine's `hypot`
+//! differences, which are doubles. Found by these words themselves, over whole numbers
+//! of as many digits as it takes: no rounding has a part in it. The machine's `hypot`
 //! says where to begin to look and nothing more.
 
 use crate::whole::Whole;
