@@ -66,8 +66,8 @@ pub const EDITS: &[Edit] = &[
         times: 1,
         why: "BEHAVIOUR. Document 02, E3: \"Replace the length by the double nearest the exact \
               root of the exact sum, the even one where two are equally near.\" The Rust calls \
-              `hypot`, whose last digit the standard library leaves open. src/length.rs chooses \
-              between this length, document 01's before it, and `hypot` itself for timing.",
+              `hypot`, whose last digit the standard library leaves open. src/length.rs has \
+              this length, document 01's before it, and `hypot` itself for timing.",
     },
     Edit {
         file: CLOSURE,

@@ -72,10 +72,33 @@ fn a_point_that_the_exact_length_keeps() {
     assert_eq!(KEPT.grid(Rule::Rounded), (20, None));
 }
 
-/// Caps reads from the same candidates: number 19 is on the lower face by the exact
-/// length alone.
+/// The other way round: the exact length is 1.508 and skips the point. Document 01's
+/// keeps it, and so does the `hypot` of glibc 2.36, which the Rust would call: both are
+/// a step shorter. Found in the same way, from 5, 12 and 13.
+const SKIPPED: Edge = Edge {
+    corners: [
+        [0.0, 1.3e-8, 0.0],
+        [0.58, -1.391999987, 0.0],
+        [0.5, 0.5, 0.0],
+    ],
+    extents: [-5.0, -5.0, 0.0, 5.0, 5.0, 1.0],
+    eps: 0.0,
+    resolution: 5.0,
+};
+
 #[test]
-fn a_cap_at_that_point() {
+fn a_point_that_the_exact_length_skips() {
+    let [x, y] = SKIPPED.differences();
+    assert_eq!([exact(x, y), rounded(x, y)], [1.508, 1.5079999999999998]);
+    assert_eq!(SKIPPED.grid(Rule::Exact), (20, None));
+    assert_eq!(SKIPPED.grid(SHORTER), (21, Some(19)));
+    assert_eq!(SKIPPED.grid(Rule::Rounded), (21, Some(19)));
+}
+
+/// Caps reads from the same candidates: of the first mesh number 19 is on the lower
+/// face by the exact length alone.
+#[test]
+fn a_cap_at_the_kept_point() {
     let corners = flat(&KEPT.corners);
     let list = [4, 0, 1, 19, 4, 0, 1, 2];
     let run = || caps(&corners, &[0, 1, 2], &list, &KEPT.extents, 0.0, 1.0, 2);

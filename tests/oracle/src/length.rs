@@ -2,8 +2,8 @@
 //!
 //! Document 02, E3: "the double nearest the exact root of the exact sum, the even
 //! one where two are equally near", the sum being that of the squares of the two
-//! differences, which are doubles. Found by these words themselves, over whole
-//! numbers of any size, so that no rounding has a part in it. The machine's `hypot`
+//! differences, which are doubles. Found by these words themselves, over whole numbers
+//! of as many digits as it takes: no rounding has a part in it. The machine's `hypot`
 //! says where to begin to look and nothing more.
 
 use crate::whole::Whole;
@@ -17,24 +17,15 @@ pub enum Rule {
     Exact,
     /// Document 01, module 5, which E3 replaced: to show what E3 changed.
     Rounded,
-    /// The reference's own `hypot`: for timing alone, since exact numbers would slow
-    /// the Rust down and flatter what is timed beside it.
-    Machine,
     /// Any other: for tests that ask whether the last digit of a length decides.
     Other(fn(f64, f64) -> f64),
 }
 
 thread_local! {
-    /// A constant to begin with, so that reading it is no more than a load.
     static RULE: Cell<Rule> = const { Cell::new(Rule::Exact) };
 }
 
-/// The rule of this thread from now on.
-pub fn set_rule(rule: Rule) {
-    RULE.set(rule);
-}
-
-/// What `run` answers by a rule. Afterwards the rule is what it was.
+/// What `run` answers by a rule, in this thread. Afterwards the rule is what it was.
 pub fn by<T>(rule: Rule, run: impl FnOnce() -> T) -> T {
     let before = RULE.replace(rule);
     let answer = run();
@@ -42,13 +33,17 @@ pub fn by<T>(rule: Rule, run: impl FnOnce() -> T) -> T {
     answer
 }
 
-/// What stands in the reference for `x.hypot(y)`.
-#[inline]
+/// What stands in the reference for `x.hypot(y)`. With the feature `own_hypot` it is
+/// that itself: for timing alone, since exact numbers would slow the Rust down and
+/// flatter what is timed beside it. Even to look up the rule takes the Rust a few
+/// parts in a hundred.
 pub(crate) fn length(x: f64, y: f64) -> f64 {
+    if cfg!(feature = "own_hypot") {
+        return x.hypot(y);
+    }
     match RULE.get() {
         Rule::Exact => remembered(x, y),
         Rule::Rounded => rounded(x, y),
-        Rule::Machine => x.hypot(y),
         Rule::Other(length) => length(x, y),
     }
 }
@@ -70,12 +65,13 @@ pub fn exact(x: f64, y: f64) -> f64 {
     }
 }
 
-/// The sizes of the squares in words. A double has 53 digits, and the places of all
-/// reach from 0 to 2042; what is squared is the sum of two. Most are near each other,
-/// and short numbers are quick.
+/// Words of a square. What is squared is the sum of two doubles, of 53 digits each, at
+/// places from 0 to 2043: at most 2,097 digits, so that 68 words hold the square.
+const LONG: usize = 68;
+
+/// Most doubles are nearer each other, and short numbers are quick.
 const SHORT: usize = 4;
 const SHORT_REACH: u32 = 64 * SHORT as u32 / 2 - 54;
-const LONG: usize = 68;
 
 /// How r, which is not below 0, compares with the length of x and y.
 fn compared(r: f64, x: f64, y: f64) -> Ordering {
@@ -347,7 +343,6 @@ mod tests {
         assert_eq!(answers(), (expected, expected));
         let above = |x: f64, y: f64| exact(x, y).next_up();
         assert_eq!(by(Rule::Other(above), answers).0, expected.next_up());
-        assert_eq!(by(Rule::Machine, answers).0, x.hypot(y));
         assert_eq!(by(Rule::Rounded, answers).0, (x * x + y * y).sqrt());
         assert_eq!(answers(), (expected, expected));
     }
