@@ -48,9 +48,8 @@ fn pair(random: &mut Random) -> (f64, f64) {
         14 => (double(random), double(random)),
         _ => (difference(random), difference(random)),
     };
-    let signs = random.bits();
-    let y = if signs & 1 == 0 { y } else { -y };
-    if signs & 2 == 0 {
+    let [x, y] = [x, y].map(|x| if random.one_in(2) { x } else { -x });
+    if random.one_in(2) {
         (x, y)
     } else {
         (y, x)
