@@ -21,7 +21,8 @@ use Rattle.candidate_constraints.specs.Steps.{Shown}
 pub list-low : (n : ℕ) (w : List ℕ) → Shown n w → (f : ℕ) → f < 6 → (i : ℕ) → i < getD w f 0 → getD w (listAt n f + i) 0 < countAt w
 list-low n w s f hf i h = omega (arith, sym (list-at n w f i hf h), s .tidy .low f i hf (omega (arith, list-length n w f (s .size) (s .lengths f hf) hf)), pool-count n w)
 
-pub in-list : (n : ℕ) (w : List ℕ) → Shown n w → (f : ℕ) → f < 6 → (list count i : ℕ) → list ≡ listAt n f → count ≡ getD w f 0 → i < count → (list + i < joinedAt n) × (i < n)
+pub in-list : (n : ℕ) (w : List ℕ) → Shown n w → (f : ℕ) → f < 6 → (list count i : ℕ) → list ≡ listAt n f → count ≡ getD w f 0 → i < count
+    → (list + i < joinedAt n) × (i < n)
 in-list n w s f hf list count i a b h = (omega (arith, s .lengths f hf, list-in n f hf), omega (arith, s .lengths f hf))
 
 -- ---- after stores elsewhere

@@ -42,7 +42,8 @@ pub entered-count : (b n nc nv : ℕ) (cs : List ℕ) (w w' : List ℕ) → Name
 entered-count b n nc nv cs w w' e = e .below 6 (let p = e .entering .pool in omega arith)
 
 module _ (b n nc nv : ℕ) (w : List ℕ) (E : NamesEntering b n nc nv w) where
-  entered-trans : (cs ds : List ℕ) (w₁ w₂ : List ℕ) → Each (λ c. c < countAt w) ds → NamesEntered b n nc nv cs w w₁ → NamesEntered b n nc nv ds w₁ w₂ → NamesEntered b n nc nv (cs ++ ds) w w₂
+  entered-trans : (cs ds : List ℕ) (w₁ w₂ : List ℕ) → Each (λ c. c < countAt w) ds → NamesEntered b n nc nv cs w w₁ → NamesEntered b n nc nv ds w₁ w₂
+      → NamesEntered b n nc nv (cs ++ ds) w w₂
   entered-trans cs ds w₁ w₂ low e f =
       let k = entered-count b n nc nv cs w w₁ e in
       record {

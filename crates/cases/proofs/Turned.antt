@@ -39,8 +39,8 @@ use Rattle.cases.proofs.Later.{first-place}
 past : (k p : ℕ) → k ≤ p → (p ≡ k → ⊥) → k + 1 ≤ p
 past k p h n = omega arith
 
-pub last-point : (p : ℕ) → (p ≡ 0 → ⊥) → (p ≡ 1 → ⊥) → (p ≡ 2 → ⊥) → (p ≡ 3 → ⊥) → (p ≡ 4 → ⊥) → (p ≡ 5 → ⊥) → (p ≡ 6 → ⊥) → (p ≡ 7 → ⊥)
-    → (p ≡ 8 → ⊥) → (p ≡ 9 → ⊥) → (p ≡ 10 → ⊥) → corner zeroF oneF oneF ≡ halfPoint p
+pub last-point : (p : ℕ) → (p ≡ 0 → ⊥) → (p ≡ 1 → ⊥) → (p ≡ 2 → ⊥) → (p ≡ 3 → ⊥) → (p ≡ 4 → ⊥) → (p ≡ 5 → ⊥) → (p ≡ 6 → ⊥)
+    → (p ≡ 7 → ⊥) → (p ≡ 8 → ⊥) → (p ≡ 9 → ⊥) → (p ≡ 10 → ⊥) → corner zeroF oneF oneF ≡ halfPoint p
 unfolding halfPoint
 last-point p a b c d e f g h i j k =
     let low : 0 ≤ p = omega arith in

@@ -138,7 +138,8 @@ module _ (at : ℕ → Point) (given : List ℕ) (points : List Point) where
           (has-more v ∙ ap (λ (y : Bool). has new v || y) (eq-eqb v x q) ∙ or-true (has new v)))
       go v g (no q) =
           getD-set-other (n .given) x v (length (n .points) + 1) 0 q ∙ t .given-at v g
-          ∙ ap (λ (k : ℕ). cond (bare v) k (getD given v 0)) (other v (has new v) refl q ∙ sym (ap (λ (y : Bool). cond y (length points + place (eqb v) (new ++ (x ∷ [])) + 1) 0) (has-more v)))
+          ∙ ap (λ (k : ℕ). cond (bare v) k (getD given v 0))
+          (other v (has new v) refl q ∙ sym (ap (λ (y : Bool). cond y (length points + place (eqb v) (new ++ (x ∷ [])) + 1) 0) (has-more v)))
 
   -- every one of cs in turn, where those in `new` have got a number
   abbrev TellsAll : List ℕ → Type 0

@@ -34,7 +34,8 @@ abbrev pub more : ℕ → ℕ → ℕ
 more n r = cond (eqb (r * r) n) 0 1
 
 -- Twice the root is r units, or lies between r and r + 1: there it rounds as r + 1 / 2 does, since twice a middle between two doubles is whole. So the sum is
--- taken four times and the rounded fraction has a 4 below it: with half of that, lengths below 2 ^ 53 units would round wrongly.
+-- taken four times and the rounded fraction has a 4 below it: with half of that, lengths below 2 ^ 53 units would round wrongly. For extents of at most 2 ^ 1021 the
+-- sum is below 4 ^ 2100.
 unfoldable pub hypotenuse : Float → Float → Float
 hypotenuse x y = let n = fourSquares x y in let r = wholeRoot 2100 n in round binary64 false (2 * r + more n r) (4 * one)
 

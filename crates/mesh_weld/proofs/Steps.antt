@@ -269,8 +269,8 @@ module _ (vs : List Float) (eps : Float) (n i count : ℕ) (m : List ℕ) (G : W
 
 -- ---- the first vertex and the last
 
-pub going-start : (vs : List Float) (eps : Float) (n : ℕ) (m v : List ℕ) → 0 < n → n < 268435456 → 3 * n ≤ length vs → 14 * n ≤ length m → PartZeroed m v 0 (8 * n) → WeldedSoFar vs eps
-    n 0 0 v
+pub going-start : (vs : List Float) (eps : Float) (n : ℕ) (m v : List ℕ) → 0 < n → n < 268435456 → 3 * n ≤ length vs → 14 * n ≤ length m → PartZeroed m v 0 (8 * n)
+    → WeldedSoFar vs eps n 0 0 v
 unfolding weld
 going-start vs eps n m v any small size room z =
     record {

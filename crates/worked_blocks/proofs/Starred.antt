@@ -173,7 +173,8 @@ c6 =
 
 abbrev pub c7 : Row
 c7 =
-    row {A = List ℕ × Mesh} (cleanReply points6 (0 ∷ 1 ∷ 2 ∷ 2 ∷ 1 ∷ 0 ∷ []) (cleanAsked 2^-20) 1664 (0 ∷ 0 ∷ []), cleanResult points6 (0 ∷ 1 ∷ 2 ∷ 2 ∷ 1 ∷ 0 ∷ []) (cleanAsked 2^-20))
+    row {A = List ℕ × Mesh}
+    (cleanReply points6 (0 ∷ 1 ∷ 2 ∷ 2 ∷ 1 ∷ 0 ∷ []) (cleanAsked 2^-20) 1664 (0 ∷ 0 ∷ []), cleanResult points6 (0 ∷ 1 ∷ 2 ∷ 2 ∷ 1 ∷ 0 ∷ []) (cleanAsked 2^-20))
     (0 ∷ 0 ∷ 0 ∷ [], meshOf [] [])
 
 -- C9: "box (0,0,0) to (2,2,2), resolution 2, eps 1e-10, facet (0,0,1), (1,0,1), (0,1,1): refusal 9, pair 1, 2". The operation's reply, with just enough work room
