@@ -24,6 +24,9 @@ static void expect(int holds, const char *what) {
  * at most 64 vertices, 64 facets and 20 triangles, and G = 2 * (2 * 2 + 2 * 2 + 2 * 2) for one segment on each axis. */
 enum { COORDINATES = 192, NUMBERS = 192, WORDS = 256, TRIANGLES = 20, WORK = 128 * (64 + 64 + TRIANGLES + 24) + 1024 };
 
+/* How many vertices, and how many facets, a mesh may have that is handed in: what this program's room is for. */
+enum { CEILING = 64 };
+
 typedef struct {
   double vertices[COORDINATES];
   uint32_t facets[NUMBERS];
@@ -54,10 +57,11 @@ static void square_in_cube(double eps, Mesh *mesh) {
   const uint32_t facets[6] = {0, 1, 2, 0, 2, 3};
   static Mesh cut;
   uint64_t values[4];
-  uint32_t number = yongpham_clip(vertices, 12, facets, 6, 0, 0, 0, 1, 1, 1, eps, work, WORK, cut.vertices, COORDINATES, cut.facets, NUMBERS, values);
+  uint32_t number = yongpham_clip(vertices, 12, facets, 6, 0, 0, 0, 1, 1, 1, eps, CEILING, work, WORK, cut.vertices, COORDINATES, cut.facets, NUMBERS,
+                                  values);
   take(&cut, number, values);
-  number = yongpham_clean(cut.vertices, cut.vertices_length, cut.facets, cut.facets_length, eps, work, WORK, mesh->vertices, COORDINATES, mesh->facets,
-                          NUMBERS, values);
+  number = yongpham_clean(cut.vertices, cut.vertices_length, cut.facets, cut.facets_length, eps, CEILING, work, WORK, mesh->vertices, COORDINATES,
+                          mesh->facets, NUMBERS, values);
   take(mesh, number, values);
   expect(mesh->vertices_length == 12 && mesh->facets_length == 6, "the square in the cube is not two facets over four vertices");
 }
@@ -85,7 +89,7 @@ static uint64_t candidate_at(const uint64_t *candidates, size_t length, const do
 static void cap_list(const Mesh *mesh, double eps, uint64_t list[4 * TRIANGLES]) {
   uint64_t candidates[WORDS], face_lists[WORDS], constraints[WORDS], open_edges[WORDS], values[4];
   size_t i, k;
-  uint32_t number = yongpham_candidates(mesh->vertices, mesh->vertices_length, mesh->facets, mesh->facets_length, 0, 0, 0, 1, 1, 1, eps, 1, work, WORK,
+  uint32_t number = yongpham_candidates(mesh->vertices, mesh->vertices_length, mesh->facets, mesh->facets_length, 0, 0, 0, 1, 1, 1, eps, 1, CEILING, work, WORK,
                                         candidates, WORDS, face_lists, WORDS, constraints, WORDS, open_edges, WORDS, values);
   expect(number == 0, "candidates was turned down");
   expect(values[0] == 5 * 12, "there are not 12 candidates");
@@ -132,7 +136,7 @@ static void close_square(const Mesh *mesh, double eps, const uint64_t *list, uin
   uint64_t values[4];
   size_t i;
   uint32_t number = yongpham_caps(mesh->vertices, mesh->vertices_length, mesh->facets, mesh->facets_length, list, 4 * TRIANGLES, 0, 0, 0, 1, 1, 1, eps, 1,
-                                  mode, work, WORK, solid.vertices, COORDINATES, solid.facets, NUMBERS, values);
+                                  mode, CEILING, work, WORK, solid.vertices, COORDINATES, solid.facets, NUMBERS, values);
   take(&solid, number, values);
   expect(solid.vertices_length == 3 * 8, "the solid has not eight vertices");
   expect(solid.facets_length == 3 * (2 + 10), "not ten caps were written");

@@ -26,6 +26,8 @@ using Point = std::array<double, 3>;
 
 const double EPS = 1e-10;
 const double RESOLUTION = 1;
+// The most vertices, and the most facets, that a mesh may have: all that the library takes.
+const uint64_t CEILING = 65536;
 
 // A vector of no elements may point to nothing, which the library does not take: these start with one.
 struct Mesh {
@@ -59,8 +61,8 @@ Mesh closed(const Mesh &mesh, const std::vector<uint64_t> &cap_list, uint32_t mo
   const Values lengths = settled(
       [&](std::vector<uint64_t> &work, uint64_t *values) {
         return yongpham_caps(mesh.vertices.data(), mesh.vertices.size(), mesh.facets.data(), mesh.facets.size(), cap_list.data(), cap_list.size(), 0, 0, 0,
-                             1, 1, 1, EPS, RESOLUTION, mode, work.data(), work.size(), out.vertices.data(), out.vertices.size(), out.facets.data(),
-                             out.facets.size(), values);
+                             1, 1, 1, EPS, RESOLUTION, mode, CEILING, work.data(), work.size(), out.vertices.data(), out.vertices.size(),
+                             out.facets.data(), out.facets.size(), values);
       },
       [&](size_t need) {
         if (out.vertices.size() < need) out.vertices.resize(need);
@@ -77,7 +79,7 @@ Lists candidates(const Mesh &mesh) {
   const Values lengths = settled(
       [&](std::vector<uint64_t> &work, uint64_t *values) {
         return yongpham_candidates(mesh.vertices.data(), mesh.vertices.size(), mesh.facets.data(), mesh.facets.size(), 0, 0, 0, 1, 1, 1, EPS, RESOLUTION,
-                                   work.data(), work.size(), out.candidates.data(), out.candidates.size(), out.face_lists.data(), out.face_lists.size(),
+                                   CEILING, work.data(), work.size(), out.candidates.data(), out.candidates.size(), out.face_lists.data(), out.face_lists.size(),
                                    out.constraints.data(), out.constraints.size(), out.open_edges.data(), out.open_edges.size(), values);
       },
       [&](size_t need) {

@@ -5,8 +5,10 @@
  * (doubles, numbers or words): 100 vertices are a list of length 300. Pointers must be valid for what they point to, and no two of them may
  * overlap. None may be null, not even with length 0, where any other pointer will do (the data() of an empty std::vector may be null).
  *
- * A mesh is two lists: coordinates, three doubles a vertex, and vertex numbers, three a facet, from 0. At most 65,536 vertices and as many
- * facets; coordinates finite and at most 2^30 in magnitude, also of vertices that no facet uses.
+ * A mesh is two lists: coordinates, three doubles a vertex, and vertex numbers, three a facet, from 0. Coordinates are finite and at most 2^30
+ * in magnitude, also of vertices that no facet uses. The caller's ceiling is how many vertices, and how many facets, a mesh that is handed in
+ * may have: 65,536 at most, and a larger ceiling counts as 65,536. A mesh that two ceilings admit gives the same under both. A result may
+ * have more than the ceiling.
  *
  * Work room is 64-bit words that a call computes in. Its old contents do not matter; all of it is zero afterwards, also when the call is
  * turned down. To learn how much is needed, compute it by the formula given, which counts items (vertices, facets, triangles, grid points) and
@@ -41,6 +43,7 @@ uint32_t yongpham_tolerance(double min_x, double min_y, double min_z, double max
  *   vertices, facets          the mesh, and the numbers of elements of its two lists
  *   min_x .. max_z            the box, as for yongpham_tolerance
  *   eps                       from 0 to 1; the tolerance of the box serves
+ *   ceiling                   how many vertices, and how many facets, the mesh may have (2)
  *   work                      at least 128 * (vertices + facets) + 1024 words
  *   out_vertices, out_facets  the clipped mesh
  *   values                    done: the lengths written to out_vertices and out_facets, in elements; 7: the words of work room needed;
@@ -50,7 +53,7 @@ uint32_t yongpham_tolerance(double min_x, double min_y, double min_z, double max
  */
 uint32_t yongpham_clip(const double *vertices, size_t vertices_length, const uint32_t *facets, size_t facets_length,
                        double min_x, double min_y, double min_z, double max_x, double max_y, double max_z, double eps,
-                       uint64_t *work, size_t work_length,
+                       uint64_t ceiling, uint64_t *work, size_t work_length,
                        double *out_vertices, size_t out_vertices_length, uint32_t *out_facets, size_t out_facets_length,
                        uint64_t values[4]);
 
@@ -59,6 +62,7 @@ uint32_t yongpham_clip(const double *vertices, size_t vertices_length, const uin
  *
  *   vertices, facets          the mesh, as for yongpham_clip
  *   eps                       from 0 to 1: vertices weld that lie in neighbouring cells of side max(eps, 1e-12) and no further than eps apart
+ *   ceiling                   as for yongpham_clip
  *   work                      at least 128 * (vertices + facets) + 1024 words, as for yongpham_clip
  *   out_vertices, out_facets  the cleaned mesh
  *   values                    as for yongpham_clip
@@ -66,7 +70,7 @@ uint32_t yongpham_clip(const double *vertices, size_t vertices_length, const uin
  * Answers 0, or 1, 2, 3, 4, 7, 8 or 12, tested in that order. 8: a coordinate divided by max(eps, 1e-12) and rounded is beyond 2^62.
  */
 uint32_t yongpham_clean(const double *vertices, size_t vertices_length, const uint32_t *facets, size_t facets_length, double eps,
-                        uint64_t *work, size_t work_length,
+                        uint64_t ceiling, uint64_t *work, size_t work_length,
                         double *out_vertices, size_t out_vertices_length, uint32_t *out_facets, size_t out_facets_length,
                         uint64_t values[4]);
 
@@ -79,6 +83,7 @@ uint32_t yongpham_clean(const double *vertices, size_t vertices_length, const ui
  *   eps                from 0 to 1; the tolerance of the box serves
  *   resolution         above 0 and at most 2^30: the length of a segment of the grids that are laid over the faces. An axis is cut into
  *                      (its length / the larger of resolution and eps, rounded up) segments, at least 1 and at most 256
+ *   ceiling            as for yongpham_clip
  *   work               at least 128 * (vertices + facets + G) + 1024 words; with a, b and c segments on the three axes, G is
  *                      2 * ((a + 1) * (b + 1) + (a + 1) * (c + 1) + (b + 1) * (c + 1))
  *   candidates         five words a candidate: the bits of x, y and z; mesh vertex + 1, or 0 where it is none; the faces it lies on, bit f for
@@ -96,7 +101,7 @@ uint32_t yongpham_clean(const double *vertices, size_t vertices_length, const ui
  */
 uint32_t yongpham_candidates(const double *vertices, size_t vertices_length, const uint32_t *facets, size_t facets_length,
                              double min_x, double min_y, double min_z, double max_x, double max_y, double max_z, double eps, double resolution,
-                             uint64_t *work, size_t work_length,
+                             uint64_t ceiling, uint64_t *work, size_t work_length,
                              uint64_t *candidates, size_t candidates_length, uint64_t *face_lists, size_t face_lists_length,
                              uint64_t *constraints, size_t constraints_length, uint64_t *open_edges, size_t open_edges_length,
                              uint64_t values[4]);
@@ -114,6 +119,7 @@ uint32_t yongpham_candidates(const double *vertices, size_t vertices_length, con
  *   eps, resolution           as for yongpham_candidates, and the same two numbers
  *   mode                      0: none, the mesh comes back as it is; 1: positive, as if values outside the box were above the isovalue;
  *                             2: negative, as if they were below it
+ *   ceiling                   as for yongpham_clip; the cap list has its own
  *   work                      at least 128 * (vertices + facets + cap triangles + G) + 1024 words, G as for yongpham_candidates
  *   out_vertices, out_facets  the closed mesh. Vertices: those given, none of them moved, and behind them each candidate that is none of them and
  *                             that a triangle to be added has as a corner, in the order in which these triangles first name it: triangle by
@@ -134,8 +140,7 @@ uint32_t yongpham_candidates(const double *vertices, size_t vertices_length, con
 uint32_t yongpham_caps(const double *vertices, size_t vertices_length, const uint32_t *facets, size_t facets_length,
                        const uint64_t *cap_list, size_t cap_list_length,
                        double min_x, double min_y, double min_z, double max_x, double max_y, double max_z, double eps, double resolution,
-                       uint32_t mode,
-                       uint64_t *work, size_t work_length,
+                       uint32_t mode, uint64_t ceiling, uint64_t *work, size_t work_length,
                        double *out_vertices, size_t out_vertices_length, uint32_t *out_facets, size_t out_facets_length,
                        uint64_t values[4]);
 

@@ -13,6 +13,7 @@ extern "C" {
         max_y: f64,
         max_z: f64,
         eps: f64,
+        ceiling: u64,
         work: *mut u64,
         work_length: usize,
         out_vertices: *mut f64,
@@ -24,11 +25,13 @@ extern "C" {
 }
 
 /// The mesh cut to the box.
+#[allow(clippy::too_many_arguments)]
 pub fn clip(
     vertices: &[f64],
     facets: &[u32],
     extents: &Extents,
     eps: f64,
+    ceiling: u64,
     work: &mut [u64],
     out_vertices: &mut [f64],
     out_facets: &mut [u32],
@@ -49,6 +52,7 @@ pub fn clip(
             y1,
             z1,
             eps,
+            ceiling,
             work.as_mut_ptr(),
             work.len(),
             out_vertices.as_mut_ptr(),

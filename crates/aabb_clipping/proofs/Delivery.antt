@@ -28,7 +28,7 @@ use Rattle.refusals.specs.declared.reply.Reply.the-variants.{DoneTwo}
 use Rattle.refusals.specs.declared.reply.Reply.the-variants as reply
 use Rattle.refusals.specs.Refusals.{documentedReply, Test, firstRefusal}
 use Rattle.refusals.specs.Answers.{Output, output, meshOutputs, Answer}
-use Rattle.input_tests.specs.Front.{ceiling, listTests, badIndex, inRange, epsInRange, boxInRange, badBox, workNeed}
+use Rattle.input_tests.specs.Front.{Limits, listTests, badIndex, inRange, epsInRange, boxInRange, badBox, workNeed}
 use Rattle.refusals.proofs.Refusals.{holds, passes, none-left, row-passed, row-refused}
 use Rattle.refusals.proofs.Replies.{head-passed, tail-passed, row-front, row-rest}
 use Rattle.input_tests.proofs.Lists.{listed}
@@ -91,25 +91,25 @@ pub record Ready (vs : List Float) (fs : List ℕ) (lent : ℕ) : Type 0 where
   pub below : badIndex (length vs / 3) fs ≡ false
   pub room : length vs / 3 ≤ lent
 
-pub ready : (vs : List Float) (fs : List ℕ) (q : ClipAsked) (lent : ℕ) → firstRefusal (clipTests vs fs q lent) ≡ Passed → Ready vs fs lent
+pub ready : (vs : List Float) (fs : List ℕ) (q : ClipAsked) (l : Limits) → firstRefusal (clipTests vs fs q l) ≡ Passed → Ready vs fs (l .lent)
 unfolding clipTests workNeed
-ready vs fs q lent e =
+ready vs fs q l e =
     let need = 128 * (length vs / 3 + length fs / 3 + 0 + 0) + 1024 in
-    let lists = listTests ceiling vs fs 0 in
-    let room : Test = (ltb lent need, NoWorkRoom need) in
+    let lists = listTests (l .ceiling) vs fs 0 in
+    let room : Test = (ltb (l .lent) need, NoWorkRoom need) in
     let bad : Test = (badBox (q .box), BadBox) in
     let number = not (every inRange vs && (boxInRange (q .box) && epsInRange (q .eps))) in
-    let l = listed ceiling vs fs 0 (row-front lists ((number, BadNumber) ∷ bad ∷ room ∷ []) e) in
+    let p = listed (l .ceiling) vs fs 0 (row-front lists ((number, BadNumber) ∷ bad ∷ room ∷ []) e) in
     let e4 = row-rest lists ((number, BadNumber) ∷ bad ∷ room ∷ []) e in
     let e5 = tail-passed number BadNumber (bad ∷ room ∷ []) e4 in
     let e7 = tail-passed (badBox (q .box)) BadBox (room ∷ []) e5 in
-    let h = ltb-false lent need (head-passed (ltb lent need) (NoWorkRoom need) [] e7) in
-    record { few = (l .few-vertices, l .few-facets); below = l .below; room = omega arith }
+    let h = ltb-false (l .lent) need (head-passed (ltb (l .lent) need) (NoWorkRoom need) [] e7) in
+    record { few = (p .few-vertices, p .few-facets); below = p .below; room = omega arith }
 
 -- ---- the tests in front, one after the other
-module _ (vs : List Float) (fs : List ℕ) (q : ClipAsked) (lent : ℕ) where
+module _ (vs : List Float) (fs : List ℕ) (q : ClipAsked) (l : Limits) where
   abbrev lists : List Test
-  lists = listTests ceiling vs fs 0
+  lists = listTests (l .ceiling) vs fs 0
 
   abbrev badNumber : Bool
   badNumber = not (every inRange vs && (boxInRange (q .box) && epsInRange (q .eps)))
@@ -118,33 +118,33 @@ module _ (vs : List Float) (fs : List ℕ) (q : ClipAsked) (lent : ℕ) where
   need = workNeed (length vs / 3) (length fs / 3) 0 0
 
   abbrev rest : List Test
-  rest = (badNumber, BadNumber) ∷ (badBox (q .box), BadBox) ∷ (ltb lent need, NoWorkRoom need) ∷ []
+  rest = (badNumber, BadNumber) ∷ (badBox (q .box), BadBox) ∷ (ltb (l .lent) need, NoWorkRoom need) ∷ []
 
-  pub lists-refused : (x : Checked) (r : Refusal) → x ≡ firstRefusal lists → x ≡ Refused r → x ≡ firstRefusal (clipTests vs fs q lent)
+  pub lists-refused : (x : Checked) (r : Refusal) → x ≡ firstRefusal lists → x ≡ Refused r → x ≡ firstRefusal (clipTests vs fs q l)
   unfolding clipTests
   lists-refused x r e f = f ∙ sym (row-refused lists rest r (sym e ∙ f))
 
   module _ (e : firstRefusal lists ≡ Passed) where
-    pub number-refused : badNumber ≡ true → Refused BadNumber ≡ firstRefusal (clipTests vs fs q lent)
+    pub number-refused : badNumber ≡ true → Refused BadNumber ≡ firstRefusal (clipTests vs fs q l)
     unfolding clipTests
-    number-refused h = sym (row-passed lists rest e ∙ holds badNumber BadNumber ((badBox (q .box), BadBox) ∷ (ltb lent need, NoWorkRoom need) ∷ []) h)
+    number-refused h = sym (row-passed lists rest e ∙ holds badNumber BadNumber ((badBox (q .box), BadBox) ∷ (ltb (l .lent) need, NoWorkRoom need) ∷ []) h)
 
     module _ (h : badNumber ≡ false) where
-      after-numbers : firstRefusal (clipTests vs fs q lent) ≡ firstRefusal ((badBox (q .box), BadBox) ∷ (ltb lent need, NoWorkRoom need) ∷ [])
+      after-numbers : firstRefusal (clipTests vs fs q l) ≡ firstRefusal ((badBox (q .box), BadBox) ∷ (ltb (l .lent) need, NoWorkRoom need) ∷ [])
       unfolding clipTests
-      after-numbers = row-passed lists rest e ∙ passes badNumber BadNumber ((badBox (q .box), BadBox) ∷ (ltb lent need, NoWorkRoom need) ∷ []) h
+      after-numbers = row-passed lists rest e ∙ passes badNumber BadNumber ((badBox (q .box), BadBox) ∷ (ltb (l .lent) need, NoWorkRoom need) ∷ []) h
 
-      pub box-refused : badBox (q .box) ≡ true → Refused BadBox ≡ firstRefusal (clipTests vs fs q lent)
-      box-refused g = sym (after-numbers ∙ holds (badBox (q .box)) BadBox ((ltb lent need, NoWorkRoom need) ∷ []) g)
+      pub box-refused : badBox (q .box) ≡ true → Refused BadBox ≡ firstRefusal (clipTests vs fs q l)
+      box-refused g = sym (after-numbers ∙ holds (badBox (q .box)) BadBox ((ltb (l .lent) need, NoWorkRoom need) ∷ []) g)
 
       module _ (g : badBox (q .box) ≡ false) (n : ℕ) (en : n ≡ need) where
-        after-box : firstRefusal (clipTests vs fs q lent) ≡ firstRefusal ((ltb lent n, NoWorkRoom n) ∷ [])
+        after-box : firstRefusal (clipTests vs fs q l) ≡ firstRefusal ((ltb (l .lent) n, NoWorkRoom n) ∷ [])
         after-box =
-            after-numbers ∙ passes (badBox (q .box)) BadBox ((ltb lent need, NoWorkRoom need) ∷ []) g
-            ∙ ap (λ (k : ℕ). firstRefusal ((ltb lent k, NoWorkRoom k) ∷ [])) (sym en)
+            after-numbers ∙ passes (badBox (q .box)) BadBox ((ltb (l .lent) need, NoWorkRoom need) ∷ []) g
+            ∙ ap (λ (k : ℕ). firstRefusal ((ltb (l .lent) k, NoWorkRoom k) ∷ [])) (sym en)
 
-        pub room-refused : lent < n → Refused (NoWorkRoom n) ≡ firstRefusal (clipTests vs fs q lent)
-        room-refused k = sym (after-box ∙ holds (ltb lent n) (NoWorkRoom n) [] (lt-ltb lent n k))
+        pub room-refused : l .lent < n → Refused (NoWorkRoom n) ≡ firstRefusal (clipTests vs fs q l)
+        room-refused k = sym (after-box ∙ holds (ltb (l .lent) n) (NoWorkRoom n) [] (lt-ltb (l .lent) n k))
 
-        pub all-passed : n ≤ lent → Passed ≡ firstRefusal (clipTests vs fs q lent)
-        all-passed k = sym (after-box ∙ passes (ltb lent n) (NoWorkRoom n) [] (le-ltb lent n k) ∙ none-left)
+        pub all-passed : n ≤ l .lent → Passed ≡ firstRefusal (clipTests vs fs q l)
+        all-passed k = sym (after-box ∙ passes (ltb (l .lent) n) (NoWorkRoom n) [] (le-ltb (l .lent) n k) ∙ none-left)

@@ -5,7 +5,7 @@ ghost use mathlib.Core.Bool.{true, false};
 ghost use mathlib.Core.List.{[]};
 ghost use Prim.Native.Nat.{_/_, _≤_};
 ghost use lib.ListN.{length};
-ghost use Rattle.input_tests.specs.Front.{badIndex};
+ghost use Rattle.input_tests.specs.Front.{limits, badIndex};
 ghost use Rattle.refusals.specs.Refusals.{documentedReply, firstRefusal};
 ghost use Rattle.refusals.specs.Answers.{meshOutputs, Answer, Answered};
 ghost use Rattle.aabb_clipping.specs.Clip.{clipAsked, clipTests, clipResult};
@@ -25,10 +25,17 @@ use refusals::reply::Reply;
 use words::zero_front;
 
 // Tests 1, 2, 3, 4, 5 and 7, in that order.
-fn check(vertices: &[f64], facets: &[u32], extents: AABB, eps: f64, lent: usize) -> Checked
-    ensures { λ r. ⌜ r ≡ firstRefusal (clipTests (now (vertices .entry)) (now (facets .entry)) (clipAsked extents eps) lent) ⌝ }
+fn check(
+    vertices: &[f64],
+    facets: &[u32],
+    extents: AABB,
+    eps: f64,
+    ceiling: u64,
+    lent: usize,
+) -> Checked
+    ensures { λ r. ⌜ r ≡ firstRefusal (clipTests (now (vertices .entry)) (now (facets .entry)) (clipAsked extents eps) (limits ceiling lent)) ⌝ }
 {
-    let lists = check_lists(65536, vertices, facets, 0);
+    let lists = check_lists(ceiling, vertices, facets, 0);
     if let Checked::Refused(_) = lists {
         return lists;
     }
@@ -180,12 +187,13 @@ fn clip_or_refuse(
     facets: &[u32],
     extents: AABB,
     eps: f64,
+    ceiling: u64,
     work: &mut [u64],
     out_vertices: &mut [f64],
     out_facets: &mut [u32],
 ) -> Reply
-    requires { ⌜ found ≡ firstRefusal (clipTests (now vertices) (now facets) (clipAsked extents eps) (length (now work))) ⌝ }
-    ensures { λ r. ⌜ Answer (clipTests (now (vertices .entry)) (now (facets .entry)) (clipAsked extents eps) (length (now (work .entry))))
+    requires { ⌜ found ≡ firstRefusal (clipTests (now vertices) (now facets) (clipAsked extents eps) (limits ceiling (length (now work)))) ⌝ }
+    ensures { λ r. ⌜ Answer (clipTests (now (vertices .entry)) (now (facets .entry)) (clipAsked extents eps) (limits ceiling (length (now (work .entry)))))
         (meshOutputs (clipResult (now (vertices .entry)) (now (facets .entry)) (clipAsked extents eps)) (now («out_vertices» .entry)) (now («out_vertices» .exit)) (now («out_facets» .entry))
         (now («out_facets» .exit))) (documentedReply r) ⌝ }
 {
@@ -211,22 +219,24 @@ pub fn clip_mesh_to_aabb(
     facets: &[u32],
     extents: AABB,
     eps: f64,
+    ceiling: u64,
     work: &mut [u64],
     out_vertices: &mut [f64],
     out_facets: &mut [u32],
 ) -> Reply
-    ensures { λ r. ⌜ Answered (clipTests (now (vertices .entry)) (now (facets .entry)) (clipAsked extents eps) (length (now (work .entry))))
+    ensures { λ r. ⌜ Answered (clipTests (now (vertices .entry)) (now (facets .entry)) (clipAsked extents eps) (limits ceiling (length (now (work .entry)))))
         (meshOutputs (clipResult (now (vertices .entry)) (now (facets .entry)) (clipAsked extents eps)) (now («out_vertices» .entry)) (now («out_vertices» .exit)) (now («out_facets» .entry))
         (now («out_facets» .exit))) (now (work .entry)) (now (work .exit)) (documentedReply r) ⌝ }
 {
     let lent = work.len();
-    let found = check(vertices, facets, extents, eps, lent);
+    let found = check(vertices, facets, extents, eps, ceiling, lent);
     let reply = clip_or_refuse(
         found,
         vertices,
         facets,
         extents,
         eps,
+        ceiling,
         work,
         out_vertices,
         out_facets,

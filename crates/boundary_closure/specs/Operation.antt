@@ -7,13 +7,14 @@ use mathlib.Core.List.{List, _++_}
 use lib.Ieee.{Float}
 use Rattle.geometry.specs.Meshes.{meshOf}
 use Rattle.refusals.specs.Refusals.{Test, unless}
+use Rattle.input_tests.specs.Front.{Limits}
 use Rattle.candidate_surface.specs.Asked.{Asked, setting}
 use Rattle.candidate_surface.specs.Candidates.{Candidates, noCandidates, candidates, noFacet, noTwoEnds}
 use Rattle.closure_tests.specs.Tests.{closureTests, edgeTests}
 
 module _ (vs : List Float) (fs : List ℕ) (q : Asked) where
-  abbrev pub candidatesTests : ℕ → List Test
-  candidatesTests lent = closureTests vs fs q 0 lent ++ unless (noFacet fs) (edgeTests vs fs q)
+  abbrev pub candidatesTests : Limits → List Test
+  candidatesTests l = closureTests vs fs q 0 l ++ unless (noFacet fs) (edgeTests vs fs q)
 
   -- "succeeds at the same two points with all four lengths 0"
   unfoldable pub candidatesResult : Candidates

@@ -7,6 +7,7 @@ ghost use Rattle.refusals.specs.Refusals.{documentedReply};
 ghost use Rattle.refusals.specs.Answers.{Answer, Answered};
 ghost use Rattle.candidate_edges.specs.Steps.{MeshFits};
 ghost use Rattle.candidate_pool.specs.Offsets.{roomEnd};
+ghost use Rattle.input_tests.specs.Front.{limits};
 ghost use Rattle.candidate_surface.specs.Asked.{asked};
 ghost use Rattle.closure_tests.specs.Tests.{edgeTests};
 ghost use Rattle.candidate_outputs.specs.Outputs.{candidateOutputs};
@@ -118,18 +119,28 @@ fn candidates_lent(
     extents: AABB,
     eps: f64,
     resolution: f64,
+    ceiling: u64,
     work: &mut [u64],
     candidates: &mut [u64],
     face_lists: &mut [u64],
     constraints: &mut [u64],
     open_edges: &mut [u64],
 ) -> Reply
-    ensures { λ r. ⌜ Answer (candidatesTests (now (vertices .entry)) (now (facets .entry)) (asked extents eps resolution) (length (now (work .entry))))
+    ensures { λ r. ⌜ Answer (candidatesTests (now (vertices .entry)) (now (facets .entry)) (asked extents eps resolution) (limits ceiling (length (now (work .entry)))))
         (candidateOutputs (candidatesResult (now (vertices .entry)) (now (facets .entry)) (asked extents eps resolution)) (now (candidates .entry)) (now (candidates .exit))
         (now («face_lists» .entry)) (now («face_lists» .exit)) (now (constraints .entry)) (now (constraints .exit)) (now («open_edges» .entry)) (now («open_edges» .exit)))
         (documentedReply r) ⌝ }
 {
-    match check_closure(vertices, facets, 0, extents, eps, resolution, work.len()) {
+    match check_closure(
+        vertices,
+        facets,
+        0,
+        extents,
+        eps,
+        resolution,
+        ceiling,
+        work.len(),
+    ) {
         Checked::Passed => {
             if facets.len() == 0 {
                 return Reply::DoneFour(0, 0, 0, 0);
@@ -158,13 +169,14 @@ pub fn cap_candidates(
     extents: AABB,
     eps: f64,
     resolution: f64,
+    ceiling: u64,
     work: &mut [u64],
     candidates: &mut [u64],
     face_lists: &mut [u64],
     constraints: &mut [u64],
     open_edges: &mut [u64],
 ) -> Reply
-    ensures { λ r. ⌜ Answered (candidatesTests (now (vertices .entry)) (now (facets .entry)) (asked extents eps resolution) (length (now (work .entry))))
+    ensures { λ r. ⌜ Answered (candidatesTests (now (vertices .entry)) (now (facets .entry)) (asked extents eps resolution) (limits ceiling (length (now (work .entry)))))
         (candidateOutputs (candidatesResult (now (vertices .entry)) (now (facets .entry)) (asked extents eps resolution)) (now (candidates .entry)) (now (candidates .exit))
         (now («face_lists» .entry)) (now («face_lists» .exit)) (now (constraints .entry)) (now (constraints .exit)) (now («open_edges» .entry)) (now («open_edges» .exit)))
         (now (work .entry)) (now (work .exit)) (documentedReply r) ⌝ }
@@ -175,6 +187,7 @@ pub fn cap_candidates(
         extents,
         eps,
         resolution,
+        ceiling,
         work,
         candidates,
         face_lists,

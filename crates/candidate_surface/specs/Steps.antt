@@ -18,7 +18,7 @@ use Rattle.geometry.specs.Meshes.{Mesh, meshOf, pointsOf}
 use Rattle.geometry.specs.Axes.{gridSize}
 use Rattle.edges.specs.Edges.{openEdges}
 use Rattle.edges.specs.Table.{edgeKey}
-use Rattle.input_tests.specs.Front.{ceiling, inRange, epsInRange, resolutionInRange, boxInRange, badBox, gridTooFine, ListsPass}
+use Rattle.input_tests.specs.Front.{inRange, epsInRange, resolutionInRange, boxInRange, badBox, gridTooFine, ListsPass}
 use Rattle.candidate_pool.specs.Offsets.{openEdgesAt, edgeTableAt}
 use Rattle.candidate_pool.specs.Pool.{Pool, byKey, insert}
 use Rattle.candidate_pool.specs.Setting.{Setting}
@@ -29,7 +29,7 @@ use Rattle.candidate_grids.specs.Grid.{grid}
 use Rattle.candidate_surface.specs.Asked.{Asked, oneResolution, setting}
 
 pub record Sound (vs : List Float) (fs : List ℕ) (q : Asked) : Type 0 where
-  pub lists : ListsPass ceiling vs fs
+  pub lists : ListsPass vs fs
   pub numbers : every inRange vs ≡ true
   pub box-in : boxInRange (q .box) ≡ true
   pub eps-in : epsInRange (q .eps) ≡ true

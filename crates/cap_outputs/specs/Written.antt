@@ -16,7 +16,7 @@ use Rattle.geometry.specs.declared.point.Point.{Point}
 use Rattle.candidate_pool.specs.Offsets.{entryAt}
 use Rattle.geometry.specs.Triangles.{threes}
 use Rattle.geometry.specs.Meshes.{Mesh, pointsOf}
-use Rattle.input_tests.specs.Front.{ceiling, ListsPass}
+use Rattle.input_tests.specs.Front.{ListsPass}
 use Rattle.candidate_pool.specs.Standing.{countAt, pointAt, PointStored}
 use Rattle.cap_closing.specs.Closing.{ownFacets}
 use Rattle.cap_closing.specs.Entering.{freshAt, leftAt, verticesAt, freshIn, firstsIn}
@@ -39,7 +39,7 @@ closedMeshIn vs fs n nc positive left w =
     }
 
 pub record Deliverable (vs : List Float) (fs : List ℕ) (n nc left caps : ℕ) (w : List ℕ) : Type 0 where
-  pub lists : ListsPass ceiling vs fs
+  pub lists : ListsPass vs fs
   pub small : n < 1048576
   pub few-caps : nc ≤ 1048576
   pub size : verticesAt n (length fs / 3) nc < length w

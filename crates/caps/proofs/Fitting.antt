@@ -13,7 +13,7 @@ use Rattle.refusals.specs.declared.refusal.Checked.{Checked}
 use Rattle.refusals.specs.declared.refusal.Checked.the-variants.{Passed}
 use Rattle.candidate_pool.specs.Offsets.{roomEnd}
 use Rattle.refusals.specs.Refusals.{Passes}
-use Rattle.input_tests.specs.Front.{ceiling}
+use Rattle.input_tests.specs.Front.{limits}
 use Rattle.input_tests.proofs.Lists.{cap-listed}
 use Rattle.candidate_pool.specs.Pool.{Pool, noCandidate}
 use Rattle.candidate_surface.specs.Asked.{Asked, setting}
@@ -25,10 +25,12 @@ use Rattle.cap_triangles.specs.Room.{turnedAt}
 use Rattle.caps.specs.Steps.{CapsChecked, Listable, Closable}
 use Rattle.caps.proofs.Numbering.{full-low, words-low, words-kept}
 
-pub listable : (vs : List Float) (fs capList : List ℕ) (q : Asked) (w : List ℕ) → Passes (closureTests vs fs q (length capList) (length w)) → Listable vs fs capList (mostCandidates vs q) w
-listable vs fs capList q w e =
-    let r = room-passed vs fs q (length capList) (length w) e in
-    record { list = cap-listed ceiling vs fs (length capList) (lists-passed vs fs q (length capList) (length w) e); size = omega (arith, r) }
+pub listable : (vs : List Float) (fs capList : List ℕ) (q : Asked) (ceiling : ℕ) (w : List ℕ) → Passes (closureTests vs fs q (length capList) (limits ceiling (length w)))
+    → Listable vs fs capList (mostCandidates vs q) w
+listable vs fs capList q ceiling w e =
+    let l = limits ceiling (length w) in
+    let r = room-passed vs fs q (length capList) l e in
+    record { list = cap-listed ceiling vs fs (length capList) (lists-passed vs fs q (length capList) l e); size = omega (arith, r) }
 
 pub listable-same : (vs : List Float) (fs capList : List ℕ) (n m : ℕ) (w w' : List ℕ) → m ≡ n → length w' ≡ length w → Listable vs fs capList n w → Listable vs fs capList m w'
 listable-same vs fs capList n m w w' e l L = record { list = L .list; size = let s = L .size in omega (arith, e, l, s) }

@@ -24,6 +24,7 @@ use Rattle.refusals.specs.declared.reply.Reply.the-variants.{Refused}
 use Rattle.refusals.specs.Refusals.{documentedReply, Test, firstRefusal, Passes, unless}
 use Rattle.refusals.specs.Answers.{meshOutputs, Answer}
 use Rattle.refusals.proofs.Refusals.{none-left, row-passed, row-refused}
+use Rattle.input_tests.specs.Front.{limits}
 use Rattle.candidate_pool.specs.Offsets.{openEdgesAt}
 use Rattle.refusals.proofs.Answers.{refused, after, behind, answered}
 use Rattle.refusals.proofs.Reports.{reply-zero}
@@ -171,11 +172,11 @@ module _ (vs : List Float) (fs capList : List ℕ) (q : Asked) (mode : BoundaryC
 
   -- ---- the work room cleared
 
-  pub capped : (x : Reply) (w u w' : List ℕ) (v v' : List Float) (f f' : List ℕ)
-      → Answer (capsTests vs fs capList q mode (length w)) (meshOutputs result v v' f f') (documentedReply x)
-      → length u ≡ length w → w' ≡ replicate (length u) 0 → Capped vs fs capList q mode x w w' v v' f f'
-  capped x w u w' v v' f f' d h z =
-      let ts = capsTests vs fs capList q mode (length w) in
+  pub capped : (ceiling : ℕ) (x : Reply) (w u w' : List ℕ) (v v' : List Float) (f f' : List ℕ)
+      → Answer (capsTests vs fs capList q mode (limits ceiling (length w))) (meshOutputs result v v' f f') (documentedReply x)
+      → length u ≡ length w → w' ≡ replicate (length u) 0 → Capped vs fs capList q mode ceiling x w w' v v' f f'
+  capped ceiling x w u w' v v' f f' d h z =
+      let ts = capsTests vs fs capList q mode (limits ceiling (length w)) in
       record {
         answered = answered ts (meshOutputs result v v' f f') w u w' (documentedReply x) d h z;
         rule = λ t. closes vs fs capList q mode ts (documentedReply x) v v' f f' d (reply-zero x t);

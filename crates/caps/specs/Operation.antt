@@ -21,6 +21,7 @@ use Rattle.refusals.specs.declared.refusal.Refusal.the-variants.{BadCap, Missin
 use Rattle.refusals.specs.declared.reply.Reply.{Reply}
 use Rattle.refusals.specs.Refusals.{documentedReply, turnedDown, Test, unless}
 use Rattle.refusals.specs.Answers.{meshOutputs, Answered}
+use Rattle.input_tests.specs.Front.{Limits, limits}
 use Rattle.candidate_pool.specs.OpenEdges.{OpenEdge}
 use Rattle.candidate_pool.specs.Pool.{Pool}
 use Rattle.candidate_surface.specs.Asked.{Asked, setting}
@@ -66,10 +67,9 @@ module _ (vs : List Float) (fs capList : List ℕ) (q : Asked) (mode : BoundaryC
   abbrev pub unchanged : Bool
   unchanged = passedOver || noTwoEnds vs fs q
 
-  -- for so many words of work room lent
-  abbrev pub capsTests : ℕ → List Test
-  capsTests lent =
-      closureTests vs fs q (length capList) lent
+  abbrev pub capsTests : Limits → List Test
+  capsTests l =
+      closureTests vs fs q (length capList) l
       ++ unless passedOver (edgeTests vs fs q ++ unless (noTwoEnds vs fs q) (capTests vs fs q capList))
 
   unfoldable pub capsResult : Mesh
@@ -86,7 +86,7 @@ module _ (vs : List Float) (fs capList : List ℕ) (q : Asked) (mode : BoundaryC
     pub vertices : v' ≡ overlay (coordinates (out .points)) v
     pub facets : f' ≡ overlay (flat (out .facets)) f
 
-  -- from work room w and outputs v and f to w', v' and f', with the reply r
-  pub record Capped (r : Reply) (w w' : List ℕ) (v v' : List Float) (f f' : List ℕ) : Type 0 where
-    pub answered : Answered (capsTests (length w)) (meshOutputs capsResult v v' f f') w w' (documentedReply r)
+  -- under a ceiling, from work room w and outputs v and f to w', v' and f', with the reply r
+  pub record Capped (ceiling : ℕ) (r : Reply) (w w' : List ℕ) (v v' : List Float) (f f' : List ℕ) : Type 0 where
+    pub answered : Answered (capsTests (limits ceiling (length w))) (meshOutputs capsResult v v' f f') w w' (documentedReply r)
     pub rule : turnedDown r ≡ false → unchanged ≡ false → Closes (documentedReply r) v v' f f'

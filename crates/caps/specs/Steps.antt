@@ -17,7 +17,7 @@ use Rattle.refusals.specs.declared.refusal.Checked.{Checked}
 use Rattle.refusals.specs.declared.refusal.Checked.the-variants.{Passed}
 use Rattle.candidate_pool.specs.Offsets.{openEdgesAt}
 use Rattle.refusals.specs.Refusals.{firstRefusal}
-use Rattle.input_tests.specs.Front.{ceiling, ListsPass, CapListPass}
+use Rattle.input_tests.specs.Front.{ListsPass, CapListPass}
 use Rattle.candidate_pool.specs.OpenEdges.{OpenEdge}
 use Rattle.candidate_pool.specs.Pool.{Pool}
 use Rattle.candidate_pool.specs.Standing.{poolAt, edgesAt}
@@ -49,7 +49,7 @@ abbrev pub closedMesh : List Float → List ℕ → List ℕ → ℕ → ℕ →
 closedMesh vs fs capList n k positive w = closedOf (poolAt n w) (capsOf capList) (edgesIn n (length fs / 3) k w) positive (meshOf vs fs)
 
 pub record Closable (vs : List Float) (fs capList : List ℕ) (n k : ℕ) (w : List ℕ) : Type 0 where
-  pub lists : ListsPass ceiling vs fs
+  pub lists : ListsPass vs fs
   pub within : VerticesIn vs
   pub words : MeshWords (length vs / 3) w
   pub ready : CapReady n (length fs / 3) k capList w

@@ -6,6 +6,7 @@ ghost use lib.ListN.{length};
 ghost use Rattle.refusals.specs.Refusals.{documentedReply, unless};
 ghost use Rattle.refusals.specs.Answers.{meshOutputs, Answer};
 ghost use Rattle.candidate_edges.specs.Steps.{MeshFits};
+ghost use Rattle.input_tests.specs.Front.{limits};
 ghost use Rattle.candidate_surface.specs.Asked.{asked};
 ghost use Rattle.candidate_surface.specs.Candidates.{noTwoEnds};
 ghost use Rattle.closure_tests.specs.Tests.{edgeTests};
@@ -127,12 +128,13 @@ fn caps_lent(
     eps: f64,
     resolution: f64,
     mode: BoundaryClosure,
+    ceiling: u64,
     work: &mut [u64],
     out_vertices: &mut [f64],
     out_facets: &mut [u32],
 ) -> Reply
     ensures { λ r. ⌜ Answer
-        (capsTests (now (vertices .entry)) (now (facets .entry)) (now («cap_list» .entry)) (asked extents eps resolution) mode (length (now (work .entry))))
+        (capsTests (now (vertices .entry)) (now (facets .entry)) (now («cap_list» .entry)) (asked extents eps resolution) mode (limits ceiling (length (now (work .entry)))))
         (meshOutputs (capsResult (now (vertices .entry)) (now (facets .entry)) (now («cap_list» .entry)) (asked extents eps resolution) mode) (now («out_vertices» .entry))
         (now («out_vertices» .exit)) (now («out_facets» .entry)) (now («out_facets» .exit))) (documentedReply r) ⌝ }
 {
@@ -143,6 +145,7 @@ fn caps_lent(
         extents,
         eps,
         resolution,
+        ceiling,
         work.len(),
     ) {
         Checked::Passed => {
@@ -178,11 +181,12 @@ pub fn cap_mesh_to_aabb(
     eps: f64,
     resolution: f64,
     mode: BoundaryClosure,
+    ceiling: u64,
     work: &mut [u64],
     out_vertices: &mut [f64],
     out_facets: &mut [u32],
 ) -> Reply
-    ensures { λ r. ⌜ Capped (now (vertices .entry)) (now (facets .entry)) (now («cap_list» .entry)) (asked extents eps resolution) mode r (now (work .entry))
+    ensures { λ r. ⌜ Capped (now (vertices .entry)) (now (facets .entry)) (now («cap_list» .entry)) (asked extents eps resolution) mode ceiling r (now (work .entry))
         (now (work .exit)) (now («out_vertices» .entry)) (now («out_vertices» .exit)) (now («out_facets» .entry)) (now («out_facets» .exit)) ⌝ }
 {
     let reply = caps_lent(
@@ -193,6 +197,7 @@ pub fn cap_mesh_to_aabb(
         eps,
         resolution,
         mode,
+        ceiling,
         work,
         out_vertices,
         out_facets,

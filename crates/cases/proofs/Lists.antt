@@ -14,6 +14,7 @@ use Rattle.refusals.specs.Refusals.{documentedReply, settle}
 use Rattle.refusals.specs.Answers.{replyIn, Answered}
 use Rattle.refusals.specs.Reports.{Reported}
 use Rattle.refusals.proofs.Reports.{same-reply}
+use Rattle.input_tests.specs.Front.{meshCeiling, limits}
 use Rattle.candidate_surface.specs.Asked.{Asked, asked}
 use Rattle.candidate_outputs.specs.Outputs.{candidateWords, candidateLengths, candidateOutputs}
 use Rattle.boundary_closure.specs.Operation.{candidatesTests, candidatesResult}
@@ -24,14 +25,14 @@ zeros : length (replicate {A = ℕ} 8192 0) ≡ 8192
 zeros = length-replicate {A = ℕ} 8192 0
 
 module _ (vs : List Float) (fs : List ℕ) (q : Asked) (m : Reply) (w w' c c' l' k' e' : List ℕ) (r : ℕ) (ws : List ℕ) where
-  pub listing : Answered (candidatesTests vs fs q (length w)) (candidateOutputs (candidatesResult vs fs q) c c' (replicate 8192 0) l' (replicate 8192 0) k' (replicate 8192 0) e') w
+  pub listing : Answered (candidatesTests vs fs q (limits meshCeiling (length w))) (candidateOutputs (candidatesResult vs fs q) c c' (replicate 8192 0) l' (replicate 8192 0) k' (replicate 8192 0) e') w
       w' (documentedReply m)
       → Reported (documentedReply m) r ws → Listing vs fs q (length w) r ws c c'
   listing d g =
       let reply = listReply vs fs q (length w) (length c) in
       let lengths = candidateLengths (candidatesResult vs fs q) in
       let same : documentedReply m ≡ reply =
-      d .answer .replied ∙ ap (λ (n : ℕ). replyIn (candidatesTests vs fs q (length w)) lengths (length c ∷ n ∷ n ∷ n ∷ [])) zeros in
+      d .answer .replied ∙ ap (λ (n : ℕ). replyIn (candidatesTests vs fs q (limits meshCeiling (length w))) lengths (length c ∷ n ∷ n ∷ n ∷ [])) zeros in
       record {
         reported = same-reply (documentedReply m) reply r ws same g;
         candidates = d .answer .settled .0 ∙ ap (λ (p : List ℕ). settle p (candidateWords (candidatesResult vs fs q .all)) c) same;

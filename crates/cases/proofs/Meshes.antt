@@ -12,14 +12,15 @@ use Rattle.geometry.specs.Meshes.{coordinates, meshLengths}
 use Rattle.refusals.specs.declared.reply.Reply.{Reply}
 use Rattle.refusals.specs.Refusals.{documentedReply, settle}
 use Rattle.refusals.specs.Answers.{replyIn}
+use Rattle.input_tests.specs.Front.{meshCeiling, limits}
 use Rattle.mesh_cleanup.specs.Clean.{CleanAsked, cleanTests, cleanResult, Cleaned}
 use Rattle.cases.specs.Cleaning.{isMesh, isKeyRange, replyInRoom, cleansTo, hasFarKey}
 
 module _ (vs : List Float) (fs : List ℕ) (q : CleanAsked) (reply : Reply) (w w' : List ℕ) (v' : List Float) (f' : List ℕ) (long : length w ≡ 2048) where
-  answer : Cleaned vs fs q reply w w' (replicate 12 zeroF) v' (replicate 6 0) f' → documentedReply reply ≡ replyInRoom vs fs q
-  answer h = h .answered .answer .replied ∙ ap (λ (n : ℕ). replyIn (cleanTests vs fs q n) (meshLengths (cleanResult vs fs q)) (12 ∷ 6 ∷ [])) long
+  answer : Cleaned vs fs q meshCeiling reply w w' (replicate 12 zeroF) v' (replicate 6 0) f' → documentedReply reply ≡ replyInRoom vs fs q
+  answer h = h .answered .answer .replied ∙ ap (λ (n : ℕ). replyIn (cleanTests vs fs q (limits meshCeiling n)) (meshLengths (cleanResult vs fs q)) (12 ∷ 6 ∷ [])) long
 
-  pub cleaned-to : Cleaned vs fs q reply w w' (replicate 12 zeroF) v' (replicate 6 0) f' → (statedVs : List Float) (statedFs : List ℕ)
+  pub cleaned-to : Cleaned vs fs q meshCeiling reply w w' (replicate 12 zeroF) v' (replicate 6 0) f' → (statedVs : List Float) (statedFs : List ℕ)
       → isMesh (documentedReply reply) v' f' statedVs statedFs ≡ cleansTo vs fs q statedVs statedFs
   unfolding cleansTo
   cleaned-to h statedVs statedFs =
@@ -32,6 +33,6 @@ module _ (vs : List Float) (fs : List ℕ) (q : CleanAsked) (reply : Reply) (w w
       statedVs statedFs)
       (answer h)
 
-  pub cleaned-key : Cleaned vs fs q reply w w' (replicate 12 zeroF) v' (replicate 6 0) f' → isKeyRange (documentedReply reply) ≡ hasFarKey vs fs q
+  pub cleaned-key : Cleaned vs fs q meshCeiling reply w w' (replicate 12 zeroF) v' (replicate 6 0) f' → isKeyRange (documentedReply reply) ≡ hasFarKey vs fs q
   unfolding hasFarKey
   cleaned-key h = ap isKeyRange (answer h)

@@ -26,6 +26,7 @@ use Rattle.geometry.specs.Meshes.{coordinates, meshLengths}
 use Rattle.refusals.specs.declared.reply.Reply.{Reply}
 use Rattle.refusals.specs.Refusals.{documentedReply, settle}
 use Rattle.refusals.specs.Answers.{replyIn}
+use Rattle.input_tests.specs.Front.{meshCeiling, limits}
 use Rattle.candidate_surface.specs.Asked.{asked}
 use Rattle.caps.specs.declared.mode.BoundaryClosure.{BoundaryClosure}
 use Rattle.caps.specs.Operation.{capsTests, capsResult, Capped}
@@ -89,7 +90,7 @@ module _ (vs : List Float) (fs stated : List ℕ) (i : ℕ) (e : hasFacets vs fs
 
 module _ (mode : BoundaryClosure) (l : List ℕ) (b : AABB) (reply : Reply) (w w' : List ℕ) (v' : List Float) (f' : List ℕ) (e : b ≡ boxTo oneF oneF oneF) (long : length w ≡ 8192)
   where
-    pub capped-to : Capped squareAtHalf twoFacets l (asked b 1e-10 oneF) mode reply w w' (replicate 24 zeroF) v' (replicate 36 0) f' → (stated : List ℕ)
+    pub capped-to : Capped squareAtHalf twoFacets l (asked b 1e-10 oneF) mode meshCeiling reply w w' (replicate 24 zeroF) v' (replicate 36 0) f' → (stated : List ℕ)
         → isHalf (documentedReply reply) v' f' stated ≡ closesTo mode l stated
     unfolding closesTo
     capped-to h stated =
@@ -104,7 +105,7 @@ module _ (mode : BoundaryClosure) (l : List ℕ) (b : AABB) (reply : Reply) (w w
         answer =
             h .answered .answer .replied
             ∙ (λ t.
-            replyIn (capsTests squareAtHalf twoFacets l (asked (e t) 1e-10 oneF) mode (long t))
+            replyIn (capsTests squareAtHalf twoFacets l (asked (e t) 1e-10 oneF) mode (limits meshCeiling (long t)))
             (meshLengths (capsResult squareAtHalf twoFacets l (asked (e t) 1e-10 oneF) mode)) (24 ∷ 36 ∷ []))
 
 pub point-goes : (vs q : List Float) (v p : ℕ) (r : Bool) → r ≡ begins sameBits nan (take (length vs - 3 * v) (drop (3 * v) vs)) q → q ≡ halfPoint p

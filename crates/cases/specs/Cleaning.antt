@@ -14,6 +14,7 @@ use Rattle.geometry.specs.Triangles.{flat}
 use Rattle.geometry.specs.Meshes.{coordinates, meshLengths}
 use Rattle.refusals.specs.Refusals.{settle}
 use Rattle.refusals.specs.Answers.{replyIn}
+use Rattle.input_tests.specs.Front.{meshCeiling, limits}
 use Rattle.mesh_cleanup.specs.Clean.{CleanAsked, cleanAsked, cleanTests, cleanResult}
 use Rattle.cases.specs.Comparing.{begins, sameBits}
 
@@ -31,7 +32,7 @@ isKeyRange reply = eqb (getD reply 0 0) 8
 
 module _ (vs : List Float) (fs : List ℕ) (q : CleanAsked) where
   abbrev pub replyInRoom : List ℕ
-  replyInRoom = replyIn (cleanTests vs fs q 2048) (meshLengths (cleanResult vs fs q)) (12 ∷ 6 ∷ [])
+  replyInRoom = replyIn (cleanTests vs fs q (limits meshCeiling 2048)) (meshLengths (cleanResult vs fs q)) (12 ∷ 6 ∷ [])
 
   unfoldable pub cleansTo : List Float → List ℕ → Bool
   cleansTo statedVs statedFs =

@@ -19,7 +19,7 @@ use mathlib.Core.Path.{_≡_}
 use Rattle.refusals.specs.Refusals.{settle}
 use Rattle.refusals.specs.Answers.{replyIn}
 use Rattle.refusals.specs.Reports.{Reported}
-use Rattle.input_tests.specs.Front.{byAxis}
+use Rattle.input_tests.specs.Front.{meshCeiling, limits, byAxis}
 use Rattle.candidate_outputs.specs.Outputs.{candidateWords, candidateLengths}
 use Rattle.candidate_surface.specs.Asked.{Asked, asked}
 use Rattle.boundary_closure.specs.Operation.{candidatesTests, candidatesResult}
@@ -31,7 +31,7 @@ boxTo x y z = record { «min_corner» = zeroF ∷ zeroF ∷ zeroF ∷ []; «max_
 
 -- for so many words of work room lent, and room for n words of candidates
 abbrev pub listReply : List Float → List ℕ → Asked → ℕ → ℕ → List ℕ
-listReply vs fs q lent n = replyIn (candidatesTests vs fs q lent) (candidateLengths (candidatesResult vs fs q)) (n ∷ 8192 ∷ 8192 ∷ 8192 ∷ [])
+listReply vs fs q lent n = replyIn (candidatesTests vs fs q (limits meshCeiling lent)) (candidateLengths (candidatesResult vs fs q)) (n ∷ 8192 ∷ 8192 ∷ 8192 ∷ [])
 
 pub record Listing (vs : List Float) (fs : List ℕ) (q : Asked) (lent r : ℕ) (values c c' : List ℕ) : Type 0 where
   pub reported : Reported (listReply vs fs q lent (length c)) r values

@@ -21,6 +21,7 @@ use Rattle.refusals.specs.Refusals.{settle}
 use Rattle.caps.specs.declared.mode.BoundaryClosure.{BoundaryClosure}
 use Rattle.caps.specs.declared.mode.BoundaryClosure.the-variants.{ClosePositive, CloseNegative}
 use Rattle.refusals.specs.Answers.{replyIn}
+use Rattle.input_tests.specs.Front.{meshCeiling, limits}
 use Rattle.candidate_surface.specs.Asked.{asked}
 use Rattle.caps.specs.Operation.{capsTests, capsResult}
 use Rattle.cases.specs.Comparing.{bitsOf, begins, sameBits, placeOf}
@@ -77,7 +78,7 @@ squareAtHalf = zeroF ∷ zeroF ∷ half ∷ oneF ∷ zeroF ∷ half ∷ oneF ∷
 module _ (mode : BoundaryClosure) (capList : List ℕ) where
   abbrev pub capped : List ℕ
   capped =
-      replyIn (capsTests squareAtHalf twoFacets capList (asked (boxTo oneF oneF oneF) 1e-10 oneF) mode 8192)
+      replyIn (capsTests squareAtHalf twoFacets capList (asked (boxTo oneF oneF oneF) 1e-10 oneF) mode (limits meshCeiling 8192))
       (meshLengths (capsResult squareAtHalf twoFacets capList (asked (boxTo oneF oneF oneF) 1e-10 oneF) mode)) (24 ∷ 36 ∷ [])
 
   abbrev pub cappedMesh : Mesh

@@ -45,6 +45,7 @@ pub fn list_candidates(
         extents,
         eps,
         resolution,
+        65536,
         work,
         candidates,
         &mut face_lists,

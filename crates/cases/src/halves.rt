@@ -301,6 +301,7 @@ fn closes_to(mode: BoundaryClosure, list: &[u64; 80], stated: &[usize; 36]) -> b
         EPS,
         1.0,
         mode,
+        65536,
         &mut work,
         &mut out_vertices,
         &mut out_facets,

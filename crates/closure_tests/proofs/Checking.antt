@@ -27,7 +27,7 @@ use Rattle.refusals.specs.declared.refusal.Refusal.the-variants.{BadNumber, Bad
 use Rattle.refusals.specs.declared.refusal.Checked.{Checked}
 use Rattle.refusals.specs.declared.refusal.Checked.the-variants.{Passed, Refused}
 use Rattle.refusals.specs.Refusals.{Test, firstRefusal, Passes}
-use Rattle.input_tests.specs.Front.{ceiling, listTests, inRange, epsInRange, resolutionInRange, boxInRange, badBox, gridTooFine, workNeed, farKeys, boxFarKeys}
+use Rattle.input_tests.specs.Front.{Limits, listTests, inRange, epsInRange, resolutionInRange, boxInRange, badBox, gridTooFine, workNeed, farKeys, boxFarKeys}
 use Rattle.refusals.proofs.Refusals.{holds, passes, none-left, row-passed, row-refused}
 use Rattle.refusals.proofs.Replies.{head-passed, tail-passed, row-front, row-rest}
 use Rattle.input_tests.proofs.Lists.{listed, cap-listed}
@@ -41,18 +41,18 @@ use Rattle.candidate_pool.specs.Offsets.{edgeTableAt}
 
 -- ---- no count wraps
 
-pub need-small : (vs : List Float) (fs : List ℕ) (q : Asked) (caps m : ℕ) → firstRefusal (listTests ceiling vs fs caps) ≡ Passed
+pub need-small : (vs : List Float) (fs : List ℕ) (q : Asked) (ceiling caps m : ℕ) → firstRefusal (listTests ceiling vs fs caps) ≡ Passed
     → gridTooFine (q .box) (q .eps) (oneResolution (q .resolution)) ≡ false → m ≡ gridSize (q .box) (q .eps) (oneResolution (q .resolution)) → length vs / 3 + length fs / 3 + caps
     / 4 + m ≤ 4294967296
-need-small vs fs q caps m e f g =
+need-small vs fs q ceiling caps m e f g =
     let l = listed ceiling vs fs caps e in
     omega (arith, l .few-vertices, l .few-facets, cap-listed ceiling vs fs caps e .few, grid-small (q .box) (q .eps) (oneResolution (q .resolution)) f, g)
 
 -- ---- 1 to 7
 
-module _ (vs : List Float) (fs : List ℕ) (q : Asked) (caps lent : ℕ) where
+module _ (vs : List Float) (fs : List ℕ) (q : Asked) (caps : ℕ) (l : Limits) where
   abbrev lists : List Test
-  lists = listTests ceiling vs fs caps
+  lists = listTests (l .ceiling) vs fs caps
 
   abbrev bad : Bool
   bad = not (every inRange vs && (boxInRange (q .box) && (epsInRange (q .eps) && resolutionInRange (q .resolution))))
@@ -64,7 +64,7 @@ module _ (vs : List Float) (fs : List ℕ) (q : Asked) (caps lent : ℕ) where
   need = workNeed (length vs / 3) (length fs / 3) (caps / 4) (gridSize (q .box) (q .eps) (oneResolution (q .resolution)))
 
   abbrev work : List Test
-  work = (ltb lent need, NoWorkRoom need) ∷ []
+  work = (ltb (l .lent) need, NoWorkRoom need) ∷ []
 
   abbrev grids : List Test
   grids = (fine, GridTooFine) ∷ work
@@ -76,7 +76,7 @@ module _ (vs : List Float) (fs : List ℕ) (q : Asked) (caps lent : ℕ) where
   rest = (bad, BadNumber) ∷ boxes
 
   abbrev found : Checked
-  found = firstRefusal (closureTests vs fs q caps lent)
+  found = firstRefusal (closureTests vs fs q caps l)
 
   pub lists-refused : (x : Checked) (r : Refusal) → x ≡ firstRefusal lists → x ≡ Refused r → x ≡ found
   unfolding closureTests
@@ -106,16 +106,16 @@ module _ (vs : List Float) (fs : List ℕ) (q : Asked) (caps lent : ℕ) where
 
         module _ (f : fine ≡ false) (m : ℕ) (em : m ≡ gridSize (q .box) (q .eps) (oneResolution (q .resolution))) (n : ℕ)
             (en : n ≡ workNeed (length vs / 3) (length fs / 3) (caps / 4) m) where
-          after-grid : found ≡ firstRefusal ((ltb lent n, NoWorkRoom n) ∷ [])
+          after-grid : found ≡ firstRefusal ((ltb (l .lent) n, NoWorkRoom n) ∷ [])
           after-grid =
               after-box ∙ passes fine GridTooFine work f
-              ∙ ap (λ (k : ℕ). firstRefusal ((ltb lent k, NoWorkRoom k) ∷ [])) (sym (en ∙ ap (workNeed (length vs / 3) (length fs / 3) (caps / 4)) em))
+              ∙ ap (λ (k : ℕ). firstRefusal ((ltb (l .lent) k, NoWorkRoom k) ∷ [])) (sym (en ∙ ap (workNeed (length vs / 3) (length fs / 3) (caps / 4)) em))
 
-          pub room-refused : lent < n → Refused (NoWorkRoom n) ≡ found
-          room-refused k = sym (after-grid ∙ holds (ltb lent n) (NoWorkRoom n) [] (lt-ltb lent n k))
+          pub room-refused : l .lent < n → Refused (NoWorkRoom n) ≡ found
+          room-refused k = sym (after-grid ∙ holds (ltb (l .lent) n) (NoWorkRoom n) [] (lt-ltb (l .lent) n k))
 
-          pub all-passed : n ≤ lent → Passed ≡ found
-          all-passed k = sym (after-grid ∙ passes (ltb lent n) (NoWorkRoom n) [] (le-ltb lent n k) ∙ none-left)
+          pub all-passed : n ≤ l .lent → Passed ≡ found
+          all-passed k = sym (after-grid ∙ passes (ltb (l .lent) n) (NoWorkRoom n) [] (le-ltb (l .lent) n k) ∙ none-left)
 
   module _ (e : found ≡ Passed) where
     pub lists-passed : Passes lists
@@ -140,11 +140,11 @@ module _ (vs : List Float) (fs : List ℕ) (q : Asked) (caps lent : ℕ) where
 
     pub sound : Sound vs fs q
     sound =
-        let l = listed ceiling vs fs caps lists-passed in
+        let p = listed (l .ceiling) vs fs caps lists-passed in
         let a = and-right (every inRange vs) (boxInRange (q .box) && (epsInRange (q .eps) && resolutionInRange (q .resolution))) numbers-good in
         let b = and-right (boxInRange (q .box)) (epsInRange (q .eps) && resolutionInRange (q .resolution)) a in
         record {
-          lists = l;
+          lists = p;
           numbers = and-left (every inRange vs) (boxInRange (q .box) && (epsInRange (q .eps) && resolutionInRange (q .resolution))) numbers-good;
           box-in = and-left (boxInRange (q .box)) (epsInRange (q .eps) && resolutionInRange (q .resolution)) a;
           eps-in = and-left (epsInRange (q .eps)) (resolutionInRange (q .resolution)) b;
@@ -153,9 +153,9 @@ module _ (vs : List Float) (fs : List ℕ) (q : Asked) (caps lent : ℕ) where
           coarse = head-passed fine GridTooFine work grids-passed;
         }
 
-    pub room-passed : 128 * (length vs / 3 + length fs / 3 + caps / 4 + gridSize (q .box) (q .eps) (oneResolution (q .resolution))) + 1024 ≤ lent
+    pub room-passed : 128 * (length vs / 3 + length fs / 3 + caps / 4 + gridSize (q .box) (q .eps) (oneResolution (q .resolution))) + 1024 ≤ l .lent
     unfolding workNeed
-    room-passed = ltb-false lent need (head-passed (ltb lent need) (NoWorkRoom need) [] work-passed)
+    room-passed = ltb-false (l .lent) need (head-passed (ltb (l .lent) need) (NoWorkRoom need) [] work-passed)
 
 -- ---- 8 and 9
 

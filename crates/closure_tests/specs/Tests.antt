@@ -1,4 +1,4 @@
--- Tests 1 to 9 of document 01's table of refusals, as candidates and caps both ask them, in the table's order. Assumes nothing.
+-- Tests 1 to 9 of document 01's table of refusals, 2 by the caller's ceiling (document 02, E2), as candidates and caps both ask them, in the table's order. Assumes nothing.
 --   closureTests           1 to 7, for a cap list of the length `caps`
 --   strayEdge              the first open edge that lies on no face           edgeTests   8 and 9
 use Prim.Native.Nat.{ℕ, _/_}
@@ -13,7 +13,7 @@ use Rattle.geometry.specs.Axes.{gridSize}
 use Rattle.edges.specs.Edges.{sortedPair, openEdges}
 use Rattle.refusals.specs.declared.refusal.Refusal.the-variants.{BadNumber, BadBox, GridTooFine, KeyRange, OpenEdge}
 use Rattle.refusals.specs.Refusals.{Test}
-use Rattle.input_tests.specs.Front.{ceiling, listTests, inRange, epsInRange, resolutionInRange, boxInRange, badBox, gridTooFine, workNeed, workTest, farKeys, boxFarKeys}
+use Rattle.input_tests.specs.Front.{Limits, listTests, inRange, epsInRange, resolutionInRange, boxInRange, badBox, gridTooFine, workNeed, workTest, farKeys, boxFarKeys}
 use Rattle.candidate_edges.specs.Surface.{edgeFaces}
 use Rattle.candidate_surface.specs.Asked.{Asked, oneResolution}
 
@@ -21,14 +21,13 @@ module _ (vs : List Float) (fs : List ℕ) (q : Asked) where
   abbrev pub mesh : Mesh
   mesh = meshOf vs fs
 
-  -- for so many words of work room lent
-  unfoldable pub closureTests : ℕ → ℕ → List Test
-  closureTests caps lent =
-      listTests ceiling vs fs caps
+  unfoldable pub closureTests : ℕ → Limits → List Test
+  closureTests caps l =
+      listTests (l .ceiling) vs fs caps
       ++ (not (every inRange vs && (boxInRange (q .box) && (epsInRange (q .eps) && resolutionInRange (q .resolution)))), BadNumber)
       ∷ (badBox (q .box), BadBox)
       ∷ (gridTooFine (q .box) (q .eps) (oneResolution (q .resolution)), GridTooFine)
-      ∷ workTest (workNeed (length vs / 3) (length fs / 3) (caps / 4) (gridSize (q .box) (q .eps) (oneResolution (q .resolution)))) lent ∷ []
+      ∷ workTest (workNeed (length vs / 3) (length fs / 3) (caps / 4) (gridSize (q .box) (q .eps) (oneResolution (q .resolution)))) (l .lent) ∷ []
 
   unfoldable pub strayEdge : ℕ
   strayEdge = place (λ e. eqb (length (edgeFaces (q .box) (q .eps) mesh e)) 0) (openEdges (mesh .facets))

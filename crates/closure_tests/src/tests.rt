@@ -3,7 +3,7 @@ ghost use mathlib.Core.Path.{_≡_};
 ghost use mathlib.Core.Bool.{_&&_};
 ghost use Rattle.lists.specs.Lists.{every};
 ghost use Rattle.refusals.specs.Refusals.{firstRefusal};
-ghost use Rattle.input_tests.specs.Front.{inRange, epsInRange, resolutionInRange, boxInRange};
+ghost use Rattle.input_tests.specs.Front.{limits, inRange, epsInRange, resolutionInRange, boxInRange};
 ghost use Rattle.candidate_edges.specs.Steps.{MeshFits};
 ghost use Rattle.candidate_surface.specs.Asked.{asked};
 ghost use Rattle.closure_tests.specs.Tests.{closureTests, edgeTests};
@@ -51,11 +51,12 @@ pub fn check_closure(
     extents: AABB,
     eps: f64,
     resolution: f64,
+    ceiling: u64,
     lent: usize,
 ) -> Checked
-    ensures { λ r. ⌜ r ≡ firstRefusal (closureTests (now (vertices .entry)) (now (facets .entry)) (asked extents eps resolution) caps lent) ⌝ }
+    ensures { λ r. ⌜ r ≡ firstRefusal (closureTests (now (vertices .entry)) (now (facets .entry)) (asked extents eps resolution) caps (limits ceiling lent)) ⌝ }
 {
-    let lists = check_lists(65536, vertices, facets, caps);
+    let lists = check_lists(ceiling, vertices, facets, caps);
     if let Checked::Refused(_) = lists {
         return lists;
     }

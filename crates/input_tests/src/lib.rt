@@ -6,7 +6,7 @@ ghost use Prim.Native.Nat.{_<_, _≤_, _+_};
 ghost use lib.ListN.{length};
 ghost use Rattle.lists.specs.Lists.{every};
 ghost use Rattle.refusals.specs.Refusals.{firstRefusal};
-ghost use Rattle.input_tests.specs.Front.{ragged, tooMany, badIndex, listTests, capCeiling, inRange, epsInRange, resolutionInRange, workNeed};
+ghost use Rattle.input_tests.specs.Front.{ragged, tooMany, admitted, badIndex, listTests, capCeiling, inRange, epsInRange, resolutionInRange, workNeed};
 use refusals::refusal::Checked;
 use refusals::refusal::Refusal;
 
@@ -21,12 +21,31 @@ pub fn is_ragged(length: usize, of: usize) -> bool
     length % of != 0
 }
 
-// 2
-pub fn is_too_many(ceiling: usize, length: usize, of: usize) -> bool
+// 2, of a list with at most so many items
+pub fn is_too_many(most: usize, length: usize, of: usize) -> bool
     requires { ⌜ 0 < of ⌝ }
-    ensures { λ r. ⌜ r ≡ tooMany ceiling length of ⌝ }
+    ensures { λ r. ⌜ r ≡ tooMany most length of ⌝ }
 {
-    ceiling < length / of
+    most < length / of
+}
+
+// A ceiling over 65,536 counts as 65,536.
+pub fn most_admitted(ceiling: u64) -> usize
+    ensures { λ r. ⌜ r ≡ admitted ceiling ⌝ }
+{
+    if ceiling < 65536 {
+        ceiling as usize
+    } else {
+        65536
+    }
+}
+
+// 2, of a list of three numbers an item, by the caller's ceiling
+fn is_over(ceiling: u64, length: usize) -> bool
+    ensures { λ r. ⌜ r ≡ tooMany (admitted ceiling) length 3 ⌝ }
+{
+    let most = most_admitted(ceiling);
+    is_too_many(most, length, 3)
 }
 
 // 3
@@ -57,20 +76,20 @@ fn any_ragged(vertices: usize, facets: usize, caps: usize) -> bool
 }
 
 // 2, of all three lists: at most 1,048,576 cap triangles
-fn any_too_many(ceiling: usize, vertices: usize, facets: usize, caps: usize) -> bool
-    ensures { λ r. ⌜ r ≡ (tooMany ceiling vertices 3 || (tooMany ceiling facets 3 || tooMany capCeiling caps 4)) ⌝ }
+fn any_too_many(ceiling: u64, vertices: usize, facets: usize, caps: usize) -> bool
+    ensures { λ r. ⌜ r ≡ (tooMany (admitted ceiling) vertices 3 || (tooMany (admitted ceiling) facets 3 || tooMany capCeiling caps 4)) ⌝ }
 {
-    if is_too_many(ceiling, vertices, 3) {
+    if is_over(ceiling, vertices) {
         return true;
     }
-    if is_too_many(ceiling, facets, 3) {
+    if is_over(ceiling, facets) {
         return true;
     }
     is_too_many(1048576, caps, 4)
 }
 
-// 1, 2 and 3, in that order
-pub fn check_lists(ceiling: usize, vertices: &[f64], facets: &[u32], caps: usize) -> Checked
+// 1, 2 and 3, in that order, 2 by the caller's ceiling
+pub fn check_lists(ceiling: u64, vertices: &[f64], facets: &[u32], caps: usize) -> Checked
     ensures { λ r. ⌜ r ≡ firstRefusal (listTests ceiling (now (vertices .entry)) (now (facets .entry)) caps) ⌝ }
 {
     if any_ragged(vertices.len(), facets.len(), caps) {

@@ -29,7 +29,7 @@ use Rattle.refusals.specs.declared.reply.Reply.the-variants.{DoneTwo}
 use Rattle.refusals.specs.declared.reply.Reply.the-variants as reply
 use Rattle.refusals.specs.Refusals.{documentedReply, Test, firstRefusal}
 use Rattle.refusals.specs.Answers.{Output, output, meshOutputs, Answer}
-use Rattle.input_tests.specs.Front.{ceiling, listTests, inRange, epsInRange, workNeed, farKeys}
+use Rattle.input_tests.specs.Front.{Limits, limits, listTests, inRange, epsInRange, workNeed, farKeys}
 use Rattle.refusals.proofs.Refusals.{holds, passes, none-left, row-passed, row-refused}
 use Rattle.refusals.proofs.Replies.{head-passed, tail-passed, row-front, row-rest}
 use Rattle.input_tests.proofs.Lists.{listed}
@@ -41,9 +41,9 @@ use Rattle.mesh_cleanup.specs.Steps.{CleanReady, Staging}
 
 -- ---- the tests in front, one after the other
 
-module _ (vs : List Float) (fs : List ℕ) (q : CleanAsked) (lent : ℕ) where
+module _ (vs : List Float) (fs : List ℕ) (q : CleanAsked) (l : Limits) where
   abbrev lists : List Test
-  lists = listTests ceiling vs fs 0
+  lists = listTests (l .ceiling) vs fs 0
 
   abbrev badNumber : Bool
   badNumber = not (every inRange vs && epsInRange (q .eps))
@@ -55,49 +55,49 @@ module _ (vs : List Float) (fs : List ℕ) (q : CleanAsked) (lent : ℕ) where
   keys = (farKeys (q .eps) vs, KeyRange) ∷ []
 
   abbrev rest : List Test
-  rest = (badNumber, BadNumber) ∷ (ltb lent need, NoWorkRoom need) ∷ (farKeys (q .eps) vs, KeyRange) ∷ []
+  rest = (badNumber, BadNumber) ∷ (ltb (l .lent) need, NoWorkRoom need) ∷ (farKeys (q .eps) vs, KeyRange) ∷ []
 
-  pub lists-refused : (x : Checked) (r : Refusal) → x ≡ firstRefusal lists → x ≡ Refused r → x ≡ firstRefusal (cleanTests vs fs q lent)
+  pub lists-refused : (x : Checked) (r : Refusal) → x ≡ firstRefusal lists → x ≡ Refused r → x ≡ firstRefusal (cleanTests vs fs q l)
   unfolding cleanTests
   lists-refused x r e f = f ∙ sym (row-refused lists rest r (sym e ∙ f))
 
   module _ (e : firstRefusal lists ≡ Passed) where
-    pub number-refused : badNumber ≡ true → Refused BadNumber ≡ firstRefusal (cleanTests vs fs q lent)
+    pub number-refused : badNumber ≡ true → Refused BadNumber ≡ firstRefusal (cleanTests vs fs q l)
     unfolding cleanTests
-    number-refused h = sym (row-passed lists rest e ∙ holds badNumber BadNumber ((ltb lent need, NoWorkRoom need) ∷ keys) h)
+    number-refused h = sym (row-passed lists rest e ∙ holds badNumber BadNumber ((ltb (l .lent) need, NoWorkRoom need) ∷ keys) h)
 
     module _ (h : badNumber ≡ false) (n : ℕ) (en : n ≡ need) where
-      after-numbers : firstRefusal (cleanTests vs fs q lent) ≡ firstRefusal ((ltb lent n, NoWorkRoom n) ∷ keys)
+      after-numbers : firstRefusal (cleanTests vs fs q l) ≡ firstRefusal ((ltb (l .lent) n, NoWorkRoom n) ∷ keys)
       unfolding cleanTests
       after-numbers =
-          row-passed lists rest e ∙ passes badNumber BadNumber ((ltb lent need, NoWorkRoom need) ∷ keys) h
-          ∙ ap (λ (k : ℕ). firstRefusal ((ltb lent k, NoWorkRoom k) ∷ keys)) (sym en)
+          row-passed lists rest e ∙ passes badNumber BadNumber ((ltb (l .lent) need, NoWorkRoom need) ∷ keys) h
+          ∙ ap (λ (k : ℕ). firstRefusal ((ltb (l .lent) k, NoWorkRoom k) ∷ keys)) (sym en)
 
-      pub room-refused : lent < n → Refused (NoWorkRoom n) ≡ firstRefusal (cleanTests vs fs q lent)
-      room-refused k = sym (after-numbers ∙ holds (ltb lent n) (NoWorkRoom n) keys (lt-ltb lent n k))
+      pub room-refused : l .lent < n → Refused (NoWorkRoom n) ≡ firstRefusal (cleanTests vs fs q l)
+      room-refused k = sym (after-numbers ∙ holds (ltb (l .lent) n) (NoWorkRoom n) keys (lt-ltb (l .lent) n k))
 
-      module _ (k : n ≤ lent) where
-        after-room : firstRefusal (cleanTests vs fs q lent) ≡ firstRefusal keys
-        after-room = after-numbers ∙ passes (ltb lent n) (NoWorkRoom n) keys (le-ltb lent n k)
+      module _ (k : n ≤ l .lent) where
+        after-room : firstRefusal (cleanTests vs fs q l) ≡ firstRefusal keys
+        after-room = after-numbers ∙ passes (ltb (l .lent) n) (NoWorkRoom n) keys (le-ltb (l .lent) n k)
 
-        pub key-refused : farKeys (q .eps) vs ≡ true → Refused KeyRange ≡ firstRefusal (cleanTests vs fs q lent)
+        pub key-refused : farKeys (q .eps) vs ≡ true → Refused KeyRange ≡ firstRefusal (cleanTests vs fs q l)
         key-refused g = sym (after-room ∙ holds (farKeys (q .eps) vs) KeyRange [] g)
 
-        pub all-passed : farKeys (q .eps) vs ≡ false → Passed ≡ firstRefusal (cleanTests vs fs q lent)
+        pub all-passed : farKeys (q .eps) vs ≡ false → Passed ≡ firstRefusal (cleanTests vs fs q l)
         all-passed g = sym (after-room ∙ passes (farKeys (q .eps) vs) KeyRange [] g ∙ none-left)
 
-  pub ready : firstRefusal (cleanTests vs fs q lent) ≡ Passed → CleanReady vs fs q lent
+  pub ready : firstRefusal (cleanTests vs fs q l) ≡ Passed → CleanReady vs fs q (l .lent)
   unfolding cleanTests workNeed
   ready e =
       let n = 128 * (length vs / 3 + length fs / 3 + 0 + 0) + 1024 in
-      let work : Test = (ltb lent n, NoWorkRoom n) in
-      let l = listed ceiling vs fs 0 (row-front lists ((badNumber, BadNumber) ∷ work ∷ keys) e) in
+      let work : Test = (ltb (l .lent) n, NoWorkRoom n) in
+      let p = listed (l .ceiling) vs fs 0 (row-front lists ((badNumber, BadNumber) ∷ work ∷ keys) e) in
       let e4 = row-rest lists ((badNumber, BadNumber) ∷ work ∷ keys) e in
       let e7 = tail-passed badNumber BadNumber (work ∷ keys) e4 in
-      let e8 = tail-passed (ltb lent n) (NoWorkRoom n) keys e7 in
-      let h = ltb-false lent n (head-passed (ltb lent n) (NoWorkRoom n) keys e7) in
+      let e8 = tail-passed (ltb (l .lent) n) (NoWorkRoom n) keys e7 in
+      let h = ltb-false (l .lent) n (head-passed (ltb (l .lent) n) (NoWorkRoom n) keys e7) in
       record {
-        lists = l;
+        lists = p;
         near = head-passed (farKeys (q .eps) vs) KeyRange [] e8;
         room = omega arith;
       }
@@ -143,12 +143,12 @@ module _ (vs : List Float) (m : Mesh) (s : Staged) (w : List ℕ) (S : Staging v
 
 -- ---- the work room cleared
 
-pub cleaned-up : (vs : List Float) (fs : List ℕ) (q : CleanAsked) (r : Reply) (w u w' : List ℕ) (v v' : List Float) (f f' : List ℕ)
-    → Answer (cleanTests vs fs q (length w)) (meshOutputs (cleanResult vs fs q) v v' f f') (documentedReply r) → length u ≡ length w → w' ≡ overlay (replicate (length u) 0) u
-    → Cleaned vs fs q r w w' v v' f f'
-cleaned-up vs fs q r w u w' v v' f f' a e z =
+pub cleaned-up : (vs : List Float) (fs : List ℕ) (q : CleanAsked) (ceiling : ℕ) (r : Reply) (w u w' : List ℕ) (v v' : List Float) (f f' : List ℕ)
+    → Answer (cleanTests vs fs q (limits ceiling (length w))) (meshOutputs (cleanResult vs fs q) v v' f f') (documentedReply r) → length u ≡ length w → w' ≡ overlay (replicate (length u) 0) u
+    → Cleaned vs fs q ceiling r w w' v v' f f'
+cleaned-up vs fs q ceiling r w u w' v v' f f' a e z =
     record {
-      answered = answered (cleanTests vs fs q (length w)) (meshOutputs (cleanResult vs fs q) v v' f f') w u w' (documentedReply r) a e
+      answered = answered (cleanTests vs fs q (limits ceiling (length w))) (meshOutputs (cleanResult vs fs q) v v' f f') w u w' (documentedReply r) a e
           (z ∙ overlay-whole (replicate (length u) 0) u (omega (arith, length-replicate {A = ℕ} (length u) 0)));
       rule = rule (q .eps) _ _ 2;
     }

@@ -1,3 +1,4 @@
 pub mod Outputs
 pub mod Staging
 pub mod Delivery
+pub mod Ceilings

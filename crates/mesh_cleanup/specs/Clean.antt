@@ -1,4 +1,4 @@
--- Cleaning (document 01, module 4, the table of refusals, and "Agreement"; `clean_mesh` of mesh_cleanup.rs): the cleaned mesh, the tests in the table's order, and what the operation
+-- Cleaning (document 01, module 4, the table of refusals, and "Agreement"; document 02, E2; `clean_mesh` of mesh_cleanup.rs): the cleaned mesh, the tests in the table's order, and what the operation
 -- promises. Assumes nothing.
 --   weldedMesh, weldedPoints, weldedFacets   the mesh after welding by a joining rule
 --   cleanedMesh          the cleaned mesh, for a joining rule and the least number of facets of a component
@@ -20,7 +20,7 @@ use Rattle.refusals.specs.declared.refusal.Refusal.the-variants.{BadNumber, Key
 use Rattle.refusals.specs.declared.reply.Reply.{Reply}
 use Rattle.refusals.specs.Refusals.{documentedReply, Test}
 use Rattle.refusals.specs.Answers.{meshOutputs, Answered}
-use Rattle.input_tests.specs.Front.{ceiling, listTests, inRange, epsInRange, workNeed, workTest, farKeys}
+use Rattle.input_tests.specs.Front.{Limits, limits, listTests, inRange, epsInRange, workNeed, workTest, farKeys}
 use Rattle.mesh_weld.specs.Joining.{Joining}
 use Rattle.mesh_weld.specs.Weld.{Welded, weld}
 use Rattle.mesh_weld.specs.Cells.{cells}
@@ -54,12 +54,12 @@ module _ (vs : List Float) (fs : List ℕ) (q : CleanAsked) where
   unfoldable pub cleanResult : Mesh
   cleanResult = cleanedMesh (cells (q .eps)) (q .eps) minComponentFacets (meshOf vs fs)
 
-  -- for so many words of work room lent; there is no cap list and no grid
-  unfoldable pub cleanTests : ℕ → List Test
-  cleanTests lent =
-      listTests ceiling vs fs 0
+  -- there is no cap list and no grid
+  unfoldable pub cleanTests : Limits → List Test
+  cleanTests l =
+      listTests (l .ceiling) vs fs 0
       ++ (not (every inRange vs && epsInRange (q .eps)), BadNumber)
-      ∷ workTest (workNeed (length vs / 3) (length fs / 3) 0 0) lent
+      ∷ workTest (workNeed (length vs / 3) (length fs / 3) 0 0) (l .lent)
       ∷ (farKeys (q .eps) vs, KeyRange) ∷ []
 
   -- the facets kept are exactly those that stay
@@ -68,7 +68,7 @@ module _ (vs : List Float) (fs : List ℕ) (q : CleanAsked) where
       let w = weldedMesh (cells (q .eps)) (meshOf vs fs) in
       Rule (q .eps) (weldedPoints w (meshOf vs fs .points)) (weldedFacets w (meshOf vs fs .facets)) minComponentFacets
 
-  -- from work room w and outputs v and f to w', v' and f', with the reply r
-  pub record Cleaned (r : Reply) (w w' : List ℕ) (v v' : List Float) (f f' : List ℕ) : Type 0 where
-    pub answered : Answered (cleanTests (length w)) (meshOutputs cleanResult v v' f f') w w' (documentedReply r)
+  -- under a ceiling, from work room w and outputs v and f to w', v' and f', with the reply r
+  pub record Cleaned (ceiling : ℕ) (r : Reply) (w w' : List ℕ) (v v' : List Float) (f f' : List ℕ) : Type 0 where
+    pub answered : Answered (cleanTests (limits ceiling (length w))) (meshOutputs cleanResult v v' f f') w w' (documentedReply r)
     pub rule : KeptRule

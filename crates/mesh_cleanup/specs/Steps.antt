@@ -8,13 +8,13 @@ use mathlib.Core.List.{List}
 use lib.ListN.{length}
 use lib.Ieee.{Float}
 use Rattle.geometry.specs.Meshes.{Mesh, vertexOf}
-use Rattle.input_tests.specs.Front.{ceiling, farKeys, ListsPass}
+use Rattle.input_tests.specs.Front.{farKeys, ListsPass}
 use Rattle.mesh_compact.specs.declared.compact.Staged.{Staged}
 use Rattle.mesh_compact.specs.Room.{StagedMesh}
 use Rattle.mesh_cleanup.specs.Clean.{CleanAsked}
 
 pub record CleanReady (vs : List Float) (fs : List ℕ) (q : CleanAsked) (lent : ℕ) : Type 0 where
-  pub lists : ListsPass ceiling vs fs
+  pub lists : ListsPass vs fs
   pub near : farKeys (q .eps) vs ≡ false
   pub room : 128 * (length vs / 3 + length fs / 3) + 1024 ≤ lent
 

@@ -8,6 +8,7 @@ ghost use Rattle.words.specs.Overlay.{overlay};
 ghost use Rattle.geometry.specs.Meshes.{coordinates, vertexOf};
 ghost use Rattle.refusals.specs.Refusals.{documentedReply, firstRefusal};
 ghost use Rattle.refusals.specs.Answers.{meshOutputs, Answer};
+ghost use Rattle.input_tests.specs.Front.{limits};
 ghost use Rattle.mesh_cleanup.specs.Clean.{cleanAsked, cleanTests, cleanResult, Cleaned};
 ghost use Rattle.mesh_cleanup.specs.Steps.{CleanReady, Staging};
 use geometry::vertices::vertex_at;
@@ -32,10 +33,10 @@ use words::zero_front;
 const MIN_COMPONENT_FACETS: u64 = 2;
 
 // Tests 1, 2, 3, 4, 7 and 8, in that order.
-fn check(vertices: &[f64], facets: &[u32], eps: f64, lent: usize) -> Checked
-    ensures { λ r. ⌜ r ≡ firstRefusal (cleanTests (now (vertices .entry)) (now (facets .entry)) (cleanAsked eps) lent) ⌝ }
+fn check(vertices: &[f64], facets: &[u32], eps: f64, ceiling: u64, lent: usize) -> Checked
+    ensures { λ r. ⌜ r ≡ firstRefusal (cleanTests (now (vertices .entry)) (now (facets .entry)) (cleanAsked eps) (limits ceiling lent)) ⌝ }
 {
-    let lists = check_lists(65536, vertices, facets, 0);
+    let lists = check_lists(ceiling, vertices, facets, 0);
     if let Checked::Refused(_) = lists {
         return lists;
     }
@@ -143,15 +144,16 @@ fn clean_lent(
     vertices: &[f64],
     facets: &[u32],
     eps: f64,
+    ceiling: u64,
     work: &mut [u64],
     out_vertices: &mut [f64],
     out_facets: &mut [u32],
 ) -> Reply
-    ensures { λ r. ⌜ Answer (cleanTests (now (vertices .entry)) (now (facets .entry)) (cleanAsked eps) (length (now (work .entry))))
+    ensures { λ r. ⌜ Answer (cleanTests (now (vertices .entry)) (now (facets .entry)) (cleanAsked eps) (limits ceiling (length (now (work .entry)))))
         (meshOutputs (cleanResult (now (vertices .entry)) (now (facets .entry)) (cleanAsked eps)) (now («out_vertices» .entry)) (now («out_vertices» .exit)) (now («out_facets» .entry))
         (now («out_facets» .exit))) (documentedReply r) ⌝ }
 {
-    match check(vertices, facets, eps, work.len()) {
+    match check(vertices, facets, eps, ceiling, work.len()) {
         Checked::Passed => clean_checked(vertices, facets, eps, work, out_vertices, out_facets),
         Checked::Refused(r) => Reply::Refused(r),
     }
@@ -162,14 +164,23 @@ pub fn clean_mesh(
     vertices: &[f64],
     facets: &[u32],
     eps: f64,
+    ceiling: u64,
     work: &mut [u64],
     out_vertices: &mut [f64],
     out_facets: &mut [u32],
 ) -> Reply
-    ensures { λ r. ⌜ Cleaned (now (vertices .entry)) (now (facets .entry)) (cleanAsked eps) r (now (work .entry)) (now (work .exit)) (now («out_vertices» .entry))
+    ensures { λ r. ⌜ Cleaned (now (vertices .entry)) (now (facets .entry)) (cleanAsked eps) ceiling r (now (work .entry)) (now (work .exit)) (now («out_vertices» .entry))
         (now («out_vertices» .exit)) (now («out_facets» .entry)) (now («out_facets» .exit)) ⌝ }
 {
-    let reply = clean_lent(vertices, facets, eps, work, out_vertices, out_facets);
+    let reply = clean_lent(
+        vertices,
+        facets,
+        eps,
+        ceiling,
+        work,
+        out_vertices,
+        out_facets,
+    );
     let lent = work.len();
     zero_front(work, lent);
     reply

@@ -4,6 +4,7 @@
 --   short              12: the first output that is too short     done-two, done-four   all fit, and were written
 --   answer-done        an answer whose number is 0
 --   answered, called   the work room cleared at the end; a reply reported to C
+--   meshes-alike       the same tests, mesh, outputs and work room: two calls end alike
 use Prim.Native.Nat.{ℕ, _≤_, _<_}
 use mathlib.Core.Path.{_≡_, refl, sym, ap, _∙_, subst}
 use mathlib.Core.Bool.{Bool, true, false, cond}
@@ -12,7 +13,10 @@ use native.Mathlib.Omega.{arith}
 use borrow.Author.Tests.{lt-ltb, le-ltb}
 use lib.Dec.{ltb}
 use lib.ListN.{length, getD, replicate}
+use lib.Ieee.{Float}
 use Rattle.words.specs.Overlay.{overlay}
+use Rattle.geometry.specs.Triangles.{flat}
+use Rattle.geometry.specs.Meshes.{Mesh, coordinates}
 use Rattle.refusals.specs.declared.refusal.Refusal.{Refusal}
 use Rattle.refusals.specs.declared.refusal.Refusal.the-variants.{NoRoom}
 use Rattle.refusals.specs.declared.refusal.Checked.{Checked}
@@ -21,7 +25,7 @@ use Rattle.refusals.specs.declared.reply.Reply.the-variants.{DoneTwo, Do
 use Rattle.refusals.specs.declared.reply.Reply.the-variants as reply
 use Rattle.refusals.specs.Refusals.{documented, documentedReply, Test, firstRefusal, Passes, numbered, replyTo, settle, Zeroed}
 use Rattle.refusals.specs.Reports.{Reported}
-use Rattle.refusals.specs.Answers.{roomTests, Output, resultLengths, outputLengths, AllSettled, Answer, Answered, Called}
+use Rattle.refusals.specs.Answers.{roomTests, Output, meshOutputs, resultLengths, outputLengths, AllSettled, replyWith, Answer, Answered, Called, MeshesAlike}
 use Rattle.refusals.proofs.Refusals.{holds, passes, none-left, row-passed, row-refused, untouched, laid-over}
 use Rattle.refusals.proofs.Replies.{reply-refused, reply-passed, reply-done}
 
@@ -139,4 +143,15 @@ called ts outs w w' reply number values a r =
       reported = subst (λ (l : List ℕ). Reported l number values) (a .answer .replied) r;
       settled = subst (λ (l : List ℕ). AllSettled l outs) (a .answer .replied) (a .answer .settled);
       work = a .work;
+    }
+
+pub meshes-alike : (ts us : List Test) (m : Mesh) (w w₁ w₂ r₁ r₂ : List ℕ) (v v₁ v₂ : List Float) (f f₁ f₂ : List ℕ) → ts ≡ us
+    → Answered ts (meshOutputs m v v₁ f f₁) w w₁ r₁ → Answered us (meshOutputs m v v₂ f f₂) w w₂ r₂ → MeshesAlike r₁ r₂ w₁ w₂ v₁ v₂ f₁ f₂
+meshes-alike ts us m w w₁ w₂ r₁ r₂ v v₁ v₂ f f₁ f₂ e a b =
+    let r : r₁ ≡ r₂ = a .answer .replied ∙ ap (λ (l : List Test). replyWith l (meshOutputs m v v f f)) e ∙ sym (b .answer .replied) in
+    record {
+      reply = r;
+      vertices = a .answer .settled .0 ∙ ap (λ (l : List ℕ). settle l (coordinates (m .points)) v) r ∙ sym (b .answer .settled .0);
+      facets = a .answer .settled .1 .0 ∙ ap (λ (l : List ℕ). settle l (flat (m .facets)) f) r ∙ sym (b .answer .settled .1 .0);
+      work = a .work .ends ∙ sym (b .work .ends);
     }

@@ -8,6 +8,7 @@
 --   Answer           that reply was given, and the outputs ended as it says
 --   Answered         the same of a whole operation: the work room ended zero too
 --   Called           the same of a function that C calls, whose reply is reported as a number and four words
+--   MeshesAlike      two calls that write a mesh ended alike: reply, outputs and work room
 use Prim.Native.Nat.{ℕ}
 use mathlib.Core.Path.{_≡_}
 use mathlib.Core.List.{List, [], _∷_, _++_, map}
@@ -70,3 +71,9 @@ pub record Called (tests : List Test) (outs : List Output) (w w' : List ℕ) (nu
   pub reported : Reported (replyWith tests outs) number values
   pub settled : AllSettled (replyWith tests outs) outs
   pub work : Zeroed w w'
+
+pub record MeshesAlike (reply₁ reply₂ w₁ w₂ : List ℕ) (v₁ v₂ : List Float) (f₁ f₂ : List ℕ) : Type 0 where
+  pub reply : reply₁ ≡ reply₂
+  pub vertices : v₁ ≡ v₂
+  pub facets : f₁ ≡ f₂
+  pub work : w₁ ≡ w₂

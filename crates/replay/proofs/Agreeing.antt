@@ -23,6 +23,7 @@ use Rattle.lists.proofs.Places.{length-up}
 use Rattle.refusals.specs.Refusals.{Test, settle, Zeroed}
 use Rattle.refusals.specs.Answers.{meshOutputs, replyIn, Called}
 use Rattle.refusals.specs.Reports.{Reported}
+use Rattle.input_tests.specs.Front.{Limits, limits}
 use Rattle.tolerance.specs.Tolerance.{toleranceReply}
 use Rattle.aabb_clipping.specs.Clip.{clipAsked, clipResult}
 use Rattle.mesh_cleanup.specs.Clean.{cleanAsked, cleanResult}
@@ -62,6 +63,7 @@ use Rattle.replay.specs.Agreement.{
   resolutionIn,
   clipAskedIn,
   cleanAskedIn,
+  limitsIn,
   askedIn,
   modeIn,
   capsIn,
@@ -85,7 +87,7 @@ module _ (stored w : List ℕ) (v : List Float) (f : List ℕ) (h : Fresh stored
 
 -- the outputs after a call, which are as long as before, lie within the record
 pub outputs-within : (stored w : List ℕ) (v v' : List Float) (f f' : List ℕ) → Laid stored → Fresh stored w v f → length v' ≡ length v → length f' ≡ length f
-    → (24 ≤ length stored) × (outputsFrom stored + length v' + length f' ≤ length stored)
+    → (32 ≤ length stored) × (outputsFrom stored + length v' + length f' ≤ length stored)
 outputs-within stored w v v' f f' l h e k = (l .head, omega (arith, fresh-vertices stored w v f h, fresh-facets stored w v f h))
 
 pub as-reported : (reply : List ℕ) (number : ℕ) (values : List ℕ) → Reported reply number values → number ∷ values ≡ reported reply
@@ -100,7 +102,7 @@ pub same-box : (stored : List ℕ) {a b c d e f : Float} → a ≡ doubleAt stor
     → d ≡ doubleAt stored 9 → e ≡ doubleAt stored 10 → f ≡ doubleAt stored 11 → boxOf a b c d e f ≡ boxIn stored
 same-box stored {a} {b} {c} {d} {e} {f} p q r s t u = cc
 
-pub tolerance-decides : (stored : List ℕ) (box : AABB) (number : ℕ) (values : List ℕ) (r : Bool) → length stored ≡ 24 → PlainDoubles stored 6 6 → box ≡ boxIn stored
+pub tolerance-decides : (stored : List ℕ) (box : AABB) (number : ℕ) (values : List ℕ) (r : Bool) → length stored ≡ 32 → PlainDoubles stored 6 6 → box ≡ boxIn stored
     → Reported (toleranceReply box) number values → Decides (number ∷ values ≡ storedReply stored) r → Decides (ToleranceAgrees stored) r
 tolerance-decides stored box number values r n h e k d =
     let same : number ∷ values ≡ reported (toleranceReply (boxIn stored)) = as-reported (toleranceReply box) number values k ∙ ap (λ (b : AABB). reported (toleranceReply b)) e in
@@ -163,28 +165,31 @@ module _ (stored reply reply₀ : List ℕ) (result result₀ : Mesh) (number : 
         })
 
 module _ (stored w : List ℕ) (v : List Float) (f : List ℕ) (fresh : Fresh stored w v f) where
+  abbrev lent-under : Limits
+  lent-under = limits (getD stored 24 0) (length w)
+
   -- the lengths that a reply is computed from
-  same-lengths : (reply : ℕ → List ℕ → List ℕ) → reply (length w) (length v ∷ length f ∷ []) ≡ reply (getD stored 14 0) (outputsIn stored)
+  same-lengths : (reply : Limits → List ℕ → List ℕ) → reply lent-under (length v ∷ length f ∷ []) ≡ reply (limitsIn stored) (outputsIn stored)
   same-lengths reply =
-      ap (λ (n : ℕ). reply n (length v ∷ length f ∷ [])) (fresh .lent)
-      ∙ ap₂ (λ (n m : ℕ). reply (getD stored 14 0) (n ∷ m ∷ [])) (fresh-vertices stored w v f fresh) (fresh-facets stored w v f fresh)
+      ap (λ (n : ℕ). reply (limits (getD stored 24 0) n) (length v ∷ length f ∷ [])) (fresh .lent)
+      ∙ ap₂ (λ (n m : ℕ). reply (limitsIn stored) (n ∷ m ∷ [])) (fresh-vertices stored w v f fresh) (fresh-facets stored w v f fresh)
 
   pub clip-reply : (vs : List Float) (fs : List ℕ) {box : AABB} {eps : Float} → box ≡ boxIn stored → eps ≡ epsIn stored
-      → clipReply vs fs (clipAsked box eps) (length w) (length v ∷ length f ∷ []) ≡ clipReply vs fs (clipAskedIn stored) (getD stored 14 0) (outputsIn stored)
+      → clipReply vs fs (clipAsked box eps) lent-under (length v ∷ length f ∷ []) ≡ clipReply vs fs (clipAskedIn stored) (limitsIn stored) (outputsIn stored)
   clip-reply vs fs b e =
-      (λ t. clipReply vs fs (clipAsked (b t) (e t)) (length w) (length v ∷ length f ∷ [])) ∙ same-lengths (clipReply vs fs (clipAskedIn stored))
+      (λ t. clipReply vs fs (clipAsked (b t) (e t)) lent-under (length v ∷ length f ∷ [])) ∙ same-lengths (clipReply vs fs (clipAskedIn stored))
 
   pub clean-reply : (vs : List Float) (fs : List ℕ) {eps : Float} → eps ≡ epsIn stored
-      → cleanReply vs fs (cleanAsked eps) (length w) (length v ∷ length f ∷ []) ≡ cleanReply vs fs (cleanAskedIn stored) (getD stored 14 0) (outputsIn stored)
+      → cleanReply vs fs (cleanAsked eps) lent-under (length v ∷ length f ∷ []) ≡ cleanReply vs fs (cleanAskedIn stored) (limitsIn stored) (outputsIn stored)
   clean-reply vs fs e =
-      (λ t. cleanReply vs fs (cleanAsked (e t)) (length w) (length v ∷ length f ∷ [])) ∙ same-lengths (cleanReply vs fs (cleanAskedIn stored))
+      (λ t. cleanReply vs fs (cleanAsked (e t)) lent-under (length v ∷ length f ∷ [])) ∙ same-lengths (cleanReply vs fs (cleanAskedIn stored))
 
   pub caps-reply : (vs : List Float) (fs : List ℕ) {capList : List ℕ} {box : AABB} {eps resolution : Float} {mode : ℕ}
       → capList ≡ capsIn stored → box ≡ boxIn stored → eps ≡ epsIn stored → resolution ≡ resolutionIn stored → mode ≡ modeIn stored
-      → capsReply vs fs capList (asked box eps resolution) mode (length w) (length v ∷ length f ∷ [])
-      ≡ capsReply vs fs (capsIn stored) (askedIn stored) (modeIn stored) (getD stored 14 0) (outputsIn stored)
+      → capsReply vs fs capList (asked box eps resolution) mode lent-under (length v ∷ length f ∷ [])
+      ≡ capsReply vs fs (capsIn stored) (askedIn stored) (modeIn stored) (limitsIn stored) (outputsIn stored)
   caps-reply vs fs c b e r m =
-      (λ t. capsReply vs fs (c t) (asked (b t) (e t) (r t)) (m t) (length w) (length v ∷ length f ∷ []))
+      (λ t. capsReply vs fs (c t) (asked (b t) (e t) (r t)) (m t) lent-under (length v ∷ length f ∷ []))
       ∙ same-lengths (capsReply vs fs (capsIn stored) (askedIn stored) (modeIn stored))
 
 pub clip-result : (stored : List ℕ) (vs : List Float) (fs : List ℕ) {box : AABB} {eps : Float} → box ≡ boxIn stored → eps ≡ epsIn stored
@@ -201,19 +206,19 @@ caps-result stored vs fs c b e r m = λ t. capsResult vs fs (c t) (asked (b t) (
 
 -- the cap list, lent from behind the facet numbers to its end
 pub lent-caps : (stored : List ℕ)
-    → take (24 + getD stored 2 0 + getD stored 3 0 + getD stored 4 0 - (24 + getD stored 2 0 + getD stored 3 0)) (drop (24 + getD stored 2 0 + getD stored 3 0) stored) ≡ capsIn
+    → take (32 + getD stored 2 0 + getD stored 3 0 + getD stored 4 0 - (32 + getD stored 2 0 + getD stored 3 0)) (drop (32 + getD stored 2 0 + getD stored 3 0) stored) ≡ capsIn
     stored
 lent-caps stored =
-    let n : 24 + getD stored 2 0 + getD stored 3 0 + getD stored 4 0 - (24 + getD stored 2 0 + getD stored 3 0) ≡ getD stored 4 0 = omega arith in
-    ap (λ (x : ℕ). take x (drop (24 + getD stored 2 0 + getD stored 3 0) stored)) n
+    let n : 32 + getD stored 2 0 + getD stored 3 0 + getD stored 4 0 - (32 + getD stored 2 0 + getD stored 3 0) ≡ getD stored 4 0 = omega arith in
+    ap (λ (x : ℕ). take x (drop (32 + getD stored 2 0 + getD stored 3 0) stored)) n
 
 -- lists as read: v of n coordinates, then f of m facet numbers
 pub lists-decides : (stored : List ℕ) (v : List Float) (f : List ℕ) (n k m : ℕ) (r : Bool) → n ≡ getD stored 2 0 → k ≡ getD stored 2 0 → m ≡ getD stored 3 0
-    → v ≡ doublesIn stored 24 n → f ≡ numbersIn stored (24 + k) m → Decides (AnswerStored stored v f) r → Decides (ListsStored stored) r
+    → v ≡ doublesIn stored 32 n → f ≡ numbersIn stored (32 + k) m → Decides (AnswerStored stored v f) r → Decides (ListsStored stored) r
 lists-decides stored v f n k m r a b c p q d =
-    subst (λ (l : List Float). Decides (AnswerStored stored l (numbersIn stored (24 + getD stored 2 0) (getD stored 3 0))) r)
-    (p ∙ ap (doublesIn stored 24) a)
-    (subst (λ (l : List ℕ). Decides (AnswerStored stored v l) r) (q ∙ ap₂ (λ (x y : ℕ). numbersIn stored (24 + x) y) b c) d)
+    subst (λ (l : List Float). Decides (AnswerStored stored l (numbersIn stored (32 + getD stored 2 0) (getD stored 3 0))) r)
+    (p ∙ ap (doublesIn stored 32) a)
+    (subst (λ (l : List ℕ). Decides (AnswerStored stored v l) r) (q ∙ ap₂ (λ (x y : ℕ). numbersIn stored (32 + x) y) b c) d)
 
 -- ---- by operation
 
@@ -266,6 +271,6 @@ module _ (stored : List ℕ) where
   as-lists never (tolerance k t) = absurd (never k)
   as-lists never (lists l) = l
 
-  pub short : length stored < 24 → Agrees stored → ⊥
+  pub short : length stored < 32 → Agrees stored → ⊥
   short h (tolerance k t) = omega (arith, t .whole)
   short h (lists l) = omega (arith, l .laid .head)

@@ -61,15 +61,15 @@ module _ (stored output : List ℕ) (from n : ℕ) (long : n ≡ length output) 
 
 -- ---- replies: a number, then four values
 
--- the reply of a record of 24 words or more
-reply-is : (stored : List ℕ) → 24 ≤ length stored → storedReply stored ≡ getD stored 19 0 ∷ take 4 (drop 20 stored)
+-- the reply of a record of 32 words or more
+reply-is : (stored : List ℕ) → 32 ≤ length stored → storedReply stored ≡ getD stored 19 0 ∷ take 4 (drop 20 stored)
 reply-is stored h = ap (take 5) (drop-cons stored 19 0 (omega arith))
 
-pub other-number : (stored : List ℕ) (number : ℕ) (values : List ℕ) → 24 ≤ length stored → (getD stored 19 0 ≡ number → ⊥)
+pub other-number : (stored : List ℕ) (number : ℕ) (values : List ℕ) → 32 ≤ length stored → (getD stored 19 0 ≡ number → ⊥)
     → Decides (number ∷ values ≡ storedReply stored) false
 other-number stored number values h never = refuted (λ e. never (cc (e ∙ reply-is stored h)))
 
-pub same-values : (stored : List ℕ) (number : ℕ) (values : List ℕ) (r : Bool) → 24 ≤ length stored → getD stored 19 0 ≡ number
+pub same-values : (stored : List ℕ) (number : ℕ) (values : List ℕ) (r : Bool) → 32 ≤ length stored → getD stored 19 0 ≡ number
     → Decides (values ≡ take 4 (drop 20 stored)) r → Decides (number ∷ values ≡ storedReply stored) r
 same-values stored number values r h e d =
     record {

@@ -13,6 +13,7 @@ use Rattle.geometry.specs.declared.aabb.AABB.{AABB}
 use Rattle.refusals.specs.Refusals.{Test, settle, Zeroed}
 use Rattle.refusals.specs.Answers.{replyIn, Called}
 use Rattle.refusals.specs.Reports.{Reported}
+use Rattle.input_tests.specs.Front.{Limits, limits}
 use Rattle.candidate_surface.specs.Asked.{asked}
 use Rattle.candidate_pool.specs.OpenEdges.{openEdgeWords}
 use Rattle.candidate_constraints.specs.Constraints.{constraintWords}
@@ -22,7 +23,7 @@ use Rattle.boundary_closure.specs.Operation.{candidatesResult}
 use Rattle.lists.specs.Lists.{Decides}
 use Rattle.replay.specs.Layout.{outputsFrom}
 use Rattle.replay.specs.Contents.{oldWords}
-use Rattle.replay.specs.Agreement.{SameWords, OutputsLent, SameOutputs, CandidatesAnswered, CandidatesFresh, WordsStored, boxIn, epsIn, resolutionIn, askedIn, fourIn, candidatesReply}
+use Rattle.replay.specs.Agreement.{SameWords, OutputsLent, SameOutputs, CandidatesAnswered, CandidatesFresh, WordsStored, boxIn, epsIn, resolutionIn, askedIn, limitsIn, fourIn, candidatesReply}
 use Rattle.replay.proofs.Deciding.{ends}
 use Rattle.replay.proofs.Agreeing.{length-table, as-reported, zero-each}
 
@@ -50,19 +51,22 @@ module _ (stored w c l k e : List ℕ) (h : CandidatesFresh stored w c l k e) wh
         open-edges = s ∙ fresh-lent .open-edges;
       }
 
+  abbrev lent-under : Limits
+  lent-under = limits (getD stored 24 0) (length w)
+
   -- the lengths that a reply is computed from
-  same-lengths : (reply : ℕ → List ℕ → List ℕ) → reply (length w) (length c ∷ length l ∷ length k ∷ length e ∷ []) ≡ reply (getD stored 14 0) (fourIn stored)
+  same-lengths : (reply : Limits → List ℕ → List ℕ) → reply lent-under (length c ∷ length l ∷ length k ∷ length e ∷ []) ≡ reply (limitsIn stored) (fourIn stored)
   same-lengths reply =
       let o = fresh-lent in
-      ap (λ (n : ℕ). reply n (length c ∷ length l ∷ length k ∷ length e ∷ [])) (h .lent)
-      ∙ ap₂ (λ (a b : ℕ). reply (getD stored 14 0) (a ∷ b ∷ length k ∷ length e ∷ [])) (o .candidates) (o .face-lists)
-      ∙ ap₂ (λ (a b : ℕ). reply (getD stored 14 0) (getD stored 15 0 ∷ getD stored 16 0 ∷ a ∷ b ∷ [])) (o .constraints) (o .open-edges)
+      ap (λ (n : ℕ). reply (limits (getD stored 24 0) n) (length c ∷ length l ∷ length k ∷ length e ∷ [])) (h .lent)
+      ∙ ap₂ (λ (a b : ℕ). reply (limitsIn stored) (a ∷ b ∷ length k ∷ length e ∷ [])) (o .candidates) (o .face-lists)
+      ∙ ap₂ (λ (a b : ℕ). reply (limitsIn stored) (getD stored 15 0 ∷ getD stored 16 0 ∷ a ∷ b ∷ [])) (o .constraints) (o .open-edges)
 
   pub candidates-reply : (vs : List Float) (fs : List ℕ) {box : AABB} {eps resolution : Float} → box ≡ boxIn stored → eps ≡ epsIn stored → resolution ≡ resolutionIn stored
-      → candidatesReply vs fs (asked box eps resolution) (length w) (length c ∷ length l ∷ length k ∷ length e ∷ []) ≡ candidatesReply vs fs (askedIn stored) (getD stored 14 0)
+      → candidatesReply vs fs (asked box eps resolution) lent-under (length c ∷ length l ∷ length k ∷ length e ∷ []) ≡ candidatesReply vs fs (askedIn stored) (limitsIn stored)
       (fourIn stored)
   candidates-reply vs fs b p r =
-      (λ t. candidatesReply vs fs (asked (b t) (p t) (r t)) (length w) (length c ∷ length l ∷ length k ∷ length e ∷ []))
+      (λ t. candidatesReply vs fs (asked (b t) (p t) (r t)) lent-under (length c ∷ length l ∷ length k ∷ length e ∷ []))
       ∙ same-lengths (candidatesReply vs fs (askedIn stored))
 
 pub candidates-result : (stored : List ℕ) (vs : List Float) (fs : List ℕ) {box : AABB} {eps resolution : Float} → box ≡ boxIn stored → eps ≡ epsIn stored → resolution ≡

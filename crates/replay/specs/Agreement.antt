@@ -6,7 +6,7 @@
 --   OutputsLent               four outputs are as long as the record says
 --   SameOutputs, CandidatesAnswered, CandidatesFresh   the same as AgreesWith and Fresh of the operation that writes four lists of words
 --   boxIn, epsIn, resolutionIn, modeIn, capsIn   box, eps, resolution, mode and cap list of a record
---   clipAskedIn, cleanAskedIn, askedIn   what is asked of clip, of clean, and of candidates and caps
+--   clipAskedIn, cleanAskedIn, askedIn   what is asked of clip, of clean, and of candidates and caps       limitsIn   the ceiling, and the work room lent
 --   clipReply, cleanReply, candidatesReply, capsReply   the definitions' replies
 --   reported                  a reply as a number and four values
 --   ResultStored, WordsStored       the stored answer is this reply, with this mesh, or these candidates, in front of old contents
@@ -27,6 +27,7 @@ use Rattle.geometry.specs.Triangles.{flat}
 use Rattle.geometry.specs.Meshes.{Mesh, coordinates, meshLengths}
 use Rattle.refusals.specs.Refusals.{settle}
 use Rattle.refusals.specs.Answers.{replyIn}
+use Rattle.input_tests.specs.Front.{Limits, limits}
 use Rattle.tolerance.specs.Tolerance.{toleranceReply}
 use Rattle.aabb_clipping.specs.Clip.{ClipAsked, clipAsked, clipTests, clipResult}
 use Rattle.mesh_cleanup.specs.Clean.{CleanAsked, cleanAsked, cleanTests, cleanResult}
@@ -113,13 +114,16 @@ cleanAskedIn stored = cleanAsked (epsIn stored)
 abbrev pub askedIn : List ℕ → Asked
 askedIn stored = asked (boxIn stored) (epsIn stored) (resolutionIn stored)
 
+abbrev pub limitsIn : List ℕ → Limits
+limitsIn stored = limits (getD stored 24 0) (getD stored 14 0)
+
 -- the low half, where `StoredNumbers` says that the other is 0
 abbrev pub modeIn : List ℕ → ℕ
 modeIn stored = getD stored 5 0 % 4294967296
 
 -- behind coordinates and facet numbers
 abbrev pub capsIn : List ℕ → List ℕ
-capsIn stored = take (getD stored 4 0) (drop (24 + getD stored 2 0 + getD stored 3 0) stored)
+capsIn stored = take (getD stored 4 0) (drop (32 + getD stored 2 0 + getD stored 3 0) stored)
 
 abbrev pub reported : List ℕ → List ℕ
 reported reply = getD reply 0 0 ∷ take 4 (drop 1 reply ++ replicate 4 0)
@@ -148,36 +152,36 @@ outputsIn stored = getD stored 15 0 ∷ getD stored 16 0 ∷ []
 abbrev pub fourIn : List ℕ → List ℕ
 fourIn stored = getD stored 15 0 ∷ getD stored 16 0 ∷ getD stored 17 0 ∷ getD stored 18 0 ∷ []
 
--- the definitions' replies, for so many words of work room lent and outputs of these lengths
-abbrev pub clipReply : List Float → List ℕ → ClipAsked → ℕ → List ℕ → List ℕ
-clipReply vs fs q lent outs = replyIn (clipTests vs fs q lent) (meshLengths (clipResult vs fs q)) outs
+-- the definitions' replies, for outputs of these lengths
+abbrev pub clipReply : List Float → List ℕ → ClipAsked → Limits → List ℕ → List ℕ
+clipReply vs fs q l outs = replyIn (clipTests vs fs q l) (meshLengths (clipResult vs fs q)) outs
 
-abbrev pub cleanReply : List Float → List ℕ → CleanAsked → ℕ → List ℕ → List ℕ
-cleanReply vs fs q lent outs = replyIn (cleanTests vs fs q lent) (meshLengths (cleanResult vs fs q)) outs
+abbrev pub cleanReply : List Float → List ℕ → CleanAsked → Limits → List ℕ → List ℕ
+cleanReply vs fs q l outs = replyIn (cleanTests vs fs q l) (meshLengths (cleanResult vs fs q)) outs
 
-abbrev pub candidatesReply : List Float → List ℕ → Asked → ℕ → List ℕ → List ℕ
-candidatesReply vs fs q lent outs = replyIn (candidatesTests vs fs q lent) (candidateLengths (candidatesResult vs fs q)) outs
+abbrev pub candidatesReply : List Float → List ℕ → Asked → Limits → List ℕ → List ℕ
+candidatesReply vs fs q l outs = replyIn (candidatesTests vs fs q l) (candidateLengths (candidatesResult vs fs q)) outs
 
-abbrev pub capsReply : List Float → List ℕ → List ℕ → Asked → ℕ → ℕ → List ℕ → List ℕ
-capsReply vs fs capList q mode lent outs = replyIn (capsCallTests vs fs capList q mode lent) (meshLengths (capsResult vs fs capList q (modeOf mode))) outs
+abbrev pub capsReply : List Float → List ℕ → List ℕ → Asked → ℕ → Limits → List ℕ → List ℕ
+capsReply vs fs capList q mode l outs = replyIn (capsCallTests vs fs capList q mode l) (meshLengths (capsResult vs fs capList q (modeOf mode))) outs
 
 abbrev pub ClipStored : List ℕ → List Float → List ℕ → Type 0
 ClipStored stored vs fs =
-    ResultStored stored (clipReply vs fs (clipAskedIn stored) (getD stored 14 0) (outputsIn stored)) (clipResult vs fs (clipAskedIn stored))
+    ResultStored stored (clipReply vs fs (clipAskedIn stored) (limitsIn stored) (outputsIn stored)) (clipResult vs fs (clipAskedIn stored))
 
 abbrev pub CleanStored : List ℕ → List Float → List ℕ → Type 0
-CleanStored stored vs fs = ResultStored stored (cleanReply vs fs (cleanAskedIn stored) (getD stored 14 0) (outputsIn stored)) (cleanResult vs fs (cleanAskedIn stored))
+CleanStored stored vs fs = ResultStored stored (cleanReply vs fs (cleanAskedIn stored) (limitsIn stored) (outputsIn stored)) (cleanResult vs fs (cleanAskedIn stored))
 
 abbrev pub CandidatesStored : List ℕ → List Float → List ℕ → Type 0
 CandidatesStored stored vs fs =
     WordsStored stored
-    (candidatesReply vs fs (askedIn stored) (getD stored 14 0) (fourIn stored))
+    (candidatesReply vs fs (askedIn stored) (limitsIn stored) (fourIn stored))
     (candidatesResult vs fs (askedIn stored))
 
 abbrev pub CapsStored : List ℕ → List Float → List ℕ → Type 0
 CapsStored stored vs fs =
     ResultStored stored
-    (capsReply vs fs (capsIn stored) (askedIn stored) (modeIn stored) (getD stored 14 0) (outputsIn stored))
+    (capsReply vs fs (capsIn stored) (askedIn stored) (modeIn stored) (limitsIn stored) (outputsIn stored))
     (capsResult vs fs (capsIn stored) (askedIn stored) (modeOf (modeIn stored)))
 
 pub data MeshStored (stored : List ℕ) (vs : List Float) (fs : List ℕ) : Type 0 where
@@ -191,7 +195,7 @@ pub data AnswerStored (stored : List ℕ) (vs : List Float) (fs : List ℕ) : Ty
 
 abbrev pub ListsStored : List ℕ → Type 0
 ListsStored stored =
-    AnswerStored stored (doublesIn stored 24 (getD stored 2 0)) (numbersIn stored (24 + getD stored 2 0) (getD stored 3 0))
+    AnswerStored stored (doublesIn stored 32 (getD stored 2 0)) (numbersIn stored (32 + getD stored 2 0) (getD stored 3 0))
 
 abbrev pub PlainDoubles : List ℕ → ℕ → ℕ → Type 0
 PlainDoubles stored from n = Everywhere (λ k. nanBits binary64 (getD stored (from + k) 0) ≡ false) n
@@ -199,8 +203,8 @@ PlainDoubles stored from n = Everywhere (λ k. nanBits binary64 (getD stored (fr
 pub record StoredNumbers (stored : List ℕ) : Type 0 where
   pub mode : Few stored 5 1 4294967295
   pub plain : PlainDoubles stored 6 8
-  pub coordinates : PlainDoubles stored 24 (getD stored 2 0)
-  pub narrow : Few stored (24 + getD stored 2 0) (getD stored 3 0) 4294967295
+  pub coordinates : PlainDoubles stored 32 (getD stored 2 0)
+  pub narrow : Few stored (32 + getD stored 2 0) (getD stored 3 0) 4294967295
 
 pub record ListsAgree (stored : List ℕ) : Type 0 where
   pub laid : Laid stored
@@ -208,7 +212,7 @@ pub record ListsAgree (stored : List ℕ) : Type 0 where
   pub answer : ListsStored stored
 
 pub record ToleranceAgrees (stored : List ℕ) : Type 0 where
-  pub whole : length stored ≡ 24
+  pub whole : length stored ≡ 32
   pub box : PlainDoubles stored 6 6
   pub answer : ToleranceStored stored
 

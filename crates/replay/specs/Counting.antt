@@ -19,12 +19,12 @@ pub data Records : List ℕ → ℕ → Type 0 where
 pub record AnswersFile (file : List ℕ) : Type 0 where
   pub head : 4 ≤ length file
   pub magic : getD file 0 0 ≡ 7881695654855995257
-  pub format : getD file 1 0 ≡ 1
+  pub format : getD file 1 0 ≡ 2
   pub size : getD file 3 0 ≡ length file
   pub records : Records (drop 4 file) (getD file 2 0)
 
 abbrev pub Requested : ℕ → List ℕ → Type 0
-Requested operation stored = (24 ≤ length stored) × (getD stored 1 0 ≡ operation)
+Requested operation stored = (32 ≤ length stored) × (getD stored 1 0 ≡ operation)
 
 abbrev pub Agreeing : ℕ → List ℕ → Type 0
 Agreeing operation stored = Requested operation stored × Agrees stored

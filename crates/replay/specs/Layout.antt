@@ -17,7 +17,7 @@ abbrev pub outputsLength : List ℕ → ℕ
 outputsLength stored = getD stored 15 0 + getD stored 16 0 + getD stored 17 0 + getD stored 18 0
 
 abbrev pub outputsFrom : List ℕ → ℕ
-outputsFrom stored = 24 + getD stored 2 0 + getD stored 3 0 + getD stored 4 0
+outputsFrom stored = 32 + getD stored 2 0 + getD stored 3 0 + getD stored 4 0
 
 abbrev pub sizeOf : List ℕ → ℕ
 sizeOf stored = outputsFrom stored + outputsLength stored
@@ -26,7 +26,7 @@ abbrev pub Few : List ℕ → ℕ → ℕ → ℕ → Type 0
 Few stored from n most = Everywhere (λ k. getD stored (from + k) 0 ≤ most) n
 
 pub record Laid (stored : List ℕ) : Type 0 where
-  pub head : 24 ≤ length stored
+  pub head : 32 ≤ length stored
   pub lists : Few stored 2 3 1024
   pub outputs : Few stored 15 4 1024
   pub work : getD stored 14 0 ≤ 20480

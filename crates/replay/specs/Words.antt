@@ -16,7 +16,7 @@ wordOf bs = halfOf bs 0 + 4294967296 * halfOf bs 4
 
 abbrev pub recordLength : List ℕ → ℕ
 recordLength rest =
-    cond (ltb (length rest) 24) 0 (cond (ltb (getD rest 0 0) 24) 0 (cond (ltb (length rest) (getD rest 0 0)) 0 (getD rest 0 0)))
+    cond (ltb (length rest) 32) 0 (cond (ltb (getD rest 0 0) 32) 0 (cond (ltb (length rest) (getD rest 0 0)) 0 (getD rest 0 0)))
 
 abbrev pub Everywhere : (ℕ → Type 0) → ℕ → Type 0
 Everywhere P n = (k : ℕ) → k < n → P k

@@ -7,11 +7,11 @@ use crate::layout::are_numbers;
 use crate::requests::lists_agree;
 use yongpham::yongpham_tolerance;
 
-// A box alone: a record of 24 words.
+// A box alone: a record of 32 words.
 fn tolerance_agrees(stored: &[u64]) -> bool
     ensures { λ r. ⌜ Decides (ToleranceAgrees (now (stored .entry))) r ⌝ }
 {
-    if stored.len() != 24 {
+    if stored.len() != 32 {
         return false;
     }
     if !are_numbers(stored, 6, 6) {
@@ -34,7 +34,7 @@ fn tolerance_agrees(stored: &[u64]) -> bool
 pub fn agrees(stored: &[u64]) -> bool
     ensures { λ r. ⌜ Decides (Agrees (now (stored .entry))) r ⌝ }
 {
-    if stored.len() < 24 {
+    if stored.len() < 32 {
         return false;
     }
     if stored[1] == 1 {

@@ -23,11 +23,11 @@ fn same_outputs(
     constraints: &[u64],
     open_edges: &[u64],
 ) -> bool
-    requires { ⌜ (24 ≤ length (now stored)) × (sizeOf (now stored) ≤ length (now stored)) ⌝ }
+    requires { ⌜ (32 ≤ length (now stored)) × (sizeOf (now stored) ≤ length (now stored)) ⌝ }
     requires { ⌜ OutputsLent (now stored) (now candidates) (now «face_lists») (now constraints) (now «open_edges») ⌝ }
     ensures { λ r. ⌜ Decides (SameOutputs (now (stored .entry)) (now (candidates .entry)) (now («face_lists» .entry)) (now (constraints .entry)) (now («open_edges» .entry))) r ⌝ }
 {
-    let from = 24 + stored[2] as usize + stored[3] as usize + stored[4] as usize;
+    let from = 32 + stored[2] as usize + stored[3] as usize + stored[4] as usize;
     if !same_list(stored, from, candidates) {
         return false;
     }
@@ -52,7 +52,7 @@ fn same_candidates(
     open_edges: &[u64],
     work: &[u64],
 ) -> bool
-    requires { ⌜ (24 ≤ length (now stored)) × (sizeOf (now stored) ≤ length (now stored)) ⌝ }
+    requires { ⌜ (32 ≤ length (now stored)) × (sizeOf (now stored) ≤ length (now stored)) ⌝ }
     requires { ⌜ OutputsLent (now stored) (now candidates) (now «face_lists») (now constraints) (now «open_edges») ⌝ }
     ensures { λ r. ⌜ Decides
         (CandidatesAnswered (now (stored .entry)) (number ∷ now (values .entry)) (now (candidates .entry)) (now («face_lists» .entry)) (now (constraints .entry))
@@ -93,6 +93,7 @@ fn candidates_agree(
         double(stored[11]),
         double(stored[12]),
         double(stored[13]),
+        stored[24],
         work,
         candidates,
         face_lists,

@@ -27,7 +27,7 @@ pub fn same_words(a: &[u64], b: &[u64]) -> bool
 
 // The reply of a record is its number and four values, from word 19 on.
 pub fn same_reply(stored: &[u64], number: u32, values: &[u64; 4]) -> bool
-    requires { ⌜ 24 ≤ length (now stored) ⌝ }
+    requires { ⌜ 32 ≤ length (now stored) ⌝ }
     ensures { λ r. ⌜ Decides (number ∷ now (values .entry) ≡ storedReply (now (stored .entry))) r ⌝ }
 {
     if stored[19] != number as u64 {
@@ -104,14 +104,14 @@ pub fn same_answer(
     out_facets: &[u32],
     work: &[u64],
 ) -> bool
-    requires { ⌜ 24 ≤ length (now stored) ⌝ }
+    requires { ⌜ 32 ≤ length (now stored) ⌝ }
     requires { ⌜ outputsFrom (now stored) + length (now «out_vertices») + length (now «out_facets») ≤ length (now stored) ⌝ }
     ensures { λ r. ⌜ Decides (AgreesWith (now (stored .entry)) (number ∷ now (values .entry)) (now («out_vertices» .entry)) (now («out_facets» .entry)) (now (work .entry))) r ⌝ }
 {
     if !same_reply(stored, number, values) {
         return false;
     }
-    let from = 24 + stored[2] as usize + stored[3] as usize + stored[4] as usize;
+    let from = 32 + stored[2] as usize + stored[3] as usize + stored[4] as usize;
     if !same_doubles(stored, from, out_vertices) {
         return false;
     }

@@ -13,7 +13,7 @@ pub struct Tally {
 fn request(operation: u64, stored: &[u64]) -> u64
     ensures { λ r. ⌜ OneIf (Requested operation (now (stored .entry))) r ⌝ }
 {
-    if stored.len() < 24 {
+    if stored.len() < 32 {
         return 0;
     }
     if stored[1] == operation { 1 } else { 0 }

@@ -13,17 +13,17 @@ ghost use Rattle.replay.specs.Counting.{Records, AnswersFile};
 // "yongpham", the least byte first
 const MAGIC: u64 = 7881695654855995257;
 
-const FORMAT: u64 = 1;
+const FORMAT: u64 = 2;
 
 // The length of the record at the front of what is left of a file, and 0 where none is whole.
 pub fn record_length(rest: &[u64]) -> usize
     ensures { λ r. ⌜ (r ≡ recordLength (now (rest .entry))) × (r ≤ length (now (rest .entry))) ⌝ }
 {
-    if rest.len() < 24 {
+    if rest.len() < 32 {
         return 0;
     }
     let length = rest[0] as usize;
-    if length < 24 {
+    if length < 32 {
         return 0;
     }
     if rest.len() < length {
@@ -112,7 +112,7 @@ pub fn are_few(stored: &[u64], from: usize, n: usize, most: u64) -> bool
 
 // The words of a record with lists and outputs of the lengths that it states.
 fn size(stored: &[u64]) -> usize
-    requires { ⌜ (24 ≤ length (now stored)) × (Few (now stored) 2 3 1024 × Few (now stored) 15 4 1024) ⌝ }
+    requires { ⌜ (32 ≤ length (now stored)) × (Few (now stored) 2 3 1024 × Few (now stored) 15 4 1024) ⌝ }
     ensures { λ r. ⌜ r ≡ sizeOf (now (stored .entry)) ⌝ }
 {
     let lists = stored[2] as usize + stored[3] as usize + stored[4] as usize;
@@ -120,14 +120,14 @@ fn size(stored: &[u64]) -> usize
         + stored[16] as usize
         + stored[17] as usize
         + stored[18] as usize;
-    24 + lists + outputs
+    32 + lists + outputs
 }
 
 // The lists and outputs fill the record, and there is room for them here.
 pub fn is_laid(stored: &[u64]) -> bool
     ensures { λ r. ⌜ Decides (Laid (now (stored .entry))) r ⌝ }
 {
-    if stored.len() < 24 {
+    if stored.len() < 32 {
         return false;
     }
     if !are_few(stored, 2, 3, 1024) {

@@ -40,6 +40,7 @@ fn clip_agrees(
         double(stored[10]),
         double(stored[11]),
         double(stored[12]),
+        stored[24],
         work,
         out_vertices,
         out_facets,
@@ -65,6 +66,7 @@ fn clean_agrees(
         vertices,
         facets,
         double(stored[12]),
+        stored[24],
         work,
         out_vertices,
         out_facets,
@@ -86,7 +88,7 @@ fn caps_agrees(
     requires { ⌜ Fresh (now stored) (now work) (now «out_vertices») (now «out_facets») ⌝ }
     ensures { λ r. ⌜ Decides (CapsStored (now (stored .entry)) (now (vertices .entry)) (now (facets .entry))) r ⌝ }
 {
-    let from = 24 + stored[2] as usize + stored[3] as usize;
+    let from = 32 + stored[2] as usize + stored[3] as usize;
     let end = from + stored[4] as usize;
     let mut values = [0u64; 4];
     let number = yongpham_caps(
@@ -102,6 +104,7 @@ fn caps_agrees(
         double(stored[12]),
         double(stored[13]),
         low_half(stored[5]),
+        stored[24],
         work,
         out_vertices,
         out_facets,

@@ -29,8 +29,8 @@ fn read_lists(stored: &[u64], vertices: &mut [f64], facets: &mut [u32]) -> bool
     requires { ⌜ (length (now vertices) ≡ getD (now stored) 2 0) × (length (now facets) ≡ getD (now stored) 3 0) ⌝ }
     ensures { λ r. ⌜ Decides (ListsStored (now (stored .entry))) r ⌝ }
 {
-    read_doubles(stored, 24, vertices);
-    read_numbers(stored, 24 + vertices.len(), facets);
+    read_doubles(stored, 32, vertices);
+    read_numbers(stored, 32 + vertices.len(), facets);
     answer_agrees(stored, vertices, facets)
 }
 
@@ -58,10 +58,10 @@ fn has_numbers(stored: &[u64]) -> bool
     }
     let v = stored[2] as usize;
     let f = stored[3] as usize;
-    if !are_numbers(stored, 24, v) {
+    if !are_numbers(stored, 32, v) {
         return false;
     }
-    are_few(stored, 24 + v, f, 4294967295)
+    are_few(stored, 32 + v, f, 4294967295)
 }
 
 pub fn lists_agree(stored: &[u64]) -> bool

@@ -18,7 +18,7 @@ use Rattle.mesh_weld.specs.Cells.{keyOf, sameKey}
 use Rattle.edges.specs.Edges.{samePair, pairBefore, openEdges}
 use Rattle.refusals.specs.Refusals.{documented, firstRefusal}
 use Rattle.refusals.specs.Answers.{replyWith, roomTests}
-use Rattle.input_tests.specs.Front.{ragged, tooMany, badIndex, inRange, epsInRange, resolutionInRange, boxInRange, badBox, gridTooFine, workNeed, farKeys}
+use Rattle.input_tests.specs.Front.{meshCeiling, limits, ragged, tooMany, admitted, badIndex, inRange, epsInRange, resolutionInRange, boxInRange, badBox, gridTooFine, workNeed, farKeys}
 use Rattle.box_faces.specs.Faces.{project, faceBits, onFace, facesOf}
 use Rattle.box_faces.specs.Sides.{faceSides, betweenEnds, alongSide, onSide}
 use Rattle.candidate_pool.specs.OpenEdges.{openEdgeWords}
@@ -84,7 +84,7 @@ room = replicate 1000 0
 abbrev reply : List Float → List ℕ → AABB → Float → Float → List ℕ
 reply vs fs box eps resolution =
     let q = asked box eps resolution in
-    replyWith (candidatesTests vs fs q 1000000) (candidateOutputs (candidatesResult vs fs q) room room room room room room room room)
+    replyWith (candidatesTests vs fs q (limits meshCeiling 1000000)) (candidateOutputs (candidatesResult vs fs q) room room room room room room room room)
 
 abbrev outputs : List Float → List ℕ → AABB → Float → Float → List (List ℕ)
 outputs vs fs box eps resolution =
@@ -139,7 +139,7 @@ pub record WorkedBlocks : Type 0 where
 
 pub computed : WorkedBlocks
 unfolding every some keep place insertBy sortBy distinctFrom upFrom flatMap magnitude within larger clamped before halfUp rounded key beyond farKey ceil wholeUp
-    rounding.segmentsOver along threes segments gridLine gridSize first keyOf sameKey samePair pairBefore openEdges documented firstRefusal ragged tooMany badIndex inRange
+    rounding.segmentsOver along threes segments gridLine gridSize first keyOf sameKey samePair pairBefore openEdges documented firstRefusal ragged tooMany admitted badIndex inRange
     epsInRange resolutionInRange boxInRange badBox gridTooFine workNeed farKeys roomTests project faceBits onFace facesOf faceSides betweenEnds alongSide onSide byKey renewed
     listed numberFor insert gridPoint skipped gridAt faceGrid grid consecutive sideOrder edgePlaces faceConstraints enterEdge edgeSurface cornerVertices meshPool candidates
     candidateWords listWords closureTests strayEdge edgeTests noTwoEnds candidatesResult ofBits toBits ofInt round add sub mul div neg lt le eq

@@ -21,7 +21,7 @@ use Rattle.mesh_filter.specs.Filters.{sameCorners}
 use Rattle.edges.specs.Edges.{samePair, pairBefore, openEdges}
 use Rattle.refusals.specs.Refusals.{documented, firstRefusal}
 use Rattle.refusals.specs.Answers.{roomTests, meshOutputs, replyWith}
-use Rattle.input_tests.specs.Front.{ragged, tooMany, badIndex, inRange, epsInRange, resolutionInRange, boxInRange, badBox, gridTooFine, workNeed, farKeys}
+use Rattle.input_tests.specs.Front.{meshCeiling, limits, ragged, tooMany, admitted, badIndex, inRange, epsInRange, resolutionInRange, boxInRange, badBox, gridTooFine, workNeed, farKeys}
 use Rattle.box_faces.specs.Faces.{project, onFace, facesOf}
 use Rattle.candidate_pool.specs.Pool.{byKey, renewed, listed, numberFor, insert}
 use Rattle.candidate_grids.specs.Grid.{gridPoint, skipped, gridAt, faceGrid, grid}
@@ -109,7 +109,7 @@ list15 = xMin ++ xMax ++ others
 abbrev reply : List Float → List ℕ → List ℕ → AABB → Float → Float → BoundaryClosure → List ℕ
 reply vs fs caps box eps resolution mode =
     let q = asked box eps resolution in
-    replyWith (capsTests vs fs caps q mode 1000000) (meshOutputs (capsResult vs fs caps q mode) (replicate 1000 +0) [] (replicate 1000 0) [])
+    replyWith (capsTests vs fs caps q mode (limits meshCeiling 1000000)) (meshOutputs (capsResult vs fs caps q mode) (replicate 1000 +0) [] (replicate 1000 0) [])
 
 abbrev reply15 : List ℕ → BoundaryClosure → List ℕ
 reply15 caps mode = reply (square +1 1/2) squareFacets caps (boxTo +1 +1 +1) 1e-10 +1 mode
@@ -174,7 +174,7 @@ pub record Rules : Type 0 where
 pub computed : WorkedBlocks
 unfolding every some keep place insertBy sortBy distinctFrom upFrom flatMap magnitude within larger clamped before one unitsOf root rootOfSquare wholeRoot halfUp rounded key
     beyond farKey ceil wholeUp rounding.segmentsOver along difference dot cross threes containsOrientedEdge sortedVertices segments gridLine gridSize first components keyOf
-    sameKey sameCorners samePair pairBefore openEdges documented firstRefusal ragged tooMany badIndex inRange epsInRange resolutionInRange boxInRange badBox gridTooFine
+    sameKey sameCorners samePair pairBefore openEdges documented firstRefusal ragged tooMany admitted badIndex inRange epsInRange resolutionInRange boxInRange badBox gridTooFine
     workNeed farKeys roomTests project onFace facesOf byKey renewed listed numberFor insert gridPoint skipped gridAt faceGrid grid enterEdge edgeSurface cornerVertices
     meshPool candidates closureTests strayEdge edgeTests noTwoEnds capsOf signedArea outward isSeed isOpenPair shareEdge selected badCap badCapPlace missingEdge missingPlace
     taken newVertices vertexFor closedPoints capCorners isLarge capFacets ownFacets closed surface capTests capsResult ofBits ofInt round add sub mul div neg lt le eq
@@ -183,7 +183,7 @@ computed = record { c10 = refl; c9 = refl; c13 = refl; c14-near = refl; c14-far 
 pub rules : Rules
 unfolding every some keep place insertBy sortBy distinctFrom upFrom flatMap magnitude within larger clamped before one unitsOf root rootOfSquare wholeRoot halfUp rounded key
     beyond farKey ceil wholeUp rounding.segmentsOver along difference dot cross threes containsOrientedEdge sortedVertices segments gridLine gridSize first components keyOf
-    sameKey sameCorners samePair pairBefore openEdges documented firstRefusal ragged tooMany badIndex inRange epsInRange resolutionInRange boxInRange badBox gridTooFine
+    sameKey sameCorners samePair pairBefore openEdges documented firstRefusal ragged tooMany admitted badIndex inRange epsInRange resolutionInRange boxInRange badBox gridTooFine
     workNeed farKeys roomTests project onFace facesOf byKey renewed listed numberFor insert gridPoint skipped gridAt faceGrid grid enterEdge edgeSurface cornerVertices
     meshPool candidates closureTests strayEdge edgeTests noTwoEnds capsOf signedArea outward isSeed isOpenPair shareEdge selected badCap badCapPlace missingEdge missingPlace
     taken newVertices vertexFor closedPoints capCorners isLarge capFacets ownFacets closed surface capTests capsResult ofBits ofInt round add sub mul div neg lt le eq

@@ -20,7 +20,7 @@ use Rattle.geometry.specs.Triangles.{threes, sortedVertices}
 use Rattle.geometry.specs.Meshes.{Mesh, meshOf, meshLengths}
 use Rattle.refusals.specs.Refusals.{documented, firstRefusal}
 use Rattle.refusals.specs.Answers.{replyIn, roomTests}
-use Rattle.input_tests.specs.Front.{ragged, tooMany, badIndex, inRange, epsInRange, resolutionInRange, boxInRange, badBox, gridTooFine, workNeed, farKeys}
+use Rattle.input_tests.specs.Front.{meshCeiling, limits, ragged, tooMany, admitted, badIndex, inRange, epsInRange, resolutionInRange, boxInRange, badBox, gridTooFine, workNeed, farKeys}
 use Rattle.components.specs.Components.{components}
 use Rattle.mesh_weld.specs.Weld.{weldNext, weld}
 use Rattle.mesh_weld.specs.Cells.{keyOf, sameKey, around, near, neighbours, cells}
@@ -103,15 +103,15 @@ pub record Row : Type 1 where
 abbrev pub row : {A : Type 0} → A → A → Row
 row g s = record { Result = _; given = g; stated = s }
 
--- the replies of operations, for so many words of work room lent and outputs of these lengths
+-- the replies of operations under document 01's ceiling, for so many words of work room lent and outputs of these lengths
 abbrev pub clipReply : List Float → List ℕ → ClipAsked → ℕ → List ℕ → List ℕ
-clipReply vs fs q lent outs = replyIn (clipTests vs fs q lent) (meshLengths (clipResult vs fs q)) outs
+clipReply vs fs q lent outs = replyIn (clipTests vs fs q (limits meshCeiling lent)) (meshLengths (clipResult vs fs q)) outs
 
 abbrev pub cleanReply : List Float → List ℕ → CleanAsked → ℕ → List ℕ → List ℕ
-cleanReply vs fs q lent outs = replyIn (cleanTests vs fs q lent) (meshLengths (cleanResult vs fs q)) outs
+cleanReply vs fs q lent outs = replyIn (cleanTests vs fs q (limits meshCeiling lent)) (meshLengths (cleanResult vs fs q)) outs
 
 abbrev pub candidatesReply : List Float → List ℕ → Asked → ℕ → List ℕ → List ℕ
-candidatesReply vs fs q lent outs = replyIn (candidatesTests vs fs q lent) (candidateLengths (candidatesResult vs fs q)) outs
+candidatesReply vs fs q lent outs = replyIn (candidatesTests vs fs q (limits meshCeiling lent)) (candidateLengths (candidatesResult vs fs q)) outs
 
 -- C1: "eps 1/1024, points (-1/2048,0,0), (1/2048,0,0), no facets: keys -1 and 1, two vertices, though the distance is eps". The keys, the distance, the reply with just
 -- enough room, and the cleaned mesh
@@ -216,7 +216,7 @@ of-all a {r} (List·Memᴰ·tail {x} {xs} m) = of-all (a .1) m
 
 computed : All starred
 unfolding every some distinctFrom upFrom threes magnitude within inside snapTo snapped crossing interpolated onPlane crossed sideClipped walk clipToPlane clipPolygon along
-    fan fanned insideBox sharedNumber shareOnce sharing clipFacet clipFacets clipped flatMap firstRefusal documented ragged tooMany badIndex inRange epsInRange
+    fan fanned insideBox sharedNumber shareOnce sharing clipFacet clipFacets clipped flatMap firstRefusal documented ragged tooMany admitted badIndex inRange epsInRange
     boxInRange badBox workNeed roomTests clipTests clipResult keep place insertBy sortBy halfUp rounded key beyond farKey farKeys difference dot cross keyOf sameKey around near
     neighbours cells first weldNext weld hasRepeatedCorner isFlat sortedVertices sameCorners isDuplicate filtered passedNext passed components shareVertex isAlone status
     orElse keptFacets renumbered compacted weldedMesh cleanedMesh cleanResult cleanTests larger one unitsOf root rootOfSquare wholeRoot wholeUp ceil rounding.segmentsOver segments

@@ -20,7 +20,7 @@ use Rattle.refusals.specs.declared.refusal.Checked.the-variants as checked
 use Rattle.refusals.specs.declared.reply.Reply.{Reply}
 use Rattle.refusals.specs.Refusals.{documented, documentedReply, Test, firstRefusal, Passes, numbered, replyTo}
 use Rattle.refusals.specs.Answers.{Output, meshOutputs, Answer, Answered}
-use Rattle.input_tests.specs.Front.{ceiling, listTests}
+use Rattle.input_tests.specs.Front.{limits, listTests}
 use Rattle.refusals.specs.Reports.{Reported}
 use Rattle.refusals.proofs.Refusals.{holds, row-passed, row-refused}
 use Rattle.refusals.proofs.Answers.{refused, answered, called}
@@ -61,7 +61,7 @@ module _ (m : ℕ) where
       ∙ ap (λ (b : Bool). cond b ClosePositive CloseNegative) (ne-eqb m 1 g))
 
 -- a number that is no mode is refused: by one of tests 1, 2 and 3, or as part of 4
-module _ (vs : List Float) (fs : List ℕ) (n : ℕ) where
+module _ (ceiling : ℕ) (vs : List Float) (fs : List ℕ) (n : ℕ) where
   abbrev lists : List Test
   lists = listTests ceiling vs fs n
 
@@ -87,9 +87,9 @@ module _ (vs : List Float) (fs : List ℕ) (n : ℕ) where
       go checked.Passed e = (BadNumber, no-mode-passes e)
       go (checked.Refused q) e = (q, row-refused lists last q e)
 
-module _ (vs : List Float) (fs capList : List ℕ) (q : Asked) (mode : ℕ) (w w' : List ℕ) (v v' : List Float) (f f' : List ℕ) (r : ℕ) (ws : List ℕ) where
+module _ (vs : List Float) (fs capList : List ℕ) (q : Asked) (mode ceiling : ℕ) (w w' : List ℕ) (v v' : List Float) (f f' : List ℕ) (r : ℕ) (ws : List ℕ) where
   abbrev tests : List Test
-  tests = capsCallTests vs fs capList q mode (length w)
+  tests = capsCallTests vs fs capList q mode (limits ceiling (length w))
 
   abbrev outs : List Output
   outs = meshOutputs (capsResult vs fs capList q (modeOf mode)) v v' f f'
@@ -107,22 +107,22 @@ module _ (vs : List Float) (fs capList : List ℕ) (q : Asked) (mode : ℕ) (w w
       let c = closes vs fs capList q (modeOf mode) tests reply v v' f f' a (sym (g .number) ∙ d) u in
       subst (λ (l : List ℕ). Closes vs fs capList q (modeOf mode) l v v' f f') (told reply g _ _ (c .lengths)) c
 
-  caps-called : (reply : List ℕ) → Answered tests outs w w' reply → Reported reply r ws → CapsCalled vs fs capList q mode r ws w w' v v' f f'
+  caps-called : (reply : List ℕ) → Answered tests outs w w' reply → Reported reply r ws → CapsCalled vs fs capList q mode ceiling r ws w w' v v' f f'
   caps-called reply a g = record { answered = called tests outs w w' reply r ws a g; rule = as-told reply (a .answer) g }
 
-  pub caps-none : 2 < mode → w' ≡ replicate (length w) 0 → v' ≡ v → f' ≡ f → Reported (replyTo (noModeTests vs fs capList q mode) []) r ws
-      → CapsCalled vs fs capList q mode r ws w w' v v' f f'
+  pub caps-none : 2 < mode → w' ≡ replicate (length w) 0 → v' ≡ v → f' ≡ f → Reported (replyTo (noModeTests vs fs capList q mode ceiling) []) r ws
+      → CapsCalled vs fs capList q mode ceiling r ws w w' v v' f f'
   unfolding documentedReply
   caps-none h z a b g =
-      let n = no-mode-is vs fs (length capList) in
-      let t : noModeTests vs fs capList q mode ≡ tests = sym (cond-true (ltb 2 mode) (noModeTests vs fs capList q mode) _ _ (lt-ltb 2 mode h) refl) in
+      let n = no-mode-is ceiling vs fs (length capList) in
+      let t : noModeTests vs fs capList q mode ceiling ≡ tests = sym (cond-true (ltb 2 mode) (noModeTests vs fs capList q mode ceiling) _ _ (lt-ltb 2 mode h) refl) in
       let e : firstRefusal tests ≡ checked.Refused (n .0) = ap firstRefusal (sym t) ∙ n .1 in
       let x = answered tests outs w w w' (documented (n .0)) (refused tests outs (n .0) e (a, (b, tt))) refl z in
       caps-called (documented (n .0)) x (same-reply _ (documented (n .0)) r ws (ap (λ (c : Checked). numbered c []) (n .1)) g)
 
-  pub caps-reported : (x : BoundaryClosure) (m : Reply) → mode ≤ 2 → x ≡ modeOf mode → Capped vs fs capList q x m w w' v v' f f' → Reported (documentedReply m) r ws
-      → CapsCalled vs fs capList q mode r ws w w' v v' f f'
+  pub caps-reported : (x : BoundaryClosure) (m : Reply) → mode ≤ 2 → x ≡ modeOf mode → Capped vs fs capList q x ceiling m w w' v v' f f' → Reported (documentedReply m) r ws
+      → CapsCalled vs fs capList q mode ceiling r ws w w' v v' f f'
   caps-reported x m h e c g =
-      let k = subst (λ (y : BoundaryClosure). Capped vs fs capList q y m w w' v v' f f') e c in
-      let t : capsTests vs fs capList q (modeOf mode) (length w) ≡ tests = sym (cond-false (ltb 2 mode) (noModeTests vs fs capList q mode) _ _ (le-ltb 2 mode h) refl) in
+      let k = subst (λ (y : BoundaryClosure). Capped vs fs capList q y ceiling m w w' v v' f f') e c in
+      let t : capsTests vs fs capList q (modeOf mode) (limits ceiling (length w)) ≡ tests = sym (cond-false (ltb 2 mode) (noModeTests vs fs capList q mode ceiling) _ _ (le-ltb 2 mode h) refl) in
       caps-called (documentedReply m) (subst (λ (ts : List Test). Answered ts outs w w' (documentedReply m)) t (k .answered)) g

@@ -14,7 +14,7 @@ use Rattle.geometry.specs.declared.aabb.AABB.{AABB}
 use Rattle.refusals.specs.declared.refusal.Refusal.the-variants.{BadNumber}
 use Rattle.refusals.specs.Refusals.{Test}
 use Rattle.refusals.specs.Answers.{meshOutputs, Called}
-use Rattle.input_tests.specs.Front.{ceiling, listTests}
+use Rattle.input_tests.specs.Front.{Limits, limits, listTests}
 use Rattle.candidate_surface.specs.Asked.{Asked}
 use Rattle.caps.specs.declared.mode.BoundaryClosure.{BoundaryClosure}
 use Rattle.caps.specs.declared.mode.BoundaryClosure.the-variants.{None, ClosePositive, CloseNegative}
@@ -30,14 +30,14 @@ modeOf m = cond (eqb m 0) None (cond (eqb m 1) ClosePositive CloseNegative)
 
 module _ (vs : List Float) (fs capList : List ℕ) (q : Asked) (mode : ℕ) where
   -- of a number that is no mode: "part of 4, in its place"
-  abbrev pub noModeTests : List Test
-  noModeTests = listTests ceiling vs fs (length capList) ++ (true, BadNumber) ∷ []
+  abbrev pub noModeTests : ℕ → List Test
+  noModeTests ceiling = listTests ceiling vs fs (length capList) ++ (true, BadNumber) ∷ []
 
-  -- of any number, for so many words of work room lent
-  abbrev pub capsCallTests : ℕ → List Test
-  capsCallTests lent = cond (ltb 2 mode) noModeTests (capsTests vs fs capList q (modeOf mode) lent)
+  -- of any number
+  abbrev pub capsCallTests : Limits → List Test
+  capsCallTests l = cond (ltb 2 mode) (noModeTests (l .ceiling)) (capsTests vs fs capList q (modeOf mode) l)
 
-  -- from work room w and outputs v and f to w', v' and f', with the number r and the four words `values`
-  pub record CapsCalled (r : ℕ) (values w w' : List ℕ) (v v' : List Float) (f f' : List ℕ) : Type 0 where
-    pub answered : Called (capsCallTests (length w)) (meshOutputs (capsResult vs fs capList q (modeOf mode)) v v' f f') w w' r values
+  -- under a ceiling, from work room w and outputs v and f to w', v' and f', with the number r and the four words `values`
+  pub record CapsCalled (ceiling r : ℕ) (values w w' : List ℕ) (v v' : List Float) (f f' : List ℕ) : Type 0 where
+    pub answered : Called (capsCallTests (limits ceiling (length w))) (meshOutputs (capsResult vs fs capList q (modeOf mode)) v v' f f') w w' r values
     pub rule : r ≡ 0 → unchanged vs fs capList q (modeOf mode) ≡ false → Closes vs fs capList q (modeOf mode) (r ∷ getD values 0 0 ∷ getD values 1 0 ∷ []) v v' f f'

@@ -1,5 +1,6 @@
 ghost use lib.ListN.{length};
 ghost use Rattle.refusals.specs.Answers.{Called};
+ghost use Rattle.input_tests.specs.Front.{limits};
 ghost use Rattle.candidate_surface.specs.Asked.{asked};
 ghost use Rattle.candidate_outputs.specs.Outputs.{candidateOutputs};
 ghost use Rattle.boundary_closure.specs.Operation.{candidatesTests, candidatesResult};
@@ -21,6 +22,7 @@ pub extern "C" fn yongpham_candidates(
     max_z: f64,
     eps: f64,
     resolution: f64,
+    ceiling: u64,
     work: &mut [u64],
     candidates: &mut [u64],
     face_lists: &mut [u64],
@@ -29,7 +31,7 @@ pub extern "C" fn yongpham_candidates(
     values: &mut [u64; 4],
 ) -> u32
     ensures { λ r. ⌜ Called (candidatesTests (now (vertices .entry)) (now (facets .entry)) (asked (boxOf «min_x» «min_y» «min_z» «max_x» «max_y» «max_z») eps resolution)
-        (length (now (work .entry)))) (candidateOutputs (candidatesResult (now (vertices .entry)) (now (facets .entry))
+        (limits ceiling (length (now (work .entry))))) (candidateOutputs (candidatesResult (now (vertices .entry)) (now (facets .entry))
         (asked (boxOf «min_x» «min_y» «min_z» «max_x» «max_y» «max_z») eps resolution)) (now (candidates .entry)) (now (candidates .exit)) (now («face_lists» .entry))
         (now («face_lists» .exit)) (now (constraints .entry)) (now (constraints .exit)) (now («open_edges» .entry)) (now («open_edges» .exit))) (now (work .entry))
         (now (work .exit)) r (now (values .exit)) ⌝ }
@@ -44,6 +46,7 @@ pub extern "C" fn yongpham_candidates(
         extents,
         eps,
         resolution,
+        ceiling,
         work,
         candidates,
         face_lists,

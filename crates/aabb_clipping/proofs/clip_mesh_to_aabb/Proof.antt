@@ -33,8 +33,8 @@ returns c =
     let a = c .before .before .before .before .before .before .before .before .before .before .before .before .before .before .before .before .before .before .before .before .args
     in
     let w = a .work .now in
-    let u = p .last .1 .1 .1 .1 .1 .0 in
-    let l = p .kept .1 .1 .1 .1 .1 .0 in
+    let u = p .last .1 .1 .1 .1 .1 .1 .0 in
+    let l = p .kept .1 .1 .1 .1 .1 .1 .0 in
     answered _ _ w u _ _ (p .ensures) l (z .ensures ∙ overlay-whole (replicate (length w) 0) u (omega (arith, l, length-replicate {A = ℕ} (length w) 0)) ∙ ap
     (λ (n : ℕ). replicate n 0) (sym l))
 

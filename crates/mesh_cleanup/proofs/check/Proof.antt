@@ -1,5 +1,6 @@
 use Rattle.mesh_cleanup.proofs.Delivery.{lists-refused, number-refused, room-refused, key-refused, all-passed}
 use Rattle.mesh_cleanup.specs.Clean.{cleanAsked}
+use Rattle.input_tests.specs.Front.{limits}
 use Rattle.input_tests.proofs.Lists.{listed}
 use Rattle.lists.proofs.Bools.{and-next, and-stop}
 use native.Mathlib.Omega.{arith}
@@ -20,7 +21,7 @@ returns : tie.Need-returns
 returns c =
     let s = c .before .before .before .before .before in
     let a = s .args in
-    lists-refused (a .vertices .now) (a .facets .now) (cleanAsked (a .eps)) (a .lent) _ _ (c .before .before .check-lists .ensures) (c .enum-told .given .1)
+    lists-refused (a .vertices .now) (a .facets .now) (cleanAsked (a .eps)) (limits (a .ceiling) (a .lent)) _ _ (c .before .before .check-lists .ensures) (c .enum-told .given .1)
 
 enum-told-2 : tie.Need-enum-told-2
 enum-told-2 c = search needs
@@ -32,7 +33,7 @@ returns-2 : tie.Need-returns-2
 returns-2 c =
     let s = c .before .before .before .before .before .before .before in
     let a = s .args in
-    number-refused (a .vertices .now) (a .facets .now) (cleanAsked (a .eps)) (a .lent) (sym (c .before .before .before .before .check-lists .ensures) ∙ c .before .before
+    number-refused (a .vertices .now) (a .facets .now) (cleanAsked (a .eps)) (limits (a .ceiling) (a .lent)) (sym (c .before .before .before .before .check-lists .ensures) ∙ c .before .before
     .enum-told2 .given .1)
     (ap not (and-stop _ _ (sym (c .before .all-in-range .ensures) ∙ not-true _ (c .if1 .taken))))
 
@@ -43,7 +44,7 @@ returns-3 : tie.Need-returns-3
 returns-3 c =
     let s = c .before .before .before .before .before .before .before .before .before in
     let a = s .args in
-    number-refused (a .vertices .now) (a .facets .now) (cleanAsked (a .eps)) (a .lent)
+    number-refused (a .vertices .now) (a .facets .now) (cleanAsked (a .eps)) (limits (a .ceiling) (a .lent))
     (sym (c .before .before .before .before .before .before .check-lists .ensures) ∙ c .before .before .before .before .enum-told2 .given .1)
     (ap not (and-next _ _ _ (sym (c .before .before .before .all-in-range .ensures) ∙ not-false _ (c .before .before .if1 .left))
     (sym (c .before .eps-in-range .ensures) ∙ not-true _ (c .if2 .taken))))
@@ -60,7 +61,7 @@ returns-4 : tie.Need-returns-4
 returns-4 c =
     let s = c .before .before .before .before .before .before .before .before .before .before .before in
     let a = s .args in
-    room-refused (a .vertices .now) (a .facets .now) (cleanAsked (a .eps)) (a .lent)
+    room-refused (a .vertices .now) (a .facets .now) (cleanAsked (a .eps)) (limits (a .ceiling) (a .lent))
     (sym (c .before .before .before .before .before .before .before .before .check-lists .ensures) ∙ c .before .before .before .before .before .before .enum-told2 .given .1)
     (ap not (and-next _ _ _ (sym (c .before .before .before .before .before .all-in-range .ensures) ∙ not-false _ (c .before .before .before .before .if1 .left))
     (sym (c .before .before .before .eps-in-range .ensures) ∙ not-false _ (c .before .before .if2 .left)))) _ (c .before .work-need .ensures) (c .if3 .taken)
@@ -72,7 +73,7 @@ returns-5 : tie.Need-returns-5
 returns-5 c =
     let s = c .before .before .before .before .before .before .before .before .before .before .before .before .before in
     let a = s .args in
-    key-refused (a .vertices .now) (a .facets .now) (cleanAsked (a .eps)) (a .lent)
+    key-refused (a .vertices .now) (a .facets .now) (cleanAsked (a .eps)) (limits (a .ceiling) (a .lent))
     (sym (c .before .before .before .before .before .before .before .before .before .before .check-lists .ensures) ∙ c .before .before .before .before .before .before .before
     .before .enum-told2 .given .1) (ap not (and-next _ _ _ (sym (c .before .before .before .before .before .before .before .all-in-range .ensures) ∙ not-false _
     (c .before .before .before .before .before .before .if1 .left))
@@ -83,7 +84,7 @@ returns-6 : tie.Need-returns-6
 returns-6 c =
     let s = c .before .before .before .before .before .before .before .before .before .before .before .before .before in
     let a = s .args in
-    all-passed (a .vertices .now) (a .facets .now) (cleanAsked (a .eps)) (a .lent)
+    all-passed (a .vertices .now) (a .facets .now) (cleanAsked (a .eps)) (limits (a .ceiling) (a .lent))
     (sym (c .before .before .before .before .before .before .before .before .before .before .check-lists .ensures) ∙ c .before .before .before .before .before .before .before
     .before .enum-told2 .given .1) (ap not (and-next _ _ _ (sym (c .before .before .before .before .before .before .before .all-in-range .ensures) ∙ not-false _
     (c .before .before .before .before .before .before .if1 .left))

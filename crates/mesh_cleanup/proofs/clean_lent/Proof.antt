@@ -2,6 +2,7 @@ use lib.ListN.{length}
 use Rattle.mesh_cleanup.proofs.Delivery.{ready}
 use Rattle.refusals.proofs.Answers.{refused, behind}
 use Rattle.refusals.specs.Answers.{meshOutputs}
+use Rattle.input_tests.specs.Front.{limits}
 use Rattle.mesh_cleanup.specs.Clean.{cleanAsked, cleanTests, cleanResult}
 use mathlib.Core.Path.{refl, sym, _∙_}
 use borrow.Author.Needs.{needs}
@@ -18,7 +19,7 @@ clean-checked-requires : tie.Need-clean-checked-requires
 clean-checked-requires c κs =
     let s = c .before .before .before .before .before .before .before .before .before .before .before in
     let a = s .args in
-    ready (a .vertices .now) (a .facets .now) (cleanAsked (a .eps)) (length (a .work .now))
+    ready (a .vertices .now) (a .facets .now) (cleanAsked (a .eps)) (limits (a .ceiling) (length (a .work .now)))
     (sym (c .before .before .before .before .before .check .ensures) ∙ c .before .before .before .enum-told .given .1)
 
 enum-known-r : tie.Need-enum-known-r
@@ -36,14 +37,14 @@ same-length-3 c = search needs
 returns : tie.Need-returns
 returns c =
     let a = c .before .before .before .before .before .before .before .before .before .before .before .before .before .before .before .before .before .before .args in
-    behind (cleanTests (a .vertices .now) (a .facets .now) (cleanAsked (a .eps)) (length (a .work .now))) _ _
+    behind (cleanTests (a .vertices .now) (a .facets .now) (cleanAsked (a .eps)) (limits (a .ceiling) (length (a .work .now)))) _ _
     (sym (c .before .before .before .before .before .before .before .before .before .before .before .before .check .ensures) ∙ c .before .before .before .before .before .before
     .before .before .before .before .enum-told .given .1) (c .before .before .before .before .before .before .clean-checked .ensures)
 
 returns-2 : tie.Need-returns-2
 returns-2 c =
     let a = c .before .before .before .before .before .before .before .before .before .args in
-    refused (cleanTests (a .vertices .now) (a .facets .now) (cleanAsked (a .eps)) (length (a .work .now)))
+    refused (cleanTests (a .vertices .now) (a .facets .now) (cleanAsked (a .eps)) (limits (a .ceiling) (length (a .work .now))))
     (meshOutputs (cleanResult (a .vertices .now) (a .facets .now) (cleanAsked (a .eps))) (a .out-vertices .now) (a .out-vertices .now) (a .out-facets .now) (a .out-facets .now)) _
     (sym (c .before .before .before .check .ensures) ∙ c .before .r .given .1) (refl, (refl, tt))
 

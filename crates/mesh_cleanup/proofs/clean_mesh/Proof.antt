@@ -23,13 +23,13 @@ returns : tie.Need-returns
 returns c =
     let s = c .before .before .before .before .before .before .before .before .before .before .before .before .before .before .before .before .before .before .before in
     let a = s .args in
-    cleaned-up (a .vertices .now) (a .facets .now) (cleanAsked (a .eps)) (c .before .before .before .before .before .before .before .before .before .before .clean-lent
+    cleaned-up (a .vertices .now) (a .facets .now) (cleanAsked (a .eps)) (a .ceiling) (c .before .before .before .before .before .before .before .before .before .before .clean-lent
     .result) (a .work .now)
-    (c .before .before .before .before .before .before .before .before .before .before .clean-lent .last .1 .1 .1 .0) (c .before .before .zero-front .last .0)
-    (a .out-vertices .now) (c .before .before .before .before .before .before .before .before .before .before .clean-lent .last .1 .1 .1 .1 .0) (a .out-facets .now)
-    (c .before .before .before .before .before .before .before .before .before .before .clean-lent .last .1 .1 .1 .1 .1 .0)
+    (c .before .before .before .before .before .before .before .before .before .before .clean-lent .last .1 .1 .1 .1 .0) (c .before .before .zero-front .last .0)
+    (a .out-vertices .now) (c .before .before .before .before .before .before .before .before .before .before .clean-lent .last .1 .1 .1 .1 .1 .0) (a .out-facets .now)
+    (c .before .before .before .before .before .before .before .before .before .before .clean-lent .last .1 .1 .1 .1 .1 .1 .0)
     (c .before .before .before .before .before .before .before .before .before .before .clean-lent .ensures)
-    (c .before .before .before .before .before .before .before .before .before .before .clean-lent .kept .1 .1 .1 .0) (c .before .before .zero-front .ensures)
+    (c .before .before .before .before .before .before .before .before .before .before .clean-lent .kept .1 .1 .1 .1 .0) (c .before .before .zero-front .ensures)
 
 pub clean-mesh-spec : {M : Type 1} → statement M
 clean-mesh-spec =

@@ -28,9 +28,9 @@ returns : tie.Need-returns
 returns c =
     let a = c .before .before .before .before .before .before .before .before .before .before .before .before .before .before .before .before .before .before .before .before
     .before .before .before .before .before .before .before .args in
-    answered _ _ (a .work .now) (c .before .before .before .before .before .before .before .before .before .before .before .before .before .before .candidates-lent .last .1 .1 .1
+    answered _ _ (a .work .now) (c .before .before .before .before .before .before .before .before .before .before .before .before .before .before .candidates-lent .last .1 .1 .1 .1
     .1 .1 .0) (c .before .before .zero .last .0) _ (c .before .before .before .before .before .before .before .before .before .before .before .before .before .before
-    .candidates-lent .ensures) (c .before .before .before .before .before .before .before .before .before .before .before .before .before .before .candidates-lent .kept .1 .1 .1 .1
+    .candidates-lent .ensures) (c .before .before .before .before .before .before .before .before .before .before .before .before .before .before .candidates-lent .kept .1 .1 .1 .1 .1
     .1 .0) (c .before .before .zero .ensures)
 
 pub cap-candidates-spec : {M : Type 1} → statement M

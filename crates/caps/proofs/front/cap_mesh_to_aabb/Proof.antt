@@ -23,13 +23,13 @@ returns : tie.Need-returns
 returns c =
     let a = c .before .before .before .before .before .before .before .before .before .before .before .before .before .before .before .before .before .before .before .before .args
     in
-    capped (a .vertices .now) (a .facets .now) (a .cap-list .now) (asked (a .extents) (a .eps) (a .resolution)) (a .mode)
+    capped (a .vertices .now) (a .facets .now) (a .cap-list .now) (asked (a .extents) (a .eps) (a .resolution)) (a .mode) (a .ceiling)
     (c .before .before .before .before .before .before .before .before .before .before .caps-lent .result) (a .work .now)
-    (c .before .before .before .before .before .before .before .before .before .before .caps-lent .last .1 .1 .1 .1 .1 .1 .1 .0) (c .before .before .zero .last .0)
-    (a .out-vertices .now) (c .before .before .before .before .before .before .before .before .before .before .caps-lent .last .1 .1 .1 .1 .1 .1 .1 .1 .0) (a .out-facets .now)
-    (c .before .before .before .before .before .before .before .before .before .before .caps-lent .last .1 .1 .1 .1 .1 .1 .1 .1 .1 .0)
+    (c .before .before .before .before .before .before .before .before .before .before .caps-lent .last .1 .1 .1 .1 .1 .1 .1 .1 .0) (c .before .before .zero .last .0)
+    (a .out-vertices .now) (c .before .before .before .before .before .before .before .before .before .before .caps-lent .last .1 .1 .1 .1 .1 .1 .1 .1 .1 .0) (a .out-facets .now)
+    (c .before .before .before .before .before .before .before .before .before .before .caps-lent .last .1 .1 .1 .1 .1 .1 .1 .1 .1 .1 .0)
     (c .before .before .before .before .before .before .before .before .before .before .caps-lent .ensures)
-    (c .before .before .before .before .before .before .before .before .before .before .caps-lent .kept .1 .1 .1 .1 .1 .1 .1 .0) (c .before .before .zero .ensures)
+    (c .before .before .before .before .before .before .before .before .before .before .caps-lent .kept .1 .1 .1 .1 .1 .1 .1 .1 .0) (c .before .before .zero .ensures)
 
 pub cap-mesh-to-aabb-spec : {M : Type 1} → statement M
 cap-mesh-to-aabb-spec =

@@ -5,6 +5,7 @@ use Rattle.closure_tests.specs.Tests.{closureTests}
 use native.Mathlib.Omega.{arith}
 use lib.ListN.{length}
 use mathlib.Core.Path.{sym, _∙_}
+use Rattle.input_tests.specs.Front.{limits}
 use Rattle.candidate_surface.specs.Asked.{asked}
 use borrow.Author.Needs.{needs}
 use Rattle.caps.proofs.front.caps_lent.Statement.{statement}
@@ -22,7 +23,7 @@ leaves-open-requires c κs = search needs
 deliver-mesh-requires : tie.Need-deliver-mesh-requires
 deliver-mesh-requires c κs =
     let a = c .before .before .before .before .before .before .before .before .before .before .before .before .before .args in
-    let s = sound (a .vertices .now) (a .facets .now) (asked (a .extents) (a .eps) (a .resolution)) (length (a .cap-list .now)) (length (a .work .now))
+    let s = sound (a .vertices .now) (a .facets .now) (asked (a .extents) (a .eps) (a .resolution)) (length (a .cap-list .now)) (limits (a .ceiling) (length (a .work .now)))
     (sym (c .before .before .before .before .before .before .check-closure .ensures) ∙ c .before .before .before .before .enum-told .given .1) in
     (s .lists .whole-vertices, s .lists .whole-facets)
 
@@ -36,7 +37,7 @@ returns : tie.Need-returns
 returns c =
     let a = c .before .before .before .before .before .before .before .before .before .before .before .before .before .before .before .before .before .before .args in
     handed-back (a .vertices .now) (a .facets .now) (a .cap-list .now) (asked (a .extents) (a .eps) (a .resolution)) (a .mode) (a .out-vertices .now) _ (a .out-facets .now) _ _
-    (closureTests (a .vertices .now) (a .facets .now) (asked (a .extents) (a .eps) (a .resolution)) (length (a .cap-list .now)) (length (a .work .now)))
+    (closureTests (a .vertices .now) (a .facets .now) (asked (a .extents) (a .eps) (a .resolution)) (length (a .cap-list .now)) (limits (a .ceiling) (length (a .work .now))))
     (sym (c .before .before .before .before .before .before .before .before .before .before .before .check-closure .ensures) ∙ c .before .before .before .before .before .before
     .before .before .before .enum-told .given .1) (over-open (a .vertices .now) (a .facets .now) (a .cap-list .now) (asked (a .extents) (a .eps) (a .resolution)) (a .mode)
     (sym (c .before .before .before .before .before .before .before .before .leaves-open .ensures) ∙ c .before .before .before .before .before .before .before .if1 .taken))
@@ -45,7 +46,7 @@ returns c =
 deliver-mesh-requires-2 : tie.Need-deliver-mesh-requires-2
 deliver-mesh-requires-2 c κs =
     let a = c .before .before .before .before .before .before .before .before .before .before .before .before .before .before .args in
-    let s = sound (a .vertices .now) (a .facets .now) (asked (a .extents) (a .eps) (a .resolution)) (length (a .cap-list .now)) (length (a .work .now))
+    let s = sound (a .vertices .now) (a .facets .now) (asked (a .extents) (a .eps) (a .resolution)) (length (a .cap-list .now)) (limits (a .ceiling) (length (a .work .now)))
     (sym (c .before .before .before .before .before .before .before .check-closure .ensures) ∙ c .before .before .before .before .before .enum-told .given .1) in
     (s .lists .whole-vertices, s .lists .whole-facets)
 
@@ -59,7 +60,7 @@ returns-2 : tie.Need-returns-2
 returns-2 c =
     let a = c .before .before .before .before .before .before .before .before .before .before .before .before .before .before .before .before .before .before .before .args in
     handed-back (a .vertices .now) (a .facets .now) (a .cap-list .now) (asked (a .extents) (a .eps) (a .resolution)) (a .mode) (a .out-vertices .now) _ (a .out-facets .now) _ _
-    (closureTests (a .vertices .now) (a .facets .now) (asked (a .extents) (a .eps) (a .resolution)) (length (a .cap-list .now)) (length (a .work .now)))
+    (closureTests (a .vertices .now) (a .facets .now) (asked (a .extents) (a .eps) (a .resolution)) (length (a .cap-list .now)) (limits (a .ceiling) (length (a .work .now))))
     (sym (c .before .before .before .before .before .before .before .before .before .before .before .before .check-closure .ensures) ∙ c .before .before .before .before .before
     .before .before .before .before .before .enum-told .given .1) (over-none (a .vertices .now) (a .facets .now) (a .cap-list .now) (asked (a .extents) (a .eps) (a .resolution))
     (a .mode) (sym (c .before .before .before .before .before .before .before .before .before .leaves-open .ensures) ∙ c .before .before .before .before .before .before .before
@@ -68,9 +69,9 @@ returns-2 c =
 make-caps-requires : tie.Need-make-caps-requires
 make-caps-requires c κs =
     let a = c .before .before .before .before .before .before .before .before .before .before .before .before .before .before .before .args in (
-      sound (a .vertices .now) (a .facets .now) (asked (a .extents) (a .eps) (a .resolution)) (length (a .cap-list .now)) (length (a .work .now))
+      sound (a .vertices .now) (a .facets .now) (asked (a .extents) (a .eps) (a .resolution)) (length (a .cap-list .now)) (limits (a .ceiling) (length (a .work .now)))
           (sym (c .before .before .before .before .before .before .before .before .check-closure .ensures) ∙ c .before .before .before .before .before .before .enum-told .given .1),
-      listable (a .vertices .now) (a .facets .now) (a .cap-list .now) (asked (a .extents) (a .eps) (a .resolution)) (a .work .now)
+      listable (a .vertices .now) (a .facets .now) (a .cap-list .now) (asked (a .extents) (a .eps) (a .resolution)) (a .ceiling) (a .work .now)
           (sym (c .before .before .before .before .before .before .before .before .check-closure .ensures) ∙ c .before .before .before .before .before .before .enum-told .given .1),
     )
 
@@ -91,7 +92,7 @@ returns-3 c =
     let a = c .before .before .before .before .before .before .before .before .before .before .before .before .before .before .before .before .before .before .before .before
     .before .before .args in
     gone-on (a .vertices .now) (a .facets .now) (a .cap-list .now) (asked (a .extents) (a .eps) (a .resolution)) (a .mode) (a .out-vertices .now) _ (a .out-facets .now) _ _
-    (closureTests (a .vertices .now) (a .facets .now) (asked (a .extents) (a .eps) (a .resolution)) (length (a .cap-list .now)) (length (a .work .now)))
+    (closureTests (a .vertices .now) (a .facets .now) (asked (a .extents) (a .eps) (a .resolution)) (length (a .cap-list .now)) (limits (a .ceiling) (length (a .work .now))))
     (sym (c .before .before .before .before .before .before .before .before .before .before .before .before .before .before .before .check-closure .ensures) ∙ c .before .before
     .before .before .before .before .before .before .before .before .before .before .before .enum-told .given .1)
     (over-neither (a .vertices .now) (a .facets .now) (a .cap-list .now) (asked (a .extents) (a .eps) (a .resolution)) (a .mode)
@@ -103,7 +104,7 @@ returns-4 : tie.Need-returns-4
 returns-4 c =
     let a = c .before .before .before .before .before .before .before .before .before .before .args in
     front-refused (a .vertices .now) (a .facets .now) (a .cap-list .now) (asked (a .extents) (a .eps) (a .resolution)) (a .mode) (a .out-vertices .now) (a .out-facets .now) _
-    (closureTests (a .vertices .now) (a .facets .now) (asked (a .extents) (a .eps) (a .resolution)) (length (a .cap-list .now)) (length (a .work .now)))
+    (closureTests (a .vertices .now) (a .facets .now) (asked (a .extents) (a .eps) (a .resolution)) (length (a .cap-list .now)) (limits (a .ceiling) (length (a .work .now))))
     (sym (c .before .before .before .check-closure .ensures) ∙ c .before .r .given .1)
 
 pub caps-lent-spec : {M : Type 1} → statement M

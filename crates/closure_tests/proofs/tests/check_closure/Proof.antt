@@ -1,6 +1,7 @@
 use mathlib.Core.Path.{sym, ap, _∙_}
 use mathlib.Core.Bool.{not}
 use borrow.Author.Tests.{not-true, not-false}
+use Rattle.input_tests.specs.Front.{limits}
 use Rattle.candidate_surface.specs.Asked.{asked}
 use Rattle.closure_tests.proofs.Checking.{need-small, lists-refused, number-refused, box-refused, grid-refused, room-refused, all-passed}
 use borrow.Author.Needs.{needs}
@@ -16,7 +17,7 @@ enum-told c = search needs
 returns : tie.Need-returns
 returns c =
     let a = c .before .before .before .before .before .args in
-    lists-refused (a .vertices .now) (a .facets .now) (asked (a .extents) (a .eps) (a .resolution)) (a .caps) (a .lent) _ _ (c .before .before .check-lists .ensures)
+    lists-refused (a .vertices .now) (a .facets .now) (asked (a .extents) (a .eps) (a .resolution)) (a .caps) (limits (a .ceiling) (a .lent)) _ _ (c .before .before .check-lists .ensures)
     (c .enum-told .given .1)
 
 enum-told-2 : tie.Need-enum-told-2
@@ -28,7 +29,7 @@ numbers-in-range-requires c κs = search needs
 returns-2 : tie.Need-returns-2
 returns-2 c =
     let a = c .before .before .before .before .before .before .before .args in
-    number-refused (a .vertices .now) (a .facets .now) (asked (a .extents) (a .eps) (a .resolution)) (a .caps) (a .lent)
+    number-refused (a .vertices .now) (a .facets .now) (asked (a .extents) (a .eps) (a .resolution)) (a .caps) (limits (a .ceiling) (a .lent))
     (sym (c .before .before .before .before .check-lists .ensures) ∙ c .before .before .enum-told2 .given .1)
     (ap not (sym (c .before .numbers-in-range .ensures) ∙ not-true _ (c .if1 .taken)))
 
@@ -38,7 +39,7 @@ is-bad-box-requires c κs = search needs
 returns-3 : tie.Need-returns-3
 returns-3 c =
     let a = c .before .before .before .before .before .before .before .before .before .args in
-    box-refused (a .vertices .now) (a .facets .now) (asked (a .extents) (a .eps) (a .resolution)) (a .caps) (a .lent)
+    box-refused (a .vertices .now) (a .facets .now) (asked (a .extents) (a .eps) (a .resolution)) (a .caps) (limits (a .ceiling) (a .lent))
     (sym (c .before .before .before .before .before .before .check-lists .ensures) ∙ c .before .before .before .before .enum-told2 .given .1)
     (ap not (sym (c .before .before .before .numbers-in-range .ensures) ∙ not-false _ (c .before .before .if1 .left))) (sym (c .before .is-bad-box .ensures) ∙ c .if2 .taken)
 
@@ -48,7 +49,7 @@ is-grid-too-fine-requires c κs = search needs
 returns-4 : tie.Need-returns-4
 returns-4 c =
     let a = c .before .before .before .before .before .before .before .before .before .before .before .args in
-    grid-refused (a .vertices .now) (a .facets .now) (asked (a .extents) (a .eps) (a .resolution)) (a .caps) (a .lent)
+    grid-refused (a .vertices .now) (a .facets .now) (asked (a .extents) (a .eps) (a .resolution)) (a .caps) (limits (a .ceiling) (a .lent))
     (sym (c .before .before .before .before .before .before .before .before .check-lists .ensures) ∙ c .before .before .before .before .before .before .enum-told2 .given .1)
     (ap not (sym (c .before .before .before .before .before .numbers-in-range .ensures) ∙ not-false _ (c .before .before .before .before .if1 .left)))
     (sym (c .before .before .before .is-bad-box .ensures) ∙ c .before .before .if2 .left) (sym (c .before .is-grid-too-fine .ensures) ∙ c .if3 .taken)
@@ -59,14 +60,14 @@ grid-size-requires c κs = (sym (c .before .is-grid-too-fine .ensures) ∙ c .if
 work-need-requires : tie.Need-work-need-requires
 work-need-requires c κs =
     let a = c .before .before .before .before .before .before .before .before .before .before .before .before .args in
-    need-small (a .vertices .now) (a .facets .now) (asked (a .extents) (a .eps) (a .resolution)) (a .caps) _
+    need-small (a .vertices .now) (a .facets .now) (asked (a .extents) (a .eps) (a .resolution)) (a .ceiling) (a .caps) _
     (sym (c .before .before .before .before .before .before .before .before .before .check-lists .ensures) ∙ c .before .before .before .before .before .before .before .enum-told2
     .given .1) (sym (c .before .before .is-grid-too-fine .ensures) ∙ c .before .if3 .left) (c .grid-size .ensures)
 
 returns-5 : tie.Need-returns-5
 returns-5 c =
     let a = c .before .before .before .before .before .before .before .before .before .before .before .before .before .before .args in
-    room-refused (a .vertices .now) (a .facets .now) (asked (a .extents) (a .eps) (a .resolution)) (a .caps) (a .lent)
+    room-refused (a .vertices .now) (a .facets .now) (asked (a .extents) (a .eps) (a .resolution)) (a .caps) (limits (a .ceiling) (a .lent))
     (sym (c .before .before .before .before .before .before .before .before .before .before .before .check-lists .ensures) ∙ c .before .before .before .before .before .before
     .before .before .before .enum-told2 .given .1) (ap not (sym (c .before .before .before .before .before .before .before .before .numbers-in-range .ensures) ∙ not-false _
     (c .before .before .before .before .before .before .before .if1 .left)))
@@ -77,7 +78,7 @@ returns-5 c =
 returns-6 : tie.Need-returns-6
 returns-6 c =
     let a = c .before .before .before .before .before .before .before .before .before .before .before .before .before .before .args in
-    all-passed (a .vertices .now) (a .facets .now) (asked (a .extents) (a .eps) (a .resolution)) (a .caps) (a .lent)
+    all-passed (a .vertices .now) (a .facets .now) (asked (a .extents) (a .eps) (a .resolution)) (a .caps) (limits (a .ceiling) (a .lent))
     (sym (c .before .before .before .before .before .before .before .before .before .before .before .check-lists .ensures) ∙ c .before .before .before .before .before .before
     .before .before .before .enum-told2 .given .1) (ap not (sym (c .before .before .before .before .before .before .before .before .numbers-in-range .ensures) ∙ not-false _
     (c .before .before .before .before .before .before .before .if1 .left)))

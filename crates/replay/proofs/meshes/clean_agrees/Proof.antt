@@ -15,22 +15,19 @@ shared-slice-read-double c = search needs
 double-requires : tie.Need-double-requires
 double-requires c κs = search needs
 
+shared-slice-read-yongpham-clean : tie.Need-shared-slice-read-yongpham-clean
+shared-slice-read-yongpham-clean c = search needs
+
 yongpham-clean-requires : tie.Need-yongpham-clean-requires
 yongpham-clean-requires c κs = search needs
 
 same-answer-requires : tie.Need-same-answer-requires
 same-answer-requires c κs =
-    outputs-within (now (c .before .before .before .before .before .before .before .before .before .before .before .before .before .before .before .before .before .before .before
-    .before .before .before .before .args .stored)) (now (c .before .before .before .before .before .before .before .before .before .before .before .before .before .before .before
-    .before .before .before .before .before .before .before .before .args .work))
-    (now (c .before .before .before .before .before .before .before .before .before .before .before .before .before .before .before .before .before .before .before .before .before
-    .before .before .args .out-vertices)) (c .before .before .before .before .before .before .before .before .before .before .yongpham-clean .last .1 .1 .1 .1 .0)
-    (now (c .before .before .before .before .before .before .before .before .before .before .before .before .before .before .before .before .before .before .before .before .before
-    .before .before .args .out-facets)) (c .before .before .before .before .before .before .before .before .before .before .yongpham-clean .last .1 .1 .1 .1 .1 .0)
-    (c .before .before .before .before .before .before .before .before .before .before .before .before .before .before .before .before .before .before .before .before .before
-    .before .before .pre .0) (c .before .before .before .before .before .before .before .before .before .before .before .before .before .before .before .before .before .before
-    .before .before .before .before .before .pre .1) (c .before .before .before .before .before .before .before .before .before .before .yongpham-clean .kept .1 .1 .1 .1 .0)
-    (c .before .before .before .before .before .before .before .before .before .before .yongpham-clean .kept .1 .1 .1 .1 .1 .0)
+    let s = c .before .before .before .before .before .before .before .before .before .before .before .before .before .before .before .before .before .before .before .before
+    .before .before .before .before in
+    let yongpham-clean = c .before .before .before .before .before .before .before .before .before .before .yongpham-clean in
+    outputs-within (now (s .args .stored)) (now (s .args .work)) (now (s .args .out-vertices)) (yongpham-clean .last .1 .1 .1 .1 .1 .0) (now (s .args .out-facets)) (yongpham-clean
+    .last .1 .1 .1 .1 .1 .1 .0) (s .pre .0) (s .pre .1) (yongpham-clean .kept .1 .1 .1 .1 .1 .0) (yongpham-clean .kept .1 .1 .1 .1 .1 .1 .0)
 
 same-length : tie.Need-same-length
 same-length c = search needs
@@ -43,33 +40,14 @@ same-length-3 c = search needs
 
 returns : tie.Need-returns
 returns c =
-    answer-decides (now (c .before .before .before .before .before .before .before .before .before .before .before .before .before .before .before .before .before .before .before
-    .before .before .before .before .before .args .stored)) _ _ _ _ _ _
-    (now (c .before .before .before .before .before .before .before .before .before .before .before .before .before .before .before .before .before .before .before .before .before
-    .before .before .before .args .work)) _ (now (c .before .before .before .before .before .before .before .before .before .before .before .before .before .before .before .before
-    .before .before .before .before .before .before .before .before .args .out-vertices)) _
-    (now (c .before .before .before .before .before .before .before .before .before .before .before .before .before .before .before .before .before .before .before .before .before
-    .before .before .before .args .out-facets)) _ (c .before .before .before .before .before .before .before .before .before .before .before .before .before .before .before .before
-    .before .before .before .before .before .before .before .before .pre .1)
-    (mesh-called _ _ _ _ _ _ _ _ _ _ (c .before .before .before .before .before .before .before .before .before .before .before .yongpham-clean .ensures .0))
-    (clean-reply (now (c .before .before .before .before .before .before .before .before .before .before .before .before .before .before .before .before .before .before .before
-    .before .before .before .before .before .args .stored)) (now (c .before .before .before .before .before .before .before .before .before .before .before .before .before .before
-    .before .before .before .before .before .before .before .before .before .before .args .work))
-    (now (c .before .before .before .before .before .before .before .before .before .before .before .before .before .before .before .before .before .before .before .before .before
-    .before .before .before .args .out-vertices)) (now (c .before .before .before .before .before .before .before .before .before .before .before .before .before .before .before
-    .before .before .before .before .before .before .before .before .before .args .out-facets))
-    (c .before .before .before .before .before .before .before .before .before .before .before .before .before .before .before .before .before .before .before .before .before
-    .before .before .before .pre .1) (now (c .before .before .before .before .before .before .before .before .before .before .before .before .before .before .before .before .before
-    .before .before .before .before .before .before .before .args .vertices))
-    (now (c .before .before .before .before .before .before .before .before .before .before .before .before .before .before .before .before .before .before .before .before .before
-    .before .before .before .args .facets)) (c .before .before .before .before .before .before .before .before .before .before .before .before .before .before .before .before
-    .double .ensures)) (clean-result (now (c .before .before .before .before .before .before .before .before .before .before .before .before .before .before .before .before .before
-    .before .before .before .before .before .before .before .args .stored))
-    (now (c .before .before .before .before .before .before .before .before .before .before .before .before .before .before .before .before .before .before .before .before .before
-    .before .before .before .args .vertices)) (now (c .before .before .before .before .before .before .before .before .before .before .before .before .before .before .before
-    .before .before .before .before .before .before .before .before .before .args .facets))
-    (c .before .before .before .before .before .before .before .before .before .before .before .before .before .before .before .before .double .ensures))
-    (c .before .before .before .before .before .before .before .before .before .before .before .yongpham-clean .kept .1 .1 .1 .1 .0) _ (c .same-answer .ensures)
+    let s = c .before .before .before .before .before .before .before .before .before .before .before .before .before .before .before .before .before .before .before .before
+    .before .before .before .before .before in
+    let double = c .before .before .before .before .before .before .before .before .before .before .before .before .before .before .before .before .before .double in
+    let yongpham-clean = c .before .before .before .before .before .before .before .before .before .before .before .yongpham-clean in
+    answer-decides (now (s .args .stored)) _ _ _ _ _ _ (now (s .args .work)) _ (now (s .args .out-vertices)) _ (now (s .args .out-facets)) _ (s .pre .1) (mesh-called _ _ _ _ _ _ _
+    _ _ _ (yongpham-clean .ensures .0)) (clean-reply (now (s .args .stored)) (now (s .args .work)) (now (s .args .out-vertices)) (now (s .args .out-facets)) (s .pre .1) (now (s
+    .args .vertices)) (now (s .args .facets)) (double .ensures)) (clean-result (now (s .args .stored)) (now (s .args .vertices)) (now (s .args .facets)) (double .ensures))
+    (yongpham-clean .kept .1 .1 .1 .1 .1 .0) _ (c .same-answer .ensures)
 
 pub clean-agrees-spec : {M : Type 1} → statement M
 clean-agrees-spec =
@@ -77,6 +55,7 @@ clean-agrees-spec =
     (tie.spec
     shared-slice-read-double
     double-requires
+    shared-slice-read-yongpham-clean
     yongpham-clean-requires
     same-answer-requires
     same-length

@@ -51,27 +51,20 @@ shared-slice-read-double-7 c = search needs
 double-requires-7 : tie.Need-double-requires-7
 double-requires-7 c κs = search needs
 
+shared-slice-read-yongpham-clip : tie.Need-shared-slice-read-yongpham-clip
+shared-slice-read-yongpham-clip c = search needs
+
 yongpham-clip-requires : tie.Need-yongpham-clip-requires
 yongpham-clip-requires c κs = search needs
 
 same-answer-requires : tie.Need-same-answer-requires
 same-answer-requires c κs =
-    outputs-within (now (c .before .before .before .before .before .before .before .before .before .before .before .before .before .before .before .before .before .before .before
-    .before .before .before .before .before .before .before .before .before .before .before .before .before .before .before .before .args .stored))
-    (now (c .before .before .before .before .before .before .before .before .before .before .before .before .before .before .before .before .before .before .before .before .before
-    .before .before .before .before .before .before .before .before .before .before .before .before .before .before .args .work))
-    (now (c .before .before .before .before .before .before .before .before .before .before .before .before .before .before .before .before .before .before .before .before .before
-    .before .before .before .before .before .before .before .before .before .before .before .before .before .before .args .out-vertices))
-    (c .before .before .before .before .before .before .before .before .before .before .yongpham-clip .last .1 .1 .1 .1 .1 .1 .1 .1 .1 .1 .0)
-    (now (c .before .before .before .before .before .before .before .before .before .before .before .before .before .before .before .before .before .before .before .before .before
-    .before .before .before .before .before .before .before .before .before .before .before .before .before .before .args .out-facets))
-    (c .before .before .before .before .before .before .before .before .before .before .yongpham-clip .last .1 .1 .1 .1 .1 .1 .1 .1 .1 .1 .1 .0)
-    (c .before .before .before .before .before .before .before .before .before .before .before .before .before .before .before .before .before .before .before .before .before
-    .before .before .before .before .before .before .before .before .before .before .before .before .before .before .pre .0)
-    (c .before .before .before .before .before .before .before .before .before .before .before .before .before .before .before .before .before .before .before .before .before
-    .before .before .before .before .before .before .before .before .before .before .before .before .before .before .pre .1)
-    (c .before .before .before .before .before .before .before .before .before .before .yongpham-clip .kept .1 .1 .1 .1 .1 .1 .1 .1 .1 .1 .0)
-    (c .before .before .before .before .before .before .before .before .before .before .yongpham-clip .kept .1 .1 .1 .1 .1 .1 .1 .1 .1 .1 .1 .0)
+    let s = c .before .before .before .before .before .before .before .before .before .before .before .before .before .before .before .before .before .before .before .before
+    .before .before .before .before .before .before .before .before .before .before .before .before .before .before .before .before in
+    let yongpham-clip = c .before .before .before .before .before .before .before .before .before .before .yongpham-clip in
+    outputs-within (now (s .args .stored)) (now (s .args .work)) (now (s .args .out-vertices)) (yongpham-clip .last .1 .1 .1 .1 .1 .1 .1 .1 .1 .1 .1 .0) (now (s .args .out-facets))
+    (yongpham-clip .last .1 .1 .1 .1 .1 .1 .1 .1 .1 .1 .1 .1 .0) (s .pre .0) (s .pre .1) (yongpham-clip .kept .1 .1 .1 .1 .1 .1 .1 .1 .1 .1 .1 .0) (yongpham-clip .kept .1 .1 .1 .1 .1 .1 .1
+    .1 .1 .1 .1 .1 .0)
 
 same-length : tie.Need-same-length
 same-length c = search needs
@@ -84,61 +77,28 @@ same-length-3 c = search needs
 
 returns : tie.Need-returns
 returns c =
-    answer-decides (now (c .before .before .before .before .before .before .before .before .before .before .before .before .before .before .before .before .before .before .before
-    .before .before .before .before .before .before .before .before .before .before .before .before .before .before .before .before .before .args .stored)) _ _ _ _ _ _
-    (now (c .before .before .before .before .before .before .before .before .before .before .before .before .before .before .before .before .before .before .before .before .before
-    .before .before .before .before .before .before .before .before .before .before .before .before .before .before .before .args .work)) _
-    (now (c .before .before .before .before .before .before .before .before .before .before .before .before .before .before .before .before .before .before .before .before .before
-    .before .before .before .before .before .before .before .before .before .before .before .before .before .before .before .args .out-vertices)) _
-    (now (c .before .before .before .before .before .before .before .before .before .before .before .before .before .before .before .before .before .before .before .before .before
-    .before .before .before .before .before .before .before .before .before .before .before .before .before .before .before .args .out-facets)) _
-    (c .before .before .before .before .before .before .before .before .before .before .before .before .before .before .before .before .before .before .before .before .before
-    .before .before .before .before .before .before .before .before .before .before .before .before .before .before .before .pre .1)
-    (mesh-called _ _ _ _ _ _ _ _ _ _ (c .before .before .before .before .before .before .before .before .before .before .before .yongpham-clip .ensures))
-    (clip-reply (now (c .before .before .before .before .before .before .before .before .before .before .before .before .before .before .before .before .before .before .before
-    .before .before .before .before .before .before .before .before .before .before .before .before .before .before .before .before .before .args .stored))
-    (now (c .before .before .before .before .before .before .before .before .before .before .before .before .before .before .before .before .before .before .before .before .before
-    .before .before .before .before .before .before .before .before .before .before .before .before .before .before .before .args .work))
-    (now (c .before .before .before .before .before .before .before .before .before .before .before .before .before .before .before .before .before .before .before .before .before
-    .before .before .before .before .before .before .before .before .before .before .before .before .before .before .before .args .out-vertices))
-    (now (c .before .before .before .before .before .before .before .before .before .before .before .before .before .before .before .before .before .before .before .before .before
-    .before .before .before .before .before .before .before .before .before .before .before .before .before .before .before .args .out-facets))
-    (c .before .before .before .before .before .before .before .before .before .before .before .before .before .before .before .before .before .before .before .before .before
-    .before .before .before .before .before .before .before .before .before .before .before .before .before .before .before .pre .1)
-    (now (c .before .before .before .before .before .before .before .before .before .before .before .before .before .before .before .before .before .before .before .before .before
-    .before .before .before .before .before .before .before .before .before .before .before .before .before .before .before .args .vertices))
-    (now (c .before .before .before .before .before .before .before .before .before .before .before .before .before .before .before .before .before .before .before .before .before
-    .before .before .before .before .before .before .before .before .before .before .before .before .before .before .before .args .facets))
-    (same-box (now (c .before .before .before .before .before .before .before .before .before .before .before .before .before .before .before .before .before .before .before
-    .before .before .before .before .before .before .before .before .before .before .before .before .before .before .before .before .before .args .stored))
-    (c .before .before .before .before .before .before .before .before .before .before .before .before .before .before .before .before .before .before .before .before .before
-    .before .before .before .before .before .before .before .double .ensures)
-    (c .before .before .before .before .before .before .before .before .before .before .before .before .before .before .before .before .before .before .before .before .before
-    .before .before .before .before .before .double2 .ensures) (c .before .before .before .before .before .before .before .before .before .before .before .before .before .before
-    .before .before .before .before .before .before .before .before .before .before .double3 .ensures)
-    (c .before .before .before .before .before .before .before .before .before .before .before .before .before .before .before .before .before .before .before .before .before
-    .before .double4 .ensures) (c .before .before .before .before .before .before .before .before .before .before .before .before .before .before .before .before .before .before
-    .before .before .double5 .ensures) (c .before .before .before .before .before .before .before .before .before .before .before .before .before .before .before .before .before
-    .before .double6 .ensures)) (c .before .before .before .before .before .before .before .before .before .before .before .before .before .before .before .before .double7
-    .ensures)) (clip-result (now (c .before .before .before .before .before .before .before .before .before .before .before .before .before .before .before .before .before .before
-    .before .before .before .before .before .before .before .before .before .before .before .before .before .before .before .before .before .before .args .stored))
-    (now (c .before .before .before .before .before .before .before .before .before .before .before .before .before .before .before .before .before .before .before .before .before
-    .before .before .before .before .before .before .before .before .before .before .before .before .before .before .before .args .vertices))
-    (now (c .before .before .before .before .before .before .before .before .before .before .before .before .before .before .before .before .before .before .before .before .before
-    .before .before .before .before .before .before .before .before .before .before .before .before .before .before .before .args .facets))
-    (same-box (now (c .before .before .before .before .before .before .before .before .before .before .before .before .before .before .before .before .before .before .before
-    .before .before .before .before .before .before .before .before .before .before .before .before .before .before .before .before .before .args .stored))
-    (c .before .before .before .before .before .before .before .before .before .before .before .before .before .before .before .before .before .before .before .before .before
-    .before .before .before .before .before .before .before .double .ensures)
-    (c .before .before .before .before .before .before .before .before .before .before .before .before .before .before .before .before .before .before .before .before .before
-    .before .before .before .before .before .double2 .ensures) (c .before .before .before .before .before .before .before .before .before .before .before .before .before .before
-    .before .before .before .before .before .before .before .before .before .before .double3 .ensures)
-    (c .before .before .before .before .before .before .before .before .before .before .before .before .before .before .before .before .before .before .before .before .before
-    .before .double4 .ensures) (c .before .before .before .before .before .before .before .before .before .before .before .before .before .before .before .before .before .before
-    .before .before .double5 .ensures) (c .before .before .before .before .before .before .before .before .before .before .before .before .before .before .before .before .before
-    .before .double6 .ensures)) (c .before .before .before .before .before .before .before .before .before .before .before .before .before .before .before .before .double7
-    .ensures)) (c .before .before .before .before .before .before .before .before .before .before .before .yongpham-clip .kept .1 .1 .1 .1 .1 .1 .1 .1 .1 .1 .0) _
-    (c .same-answer .ensures)
+    let s = c .before .before .before .before .before .before .before .before .before .before .before .before .before .before .before .before .before .before .before .before
+    .before .before .before .before .before .before .before .before .before .before .before .before .before .before .before .before .before in
+    let double = c .before .before .before .before .before .before .before .before .before .before .before .before .before .before .before .before .before .before .before .before
+    .before .before .before .before .before .before .before .before .before .double in
+    let double2 = c .before .before .before .before .before .before .before .before .before .before .before .before .before .before .before .before .before .before .before .before
+    .before .before .before .before .before .before .before .double2 in
+    let double3 = c .before .before .before .before .before .before .before .before .before .before .before .before .before .before .before .before .before .before .before .before
+    .before .before .before .before .before .double3 in
+    let double4 = c .before .before .before .before .before .before .before .before .before .before .before .before .before .before .before .before .before .before .before .before
+    .before .before .before .double4 in
+    let double5 = c .before .before .before .before .before .before .before .before .before .before .before .before .before .before .before .before .before .before .before .before
+    .before .double5 in
+    let double6 = c .before .before .before .before .before .before .before .before .before .before .before .before .before .before .before .before .before .before .before
+    .double6 in
+    let double7 = c .before .before .before .before .before .before .before .before .before .before .before .before .before .before .before .before .before .double7 in
+    let yongpham-clip = c .before .before .before .before .before .before .before .before .before .before .before .yongpham-clip in
+    answer-decides (now (s .args .stored)) _ _ _ _ _ _ (now (s .args .work)) _ (now (s .args .out-vertices)) _ (now (s .args .out-facets)) _ (s .pre .1) (mesh-called _ _ _ _ _ _ _
+    _ _ _ (yongpham-clip .ensures)) (clip-reply (now (s .args .stored)) (now (s .args .work)) (now (s .args .out-vertices)) (now (s .args .out-facets)) (s .pre .1) (now (s .args
+    .vertices)) (now (s .args .facets)) (same-box (now (s .args .stored)) (double .ensures) (double2 .ensures) (double3 .ensures) (double4 .ensures) (double5 .ensures) (double6
+    .ensures)) (double7 .ensures)) (clip-result (now (s .args .stored)) (now (s .args .vertices)) (now (s .args .facets)) (same-box (now (s .args .stored)) (double .ensures)
+    (double2 .ensures) (double3 .ensures) (double4 .ensures) (double5 .ensures) (double6 .ensures)) (double7 .ensures)) (yongpham-clip .kept .1 .1 .1 .1 .1 .1 .1 .1 .1 .1 .1 .0) _ (c
+    .same-answer .ensures)
 
 pub clip-agrees-spec : {M : Type 1} → statement M
 clip-agrees-spec =
@@ -158,6 +118,7 @@ clip-agrees-spec =
     double-requires-6
     shared-slice-read-double-7
     double-requires-7
+    shared-slice-read-yongpham-clip
     yongpham-clip-requires
     same-answer-requires
     same-length

@@ -25,13 +25,13 @@ report-refusal-requires-2 c κs = search needs
 returns : tie.Need-returns
 returns c =
     let a = c .before .before .before .before .before .before .before .args in
-    no-mode-passed (a .vertices .now) (a .facets .now) (a .caps) _ _ _ (c .before .before .before .before .check-lists .ensures) (c .before .before .enum-told .given .1)
+    no-mode-passed (a .ceiling) (a .vertices .now) (a .facets .now) (a .caps) _ _ _ (c .before .before .before .before .check-lists .ensures) (c .before .before .enum-told .given .1)
     (c .report-refusal .ensures)
 
 returns-2 : tie.Need-returns-2
 returns-2 c =
     let a = c .before .before .before .before .before .before .before .before .args in
-    no-mode-refused (a .vertices .now) (a .facets .now) (a .caps) _ _ _ _ (c .before .before .before .before .before .check-lists .ensures)
+    no-mode-refused (a .ceiling) (a .vertices .now) (a .facets .now) (a .caps) _ _ _ _ (c .before .before .before .before .before .check-lists .ensures)
     (c .before .before .before .refusal .given .1) (c .report-refusal2 .ensures)
 
 pub refuse-mode-spec : {M : Type 1} → statement M
