@@ -2,12 +2,10 @@
 -- admit the mesh, end alike: reply, outputs and work room. Assumes nothing.
 --   same-tests, clip-under-both
 use Prim.Native.Nat.{ℕ}
-use mathlib.Core.Path.{_≡_, ap}
-use mathlib.Core.Bool.{not, _&&_}
-use mathlib.Core.List.{List, [], _∷_, _++_}
+use mathlib.Core.Path.{_≡_}
+use mathlib.Core.List.{List}
 use lib.ListN.{length}
 use lib.Ieee.{Float}
-use Rattle.refusals.specs.Refusals.{Test}
 use Rattle.refusals.specs.Answers.{meshOutputs, Answered, MeshesAlike}
 use Rattle.refusals.proofs.Answers.{meshes-alike}
 use Rattle.input_tests.specs.Front.{limits, Admits}

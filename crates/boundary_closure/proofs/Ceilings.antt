@@ -1,6 +1,6 @@
 -- Document 02, E2: "Where both ceilings admit a mesh the results are equal". Two calls with the same mesh, box, eps, resolution, work room and outputs, under ceilings that both
 -- admit the mesh, end alike: reply, outputs and work room. Assumes nothing.
---   WordsAlike, candidates-under-both
+--   candidates-under-both
 use Prim.Native.Nat.{ℕ}
 use mathlib.Core.Path.{_≡_, sym, ap, _∙_}
 use mathlib.Core.List.{List}
@@ -15,15 +15,7 @@ use Rattle.candidate_surface.specs.Asked.{Asked}
 use Rattle.candidate_surface.specs.Candidates.{Candidates}
 use Rattle.candidate_outputs.specs.Outputs.{candidateWords, listWords, candidateOutputs}
 use Rattle.closure_tests.proofs.Ceilings.{same-tests}
-use Rattle.boundary_closure.specs.Operation.{candidatesTests, candidatesResult}
-
-pub record WordsAlike (reply₁ reply₂ w₁ w₂ c₁ c₂ l₁ l₂ k₁ k₂ e₁ e₂ : List ℕ) : Type 0 where
-  pub reply : reply₁ ≡ reply₂
-  pub candidates : c₁ ≡ c₂
-  pub face-lists : l₁ ≡ l₂
-  pub constraints : k₁ ≡ k₂
-  pub open-edges : e₁ ≡ e₂
-  pub work : w₁ ≡ w₂
+use Rattle.boundary_closure.specs.Operation.{candidatesTests, candidatesResult, WordsAlike}
 
 module _ (vs : List Float) (fs : List ℕ) (q : Asked) (a b : ℕ) (ha : Admits a vs fs) (hb : Admits b vs fs) where
   abbrev result : Candidates

@@ -20,5 +20,6 @@ module _ (vs : List Float) (fs capList : List ℕ) (q : Asked) (mode : BoundaryC
       → Capped vs fs capList q mode c r₁ w w₁ v v₁ f f₁ → Capped vs fs capList q mode d r₂ w w₂ v v₂ f f₂
       → MeshesAlike (documentedReply r₁) (documentedReply r₂) w₁ w₂ v₁ v₂ f₁ f₂
   caps-under-both r₁ r₂ w w₁ w₂ v v₁ v₂ f f₁ f₂ a b =
-      meshes-alike (capsTests vs fs capList q mode (limits c (length w))) (capsTests vs fs capList q mode (limits d (length w))) (capsResult vs fs capList q mode) w w₁ w₂ _ _ v v₁ v₂ f f₁ f₂
+      meshes-alike (capsTests vs fs capList q mode (limits c (length w))) (capsTests vs fs capList q mode (limits d (length w)))
+      (capsResult vs fs capList q mode) w w₁ w₂ _ _ v v₁ v₂ f f₁ f₂
       (same-tests vs fs q c d hc hd (length capList) (length w) _) (a .answered) (b .answered)

@@ -25,8 +25,8 @@ zeros : length (replicate {A = ℕ} 8192 0) ≡ 8192
 zeros = length-replicate {A = ℕ} 8192 0
 
 module _ (vs : List Float) (fs : List ℕ) (q : Asked) (m : Reply) (w w' c c' l' k' e' : List ℕ) (r : ℕ) (ws : List ℕ) where
-  pub listing : Answered (candidatesTests vs fs q (limits meshCeiling (length w))) (candidateOutputs (candidatesResult vs fs q) c c' (replicate 8192 0) l' (replicate 8192 0) k' (replicate 8192 0) e') w
-      w' (documentedReply m)
+  pub listing : Answered (candidatesTests vs fs q (limits meshCeiling (length w))) (candidateOutputs (candidatesResult vs fs q) c c'
+      (replicate 8192 0) l' (replicate 8192 0) k' (replicate 8192 0) e') w w' (documentedReply m)
       → Reported (documentedReply m) r ws → Listing vs fs q (length w) r ws c c'
   listing d g =
       let reply = listReply vs fs q (length w) (length c) in

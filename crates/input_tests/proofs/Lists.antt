@@ -40,8 +40,9 @@ module _ (ceiling : ℕ) (vs : List Float) (fs : List ℕ) (caps : ℕ) where
   listed e =
       let r1 = head-passed (ragged (length vs) 3 || (ragged (length fs) 3 || ragged caps 4)) Ragged second e in
       let e2 = tail-passed (ragged (length vs) 3 || (ragged (length fs) 3 || ragged caps 4)) Ragged second e in
-      let r2 = head-passed (tooMany (admitted ceiling) (length vs) 3 || (tooMany (admitted ceiling) (length fs) 3 || tooMany capCeiling caps 4)) TooMany ((badIndex (length vs / 3) fs, BadIndex) ∷ []) e2 in
-      let e3 = tail-passed (tooMany (admitted ceiling) (length vs) 3 || (tooMany (admitted ceiling) (length fs) 3 || tooMany capCeiling caps 4)) TooMany ((badIndex (length vs / 3) fs, BadIndex) ∷ []) e2 in
+      let anyMany = tooMany (admitted ceiling) (length vs) 3 || (tooMany (admitted ceiling) (length fs) 3 || tooMany capCeiling caps 4) in
+      let r2 = head-passed anyMany TooMany ((badIndex (length vs / 3) fs, BadIndex) ∷ []) e2 in
+      let e3 = tail-passed anyMany TooMany ((badIndex (length vs / 3) fs, BadIndex) ∷ []) e2 in
       let s1 = or-none-right (ragged (length vs) 3) (ragged (length fs) 3 || ragged caps 4) r1 in
       let s2 = or-none-right (tooMany (admitted ceiling) (length vs) 3) (tooMany (admitted ceiling) (length fs) 3 || tooMany capCeiling caps 4) r2 in
       record {

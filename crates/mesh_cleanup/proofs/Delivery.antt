@@ -144,8 +144,8 @@ module _ (vs : List Float) (m : Mesh) (s : Staged) (w : List ℕ) (S : Staging v
 -- ---- the work room cleared
 
 pub cleaned-up : (vs : List Float) (fs : List ℕ) (q : CleanAsked) (ceiling : ℕ) (r : Reply) (w u w' : List ℕ) (v v' : List Float) (f f' : List ℕ)
-    → Answer (cleanTests vs fs q (limits ceiling (length w))) (meshOutputs (cleanResult vs fs q) v v' f f') (documentedReply r) → length u ≡ length w → w' ≡ overlay (replicate (length u) 0) u
-    → Cleaned vs fs q ceiling r w w' v v' f f'
+    → Answer (cleanTests vs fs q (limits ceiling (length w))) (meshOutputs (cleanResult vs fs q) v v' f f') (documentedReply r)
+    → length u ≡ length w → w' ≡ overlay (replicate (length u) 0) u → Cleaned vs fs q ceiling r w w' v v' f f'
 cleaned-up vs fs q ceiling r w u w' v v' f f' a e z =
     record {
       answered = answered (cleanTests vs fs q (limits ceiling (length w))) (meshOutputs (cleanResult vs fs q) v v' f f') w u w' (documentedReply r) a e

@@ -23,7 +23,8 @@ use Rattle.boundary_closure.specs.Operation.{candidatesResult}
 use Rattle.lists.specs.Lists.{Decides}
 use Rattle.replay.specs.Layout.{outputsFrom}
 use Rattle.replay.specs.Contents.{oldWords}
-use Rattle.replay.specs.Agreement.{SameWords, OutputsLent, SameOutputs, CandidatesAnswered, CandidatesFresh, WordsStored, boxIn, epsIn, resolutionIn, askedIn, limitsIn, fourIn, candidatesReply}
+use Rattle.replay.specs.Agreement.{SameWords, OutputsLent, SameOutputs, CandidatesAnswered, CandidatesFresh, WordsStored}
+use Rattle.replay.specs.Agreement.{boxIn, epsIn, resolutionIn, askedIn, limitsIn, fourIn, candidatesReply}
 use Rattle.replay.proofs.Deciding.{ends}
 use Rattle.replay.proofs.Agreeing.{length-table, as-reported, zero-each}
 

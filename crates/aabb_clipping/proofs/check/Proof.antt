@@ -29,7 +29,8 @@ returns : tie.Need-returns
 returns c =
     let check-lists = c .before .before .check-lists in
     let s = c .before .before .before .before .before in
-    lists-refused (s .args .vertices .now) (s .args .facets .now) (clipAsked (s .args .extents) (s .args .eps)) (limits (s .args .ceiling) (s .args .lent)) _ _ (check-lists .ensures) (c .enum-told .given .1)
+    let q = clipAsked (s .args .extents) (s .args .eps) in
+    lists-refused (s .args .vertices .now) (s .args .facets .now) q (limits (s .args .ceiling) (s .args .lent)) _ _ (check-lists .ensures) (c .enum-told .given .1)
 
 enum-told-2 : tie.Need-enum-told-2
 enum-told-2 c = search needs
@@ -43,7 +44,8 @@ returns-2 c =
     let enum-told2 = c .before .before .enum-told2 in
     let all-in-range = c .before .all-in-range in
     let s = c .before .before .before .before .before .before .before in
-    number-refused (s .args .vertices .now) (s .args .facets .now) (clipAsked (s .args .extents) (s .args .eps)) (limits (s .args .ceiling) (s .args .lent)) (sym (check-lists .ensures) ∙ enum-told2 .given .1)
+    let q = clipAsked (s .args .extents) (s .args .eps) in
+    number-refused (s .args .vertices .now) (s .args .facets .now) q (limits (s .args .ceiling) (s .args .lent)) (sym (check-lists .ensures) ∙ enum-told2 .given .1)
     (ap not (and-stop _ _ (sym (all-in-range .ensures) ∙ not-true _ (c .if1 .taken))))
 
 box-in-range-requires : tie.Need-box-in-range-requires
@@ -57,7 +59,8 @@ returns-3 c =
     let if1 = c .before .before .if1 in
     let box-in-range = c .before .box-in-range in
     let s = c .before .before .before .before .before .before .before .before .before in
-    number-refused (s .args .vertices .now) (s .args .facets .now) (clipAsked (s .args .extents) (s .args .eps)) (limits (s .args .ceiling) (s .args .lent)) (sym (check-lists .ensures) ∙ enum-told2 .given .1)
+    let q = clipAsked (s .args .extents) (s .args .eps) in
+    number-refused (s .args .vertices .now) (s .args .facets .now) q (limits (s .args .ceiling) (s .args .lent)) (sym (check-lists .ensures) ∙ enum-told2 .given .1)
     (ap not (and-next _ _ _ (sym (all-in-range .ensures) ∙ not-false _ (if1 .left)) (and-stop _ _ (sym (box-in-range .ensures) ∙ not-true _ (c .if2 .taken)))))
 
 eps-in-range-requires : tie.Need-eps-in-range-requires
@@ -73,7 +76,8 @@ returns-4 c =
     let if2 = c .before .before .if2 in
     let eps-in-range = c .before .eps-in-range in
     let s = c .before .before .before .before .before .before .before .before .before .before .before in
-    number-refused (s .args .vertices .now) (s .args .facets .now) (clipAsked (s .args .extents) (s .args .eps)) (limits (s .args .ceiling) (s .args .lent)) (sym (check-lists .ensures) ∙ enum-told2 .given .1)
+    let q = clipAsked (s .args .extents) (s .args .eps) in
+    number-refused (s .args .vertices .now) (s .args .facets .now) q (limits (s .args .ceiling) (s .args .lent)) (sym (check-lists .ensures) ∙ enum-told2 .given .1)
     (ap not (and-next _ _ _ (sym (all-in-range .ensures) ∙ not-false _ (if1 .left)) (and-next _ _ _ (sym (box-in-range .ensures) ∙ not-false _ (if2 .left)) (sym
     (eps-in-range .ensures) ∙ not-true _ (c .if3 .taken)))))
 
@@ -92,7 +96,8 @@ returns-5 c =
     let if3 = c .before .before .if3 in
     let is-bad-box = c .before .is-bad-box in
     let s = c .before .before .before .before .before .before .before .before .before .before .before .before .before in
-    box-refused (s .args .vertices .now) (s .args .facets .now) (clipAsked (s .args .extents) (s .args .eps)) (limits (s .args .ceiling) (s .args .lent)) (sym (check-lists .ensures) ∙ enum-told2 .given .1) (ap
+    let q = clipAsked (s .args .extents) (s .args .eps) in
+    box-refused (s .args .vertices .now) (s .args .facets .now) q (limits (s .args .ceiling) (s .args .lent)) (sym (check-lists .ensures) ∙ enum-told2 .given .1) (ap
     not (and-next _ _ _ (sym (all-in-range .ensures) ∙ not-false _ (if1 .left)) (and-next _ _ _ (sym (box-in-range .ensures) ∙ not-false _ (if2 .left)) (sym
     (eps-in-range .ensures) ∙ not-false _ (if3 .left))))) (sym (is-bad-box .ensures) ∙ c .if4 .taken)
 
@@ -118,7 +123,8 @@ returns-6 c =
     let if4 = c .before .before .if4 in
     let work-need = c .before .work-need in
     let s = c .before .before .before .before .before .before .before .before .before .before .before .before .before .before .before in
-    room-refused (s .args .vertices .now) (s .args .facets .now) (clipAsked (s .args .extents) (s .args .eps)) (limits (s .args .ceiling) (s .args .lent)) (sym (check-lists .ensures) ∙ enum-told2 .given .1) (ap
+    let q = clipAsked (s .args .extents) (s .args .eps) in
+    room-refused (s .args .vertices .now) (s .args .facets .now) q (limits (s .args .ceiling) (s .args .lent)) (sym (check-lists .ensures) ∙ enum-told2 .given .1) (ap
     not (and-next _ _ _ (sym (all-in-range .ensures) ∙ not-false _ (if1 .left)) (and-next _ _ _ (sym (box-in-range .ensures) ∙ not-false _ (if2 .left)) (sym
     (eps-in-range .ensures) ∙ not-false _ (if3 .left))))) (sym (is-bad-box .ensures) ∙ if4 .left) _ (work-need .ensures) (c .if5 .taken)
 
@@ -136,7 +142,8 @@ returns-7 c =
     let if4 = c .before .before .if4 in
     let work-need = c .before .work-need in
     let s = c .before .before .before .before .before .before .before .before .before .before .before .before .before .before .before in
-    all-passed (s .args .vertices .now) (s .args .facets .now) (clipAsked (s .args .extents) (s .args .eps)) (limits (s .args .ceiling) (s .args .lent)) (sym (check-lists .ensures) ∙ enum-told2 .given .1) (ap
+    let q = clipAsked (s .args .extents) (s .args .eps) in
+    all-passed (s .args .vertices .now) (s .args .facets .now) q (limits (s .args .ceiling) (s .args .lent)) (sym (check-lists .ensures) ∙ enum-told2 .given .1) (ap
     not (and-next _ _ _ (sym (all-in-range .ensures) ∙ not-false _ (if1 .left)) (and-next _ _ _ (sym (box-in-range .ensures) ∙ not-false _ (if2 .left)) (sym
     (eps-in-range .ensures) ∙ not-false _ (if3 .left))))) (sym (is-bad-box .ensures) ∙ if4 .left) _ (work-need .ensures) (c .if5 .left)
 

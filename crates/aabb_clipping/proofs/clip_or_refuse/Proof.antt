@@ -19,21 +19,24 @@ slice-relend-prefix-clip-checked : tie.Need-slice-relend-prefix-clip-checked
 slice-relend-prefix-clip-checked c =
     let s = c .before .before .before .before .before .before .before in
     let a = s .args in
-    let k = ready (a .vertices .now) (a .facets .now) (clipAsked (a .extents) (a .eps)) (limits (a .ceiling) (length (a .work .now))) (sym (s .pre) ∙ c .enum-told .given .1) in
+    let q = clipAsked (a .extents) (a .eps) in
+    let k = ready (a .vertices .now) (a .facets .now) q (limits (a .ceiling) (length (a .work .now))) (sym (s .pre) ∙ c .enum-told .given .1) in
     omega (arith, k .room)
 
 slice-aggregate-clip-checked : tie.Need-slice-aggregate-clip-checked
 slice-aggregate-clip-checked c =
     let s = c .before .before .before .before .before .before .before .before in
     let a = s .args in
-    let k = ready (a .vertices .now) (a .facets .now) (clipAsked (a .extents) (a .eps)) (limits (a .ceiling) (length (a .work .now))) (sym (s .pre) ∙ c .before .enum-told .given .1) in
+    let q = clipAsked (a .extents) (a .eps) in
+    let k = ready (a .vertices .now) (a .facets .now) q (limits (a .ceiling) (length (a .work .now))) (sym (s .pre) ∙ c .before .enum-told .given .1) in
     sym (length-take-le (length (a .vertices .now) / 3) (a .work .now) (k .room))
 
 clip-checked-requires : tie.Need-clip-checked-requires
 clip-checked-requires c κs =
     let s = c .before .before .before .before .before .before .before .before .before .before in
     let a = s .args in
-    let k = ready (a .vertices .now) (a .facets .now) (clipAsked (a .extents) (a .eps)) (limits (a .ceiling) (length (a .work .now))) (sym (s .pre) ∙ c .before .before .before .enum-told .given .1) in
+    let q = clipAsked (a .extents) (a .eps) in
+    let k = ready (a .vertices .now) (a .facets .now) q (limits (a .ceiling) (length (a .work .now))) (sym (s .pre) ∙ c .before .before .before .enum-told .given .1) in
     (k .few, (k .below, length-take-le (length (a .vertices .now) / 3) (a .work .now) (k .room)))
 
 enum-known-found : tie.Need-enum-known-found
