@@ -1,5 +1,6 @@
 //! The sample through the library: both solids closed, the volumes together the box's.
 
+use crate::ceiling::Ceiling;
 use crate::faces;
 use crate::library::{Library, Lists, Setting, Stop};
 use crate::mesh::Mesh;
@@ -19,6 +20,7 @@ fn closed(closings: Vec<Closing>) -> (Made, Outcome) {
         extents: sample::EXTENTS,
         eps: None,
         resolution: Some(sample::RESOLUTION),
+        ceiling: Ceiling::default(),
         closings,
         triangulator: Triangulator::Stored(sample::TRIANGLES),
         time: Duration::ZERO,
@@ -32,9 +34,9 @@ fn cleaned() -> (Mesh, f64, Lists) {
     let steps = |library: &mut Library| {
         let extents = sample::EXTENTS;
         let eps = library.tolerance(&extents)?;
-        let cut = library.clip(&sample::mesh(), &extents, eps)?;
-        let mesh = library.clean(&cut, eps)?;
-        let setting = Setting { extents, eps, resolution: sample::RESOLUTION };
+        let setting = Setting { extents, eps, resolution: sample::RESOLUTION, ceiling: Ceiling::default() };
+        let cut = library.clip(&sample::mesh(), &setting)?;
+        let mesh = library.clean(&cut, &setting)?;
         let lists = library.candidates(&mesh, &setting)?;
         Ok::<_, Stop>((mesh, eps, lists))
     };
