@@ -73,7 +73,7 @@ impl Call<'_> {
         let lines: [fn(&Surface) -> &Vec<u64>; 2] = [|s| &s.vertex_lines, |s| &s.facet_lines];
         let (count, lines) = if vertices > ceiling.in_force() { (vertices, lines[0]) } else { (facets, lines[1]) };
         let (found, fewer) = match self.surface {
-            Some(_) => (format!("there are {over}"), "facets well outside the box may be left out"),
+            Some(_) => (format!("there are {over}"), "what lies well outside the box may be left out"),
             // Only a mesh that the ceiling admitted is cut.
             None => (format!("the mesh handed in was within the ceiling, but once it is cut to the box there are {over}"), CUT_GROWS),
         };
