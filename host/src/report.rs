@@ -165,19 +165,14 @@ mod tests {
         assert_eq!(refused.line(), "in/pit.obj: refused: 3 BadIndex, step cut, line 7: why");
     }
 
-    /// It changes neither the row nor whether all are closed.
+    /// The summary does not tell it.
     #[test]
-    fn a_warning_stands_behind_its_row_and_is_counted() {
+    fn a_warning_stands_in_a_line_behind_its_row() {
         let closed = row(Outcome::Closed(Volumes { positive: Some(4.0), negative: None }));
         let warned = Row { warning: Some("large".into()), moved_aside: vec!["pit.caps".into()], ..closed.clone() };
         let line = "in/pit.obj: closed: positive volume 4, 10 tonnes; moved aside: pit.caps\nin/pit.obj: warning: large";
         assert_eq!(warned.line(), line);
         assert_eq!(warned.cells()[..15], closed.cells()[..15]);
-        let mut report = Report::new(Vec::new());
-        report.put(&closed);
-        assert_eq!(report.counts(), "1 of 1 closed");
-        report.put(&warned);
-        assert_eq!((report.counts().as_str(), report.all_closed()), ("2 of 2 closed, 1 with a warning", true));
     }
 
     struct Full;
