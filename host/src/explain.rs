@@ -25,7 +25,8 @@ const LARGEST: f64 = (1u64 << 30) as f64;
 const CELL: f64 = (1u64 << 62) as f64;
 /// Cap triangles; vertices and facets go by the caller's ceiling.
 const CAPS: usize = 1_048_576;
-const CUT_GROWS: &str = "a facet that the box cuts gets vertices of its own, so a coarser surface or a smaller box gives fewer";
+const CUT_GROWS: &str =
+    "a facet that the box cuts becomes several, with vertices of their own, so a coarser surface or a smaller box gives fewer";
 const AXES: [&str; 3] = ["x", "y", "z"];
 
 impl Call<'_> {

@@ -114,7 +114,7 @@ fn a_ceiling_of_0_admits_nothing() {
     too_many("v 0 0 0\nf 1 1 1\n", &["--ceiling", "0"], ["cut", "1", "1"], &told("1 vertex and 1 facet"));
 }
 
-/// 49 vertices and 72 facets; those that the box cuts get vertices of their own.
+/// 49 vertices and 72 facets; those that the box cuts become several.
 #[test]
 fn a_mesh_that_grows_past_the_ceiling_as_it_is_cut_is_told_so() {
     let folder = Folder::new();
@@ -124,7 +124,7 @@ fn a_mesh_that_grows_past_the_ceiling_as_it_is_cut_is_told_so() {
     assert_eq!(run.status, 1);
     let start = format!("terrain.obj: refused: 2 TooMany, step cleaned: {MEANING}the mesh handed in was within the ceiling, but once it is cut to the box there are ");
     let end = format!(
-        ", and the ceiling is 72; {TO_OFFICE}; a facet that the box cuts gets vertices of its own, so a coarser surface or a smaller box gives fewer\n"
+        ", and the ceiling is 72; {TO_OFFICE}; a facet that the box cuts becomes several, with vertices of their own, so a coarser surface or a smaller box gives fewer\n"
     );
     let counts = run.out.strip_prefix(&start).and_then(|rest| rest.strip_suffix(&end));
     let counts = counts.unwrap_or_else(|| panic!("{}", run.out));
