@@ -178,6 +178,35 @@ fn a_solid_over_the_ceiling_is_a_warning_and_no_failure() {
     }
 }
 
+/// The office's own: 65,522 facets are admitted, and with their caps they are over it.
+#[test]
+fn a_solid_over_the_offices_ceiling_is_told_too() {
+    if !built_in() {
+        return;
+    }
+    let folder = Folder::new();
+    let mut terrain = Terrain { vertices: vec![], facets: vec![] };
+    for place in 0..182 * 182 {
+        let (i, j) = (place / 182, place % 182);
+        terrain.vertices.push([i as f64 / 181.0, j as f64 / 181.0, 0.5]);
+        if i < 181 && j < 181 {
+            terrain.facets.extend([[place, place + 182, place + 183], [place, place + 183, place + 1]]);
+        }
+    }
+    folder.put("large.obj", terrain.obj());
+    for words in [&[][..], &["--ceiling", "18446744073709551615"]] {
+        let run = folder.unit(&[words, &["--mode", "positive", "large.obj"]].concat());
+        run.closed();
+        let solid = folder.text("large.positive.obj");
+        let facets = solid.lines().filter(|line| line.starts_with("f ")).count();
+        assert!(facets > 65_536);
+        let told = format!(
+            "large.obj: warning: over the ceiling (65536, the office's): the positive solid has {facets} facets; written all the same"
+        );
+        assert!(run.out.contains(&told) && run.out.contains("; no ceiling is higher; a coarser surface or a smaller box"), "{}", run.out);
+    }
+}
+
 /// A solid that is not closed is written to be looked at, and is no smaller for it. One that could not be written is not told of.
 #[test]
 fn a_warning_is_about_what_was_written() {
