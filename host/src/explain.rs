@@ -23,9 +23,10 @@ pub struct Call<'a> {
 const LARGEST: f64 = (1u64 << 30) as f64;
 /// The largest cell number.
 const CELL: f64 = (1u64 << 62) as f64;
-/// Vertices or facets, and cap triangles.
-const MESH: usize = 65_536;
+/// Cap triangles; vertices and facets go by the caller's ceiling.
 const CAPS: usize = 1_048_576;
+const CUT_GROWS: &str =
+    "a facet that the box cuts becomes several, with vertices of their own, so a coarser surface or a smaller box gives fewer";
 const AXES: [&str; 3] = ["x", "y", "z"];
 
 impl Call<'_> {
@@ -59,23 +60,31 @@ impl Call<'_> {
         if let Some(answer) = self.answer.filter(|answer| answer.lines.len() > CAPS) {
             return Some(Trouble {
                 line: answer.lines.get(CAPS).map(|line| u64::from(*line)),
-                explanation: "the line of the answer is the first too many".into(),
+                explanation: "it is the triangles, whatever the ceiling; the line of the answer is the first too many".into(),
                 ..Trouble::default()
             });
         }
-        let told = |count: u64, what: &str, lines: &[u64]| Trouble {
-            line: lines.get(MESH).copied(),
-            value: count.to_string(),
-            explanation: format!("there are {count} {what}{}", if self.surface.is_some() { "" } else { " once it is cut to the box" }),
-            ..Trouble::default()
+        let (vertices, facets) = match self.surface {
+            Some(surface) => (surface.vertices, surface.facets),
+            None => (self.mesh.vertex_count() as u64, self.mesh.facet_count() as u64),
         };
-        let lines = |pick: fn(&Surface) -> &Vec<u64>| self.surface.map_or(&[][..], |s| pick(s));
-        let vertices = self.surface.map_or(self.mesh.vertex_count() as u64, |s| s.vertices);
-        let facets = self.surface.map_or(self.mesh.facet_count() as u64, |s| s.facets);
-        if vertices > MESH as u64 {
-            return Some(told(vertices, "vertices", lines(|s| &s.vertex_lines)));
-        }
-        (facets > MESH as u64).then(|| told(facets, "facets", lines(|s| &s.facet_lines)))
+        let ceiling = self.setting.ceiling;
+        let over = ceiling.exceeded_by(vertices, facets)?;
+        // Line and value are those of the first list that is over.
+        let lines: [fn(&Surface) -> &Vec<u64>; 2] = [|s| &s.vertex_lines, |s| &s.facet_lines];
+        let (count, lines) = if vertices > ceiling.in_force() { (vertices, lines[0]) } else { (facets, lines[1]) };
+        let (found, fewer) = match self.surface {
+            Some(_) => (format!("there are {over}"), "what lies well outside the box may be left out"),
+            // Only a mesh that the ceiling admitted is cut.
+            None => (format!("the mesh handed in was within the ceiling, but once it is cut to the box there are {over}"), CUT_GROWS),
+        };
+        let office = ceiling.in_the_office(vertices, facets);
+        Some(Trouble {
+            line: self.line_of(lines, ceiling.in_force() as usize),
+            value: count.to_string(),
+            explanation: format!("{found}, and the ceiling is {}; {office}; {fewer}", ceiling.in_words()),
+            ..Trouble::default()
+        })
     }
 
     fn bad_index(&self) -> Option<Trouble> {
@@ -107,7 +116,7 @@ impl Call<'_> {
                 ..Trouble::default()
             });
         }
-        let Setting { extents, eps, resolution } = self.setting;
+        let Setting { extents, eps, resolution, .. } = self.setting;
         let named = [
             ("eps", *eps, !(0.0..=1.0).contains(eps), "from 0 to 1"),
             ("the resolution", *resolution, !(*resolution > 0.0 && *resolution <= LARGEST), "above 0 and at most 2^30"),
@@ -133,7 +142,7 @@ impl Call<'_> {
     }
 
     fn grid_too_fine(&self) -> Option<Trouble> {
-        let Setting { extents: e, eps, resolution } = self.setting;
+        let Setting { extents: e, eps, resolution, .. } = self.setting;
         let segments = |axis: usize| ((e[axis + 3] - e[axis]) / resolution.max(*eps)).ceil();
         let axis = (0..3).find(|&axis| segments(axis) > 256.0)?;
         Some(Trouble {

@@ -2,6 +2,7 @@
 //!
 //! It reads, calls, judges and writes; what comes out of a mesh is the library's to say. A subcommand is a module of `commands`.
 
+pub mod ceiling;
 pub mod cli;
 pub mod commands;
 pub mod explain;

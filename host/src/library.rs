@@ -3,6 +3,7 @@
 //! The work room is the header's formula, and outputs are lent as much as a surface usually needs, so that a result is computed once.
 //! Where that is too little, the reply says how much is needed, and the call is made again.
 
+use crate::ceiling::Ceiling;
 use crate::mesh::Mesh;
 pub use yongpham_library::Extents;
 use yongpham_library::{self as library, Reply};
@@ -23,12 +24,13 @@ const NO_ROOM: u32 = 12;
 const ITEM: usize = 128;
 const BESIDE: usize = 1024;
 
-/// The box, the tolerance and the resolution of a call.
+/// What a mesh is handed over with, the same at every step: box, tolerance, resolution and the caller's ceiling.
 #[derive(Clone, Copy, Debug, PartialEq)]
 pub struct Setting {
     pub extents: Extents,
     pub eps: f64,
     pub resolution: f64,
+    pub ceiling: Ceiling,
 }
 
 impl Setting {
@@ -161,8 +163,9 @@ impl Library {
 
     /// Whether box, eps and resolution pass the tests of every call. Without work room nothing further is tested or computed.
     pub fn accepts(&self, setting: &Setting) -> Result<(), Stop> {
-        let Setting { extents, eps, resolution } = setting;
-        let reply = library::candidates(&[], &[], extents, *eps, *resolution, &mut [], &mut [], &mut [], &mut [], &mut []);
+        let Setting { extents, eps, resolution, ceiling } = setting;
+        let none = &mut [][..];
+        let reply = library::candidates(&[], &[], extents, *eps, *resolution, ceiling.asked(), none, &mut [], &mut [], &mut [], &mut []);
         match reply.number {
             0 | NO_WORK_ROOM => Ok(()),
             number => Err(Stop::Refused(number, reply.values)),
@@ -170,21 +173,23 @@ impl Library {
     }
 
     /// The mesh cut to the box.
-    pub fn clip(&mut self, mesh: &Mesh, extents: &Extents, eps: f64) -> Result<Mesh, Stop> {
+    pub fn clip(&mut self, mesh: &Mesh, setting: &Setting) -> Result<Mesh, Stop> {
         let (vertices, facets) = (mesh.vertex_count(), mesh.facet_count());
         // A cut facet has vertices of its own; few surfaces have more than half of their facets cut.
         let out = lent(vertices + 2 * facets, 2 * facets)?;
+        let Setting { extents, eps, ceiling, .. } = setting;
         self.settle(ITEM * (vertices + facets) + BESIDE, out, |work, out: &mut Mesh| {
-            library::clip(&mesh.vertices, &mesh.facets, extents, eps, work, &mut out.vertices, &mut out.facets)
+            library::clip(&mesh.vertices, &mesh.facets, extents, *eps, ceiling.asked(), work, &mut out.vertices, &mut out.facets)
         })
     }
 
     /// The mesh cleaned: it grows in nothing.
-    pub fn clean(&mut self, mesh: &Mesh, eps: f64) -> Result<Mesh, Stop> {
+    pub fn clean(&mut self, mesh: &Mesh, setting: &Setting) -> Result<Mesh, Stop> {
         let (vertices, facets) = (mesh.vertex_count(), mesh.facet_count());
         let out = lent(vertices, facets)?;
         self.settle(ITEM * (vertices + facets) + BESIDE, out, |work, out: &mut Mesh| {
-            library::clean(&mesh.vertices, &mesh.facets, eps, work, &mut out.vertices, &mut out.facets)
+            let (eps, ceiling) = (setting.eps, setting.ceiling.asked());
+            library::clean(&mesh.vertices, &mesh.facets, eps, ceiling, work, &mut out.vertices, &mut out.facets)
         })
     }
 
@@ -196,7 +201,7 @@ impl Library {
         for (output, length) in [5 * points, 6 + 3 * points, 9 * points, 3 * facets].into_iter().enumerate() {
             out.grow(output, length)?;
         }
-        let Setting { extents, eps, resolution } = setting;
+        let Setting { extents, eps, resolution, ceiling } = setting;
         self.settle(ITEM * (vertices + facets + grid) + BESIDE, out, |work, out: &mut Lists| {
             let [candidates, face_lists, constraints, open_edges] = out.each_mut();
             library::candidates(
@@ -205,6 +210,7 @@ impl Library {
                 extents,
                 *eps,
                 *resolution,
+                ceiling.asked(),
                 work,
                 candidates,
                 face_lists,
@@ -220,7 +226,7 @@ impl Library {
         let triangles = cap_list.len() / 4;
         let items = vertices + facets + triangles + grid;
         let out = lent(vertices + grid, facets + triangles)?;
-        let Setting { extents, eps, resolution } = setting;
+        let Setting { extents, eps, resolution, ceiling } = setting;
         self.settle(ITEM * items + BESIDE, out, |work, out: &mut Mesh| {
             library::caps(
                 &mesh.vertices,
@@ -230,6 +236,7 @@ impl Library {
                 *eps,
                 *resolution,
                 mode,
+                ceiling.asked(),
                 work,
                 &mut out.vertices,
                 &mut out.facets,

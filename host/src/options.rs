@@ -1,5 +1,6 @@
 //! Options that subcommands share. A later one is added here, and its line to the texts in help/.
 
+use crate::ceiling::{Ceiling, HANDHELD};
 use crate::limits;
 use crate::steps::{Closing, Request};
 use crate::triangulator::{self, Triangulator};
@@ -22,6 +23,29 @@ pub struct Shape {
 impl Shape {
     pub fn extents(&self) -> Option<Extents> {
         self.extents.as_deref()?.try_into().ok()
+    }
+}
+
+/// How large a mesh may be that is handed in.
+#[derive(Args, Clone, Copy, Debug, Default)]
+pub struct Size {
+    #[arg(long, value_name = "N", allow_negative_numbers = true)]
+    pub ceiling: Option<Ceiling>,
+    #[arg(long)]
+    pub handheld: bool,
+}
+
+impl Size {
+    /// The ceiling named, else the office's. Two that differ are wrong use: which of them was meant cannot be known.
+    pub fn ceiling(&self) -> Result<Ceiling, String> {
+        match self.ceiling {
+            Some(named) if self.handheld && named != HANDHELD => {
+                let (handheld, named) = (HANDHELD.asked(), named.asked());
+                Err(format!("--handheld is --ceiling {handheld}, and --ceiling {named} is given too; give one of them"))
+            }
+            None if self.handheld => Ok(HANDHELD),
+            named => Ok(named.unwrap_or_default()),
+        }
     }
 }
 
@@ -93,6 +117,7 @@ pub struct Writing {
 #[derive(Clone, Debug)]
 pub struct Common {
     pub eps: Option<f64>,
+    pub ceiling: Ceiling,
     pub closings: Vec<Closing>,
     pub triangulator: Triangulator,
     pub time: Duration,
@@ -104,6 +129,7 @@ impl Common {
             extents,
             eps: self.eps,
             resolution,
+            ceiling: self.ceiling,
             closings: self.closings.clone(),
             triangulator: self.triangulator.clone(),
             time: self.time,

@@ -3,7 +3,7 @@
 /// Number, name and meaning of each refusal.
 const TABLE: [(u32, &str, &str); 12] = [
     (1, "Ragged", "a list's length is no multiple of 3, or the cap list's none of 4"),
-    (2, "TooMany", "over 65,536 vertices or facets, or over 1,048,576 cap triangles"),
+    (2, "TooMany", "more vertices or facets than the ceiling (65,536 at most), or over 1,048,576 cap triangles"),
     (3, "BadIndex", "a facet names a vertex that is not there"),
     (4, "BadNumber", "a coordinate, a box corner, eps or the resolution is no finite number in its range"),
     (5, "BadBox", "the box is empty: on an axis its min is not below its max"),

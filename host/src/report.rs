@@ -35,6 +35,8 @@ pub struct Row {
     pub moved_aside: Vec<String>,
     /// What each step gave, if that was asked for.
     pub steps: Vec<String>,
+    /// What is to be known of results that were made.
+    pub warning: Option<String>,
 }
 
 impl Row {
@@ -68,14 +70,15 @@ impl Row {
         ]
     }
 
-    /// The line on standard output, with the steps in front if they were asked for.
+    /// The line on standard output, with the steps in front if they were asked for, and a line behind it if there is a warning.
     fn line(&self) -> String {
         let steps: String = self.steps.iter().map(|step| format!("{step}\n")).collect();
         let moved = match self.moved_aside.as_slice() {
             [] => String::new(),
             files => format!("; moved aside: {}", files.join(" ")),
         };
-        format!("{steps}{}: {}{moved}", self.file, self.outcome.in_words(self.density))
+        let warning = self.warning.as_ref().map(|words| format!("\n{}: warning: {words}", self.file)).unwrap_or_default();
+        format!("{steps}{}: {}{moved}{warning}", self.file, self.outcome.in_words(self.density))
     }
 }
 
@@ -86,12 +89,14 @@ pub struct Report<W: Write> {
     summary_lost: Option<String>,
     output_lost: Option<String>,
     closed: usize,
+    warned: usize,
     rows: usize,
 }
 
 impl<W: Write> Report<W> {
     pub fn new(summary: W) -> Self {
-        let mut report = Report { summary: csv::Writer::from_writer(summary), summary_lost: None, output_lost: None, closed: 0, rows: 0 };
+        let summary = csv::Writer::from_writer(summary);
+        let mut report = Report { summary, summary_lost: None, output_lost: None, closed: 0, warned: 0, rows: 0 };
         report.write(&COLUMNS);
         report
     }
@@ -106,6 +111,7 @@ impl<W: Write> Report<W> {
     pub fn put(&mut self, row: &Row) {
         self.rows += 1;
         self.closed += usize::from(row.outcome.is_closed());
+        self.warned += usize::from(row.warning.is_some());
         self.write(&row.cells());
         self.say(&row.line());
     }
@@ -118,9 +124,10 @@ impl<W: Write> Report<W> {
         }
     }
 
-    /// How many of how many rows were closed.
-    pub fn counts(&self) -> (usize, usize) {
-        (self.closed, self.rows)
+    /// How many of how many rows were closed, and how many have a warning.
+    pub fn counts(&self) -> String {
+        let warned = if self.warned == 0 { String::new() } else { format!(", {} with a warning", self.warned) };
+        format!("{} of {} closed{warned}", self.closed, self.rows)
     }
 
     pub fn all_closed(&self) -> bool {
@@ -143,7 +150,8 @@ mod tests {
     use crate::outcome::{State, Trouble, Volumes};
 
     fn row(outcome: Outcome) -> Row {
-        Row { number: 3, name: "pit".into(), file: "in/pit.obj".into(), density: Some(2.5), outcome, moved_aside: vec![], steps: vec![] }
+        let (name, file) = ("pit".into(), "in/pit.obj".into());
+        Row { number: 3, name, file, density: Some(2.5), outcome, moved_aside: vec![], steps: vec![], warning: None }
     }
 
     #[test]
@@ -155,6 +163,16 @@ mod tests {
         let refused = row(Outcome::Not(State::Refused, trouble));
         assert_eq!(refused.cells().join(","), "3,pit,in/pit.obj,refused,,,2.5,,,cut,3,7,9,,why,");
         assert_eq!(refused.line(), "in/pit.obj: refused: 3 BadIndex, step cut, line 7: why");
+    }
+
+    /// The summary does not tell it.
+    #[test]
+    fn a_warning_stands_in_a_line_behind_its_row() {
+        let closed = row(Outcome::Closed(Volumes { positive: Some(4.0), negative: None }));
+        let warned = Row { warning: Some("large".into()), moved_aside: vec!["pit.caps".into()], ..closed.clone() };
+        let line = "in/pit.obj: closed: positive volume 4, 10 tonnes; moved aside: pit.caps\nin/pit.obj: warning: large";
+        assert_eq!(warned.line(), line);
+        assert_eq!(warned.cells()[..15], closed.cells()[..15]);
     }
 
     struct Full;

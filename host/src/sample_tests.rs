@@ -1,5 +1,6 @@
 //! The sample through the library: both solids closed, the volumes together the box's.
 
+use crate::ceiling::Ceiling;
 use crate::faces;
 use crate::library::{Library, Lists, Setting, Stop};
 use crate::mesh::Mesh;
@@ -19,6 +20,7 @@ fn closed(closings: Vec<Closing>) -> (Made, Outcome) {
         extents: sample::EXTENTS,
         eps: None,
         resolution: Some(sample::RESOLUTION),
+        ceiling: Ceiling::default(),
         closings,
         triangulator: Triangulator::Stored(sample::TRIANGLES),
         time: Duration::ZERO,
@@ -32,13 +34,35 @@ fn cleaned() -> (Mesh, f64, Lists) {
     let steps = |library: &mut Library| {
         let extents = sample::EXTENTS;
         let eps = library.tolerance(&extents)?;
-        let cut = library.clip(&sample::mesh(), &extents, eps)?;
-        let mesh = library.clean(&cut, eps)?;
-        let setting = Setting { extents, eps, resolution: sample::RESOLUTION };
+        let setting = Setting { extents, eps, resolution: sample::RESOLUTION, ceiling: Ceiling::default() };
+        let cut = library.clip(&sample::mesh(), &setting)?;
+        let mesh = library.clean(&cut, &setting)?;
         let lists = library.candidates(&mesh, &setting)?;
         Ok::<_, Stop>((mesh, eps, lists))
     };
     steps(&mut library).unwrap_or_else(|stop| panic!("{stop:?}"))
+}
+
+/// A run shows it of cutting and cleaning only: what cleaning wrote is no larger than what it was handed, so that the others never refuse.
+#[test]
+fn every_operation_goes_by_the_ceiling() {
+    let (mesh, eps, lists) = cleaned();
+    let answer = faces::answer(sample::TRIANGLES.as_bytes(), &lists).unwrap_or_else(|why| panic!("{why:?}"));
+    let mut library = Library::default();
+    let mut stops = |ceiling: usize| {
+        let ceiling = ceiling.to_string().parse().expect("a ceiling");
+        let setting = Setting { extents: sample::EXTENTS, eps, resolution: sample::RESOLUTION, ceiling };
+        let calls = [library.clip(&mesh, &setting), library.clean(&mesh, &setting), library.caps(&mesh, &answer.list, &setting, 1)];
+        let lists = library.candidates(&mesh, &setting).map(drop);
+        (calls.map(|call| call.map(drop).err()), lists.err(), library.accepts(&setting).err())
+    };
+    let most = mesh.vertex_count().max(mesh.facet_count());
+    assert_eq!(stops(most), ([None; 3], None, None));
+    let too_many = Some(Stop::Refused(2, [0; 4]));
+    // Box, eps and resolution are accepted whatever the ceiling.
+    for ceiling in [most - 1, 0] {
+        assert_eq!(stops(ceiling), ([too_many; 3], too_many, None));
+    }
 }
 
 /// The stored triangles hold only for these very bits.

@@ -1,5 +1,6 @@
 //! A mesh through the library, step by step, up to the verdict.
 
+use crate::ceiling::Ceiling;
 use crate::explain::Call;
 use crate::faces::{self, Answer};
 use crate::library::{Extents, Library, Lists, Setting, Stop};
@@ -36,6 +37,7 @@ pub struct Request {
     pub eps: Option<f64>,
     /// Without one: a segment a side.
     pub resolution: Option<f64>,
+    pub ceiling: Ceiling,
     pub closings: Vec<Closing>,
     pub triangulator: Triangulator,
     pub time: Duration,
@@ -97,6 +99,28 @@ pub fn cut(surface: &Surface, request: &Request) -> (Made, Result<(), Outcome>) 
     (work.made, done)
 }
 
+/// Solids that are over the ceiling, and what can be done. The library tests only what it is handed, and caps are added behind that.
+pub fn over_ceiling(solids: &[Solid], request: &Request) -> Option<String> {
+    let counts = |solid: &Solid| [solid.mesh.vertex_count() as u64, solid.mesh.facet_count() as u64];
+    let over = |solid: &Solid| {
+        let [vertices, facets] = counts(solid);
+        let over = request.ceiling.exceeded_by(vertices, facets)?;
+        Some(format!("the {} solid has {over}", solid.closing.name()))
+    };
+    let told: Vec<String> = solids.iter().filter_map(over).collect();
+    let most = |list: usize| solids.iter().map(|solid| counts(solid)[list]).max().unwrap_or(0);
+    let office = request.ceiling.in_the_office(most(0), most(1));
+    let grid = request.resolution.map_or("", |_| ", a coarser resolution");
+    (!told.is_empty()).then(|| {
+        format!(
+            "over the ceiling ({}): {}; written all the same, since the ceiling is for what is handed in; {office}; \
+             a coarser surface{grid} or a smaller box gives fewer",
+            request.ceiling.in_words(),
+            told.join(", "),
+        )
+    })
+}
+
 struct Work<'a> {
     library: Library,
     request: &'a Request,
@@ -134,6 +158,7 @@ impl<'a> Work<'a> {
             extents,
             eps: self.request.eps.unwrap_or(0.0),
             resolution: self.request.resolution.unwrap_or_else(|| one_segment(&extents)),
+            ceiling: self.request.ceiling,
         };
         let nothing = Mesh::default();
         let call = Call { step: "box", surface: None, mesh: &nothing, setting: &setting, lists: None, answer: None };
@@ -141,20 +166,20 @@ impl<'a> Work<'a> {
         setting.eps = self.request.eps.unwrap_or(tolerance);
         let given = if self.request.eps.is_some() { "as given" } else { "the tolerance of the box" };
         self.tell("eps", format!("{:?}, {given}", setting.eps));
+        self.tell("ceiling", setting.ceiling.in_words());
         Ok(setting)
     }
 
     fn cleaned(&mut self, surface: &Surface) -> Result<(Mesh, Setting), Outcome> {
         self.tell("read", format!("{} vertices, {} facets", surface.vertices, surface.facets));
         let setting = self.setting()?;
-        let Setting { extents, eps, .. } = setting;
-        let cut = self.library.clip(&surface.mesh, &extents, eps);
+        let cut = self.library.clip(&surface.mesh, &setting);
         let cut = self.mesh("cut", cut, &surface.mesh, Some(surface), &setting)?;
         if cut.facets.is_empty() {
             let why = "no part of the surface lies in the box";
             return Err(Outcome::Not(State::Empty, Trouble::at("cut", why)));
         }
-        let cleaned = self.library.clean(&cut, eps);
+        let cleaned = self.library.clean(&cut, &setting);
         let mesh = self.mesh("cleaned", cleaned, &cut, None, &setting)?;
         if mesh.facets.is_empty() {
             let why = "nothing is left in the box once flat, double and single facets are dropped";

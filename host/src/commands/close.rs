@@ -7,7 +7,7 @@ pub use batch::{work, Batch};
 
 use super::Answer;
 use crate::list::{self, Defaults};
-use crate::options::{Common, Mode, Shape, Triangulating, Writing};
+use crate::options::{Common, Mode, Shape, Size, Triangulating, Writing};
 use crate::tasks::{self, Task};
 use crate::triangulator;
 use clap::Args;
@@ -18,6 +18,8 @@ use std::str::FromStr;
 pub struct Arguments {
     #[command(flatten)]
     shape: Shape,
+    #[command(flatten)]
+    size: Size,
     #[arg(long, allow_negative_numbers = true)]
     density: Option<f64>,
     #[arg(long, value_name = "FILE", conflicts_with = "meshes")]
@@ -64,6 +66,7 @@ pub fn run(arguments: &Arguments) -> Answer {
     }
     let common = Common {
         eps: arguments.shape.eps,
+        ceiling: arguments.size.ceiling()?,
         closings: arguments.mode.closings(),
         triangulator: arguments.triangulating.triangulator().ok_or(triangulator::MISSING)?,
         time: arguments.triangulating.time()?,

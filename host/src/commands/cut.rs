@@ -2,7 +2,7 @@
 
 use super::Answer;
 use crate::meshes::{self, obj};
-use crate::options::{Common, Shape};
+use crate::options::{Common, Shape, Size};
 use crate::outcome::{Outcome, State, Trouble};
 use crate::results::{unwritable, Results};
 use crate::steps::{self, Made};
@@ -19,6 +19,8 @@ use std::time::Duration;
 pub struct Arguments {
     #[command(flatten)]
     shape: Shape,
+    #[command(flatten)]
+    size: Size,
     #[arg(long, value_name = "FOLDER", default_value = ".")]
     out: PathBuf,
     #[arg(long)]
@@ -29,7 +31,13 @@ pub struct Arguments {
 
 pub fn run(arguments: &Arguments) -> Answer {
     let extents = arguments.shape.extents().ok_or("--box is needed")?;
-    let common = Common { eps: arguments.shape.eps, closings: vec![], triangulator: Triangulator::Stored(""), time: Duration::ZERO };
+    let common = Common {
+        eps: arguments.shape.eps,
+        ceiling: arguments.size.ceiling()?,
+        closings: vec![],
+        triangulator: Triangulator::Stored(""),
+        time: Duration::ZERO,
+    };
     let request = common.request(extents, arguments.shape.resolution);
     if let Err(Outcome::Not(_, trouble)) = steps::check(&request) {
         return Err(trouble.explanation);

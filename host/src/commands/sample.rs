@@ -2,7 +2,7 @@
 
 use super::close::{work, Batch};
 use super::Answer;
-use crate::options::{Common, Mode, Triangulating, Writing};
+use crate::options::{Common, Mode, Size, Triangulating, Writing};
 use crate::sample;
 use crate::tasks::Task;
 use crate::triangulator::Triangulator;
@@ -15,6 +15,8 @@ pub struct Arguments {
     #[arg(long, allow_negative_numbers = true)]
     density: Option<f64>,
     #[command(flatten)]
+    size: Size,
+    #[command(flatten)]
     triangulating: Triangulating,
     #[command(flatten)]
     writing: Writing,
@@ -26,6 +28,7 @@ pub fn run(arguments: &Arguments) -> Answer {
     let resolution = found.is_none().then_some(sample::RESOLUTION);
     let common = Common {
         eps: None,
+        ceiling: arguments.size.ceiling()?,
         closings: arguments.mode.closings(),
         triangulator: found.unwrap_or(Triangulator::Stored(sample::TRIANGLES)),
         time: arguments.triangulating.time()?,

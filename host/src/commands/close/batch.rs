@@ -66,10 +66,10 @@ fn end(results: &Results, summary: &Path, growing: NamedTempFile, report: &mut R
         Some(why) => Some(why.to_string()),
         None => results.name(vec![(growing, summary.into())]).err(),
     };
-    let (closed, rows) = report.counts();
+    let counts = report.counts();
     let name = text::name(Path::new(summary.file_name().unwrap_or_default()));
     let and = if summary_lost.is_some() { "no summary" } else { &name };
-    report.say(&format!("{closed} of {rows} closed; solids and {and} in {}", text::name(results.folder())));
+    report.say(&format!("{counts}; solids and {and} in {}", text::name(results.folder())));
     let lost = summary_lost.or(report.output_lost().map(String::from));
     if let Some(why) = &lost {
         complain(&format!("the report is lost: {why}"));

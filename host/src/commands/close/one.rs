@@ -15,33 +15,40 @@ use std::path::PathBuf;
 
 /// Whatever happens to one mesh, the next is done.
 pub fn row(batch: &Batch, results: &Results, task: &Task) -> Row {
-    let done = panic::catch_unwind(AssertUnwindSafe(|| done(batch, results, task)));
-    let (outcome, moved_aside, steps) = done.unwrap_or_else(|_| {
-        let fault = "a fault of this command; please report it with the mesh";
-        (Outcome::failed("inside", fault), Vec::new(), Vec::new())
-    });
-    Row { number: task.number, name: task.name.clone(), file: task.told(), density: task.density, outcome, moved_aside, steps }
+    let fault = "a fault of this command; please report it with the mesh";
+    let row = Row {
+        number: task.number,
+        name: task.name.clone(),
+        file: task.told(),
+        density: task.density,
+        outcome: Outcome::failed("inside", fault),
+        moved_aside: vec![],
+        steps: vec![],
+        warning: None,
+    };
+    panic::catch_unwind(AssertUnwindSafe(|| done(batch, results, task, row.clone()))).unwrap_or(row)
 }
 
-fn done(batch: &Batch, results: &Results, task: &Task) -> (Outcome, Vec<String>, Vec<String>) {
+fn done(batch: &Batch, results: &Results, task: &Task, row: Row) -> Row {
     if let Some(trouble) = &task.fault {
         // What an earlier run left under a name that is another row's, or a file that is handed in, stays.
         let moved = if trouble.step == "name" { Ok(vec![]) } else { results.move_aside(&task.name, &[]) };
-        return with_moved(not(trouble.clone()), moved, vec![]);
+        return with_moved(Row { outcome: not(trouble.clone()), ..row }, moved);
     }
+    let request = batch.common.request(task.extents, task.resolution);
     let (made, outcome) = match read(task) {
-        Ok(surface) => steps::close(&surface, &batch.common.request(task.extents, task.resolution)),
+        Ok(surface) => steps::close(&surface, &request),
         Err(outcome) => (Made::default(), outcome),
     };
     let told = |(step, words): &(&str, String)| format!("{step:<11} {words}");
     let steps = if batch.writing.steps { made.told.iter().map(told).collect() } else { vec![] };
     let written = write(batch, results, task, &made, &outcome);
-    let (outcome, files) = match written.and_then(|written| results.name(written)) {
-        Ok(files) => (outcome, files),
-        Err(why) => (Outcome::failed("written", why), vec![]),
+    let (outcome, files, warning) = match written.and_then(|written| results.name(written)) {
+        Ok(files) => (outcome, files, steps::over_ceiling(&made.solids, &request)),
+        Err(why) => (Outcome::failed("written", why), vec![], None),
     };
     let moved = results.move_aside(&task.name, &files);
-    with_moved(outcome, moved, steps)
+    with_moved(Row { outcome, steps, warning, ..row }, moved)
 }
 
 /// A fault that was found before: a refusal if it has a number.
@@ -51,10 +58,10 @@ fn not(trouble: Trouble) -> Outcome {
 }
 
 /// A stale file that stays where it is would be taken for a result of this run.
-fn with_moved(outcome: Outcome, moved: Result<Vec<String>, String>, steps: Vec<String>) -> (Outcome, Vec<String>, Vec<String>) {
+fn with_moved(row: Row, moved: Result<Vec<String>, String>) -> Row {
     match moved {
-        Ok(moved) => (outcome, moved, steps),
-        Err(why) => (Outcome::failed("written", why), vec![], steps),
+        Ok(moved_aside) => Row { moved_aside, ..row },
+        Err(why) => Row { outcome: Outcome::failed("written", why), ..row },
     }
 }
 
