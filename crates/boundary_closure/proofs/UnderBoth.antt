@@ -14,7 +14,7 @@ use Rattle.candidate_constraints.specs.Constraints.{constraintWords}
 use Rattle.candidate_surface.specs.Asked.{Asked}
 use Rattle.candidate_surface.specs.Candidates.{Candidates}
 use Rattle.candidate_outputs.specs.Outputs.{candidateWords, listWords, candidateOutputs}
-use Rattle.closure_tests.proofs.Ceilings.{same-tests}
+use Rattle.closure_tests.proofs.UnderBoth.{same-tests}
 use Rattle.boundary_closure.specs.Operation.{candidatesTests, candidatesResult, WordsAlike}
 
 module _ (vs : List Float) (fs : List ℕ) (q : Asked) (a b : ℕ) (ha : Admits a vs fs) (hb : Admits b vs fs) where

@@ -11,7 +11,7 @@ use Rattle.refusals.specs.Answers.{MeshesAlike}
 use Rattle.refusals.proofs.Answers.{meshes-alike}
 use Rattle.input_tests.specs.Front.{limits, Admits}
 use Rattle.candidate_surface.specs.Asked.{Asked}
-use Rattle.closure_tests.proofs.Ceilings.{same-tests}
+use Rattle.closure_tests.proofs.UnderBoth.{same-tests}
 use Rattle.caps.specs.declared.mode.BoundaryClosure.{BoundaryClosure}
 use Rattle.caps.specs.Operation.{capsTests, capsResult, Capped}
 
