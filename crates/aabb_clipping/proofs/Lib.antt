@@ -1,2 +1,2 @@
 pub mod Delivery
-pub mod Ceilings
+pub mod UnderBoth

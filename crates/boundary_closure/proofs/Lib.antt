@@ -1,3 +1,3 @@
 pub mod Delivery
 pub mod Listing
-pub mod Ceilings
+pub mod UnderBoth

@@ -7,4 +7,4 @@ pub mod Listing
 pub mod Meshing
 pub mod Fitting
 pub mod Ordering
-pub mod Ceilings
+pub mod UnderBoth

@@ -1,4 +1,4 @@
 pub mod Outputs
 pub mod Staging
 pub mod Delivery
-pub mod Ceilings
+pub mod UnderBoth
