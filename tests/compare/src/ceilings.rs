@@ -3,8 +3,8 @@
 //!
 //! The check: "where both ceilings admit a mesh the results are equal". `compare` asks our
 //! library a second time for every request whose mesh its ceiling admits, under another ceiling
-//! that admits it too: the least one, one above that, the handheld's, the office's, or one above
-//! the office's, in turn by the request's lengths. Reply, values, every element of every output
+//! that admits it too: the least one, one above that, or a listed one, by turns that go by the
+//! request's lengths. Reply, values, every element of every output
 //! and the work room have to be the same, also where the request is refused by another test.
 
 use crate::lent::Lent;
@@ -16,8 +16,10 @@ use crate::request::Request;
 pub const OFFICE: u64 = 65_536;
 /// "The foremen's handheld holds 4,096 facets and 4,096 vertices".
 pub const HANDHELD: u64 = 4_096;
+/// Its low half is 0, which is what would be left of it in 32 bits.
+const LOW_HALF_ZERO: u64 = 1 << 32;
 /// Ceilings that are tried whatever the mesh.
-pub const LISTED: [u64; 6] = [0, 1, HANDHELD, OFFICE, OFFICE + 1, u64::MAX];
+pub const LISTED: [u64; 7] = [0, 1, HANDHELD, OFFICE, OFFICE + 1, LOW_HALF_ZERO, u64::MAX];
 
 /// Vertices and facets of a mesh.
 fn counts(request: &Request) -> [u64; 2] {
@@ -67,7 +69,7 @@ fn another(request: &Request) -> Option<u64> {
     }
     let [vertices, facets] = counts(request);
     let least = vertices.max(facets);
-    let mut others = vec![least, least + 1, HANDHELD, OFFICE, OFFICE + 1, u64::MAX];
+    let mut others = [&[least, least + 1], &LISTED[..]].concat();
     others.retain(|&ceiling| ceiling != request.ceiling && admits(ceiling, request));
     let turn = request.size() + request.work + request.outputs.iter().sum::<usize>();
     others.get(turn % others.len().max(1)).copied()
@@ -135,16 +137,17 @@ mod tests {
         let extents = [0.0, 0.0, 0.0, 1.0, 1.0, 1.0];
         let mut request = Request::new("", vec![0.5; 9], vec![0; 12], extents, 0.0);
         let mut met = std::collections::BTreeSet::new();
-        for work in 0..6 {
+        for work in 0..7 {
             request.work = work;
             met.extend(another(&request));
         }
-        assert!(met.into_iter().eq([4, 5, HANDHELD, OFFICE + 1, u64::MAX]));
+        let expected = [4, 5, HANDHELD, OFFICE + 1, LOW_HALF_ZERO, u64::MAX];
+        assert!(met.into_iter().eq(expected));
         request.ceiling = 3;
         assert_eq!(another(&request), None);
         request.facets.resize(3 * 65_536, 0);
         request.ceiling = u64::MAX;
-        assert!(another(&request).is_some_and(|ceiling| ceiling == OFFICE || ceiling == OFFICE + 1));
+        assert!(another(&request).is_some_and(|ceiling| ceiling >= OFFICE && ceiling < u64::MAX));
         request.facets.resize(3 * 65_537, 0);
         assert_eq!(another(&request), None);
     }

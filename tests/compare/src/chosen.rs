@@ -39,6 +39,12 @@ pub struct Chosen {
 impl Chosen {
     pub fn with_room(self, operation: &Operation, work: &mut Lent<u64>) -> Request {
         let mut request = self.request;
+        // Its lengths are not asked for: it may be large.
+        if matches!(self.room, Room::Nothing) {
+            request.work = 0;
+            request.outputs = [0; 4];
+            return request;
+        }
         request.work = (operation.need)(&request) as usize;
         request.outputs = lengths(operation, &request, work);
         match self.room {
@@ -47,11 +53,7 @@ impl Chosen {
             Room::ShortWork => request.work -= 1,
             Room::NoWork => request.work = 0,
             Room::Short(place) => request.outputs[place] -= 1,
-            Room::NoOutput => request.outputs = [0; 4],
-            Room::Nothing => {
-                request.work = 0;
-                request.outputs = [0; 4];
-            }
+            Room::NoOutput | Room::Nothing => request.outputs = [0; 4],
         }
         request
     }

@@ -175,6 +175,7 @@ mod tests {
                 (4_096, 10, 4),
                 (65_536, 5, 4),
                 (65_537, 5, 4),
+                (1 << 32, 5, 4),
                 (u64::MAX, 5, 4),
             ] {
                 assert_eq!(met[&(ceiling, 2)], refused, "{} {met:?}", operation.name);
