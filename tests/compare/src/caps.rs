@@ -152,7 +152,7 @@ fn generate(random: &mut Random, number: u64) -> Request {
         spoil(random, &mut list);
     }
     request.caps = list.concat();
-    if random.one_in(20) {
+    if random.one_in(15) {
         meshes::damage(random, &mut request);
     }
     match random.below(1600) {
