@@ -147,7 +147,7 @@ mod tests {
         assert_eq!(another(&request), None);
         request.facets.resize(3 * 65_536, 0);
         request.ceiling = u64::MAX;
-        assert!(another(&request).is_some_and(|ceiling| ceiling >= OFFICE && ceiling < u64::MAX));
+        assert!(another(&request).is_some_and(|other| (OFFICE..u64::MAX).contains(&other)));
         request.facets.resize(3 * 65_537, 0);
         assert_eq!(another(&request), None);
     }
