@@ -1,6 +1,6 @@
 //! Candidates beside the Rust: a surface across the box, at several grids.
 
-use crate::meshes::{surface, Mesh, SIZES, UNIT};
+use crate::meshes::{surface, Mesh, CEILING, SIZES, UNIT};
 use crate::timing::{interleaved, mesh_row, time};
 
 pub fn rows(rounds: usize) {
@@ -31,6 +31,7 @@ fn row(rounds: usize, segments: usize, mesh: &Mesh) {
                 &UNIT,
                 eps,
                 resolution,
+                CEILING,
                 &mut work,
                 c,
                 l,

@@ -1,7 +1,7 @@
 //! Caps beside the Rust: a surface across the box and a triangulation of each face,
 //! up to 300,000 supplied triangles; 1,000,000 if asked for, which takes minutes.
 
-use crate::meshes::{surface, Mesh, SIZES, UNIT};
+use crate::meshes::{surface, Mesh, CEILING, SIZES, UNIT};
 use crate::timing::{interleaved, mesh_row, time};
 use crate::triangulation::sound_list;
 
@@ -33,6 +33,7 @@ fn list(mesh: &Mesh, resolution: f64, eps: f64, at_least: usize) -> Vec<u64> {
         &UNIT,
         eps,
         resolution,
+        CEILING,
         &mut work,
         c,
         l,
@@ -81,6 +82,7 @@ fn row(rounds: usize, segments: usize, mesh: &Mesh, at_least: usize) {
                 eps,
                 resolution,
                 1,
+                CEILING,
                 &mut work,
                 &mut out_vertices,
                 &mut out_facets,

@@ -1,7 +1,7 @@
 //! Clean beside the Rust: a surface with shared vertices, facets with vertices of
 //! their own that must be welded, and, if asked for, all vertices in one cell.
 
-use crate::meshes::{one_cell, own_vertices, surface, Mesh, SIZES, UNIT};
+use crate::meshes::{one_cell, own_vertices, surface, Mesh, CEILING, SIZES, UNIT};
 use crate::timing::{interleaved, mesh_row, time};
 
 /// Three vertices a facet, 65,536 in all.
@@ -37,6 +37,7 @@ fn row(rounds: usize, name: &str, mesh: &Mesh, eps: f64) {
                 &mesh.vertices,
                 &mesh.facets,
                 eps,
+                CEILING,
                 &mut work,
                 &mut out_vertices,
                 &mut out_facets,

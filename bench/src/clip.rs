@@ -1,7 +1,7 @@
 //! Clip beside the Rust: soup, a surface wholly inside, one half inside, with ample
 //! outputs; soup once more with outputs just long enough, which takes two passes.
 
-use crate::meshes::{soup, surface, Mesh, SIZES, UNIT};
+use crate::meshes::{soup, surface, Mesh, CEILING, SIZES, UNIT};
 use crate::timing::{interleaved, mesh_row, time};
 
 pub fn rows(rounds: usize) {
@@ -38,6 +38,7 @@ fn row(rounds: usize, name: &str, mesh: &Mesh, ample: bool) {
             &mesh.facets,
             &UNIT,
             eps,
+            CEILING,
             &mut work,
             &mut out_vertices,
             &mut out_facets,
@@ -53,6 +54,7 @@ fn row(rounds: usize, name: &str, mesh: &Mesh, ample: bool) {
                 &mesh.facets,
                 &UNIT,
                 eps,
+                CEILING,
                 &mut work,
                 &mut out_vertices,
                 &mut out_facets,

@@ -2,6 +2,8 @@
 
 /// The facet counts at which every operation is timed.
 pub const SIZES: [usize; 3] = [1_000, 8_192, 65_000];
+/// The office's ceiling, which admits all of them.
+pub const CEILING: u64 = 65_536;
 pub const UNIT: [f64; 6] = [0.0, 0.0, 0.0, 1.0, 1.0, 1.0];
 
 pub struct Mesh {

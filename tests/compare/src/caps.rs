@@ -1,6 +1,7 @@
 //! Caps: `yongpham_caps` beside the oracle, and the requests for it.
 
 use crate::candidates::{boundary, grid, lattice_facet};
+use crate::ceilings::OFFICE;
 use crate::chosen;
 use crate::lent::Lent;
 use crate::meshes;
@@ -35,6 +36,7 @@ pub const OPERATION: Operation = Operation {
                 r.eps,
                 r.resolution,
                 r.mode,
+                r.ceiling,
                 work,
                 v,
                 f,
@@ -54,6 +56,7 @@ fn ours(r: &Request, work: &mut Lent<u64>) -> Answer {
             r.eps,
             r.resolution,
             r.mode,
+            r.ceiling,
             work,
             v,
             f,
@@ -89,8 +92,8 @@ fn lengths(r: &Request) -> [usize; 4] {
     [v.len(), f.len(), 0, 0]
 }
 
-/// Candidates, face lists, constraints and open edges of the mesh; `None` where
-/// candidates refuses or finds no open edge with two ends.
+/// Candidates, face lists, constraints and open edges of the mesh, whatever ceiling it comes
+/// under; `None` where candidates refuses or finds no open edge with two ends.
 fn lists(r: &Request) -> Option<[Vec<u64>; 4]> {
     let mut work =
         vec![0; oracle::need_words(r.vertices.len() / 3, r.facets.len() / 3, 0, grid(r)) as usize];
@@ -103,6 +106,7 @@ fn lists(r: &Request) -> Option<[Vec<u64>; 4]> {
             &r.extents,
             r.eps,
             r.resolution,
+            OFFICE,
             &mut work,
             c,
             l,
@@ -148,7 +152,7 @@ fn generate(random: &mut Random, number: u64) -> Request {
         spoil(random, &mut list);
     }
     request.caps = list.concat();
-    if random.one_in(20) {
+    if random.one_in(15) {
         meshes::damage(random, &mut request);
     }
     match random.below(1600) {
@@ -169,11 +173,16 @@ fn small(random: &mut Random, turn: u64) -> Request {
         diagonals(turn / 2)
     } else {
         let mut request = lattice_facet(random, (turn - 2_048) / 2);
-        request.caps = lists(&request).map_or_else(Vec::new, |lists| sound_list(&lists).concat());
+        supply(&mut request);
         request
     };
     request.mode = 1 + (turn % 2) as u32;
     request
+}
+
+/// Gives a request a triangulation of each face; no list where there is nothing to close.
+pub fn supply(request: &mut Request) {
+    request.caps = lists(request).map_or_else(Vec::new, |lists| sound_list(&lists).concat());
 }
 
 /// C15's ten rectangles, each with its face: of its candidates 0 to 3 are the mesh vertices 0,

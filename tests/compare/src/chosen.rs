@@ -1,8 +1,12 @@
 //! Requests chosen by hand for the file of stored answers: the traps that document 01
-//! names, each refusal, and the refusals in their order.
+//! names, each refusal, and the refusals in their order; and some for the comparison alone,
+//! which are too large to be stored.
 
 mod candidates;
 mod caps;
+mod ceilings;
+
+pub use ceilings::{around_listed, handheld};
 
 use crate::boxes::LARGEST;
 use crate::clip::KNOWN;
@@ -35,6 +39,12 @@ pub struct Chosen {
 impl Chosen {
     pub fn with_room(self, operation: &Operation, work: &mut Lent<u64>) -> Request {
         let mut request = self.request;
+        // Its lengths are not asked for: it may be large.
+        if matches!(self.room, Room::Nothing) {
+            request.work = 0;
+            request.outputs = [0; 4];
+            return request;
+        }
         request.work = (operation.need)(&request) as usize;
         request.outputs = lengths(operation, &request, work);
         match self.room {
@@ -43,11 +53,7 @@ impl Chosen {
             Room::ShortWork => request.work -= 1,
             Room::NoWork => request.work = 0,
             Room::Short(place) => request.outputs[place] -= 1,
-            Room::NoOutput => request.outputs = [0; 4],
-            Room::Nothing => {
-                request.work = 0;
-                request.outputs = [0; 4];
-            }
+            Room::NoOutput | Room::Nothing => request.outputs = [0; 4],
         }
         request
     }
@@ -117,6 +123,7 @@ pub fn clip() -> Vec<Chosen> {
         .chain(box_faults(&sound()));
     all.extend(refused.map(ample));
     all.extend(in_rooms(&sound()));
+    all.extend(ceilings::around(&sound()));
     // No facet, no vertex: nothing is written, into nothing.
     for facets in [Vec::new(), vec![0, 0, 0]] {
         let mut request = sound();
@@ -138,6 +145,7 @@ pub fn clean() -> Vec<Chosen> {
     let refused = list_faults(&base).into_iter().chain(number_faults(&base));
     all.extend(refused.map(ample));
     all.extend(in_rooms(&base));
+    all.extend(ceilings::around(&base));
     // Refusal 7 comes before 8.
     let mut far = base;
     far.eps = 0.0;

@@ -22,7 +22,7 @@ pub const OPERATION: Operation = Operation {
     },
     oracle: |r, work| {
         mesh_answer(r, work, |work, v, f| {
-            oracle::clean(&r.vertices, &r.facets, r.eps, work, v, f)
+            oracle::clean(&r.vertices, &r.facets, r.eps, r.ceiling, work, v, f)
         })
     },
     ours,
@@ -34,6 +34,7 @@ fn ours(r: &Request, work: &mut Lent<u64>) -> Answer {
             &r.vertices,
             &r.facets,
             r.eps,
+            r.ceiling,
             work,
             v,
             f,

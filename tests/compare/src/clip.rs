@@ -26,7 +26,16 @@ pub const OPERATION: Operation = Operation {
     },
     oracle: |r, work| {
         mesh_answer(r, work, |work, v, f| {
-            oracle::clip(&r.vertices, &r.facets, &r.extents, r.eps, work, v, f)
+            oracle::clip(
+                &r.vertices,
+                &r.facets,
+                &r.extents,
+                r.eps,
+                r.ceiling,
+                work,
+                v,
+                f,
+            )
         })
     },
     ours,
@@ -39,6 +48,7 @@ fn ours(r: &Request, work: &mut Lent<u64>) -> Answer {
             &r.facets,
             &r.extents,
             r.eps,
+            r.ceiling,
             work,
             v,
             f,

@@ -1,19 +1,24 @@
 //! Requests at full size: 65,536 vertices, 65,536 facets, 1,048,576 supplied triangles, 256
-//! segments on each axis; and requests a step beyond, which test 2 refuses.
+//! segments on each axis; and requests a step beyond, which test 2 refuses. Each is under
+//! 65,536, 65,537 or 2^64 - 1, and what is done is asked again under the other two, which must
+//! change nothing. Then the handheld's: 4,096 vertices and facets, and one more of either.
 
+use crate::ceilings::{differs_under, HANDHELD, OFFICE};
 use crate::lent::Lent;
 use crate::meshes::{self, lattice};
-use crate::operation::{compare, fitted, Operation};
+use crate::operation::{compare, fitted, Answer, Ask, Operation};
 use crate::random::Random;
 use crate::report::Row;
 use crate::request::Request;
 use crate::triangulation::{by_face, sound_list};
-use crate::{candidates, Options};
+use crate::{candidates, chosen, Options};
 use std::time::Instant;
 
 const MOST: usize = 65_536;
 const MOST_CAPS: usize = 1_048_576;
 const UNIT: [f64; 6] = [0.0, 0.0, 0.0, 1.0, 1.0, 1.0];
+/// Ceilings that admit full size.
+const CEILINGS: [u64; 3] = [OFFICE, OFFICE + 1, u64::MAX];
 /// Requests a step beyond, of each operation.
 const BEYOND: u64 = 120;
 
@@ -202,6 +207,30 @@ fn caps(random: &mut Random, work: &mut Lent<u64>) -> Vec<Request> {
     requests
 }
 
+/// A mesh of the handheld's size under its ceiling; one more vertex, one more facet and both
+/// under it, and both under a ceiling that admits them.
+fn handhelds(operation: &Operation) -> Vec<Request> {
+    let most = HANDHELD as usize;
+    let sizes = [
+        (most, most, HANDHELD),
+        (most + 1, most, HANDHELD),
+        (most, most + 1, HANDHELD),
+        (most + 1, most + 1, HANDHELD),
+        (most + 1, most + 1, HANDHELD + 1),
+        (most + 1, most + 1, OFFICE),
+    ];
+    let made = sizes.map(|(vertices, facets, ceiling)| {
+        let mut request = chosen::handheld(vertices, facets);
+        request.resolution = 1.0 / 16.0;
+        request.ceiling = ceiling;
+        if operation.name == "caps" {
+            crate::caps::supply(&mut request);
+        }
+        request
+    });
+    made.into()
+}
+
 /// One element or item more than test 2 allows in one list.
 fn beyond(operation: &Operation, number: u64) -> Request {
     let mut request = Request::new("a step beyond", vec![0.25; 9], vec![0, 1, 2], UNIT, 0.0);
@@ -216,9 +245,63 @@ fn beyond(operation: &Operation, number: u64) -> Request {
                 .resize(3 * (MOST + 1 + number as usize), u32::MAX);
         }
     }
+    request.ceiling = CEILINGS[number as usize / 3 % 3];
     request.work = number as usize;
     request.outputs = [number as usize; 4];
     request
+}
+
+/// Asks ours under the other ceilings that admit full size, where the request's own does.
+fn under_all(row: &mut Row, request: &Request, work: &mut Lent<u64>, ours: Ask, got: &Answer) {
+    if request.ceiling < OFFICE {
+        return;
+    }
+    for ceiling in CEILINGS
+        .into_iter()
+        .filter(|&other| other != request.ceiling)
+    {
+        let text = differs_under(ceiling, request, work, ours, got);
+        row.again += 1;
+        if !text.is_empty() {
+            row.differs(request.size(), || format!("{}\n{text}", request.family));
+        }
+    }
+}
+
+/// Compares a request lent what it needs and prints its times.
+fn timed(
+    row: &mut Row,
+    mut request: Request,
+    work: &mut Lent<u64>,
+    (operation, ours): (&Operation, Ask),
+) {
+    request.work = (operation.need)(&request) as usize;
+    fitted(ours, &mut request, work);
+    request.outputs = request.outputs.map(|length| length + 5);
+    let before = row.differences;
+    let started = Instant::now();
+    let got = ours(&request, work);
+    let seconds = started.elapsed().as_secs_f64();
+    under_all(row, &request, work, ours, &got);
+    let started = Instant::now();
+    compare(row, &request, work, (operation, ours), || {
+        format!("full-size request {} of {}", request.family, operation.name)
+    });
+    println!(
+        "{:<11}{:<30} mode {} ceiling {} reply {} {:?} ours {seconds:.2} s, both {:.2} s{}",
+        operation.name,
+        request.family,
+        request.mode,
+        request.ceiling,
+        got.reply.number,
+        got.reply.values,
+        started.elapsed().as_secs_f64(),
+        if row.differences == before {
+            ""
+        } else {
+            " DIFFERS"
+        }
+    );
 }
 
 /// Compares the full-size requests of an operation and prints the time of each.
@@ -232,32 +315,12 @@ pub fn row(operation: &Operation, options: &Options, work: &mut Lent<u64>) -> Ro
         "candidates" => closing(&mut random),
         _ => caps(&mut random, work),
     };
-    for mut request in requests {
-        request.work = (operation.need)(&request) as usize;
-        fitted(ours, &mut request, work);
-        request.outputs = request.outputs.map(|length| length + 5);
-        let started = Instant::now();
-        let reply = ours(&request, work).reply;
-        let seconds = started.elapsed().as_secs_f64();
-        let started = Instant::now();
-        let before = row.differences;
-        compare(&mut row, &request, work, (operation, ours), || {
-            format!("full-size request {} of {}", request.family, operation.name)
-        });
-        println!(
-            "{:<11}{:<30} mode {} reply {} {:?} ours {seconds:.2} s, both {:.2} s{}",
-            operation.name,
-            request.family,
-            request.mode,
-            reply.number,
-            reply.values,
-            started.elapsed().as_secs_f64(),
-            if row.differences == before {
-                ""
-            } else {
-                " DIFFERS"
-            }
-        );
+    for (place, mut request) in requests.into_iter().enumerate() {
+        request.ceiling = CEILINGS[place % 3];
+        timed(&mut row, request, work, (operation, ours));
+    }
+    for request in handhelds(operation) {
+        timed(&mut row, request, work, (operation, ours));
     }
     for number in 0..BEYOND {
         let request = beyond(operation, number);

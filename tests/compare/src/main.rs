@@ -1,5 +1,7 @@
 //! Compares our static library with the oracle, request by request: replies and
-//! values, every element of every output, work room.
+//! values, every element of every output, work room. Every request has a ceiling, and where it
+//! admits the mesh our library is asked again under another one, which must change nothing
+//! (ceilings.rs).
 //!
 //!     compare [--seed S] [--requests N] [--first I] [--numbers N] [--only NAME] [--self-check]
 //!     compare --small [--seed S] [--only NAME]
@@ -22,6 +24,7 @@
 mod boxes;
 mod candidates;
 mod caps;
+mod ceilings;
 mod chosen;
 mod clean;
 mod clip;
@@ -94,7 +97,7 @@ impl Default for Options {
             requests_of: operation::row,
             store: None,
             check: None,
-            count: 250,
+            count: 285,
         }
     }
 }

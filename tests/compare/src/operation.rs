@@ -1,6 +1,7 @@
 //! How an operation is compared: its generator, its oracle, our function.
 
-use crate::chosen::Chosen;
+use crate::ceilings;
+use crate::chosen::{self, Chosen};
 use crate::early;
 use crate::lent::{Cell, Lent};
 use crate::random::Random;
@@ -14,7 +15,7 @@ pub struct Operation {
     pub name: &'static str,
     /// Its number in a file of stored answers.
     pub number: u64,
-    /// Makes request number `n`; work room and outputs are chosen afterwards.
+    /// Makes request number `n`; ceiling, work room and outputs are chosen afterwards.
     pub generate: fn(&mut Random, u64) -> Request,
     /// How many small requests there are, and the one of a number: all of a kind, in turn.
     pub small: (u64, fn(&mut Random, u64) -> Request),
@@ -115,20 +116,21 @@ pub fn lists_answer(
     )
 }
 
-/// Request number `n` with work room and outputs.
+/// Request number `n` with ceiling, work room and outputs.
 pub fn request(operation: &Operation, seed: u64, number: u64, work: &mut Lent<u64>) -> Request {
     let mut random = Random::new(seed, operation.name, number);
     let request = (operation.generate)(&mut random, number);
     with_room(operation, &mut random, request, work)
 }
 
-/// Chooses work room and outputs.
+/// Chooses ceiling, work room and outputs.
 pub fn with_room(
     operation: &Operation,
     random: &mut Random,
     mut request: Request,
     work: &mut Lent<u64>,
 ) -> Request {
+    ceilings::choose(random, &mut request);
     let need = (operation.need)(&request);
     request.choose_work(random, need);
     let lengths = lengths(operation, &request, work);
@@ -171,10 +173,11 @@ pub fn lengths(operation: &Operation, request: &Request, work: &mut Lent<u64>) -
 pub fn row(operation: &Operation, options: &Options, work: &mut Lent<u64>) -> Row {
     let mut row = Row::new(operation.name);
     let ours = operation.asked(options);
-    let chosen = match options.first {
-        0 => (operation.chosen)(),
-        _ => Vec::new(),
-    };
+    let mut chosen = Vec::new();
+    if options.first == 0 {
+        chosen.extend((operation.chosen)());
+        chosen.extend(chosen::around_listed(operation));
+    }
     for (place, chosen) in chosen.into_iter().enumerate() {
         let request = chosen.with_room(operation, work);
         compare(&mut row, &request, work, (operation, ours), || {
@@ -193,7 +196,8 @@ pub fn row(operation: &Operation, options: &Options, work: &mut Lent<u64>) -> Ro
     row
 }
 
-/// Asks both for one request, which `name` says how to find again.
+/// Asks both for one request, which `name` says how to find again; then ours under another
+/// ceiling (ceilings.rs).
 pub fn compare(
     row: &mut Row,
     request: &Request,
@@ -208,25 +212,38 @@ pub fn compare(
         request.caps.clone(),
     );
     let got = ours(request, work);
-    row.requests += 1;
-    row.replies[expected.reply.number as usize] += 1;
-    if let Some(point) = early::point(operation, request, &expected) {
-        row.early[point] += 1;
-    }
+    count(row, request, operation, &expected);
+    let again = ceilings::asked_again(request, work, ours, &got);
+    row.again += u64::from(again.is_some());
+    let again = again.unwrap_or_default();
     let inputs_stand = same(&before.0, &request.vertices)
         && same(&before.1, &request.facets)
         && same(&before.2, &request.caps);
-    if got != expected || !inputs_stand {
+    if got != expected || !again.is_empty() || !inputs_stand {
         *row.families.entry(request.family).or_default() += 1;
         row.differs(request.size(), || {
             format!(
-                "{}\n{}{}inputs {}",
+                "{}\n{}{}{again}inputs {}",
                 name(),
                 request.describe(),
-                difference(&got, &expected),
+                difference(("ours", &got), ("oracle", &expected)),
                 if inputs_stand { "unchanged" } else { "CHANGED" }
             )
         });
+    }
+}
+
+/// Enters a request and the oracle's answer in the row's counts.
+fn count(row: &mut Row, request: &Request, operation: &Operation, expected: &Answer) {
+    row.requests += 1;
+    row.replies[expected.reply.number as usize] += 1;
+    if let Some(point) = early::point(operation, request, expected) {
+        row.early[point] += 1;
+    }
+    if expected.reply.number == 2 {
+        for (count, over) in row.over.iter_mut().zip(ceilings::over(request)) {
+            *count += u64::from(over);
+        }
     }
 }
 
@@ -234,14 +251,14 @@ fn same<T: Cell>(a: &[T], b: &[T]) -> bool {
     a.iter().map(|x| x.bits()).eq(b.iter().map(|x| x.bits()))
 }
 
-/// Where two answers part.
-fn difference(got: &Answer, expected: &Answer) -> String {
-    let mut text = format!("ours   {:x?} {:?}\n", got.reply, got.fault);
-    text += &format!("oracle {:x?} {:?}\n", expected.reply, expected.fault);
+/// Where two answers part, each with the name of what gave it.
+pub fn difference((one, got): (&str, &Answer), (other, expected): (&str, &Answer)) -> String {
+    let mut text = format!("{one:<6} {:x?} {:?}\n", got.reply, got.fault);
+    text += &format!("{other:<6} {:x?} {:?}\n", expected.reply, expected.fault);
     for (output, (a, b)) in got.outputs.iter().zip(&expected.outputs).enumerate() {
         if let Some(at) = a.iter().zip(b).position(|(x, y)| x != y) {
             text += &format!(
-                "output {output} element {at}: ours {:016x}, oracle {:016x}\n",
+                "output {output} element {at}: {one} {:016x}, {other} {:016x}\n",
                 a[at], b[at]
             );
         }

@@ -1,6 +1,6 @@
 //! One row of the printed table for each operation.
 
-use crate::early::NAMES;
+use crate::{ceilings, early};
 use std::collections::BTreeMap;
 
 /// How often each reply came (number 0 to 12), and what differed.
@@ -10,6 +10,10 @@ pub struct Row {
     pub replies: [u64; 13],
     /// How often it was done at each point of `early`.
     pub early: [u64; 4],
+    /// What test 2 went by, as `ceilings` names it.
+    pub over: [u64; 5],
+    /// How often ours was asked again under another ceiling.
+    pub again: u64,
     pub differences: u64,
     /// Families of the mesh requests that differ.
     pub families: BTreeMap<&'static str, u64>,
@@ -24,6 +28,8 @@ impl Row {
             requests: 0,
             replies: [0; 13],
             early: [0; 4],
+            over: [0; 5],
+            again: 0,
             differences: 0,
             families: BTreeMap::new(),
             smallest: None,
@@ -42,7 +48,22 @@ impl Row {
     }
 }
 
-/// Prints the table; answers whether nothing differed.
+/// Prints counts with a name each, a line for each row; nothing if there are no rows.
+fn table(title: &str, names: &[&str], rows: &[&Row], counts: fn(&Row) -> Vec<u64>) {
+    if rows.is_empty() {
+        return;
+    }
+    print!("\n{title:<12}");
+    names.iter().for_each(|name| print!("{name:>15}"));
+    println!();
+    for row in rows {
+        print!("{:<12}", row.name);
+        counts(row).iter().for_each(|count| print!("{count:>15}"));
+        println!();
+    }
+}
+
+/// Prints the tables; answers whether nothing differed.
 pub fn print(rows: &[Row]) -> bool {
     print!("{:<12}{:>10}{:>10}", "operation", "requests", "done");
     (1..13).for_each(|number| print!("{number:>8}"));
@@ -54,16 +75,14 @@ pub fn print(rows: &[Row]) -> bool {
             .for_each(|count| print!("{count:>8}"));
         println!("{:>13}", row.differences);
     }
-    if rows.iter().any(|row| row.early != [0; 4]) {
-        print!("\n{:<12}", "done early");
-        NAMES.iter().for_each(|name| print!("{name:>15}"));
-        println!();
-        for row in rows.iter().filter(|row| row.early != [0; 4]) {
-            print!("{:<12}", row.name);
-            row.early.iter().for_each(|count| print!("{count:>15}"));
-            println!();
-        }
-    }
+    let meshes: Vec<&Row> = rows.iter().filter(|row| row.again != 0).collect();
+    table("done early", &early::NAMES, &meshes, |row| {
+        row.early.to_vec()
+    });
+    let names = [&ceilings::NAMES[..], &["asked again"]].concat();
+    table("2 by", &names, &meshes, |row| {
+        [&row.over[..], &[row.again]].concat()
+    });
     for (row, text) in rows
         .iter()
         .filter_map(|row| Some((row, &row.smallest.as_ref()?.1)))

@@ -1,6 +1,7 @@
 //! A request to one of the four mesh operations. An operation reads its fields and
 //! leaves the others; so a request made for one serves for all.
 
+use crate::ceilings::OFFICE;
 use crate::random::Random;
 use oracle::Extents;
 use std::fmt::Write as _;
@@ -18,6 +19,8 @@ pub struct Request {
     pub resolution: f64,
     /// 0 none, 1 positive, 2 negative.
     pub mode: u32,
+    /// How many vertices, and how many facets, the caller admits.
+    pub ceiling: u64,
     /// Length of the work room.
     pub work: usize,
     /// Lengths of the outputs, in the order of test 12.
@@ -41,6 +44,7 @@ impl Request {
             eps,
             resolution: 1.0,
             mode: 1,
+            ceiling: OFFICE,
             work: 0,
             outputs: [0; 4],
         }
@@ -70,7 +74,7 @@ impl Request {
         };
         format!(
             "family {}\nvertices ({} elements)\n{}facets {:?}\ncaps {:?}\nbox\n{}eps{}resolution{}\
-             mode {}  work {}  outputs {:?}\n",
+             mode {}  ceiling {}  work {}  outputs {:?}\n",
             self.family,
             self.vertices.len(),
             hex(&self.vertices, 3),
@@ -80,6 +84,7 @@ impl Request {
             hex(&[self.eps], 1),
             hex(&[self.resolution], 1),
             self.mode,
+            self.ceiling,
             self.work,
             self.outputs,
         )

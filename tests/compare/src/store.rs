@@ -14,8 +14,13 @@ use std::process::ExitCode;
 
 /// "yongpham", as the first word of the file.
 const MAGIC: u64 = u64::from_le_bytes(*b"yongpham");
-const FORMAT: u64 = 1;
+/// 1 had a head of 24 words, without a ceiling.
+const FORMAT: u64 = 2;
+/// Words in front of the lists of a request, those behind the ceiling free.
+const HEAD: usize = 32;
 const TOLERANCE: u64 = 1;
+/// How many boxes the file gets.
+const TOLERANCES: usize = 250;
 /// A mesh operation that the program replays, and how many of its requests the file gets beside
 /// those chosen by hand: the file is small, so they are.
 struct Replayed {
@@ -33,14 +38,14 @@ struct Replayed {
 const REPLAYED: &[Replayed] = &[
     Replayed {
         name: "clip",
-        most: 250,
+        most: 285,
         largest: 150,
         of_a_kind: 15,
         any_reply: true,
     },
     Replayed {
         name: "clean",
-        most: 250,
+        most: 285,
         largest: 150,
         of_a_kind: 15,
         any_reply: true,
@@ -48,14 +53,14 @@ const REPLAYED: &[Replayed] = &[
     // A result is long: the refusals are chosen by hand, and what is generated writes.
     Replayed {
         name: "candidates",
-        most: 173,
+        most: 208,
         largest: 280,
         of_a_kind: 2,
         any_reply: false,
     },
     Replayed {
         name: "caps",
-        most: 250,
+        most: 285,
         largest: 500,
         of_a_kind: 5,
         any_reply: true,
@@ -110,6 +115,8 @@ fn record(number: u64, request: &Request, answer: &Answer) -> Vec<u64> {
     words.extend(outputs);
     words.push(answer.reply.number.into());
     words.extend(answer.reply.values);
+    words.push(request.ceiling);
+    words.resize(HEAD, 0);
     words.extend(request.vertices.iter().map(|x| x.bits()));
     words.extend(request.facets.iter().map(|x| x.bits()));
     words.extend(&request.caps);
@@ -122,8 +129,8 @@ fn record(number: u64, request: &Request, answer: &Answer) -> Vec<u64> {
 fn request(words: &[u64]) -> Request {
     let length = |place: usize| words[place] as usize;
     let double = |place: usize| f64::from_bits(words[place]);
-    let (v, f, c) = (24 + length(2), length(3), length(4));
-    let vertices = words[24..v].iter().map(|&bits| f64::from_bits(bits));
+    let (v, f, c) = (HEAD + length(2), length(3), length(4));
+    let vertices = words[HEAD..v].iter().map(|&bits| f64::from_bits(bits));
     let facets = words[v..v + f].iter().map(|&number| number as u32);
     let extents = [6, 7, 8, 9, 10, 11].map(double);
     let mut request = Request::new(
@@ -136,6 +143,7 @@ fn request(words: &[u64]) -> Request {
     request.caps = words[v + f..v + f + c].to_vec();
     request.resolution = double(13);
     request.mode = words[5] as u32;
+    request.ceiling = words[24];
     request.work = length(14);
     request.outputs = [15, 16, 17, 18].map(length);
     request
@@ -243,7 +251,7 @@ fn tolerance_sample(options: &Options) -> Sample {
     let mut work = Lent::new(0, Old::ByPlace);
     let generated = (0..).map(|number| tolerance::any(options.seed, number));
     for request in tolerance::chosen().into_iter().chain(generated) {
-        if sample.records.len() >= options.count {
+        if sample.records.len() >= options.count.min(TOLERANCES) {
             break;
         }
         if !has_nan(&request) {

@@ -15,24 +15,26 @@ pub fn candidates(
     extents: &Extents,
     eps: f64,
     resolution: f64,
+    ceiling: u64,
     work: &mut [u64],
     out_candidates: &mut [u64],
     out_face_lists: &mut [u64],
     out_constraints: &mut [u64],
     out_open_edges: &mut [u64],
 ) -> Reply {
-    let outcome = tested(vertices, facets, extents, eps, resolution, work).and_then(|lists| {
-        let [c, f, k, e] = lists.map_or_else(Default::default, |lists| words(&lists));
-        room(&c, out_candidates)?;
-        room(&f, out_face_lists)?;
-        room(&k, out_constraints)?;
-        room(&e, out_open_edges)?;
-        write_front(&c, out_candidates);
-        write_front(&f, out_face_lists);
-        write_front(&k, out_constraints);
-        write_front(&e, out_open_edges);
-        Ok(Reply::done(&[c.len(), f.len(), k.len(), e.len()]))
-    });
+    let outcome =
+        tested(vertices, facets, extents, eps, resolution, ceiling, work).and_then(|lists| {
+            let [c, f, k, e] = lists.map_or_else(Default::default, |lists| words(&lists));
+            room(&c, out_candidates)?;
+            room(&f, out_face_lists)?;
+            room(&k, out_constraints)?;
+            room(&e, out_open_edges)?;
+            write_front(&c, out_candidates);
+            write_front(&f, out_face_lists);
+            write_front(&k, out_constraints);
+            write_front(&e, out_open_edges);
+            Ok(Reply::done(&[c.len(), f.len(), k.len(), e.len()]))
+        });
     finish(outcome, work)
 }
 
@@ -43,10 +45,11 @@ fn tested(
     extents: &Extents,
     eps: f64,
     resolution: f64,
+    ceiling: u64,
     work: &[u64],
 ) -> Result<Option<CandidateLists>, Reply> {
     ragged(vertices, facets, &[])?;
-    too_many(vertices, facets, &[])?;
+    too_many(vertices, facets, &[], ceiling)?;
     bad_index(vertices, facets)?;
     bad_number(
         !sound_coordinates(vertices)

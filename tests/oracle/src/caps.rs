@@ -19,28 +19,29 @@ pub fn caps(
     eps: f64,
     resolution: f64,
     mode: u32,
+    ceiling: u64,
     work: &mut [u64],
     out_vertices: &mut [f64],
     out_facets: &mut [u32],
 ) -> Reply {
-    let outcome =
-        tested(vertices, facets, caps, extents, eps, resolution, mode, work).and_then(|supplied| {
-            match supplied {
-                None => write_mesh(vertices, facets, out_vertices, out_facets),
-                Some(supplied) => {
-                    let (v, f) = cap_mesh_to_aabb(
-                        vertices.to_vec(),
-                        wide(facets),
-                        aabb(extents),
-                        resolution,
-                        closure(mode),
-                        eps,
-                        &supplied,
-                    );
-                    write_mesh(&v, &narrow(&f), out_vertices, out_facets)
-                }
-            }
-        });
+    let outcome = tested(
+        vertices, facets, caps, extents, eps, resolution, mode, ceiling, work,
+    )
+    .and_then(|supplied| match supplied {
+        None => write_mesh(vertices, facets, out_vertices, out_facets),
+        Some(supplied) => {
+            let (v, f) = cap_mesh_to_aabb(
+                vertices.to_vec(),
+                wide(facets),
+                aabb(extents),
+                resolution,
+                closure(mode),
+                eps,
+                &supplied,
+            );
+            write_mesh(&v, &narrow(&f), out_vertices, out_facets)
+        }
+    });
     finish(outcome, work)
 }
 
@@ -63,10 +64,11 @@ fn tested(
     eps: f64,
     resolution: f64,
     mode: u32,
+    ceiling: u64,
     work: &[u64],
 ) -> Result<Option<Vec<SuppliedTri>>, Reply> {
     ragged(vertices, facets, caps)?;
-    too_many(vertices, facets, caps)?;
+    too_many(vertices, facets, caps, ceiling)?;
     bad_index(vertices, facets)?;
     bad_number(
         !sound_coordinates(vertices)

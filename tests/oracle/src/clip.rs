@@ -6,16 +6,18 @@ use crate::reply::{finish, write_mesh};
 use crate::{aabb, narrow, wide, Extents, Reply};
 
 /// Refusals 1, 2, 3, 4, 5, 7, 12.
+#[allow(clippy::too_many_arguments)]
 pub fn clip(
     vertices: &[f64],
     facets: &[u32],
     extents: &Extents,
     eps: f64,
+    ceiling: u64,
     work: &mut [u64],
     out_vertices: &mut [f64],
     out_facets: &mut [u32],
 ) -> Reply {
-    let outcome = tested(vertices, facets, extents, eps, work).and_then(|()| {
+    let outcome = tested(vertices, facets, extents, eps, ceiling, work).and_then(|()| {
         let (v, f) = clip_mesh_to_aabb(vertices.to_vec(), wide(facets), aabb(extents), eps);
         write_mesh(&v, &narrow(&f), out_vertices, out_facets)
     });
@@ -27,10 +29,11 @@ fn tested(
     facets: &[u32],
     extents: &Extents,
     eps: f64,
+    ceiling: u64,
     work: &[u64],
 ) -> Result<(), Reply> {
     ragged(vertices, facets, &[])?;
-    too_many(vertices, facets, &[])?;
+    too_many(vertices, facets, &[], ceiling)?;
     bad_index(vertices, facets)?;
     bad_number(!sound_coordinates(vertices) || !sound_coordinates(extents) || !sound_eps(eps))?;
     bad_box(extents)?;

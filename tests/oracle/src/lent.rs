@@ -7,6 +7,9 @@ const OUTPUT: usize = 1 << 16;
 /// Fills outputs and work room before a call, to see what a call leaves alone.
 const JUNK: u64 = 0x5ca1_ab1e;
 
+/// The office's ceiling, for the tests that are not about ceilings.
+pub const OFFICE: u64 = 65_536;
+
 pub type Mesh = (Vec<f64>, Vec<u32>);
 
 /// Runs an operation that writes a mesh. Checks the work room and, on a refusal
@@ -32,11 +35,11 @@ fn mesh(run: impl FnOnce(&mut [u64], &mut [f64], &mut [u32]) -> Reply) -> Result
 }
 
 pub fn clip(v: &[f64], f: &[u32], extents: &Extents, eps: f64) -> Result<Mesh, Reply> {
-    mesh(|work, ov, of| crate::clip(v, f, extents, eps, work, ov, of))
+    mesh(|work, ov, of| crate::clip(v, f, extents, eps, OFFICE, work, ov, of))
 }
 
 pub fn clean(v: &[f64], f: &[u32], eps: f64) -> Result<Mesh, Reply> {
-    mesh(|work, ov, of| crate::clean(v, f, eps, work, ov, of))
+    mesh(|work, ov, of| crate::clean(v, f, eps, OFFICE, work, ov, of))
 }
 
 #[allow(clippy::too_many_arguments)]
@@ -49,7 +52,11 @@ pub fn caps(
     resolution: f64,
     mode: u32,
 ) -> Result<Mesh, Reply> {
-    mesh(|work, ov, of| crate::caps(v, f, list, extents, eps, resolution, mode, work, ov, of))
+    mesh(|work, ov, of| {
+        crate::caps(
+            v, f, list, extents, eps, resolution, mode, OFFICE, work, ov, of,
+        )
+    })
 }
 
 /// Candidates, face lists, constraints, open edges.
@@ -64,7 +71,9 @@ pub fn candidates(
     let mut work = vec![JUNK; WORK];
     let mut out: [Vec<u64>; 4] = std::array::from_fn(|_| vec![JUNK; OUTPUT]);
     let [c, l, k, e] = &mut out;
-    let reply = crate::candidates(v, f, extents, eps, resolution, &mut work, c, l, k, e);
+    let reply = crate::candidates(
+        v, f, extents, eps, resolution, OFFICE, &mut work, c, l, k, e,
+    );
     assert!(work.iter().all(|&word| word == 0), "work room ends zero");
     if reply.number != 0 {
         assert!(out.iter().flatten().all(|&word| word == JUNK));

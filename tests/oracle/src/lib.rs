@@ -1,4 +1,5 @@
-//! Document 01's five operations, computed by the Rust reference.
+//! Document 01's five operations, computed by the Rust reference, with the caller's
+//! ceiling of document 02, E2.
 //!
 //! The modules that `reference.rs` declares are the reference with the edits of
 //! edits.rs. Around them stand the refusals of document 01's table, written from
@@ -35,6 +36,8 @@ mod whole;
 pub mod length;
 pub mod reference;
 
+#[cfg(test)]
+mod ceilings;
 #[cfg(test)]
 mod edge_lengths;
 #[cfg(test)]

@@ -5,8 +5,9 @@
 
 use crate::{Extents, Reply};
 
-/// "At most 65,536 of each."
-const MESH_CEILING: usize = 65_536;
+/// "At most 65,536 of each." Document 02, E2: a caller's ceiling "over 65,536 counts
+/// as 65,536".
+const LARGEST_CEILING: u64 = 65_536;
 /// "Supplied cap triangles: ... at most 1,048,576."
 const CAP_CEILING: usize = 1_048_576;
 /// "Magnitude of a coordinate or box corner at most 2^30".
@@ -35,11 +36,13 @@ pub fn ragged(vertices: &[f64], facets: &[u32], caps: &[u64]) -> Test {
     )
 }
 
-/// 2 TooMany: "a list exceeds its count above".
-pub fn too_many(vertices: &[f64], facets: &[u32], caps: &[u64]) -> Test {
+/// 2 TooMany: "a list exceeds its count above". Document 02, E2: "2 goes by the
+/// caller's ceiling for vertices and facets"; the cap list keeps its own count.
+pub fn too_many(vertices: &[f64], facets: &[u32], caps: &[u64], ceiling: u64) -> Test {
+    let most = ceiling.min(LARGEST_CEILING);
     refuse_if(
-        vertices.len() / 3 > MESH_CEILING
-            || facets.len() / 3 > MESH_CEILING
+        vertices.len() as u64 / 3 > most
+            || facets.len() as u64 / 3 > most
             || caps.len() / 4 > CAP_CEILING,
         2,
     )

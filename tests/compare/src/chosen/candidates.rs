@@ -1,6 +1,6 @@
 //! Requests chosen by hand for candidates.
 
-use super::{ample, box_faults, in_rooms, list_faults, number_faults, power};
+use super::{ample, box_faults, ceilings, in_rooms, list_faults, number_faults, power};
 use super::{Chosen, Room, KEPT, UNIT};
 use crate::boxes::LARGEST;
 use crate::request::Request;
@@ -88,6 +88,7 @@ pub fn chosen() -> Vec<Chosen> {
     }));
     all.extend(in_rooms(&tiny()));
     all.extend(in_few_rooms(&base));
+    all.extend(ceilings::around(&base));
     all
 }
 

@@ -1,7 +1,7 @@
 //! Requests chosen by hand for caps: where its rules show, each refusal that is its own, and
 //! the two points at which the mesh comes back unchanged.
 
-use super::{ample, in_rooms, power, Chosen, Room, KEPT, UNIT};
+use super::{ample, ceilings, in_rooms, power, Chosen, Room, KEPT, UNIT};
 use crate::boxes::LARGEST;
 use crate::request::Request;
 use oracle::Extents;
@@ -242,6 +242,7 @@ fn no_mode() -> Vec<Chosen> {
         with(u32::MAX, Room::Exact, |_| {}),
         with(3, Room::Exact, |r| r.caps.truncate(7)),
         with(3, Room::Exact, |r| r.facets.truncate(5)),
+        with(3, Room::Exact, |r| r.ceiling = 3),
         with(3, Room::Exact, |r| r.facets[5] = 4),
         with(3, Room::Exact, |r| r.vertices[0] = f64::INFINITY),
         with(3, Room::Exact, |r| r.extents[3] = 0.0),
@@ -299,6 +300,11 @@ fn in_order() -> Vec<Request> {
             r.mode = 0;
             r.caps.truncate(3);
         }),
+        // Nor is a mesh over its ceiling given back unchanged.
+        with(|r| {
+            r.mode = 0;
+            r.ceiling = 3;
+        }),
         // Without a mode to close by, neither 8 nor 9 is tested.
         with(|r| {
             r.mode = 0;
@@ -319,6 +325,12 @@ pub fn chosen() -> Vec<Chosen> {
     requests.push(kept_point());
     let mut all: Vec<Chosen> = requests.into_iter().map(ample).collect();
     all.extend(in_rooms(&square("C15", 1.0, &all_faces(), NEGATIVE)));
+    all.extend(ceilings::around(&square(
+        "C15",
+        1.0,
+        &all_faces(),
+        POSITIVE,
+    )));
     all.extend(no_mode());
     all.extend(in_order().into_iter().map(|request| Chosen {
         request,
@@ -370,7 +382,7 @@ mod tests {
         has("taken over", POSITIVE, 0, 27, 36);
         has("a kept point", NEGATIVE, 0, 12, 6);
         has("no mode", u32::MAX, 4, 0, 0);
-        for number in [1, 3, 4] {
+        for number in [1, 2, 3, 4] {
             has("no mode", 3, number, 0, 0);
         }
         for number in [1, 3, 4, 5, 6, 8] {
@@ -379,6 +391,7 @@ mod tests {
         has("in order", POSITIVE, 9, 0, 3);
         has("in order", POSITIVE, 10, 1, 0);
         has("in order", 0, 1, 0, 0);
+        has("in order", 0, 2, 0, 0);
         has("in order", 0, 0, 15, 6);
     }
 }
