@@ -7,9 +7,10 @@
 --   isOpen l s       exactly one of the sides l bears the pair of s
 --   pairBefore s t   the sorted pair of s comes before that of t: by the smaller end, then by the greater
 --   openEdges        the sides whose pair is open, as they run, in ascending order of their sorted pair
+--   pairWords        pairs as words, two each
 use Prim.Native.Nat.{ℕ, min, max}
 use mathlib.Core.Bool.{Bool, _&&_, _||_}
-use mathlib.Core.List.{List, flatMap}
+use mathlib.Core.List.{List, [], _∷_, flatMap}
 use lib.Dec.{eqb, ltb}
 use Rattle.lists.specs.Lists.{keep, count, sortBy}
 use Rattle.geometry.specs.Triangles.{Triangle, edges}
@@ -36,3 +37,6 @@ pairBefore s t = ltb (sortedPair s .0) (sortedPair t .0) || (eqb (sortedPair s .
 -- "Open edges go in ascending order of their sorted pair"; "An open edge runs as its facet side"
 unfoldable pub openEdges : List (Triangle ℕ) → List (ℕ × ℕ)
 openEdges facets = let all = sides facets in sortBy pairBefore (keep (isOpen all) all)
+
+unfoldable pub pairWords : List (ℕ × ℕ) → List ℕ
+pairWords l = flatMap (λ e. e .0 ∷ e .1 ∷ []) l

@@ -1,7 +1,7 @@
 -- Laws of an operation's answer, over any list of outputs: refused in front, after tests that passed, short of room at one output, and done.
 --   Same, Fits, Laid   no output changed; each has room for its result; each holds its result at its front
 --   refused            a test in front held                       after, behind   the tests in front passed, and the rest answered
---   short              12: the first output that is too short     done-two, done-four   all fit, and were written
+--   short              12: the first output that is too short     done-two, done-three, done-four   all fit, and were written
 --   answer-done        an answer whose number is 0
 --   answered, called   the work room cleared at the end; a reply reported to C
 --   meshes-alike       the same tests, mesh, outputs and work room: two calls end alike
@@ -21,7 +21,7 @@ use Rattle.refusals.specs.declared.refusal.Refusal.{Refusal}
 use Rattle.refusals.specs.declared.refusal.Refusal.the-variants.{NoRoom}
 use Rattle.refusals.specs.declared.refusal.Checked.{Checked}
 use Rattle.refusals.specs.declared.refusal.Checked.the-variants.{Passed, Refused}
-use Rattle.refusals.specs.declared.reply.Reply.the-variants.{DoneTwo, DoneFour}
+use Rattle.refusals.specs.declared.reply.Reply.the-variants.{DoneTwo, DoneThree, DoneFour}
 use Rattle.refusals.specs.declared.reply.Reply.the-variants as reply
 use Rattle.refusals.specs.Refusals.{documented, documentedReply, Test, firstRefusal, Passes, numbered, replyTo, settle, Zeroed}
 use Rattle.refusals.specs.Reports.{Reported}
@@ -111,6 +111,11 @@ pub done-two : (o p : Output) (a b : ℕ) → a ≡ length (o .result) → b ≡
     → Answer [] (o ∷ p ∷ []) (documentedReply (DoneTwo a b))
 unfolding documentedReply
 done-two o p a b ea eb f l = done (o ∷ p ∷ []) (a ∷ b ∷ []) (λ t. ea t ∷ eb t ∷ []) f l
+
+pub done-three : (o p q : Output) (a b c : ℕ) → a ≡ length (o .result) → b ≡ length (p .result) → c ≡ length (q .result)
+    → Fits (o ∷ p ∷ q ∷ []) → Laid (o ∷ p ∷ q ∷ []) → Answer [] (o ∷ p ∷ q ∷ []) (documentedReply (DoneThree a b c))
+unfolding documentedReply
+done-three o p q a b c ea eb ec f l = done (o ∷ p ∷ q ∷ []) (a ∷ b ∷ c ∷ []) (λ t. ea t ∷ eb t ∷ ec t ∷ []) f l
 
 pub done-four : (o p q s : Output) (a b c d : ℕ) → a ≡ length (o .result) → b ≡ length (p .result) → c ≡ length (q .result) → d ≡ length (s .result)
     → Fits (o ∷ p ∷ q ∷ s ∷ []) → Laid (o ∷ p ∷ q ∷ s ∷ []) → Answer [] (o ∷ p ∷ q ∷ s ∷ []) (documentedReply (DoneFour a b c d))

@@ -17,7 +17,7 @@ use Rattle.refusals.specs.declared.refusal.Refusal.{Refusal}
 use Rattle.refusals.specs.declared.refusal.Checked.{Checked}
 use Rattle.refusals.specs.declared.refusal.Checked.the-variants.{Passed, Refused}
 use Rattle.refusals.specs.declared.reply.Reply.{Reply}
-use Rattle.refusals.specs.declared.reply.Reply.the-variants.{DoneTwo, DoneFour}
+use Rattle.refusals.specs.declared.reply.Reply.the-variants.{DoneTwo, DoneThree, DoneFour}
 use Rattle.refusals.specs.declared.reply.Reply.the-variants as reply
 use Rattle.refusals.specs.declared.refusal.Refusal.the-variants.{Ragged, TooMany, BadIndex, BadNumber, BadBox, GridTooFine, NoWorkRoom, KeyRange, OpenEdge, BadCap, MissingEdge, NoRoom}
 
@@ -38,11 +38,13 @@ documented (NoRoom need) = 12 ∷ need ∷ []
 -- "counts returned are the lengths written"
 unfoldable pub documentedReply : Reply → List ℕ
 documentedReply (DoneTwo a b) = 0 ∷ a ∷ b ∷ []
+documentedReply (DoneThree a b c) = 0 ∷ a ∷ b ∷ c ∷ []
 documentedReply (DoneFour a b c d) = 0 ∷ a ∷ b ∷ c ∷ d ∷ []
 documentedReply (reply.Refused r) = documented r
 
 abbrev pub turnedDown : Reply → Bool
 turnedDown (DoneTwo a b) = false
+turnedDown (DoneThree a b c) = false
 turnedDown (DoneFour a b c d) = false
 turnedDown (reply.Refused r) = true
 

@@ -45,6 +45,7 @@ pub fn report_reply(values: &mut [u64; 4], reply: Reply) -> u32
 {
     match reply {
         Reply::DoneTwo(a, b) => report_done(values, a as u64, b as u64, 0, 0),
+        Reply::DoneThree(a, b, c) => report_done(values, a as u64, b as u64, c as u64, 0),
         Reply::DoneFour(a, b, c, d) => {
             report_done(values, a as u64, b as u64, c as u64, d as u64)
         }

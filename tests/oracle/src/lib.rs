@@ -24,6 +24,7 @@ mod moller {
     }
 }
 
+mod boundary_components;
 mod candidates;
 mod caps;
 mod clean;
@@ -47,6 +48,7 @@ mod lent;
 #[cfg(test)]
 mod worked_blocks;
 
+pub use boundary_components::{boundary, boundary_components, Boundary};
 pub use candidates::candidates;
 pub use caps::caps;
 pub use clean::clean;

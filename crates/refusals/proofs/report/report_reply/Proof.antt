@@ -1,4 +1,4 @@
-use Rattle.refusals.proofs.Reports.{reply-two, reply-four, reply-refused}
+use Rattle.refusals.proofs.Reports.{reply-two, reply-three, reply-four, reply-refused}
 use borrow.Author.Needs.{needs}
 use Rattle.refusals.proofs.report.report_reply.Statement.{statement}
 use Rattle.refusals.proofs.report.report_reply.Tie as tie
@@ -22,6 +22,12 @@ report-done-requires-2 c κs = search needs
 enum-known-reply-3 : tie.Need-enum-known-reply-3
 enum-known-reply-3 c = search needs
 
+report-done-requires-3 : tie.Need-report-done-requires-3
+report-done-requires-3 c κs = search needs
+
+enum-known-reply-4 : tie.Need-enum-known-reply-4
+enum-known-reply-4 c = search needs
+
 report-refusal-requires : tie.Need-report-refusal-requires
 report-refusal-requires c κs = search needs
 
@@ -29,10 +35,13 @@ returns : tie.Need-returns
 returns c = reply-two _ _ _ _ _ (c .before .before .before .reply .given .1) (c .report-done .ensures)
 
 returns-2 : tie.Need-returns-2
-returns-2 c = reply-four _ _ _ _ _ _ _ (c .before .before .before .reply2 .given .1) (c .report-done2 .ensures)
+returns-2 c = reply-three _ _ _ _ _ _ (c .before .before .before .reply2 .given .1) (c .report-done2 .ensures)
 
 returns-3 : tie.Need-returns-3
-returns-3 c = reply-refused _ _ _ _ (c .before .before .before .reply3 .given .1) (c .report-refusal .ensures)
+returns-3 c = reply-four _ _ _ _ _ _ _ (c .before .before .before .reply3 .given .1) (c .report-done3 .ensures)
+
+returns-4 : tie.Need-returns-4
+returns-4 c = reply-refused _ _ _ _ (c .before .before .before .reply4 .given .1) (c .report-refusal .ensures)
 
 pub report-reply-spec : {M : Type 1} → statement M
 report-reply-spec =
@@ -43,7 +52,10 @@ report-reply-spec =
     enum-known-reply-2
     report-done-requires-2
     enum-known-reply-3
+    report-done-requires-3
+    enum-known-reply-4
     report-refusal-requires
     returns
     returns-2
-    returns-3)
+    returns-3
+    returns-4)

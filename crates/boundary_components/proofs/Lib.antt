@@ -1,0 +1,5 @@
+pub mod Checking
+pub mod Regular
+pub mod Nothing
+pub mod Staging
+pub mod Delivery

@@ -1,0 +1,2 @@
+pub mod Irregular
+pub mod Listed
