@@ -1,4 +1,4 @@
-/* How to call the library from C: a surface is cut to the unit cube, cleaned, and closed both ways.
+/* How to call the library from C: a surface is cut to the unit cube, cleaned, its open boundary listed, and closed both ways.
  *
  * The surface is a square of side 3 at height 0.5, two facets that face up; the cube's part of it is document 01's case C15 (docs/RULES.md),
  * and what that case states is checked at the end. Room is lent by the header's formula here; close_cube.cpp asks for it instead.
@@ -110,24 +110,32 @@ static double six_volumes(const Mesh *mesh) {
   return sum;
 }
 
-/* How many facet sides run from a to b. */
-static int sides(const Mesh *mesh, uint32_t a, uint32_t b) {
-  int count = 0;
-  size_t i, k;
-  for (i = 0; i < mesh->facets_length; i += 3)
-    for (k = 0; k < 3; k++) count += mesh->facets[i + k] == a && mesh->facets[i + (k + 1) % 3] == b;
-  return count;
+/* The open boundary: how many open edges, components and irregular edges there are, at two words each, the components as written. */
+static void boundary(const Mesh *mesh, uint64_t components[WORDS], size_t lengths[3]) {
+  static uint64_t edges[WORDS], irregular[WORDS];
+  uint64_t values[4];
+  size_t i;
+  uint32_t number = yongpham_boundary_components(mesh->vertices_length / 3, mesh->facets, mesh->facets_length, CEILING, work, WORK, edges, WORDS, components,
+                                                 WORDS, irregular, WORDS, values);
+  expect(number == 0, "boundary_components was turned down");
+  for (i = 0; i < 3; i++) lengths[i] = (size_t)values[i] / 2;
 }
 
-/* Every edge is borne by two sides, one each way. */
+/* The square's boundary is one component, a ring of four edges, and no edge is irregular. */
+static void expect_ring_of_four(const Mesh *mesh) {
+  static uint64_t components[WORDS];
+  size_t lengths[3];
+  boundary(mesh, components, lengths);
+  expect(lengths[0] == 4 && lengths[1] == 1 && lengths[2] == 0, "the square's boundary is not one component of four edges");
+  expect(components[0] == 4 && components[1] == 1, "the square's boundary is no ring of four");
+}
+
+/* Every edge is borne by two sides, one each way: there is nothing to list. */
 static int closed(const Mesh *mesh) {
-  size_t i, k;
-  for (i = 0; i < mesh->facets_length; i += 3)
-    for (k = 0; k < 3; k++) {
-      const uint32_t a = mesh->facets[i + k], b = mesh->facets[i + (k + 1) % 3];
-      if (a == b || sides(mesh, a, b) != 1 || sides(mesh, b, a) != 1) return 0;
-    }
-  return 1;
+  static uint64_t components[WORDS];
+  size_t lengths[3];
+  boundary(mesh, components, lengths);
+  return lengths[0] == 0 && lengths[1] == 0 && lengths[2] == 0;
 }
 
 /* Closes the square; the solid lies from height `low` to `low` + 0.5. */
@@ -151,9 +159,10 @@ int main(void) {
   const double eps = 1e-10;
   expect(eps <= tolerance_of_cube(), "the tolerance of the cube is smaller than C15's eps");
   square_in_cube(eps, &square);
+  expect_ring_of_four(&square);
   cap_list(&square, eps, list);
   close_square(&square, eps, list, 1, 0);
   close_square(&square, eps, list, 2, 0.5);
-  printf("close_cube: 12 candidates; each way ten caps, eight vertices, closed, volume 0.5\n");
+  printf("close_cube: the boundary is a ring of four; 12 candidates; each way ten caps, eight vertices, closed, volume 0.5\n");
   return 0;
 }

@@ -144,6 +144,32 @@ uint32_t yongpham_caps(const double *vertices, size_t vertices_length, const uin
                        double *out_vertices, size_t out_vertices_length, uint32_t *out_facets, size_t out_facets_length,
                        uint64_t values[4]);
 
+/* Lists the open boundary of a mesh, any mesh: its open edges, grouped into components, and its irregular edges. All three outputs come back
+ * empty exactly if every edge has two different ends and is borne by two facet sides, one running each way: the mesh is closed.
+ *
+ * An edge is a pair of vertices that a facet side joins. It is open if exactly one side bears it. It is irregular if three or more sides bear
+ * it, or two that run the same way; of an edge from a vertex to itself, two sides run the same way. Two open edges are in one component if a
+ * chain of open edges that share vertices leads from one to the other.
+ *
+ *   vertex_count    how many vertices the mesh has; where they lie is not asked
+ *   facets          the mesh's facets, as for yongpham_clip, and the number of elements
+ *   ceiling         as for yongpham_clip
+ *   work            at least 128 * (vertex_count + facets) + 1024 words
+ *   out_edges       two words each: the vertices of an open edge, the smaller first. Components follow one another in the order of their
+ *                   smallest edges; within one the edges ascend
+ *   out_components  two words each: how many of the open edges belong to the component, and 1 if it is a ring, else 0. It is a ring if none
+ *                   of its edges runs from a vertex to itself and each of its vertices is an end of exactly two of its edges
+ *   out_irregular   two words each: the vertices of an irregular edge, the smaller first, ascending
+ *   values          done: the lengths written to the three outputs, in words; 7: the words of work room needed; 12: the words needed by the
+ *                   first output that is too short, in the order above
+ *
+ * Answers 0, or 1, 2, 3, 7 or 12, tested in that order.
+ */
+uint32_t yongpham_boundary_components(uint64_t vertex_count, const uint32_t *facets, size_t facets_length,
+                                      uint64_t ceiling, uint64_t *work, size_t work_length,
+                                      uint64_t *out_edges, size_t out_edges_length, uint64_t *out_components, size_t out_components_length,
+                                      uint64_t *out_irregular, size_t out_irregular_length, uint64_t values[4]);
+
 #ifdef __cplusplus
 }
 #endif

@@ -5,6 +5,7 @@
 //! interpreted. Parameters stand in the header's order, except that a slice is pointer and length in one, a box six doubles
 //! in one, and that the four words of values come back in the reply.
 
+mod boundary_components;
 mod candidates;
 mod caps;
 mod clean;
@@ -14,6 +15,7 @@ mod tolerance;
 #[cfg(feature = "leaves")]
 pub mod leaves;
 
+pub use boundary_components::boundary_components;
 pub use candidates::candidates;
 pub use caps::caps;
 pub use clean::clean;
