@@ -1,3 +1,4 @@
 pub mod Starred
 pub mod CandidateBlocks
 pub mod CapBlocks
+pub mod BoundaryBlocks

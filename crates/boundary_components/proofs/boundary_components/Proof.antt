@@ -39,9 +39,10 @@ same-length-4 c = search needs
 -- src/lib.rt:157:1
 returns : tie.Need-returns
 returns c =
-    let p = c .before .before .before .before .before .before .before .before .before .before .before .before .list-lent in
+    let lent = c .before .before .before .before .before .before .before .before .before .before .before .before in
+    let p = lent .list-lent in
     let z = c .before .before .zero-front in
-    let w = c .before .before .before .before .before .before .before .before .before .before .before .before .before .before .before .before .before .before .before .before .before .before .args .work .now in
+    let w = lent .before .before .before .before .before .before .before .before .before .before .args .work .now in
     let u = p .last .1 .1 .1 .0 in
     let l = p .kept .1 .1 .1 .0 in
     answered _ _ w u _ _ (p .ensures) l (z .ensures ∙ overlay-whole (replicate (length u) 0) u (omega (arith, length-replicate {A = ℕ} (length u) 0)))

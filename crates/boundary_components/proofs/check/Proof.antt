@@ -35,7 +35,8 @@ returns-2 c =
     let most = c .before .most-admitted .ensures in
     let s = c .before .before .before .before .before in
     let l = limits (s .args .ceiling) (s .args .lent) in
-    many-refused (s .args .vertices) (s .args .facets .now) l (sym (is-ragged .ensures) ∙ c .before .before .if1 .left) (over-vertices (s .args .vertices) (s .args .facets .now) l (omega (arith, most, c .if2 .taken)))
+    let over = over-vertices (s .args .vertices) (s .args .facets .now) l (omega (arith, most, c .if2 .taken)) in
+    many-refused (s .args .vertices) (s .args .facets .now) l (sym (is-ragged .ensures) ∙ c .before .before .if1 .left) over
 
 -- src/lib.rt:23:8
 is-too-many-requires : tie.Need-is-too-many-requires
@@ -51,7 +52,8 @@ returns-3 c =
     let many = c .before .is-too-many .ensures in
     let s = c .before .before .before .before .before .before .before in
     let l = limits (s .args .ceiling) (s .args .lent) in
-    many-refused (s .args .vertices) (s .args .facets .now) l (sym (is-ragged .ensures) ∙ if1 .left) (over-facets (s .args .vertices) (s .args .facets .now) l (omega (arith, most, if2 .left)) (told _ most many (c .if3 .taken)))
+    let over = over-facets (s .args .vertices) (s .args .facets .now) l (omega (arith, most, if2 .left)) (told _ most many (c .if3 .taken)) in
+    many-refused (s .args .vertices) (s .args .facets .now) l (sym (is-ragged .ensures) ∙ if1 .left) over
 
 -- src/lib.rt:26:8
 has-bad-index-requires : tie.Need-has-bad-index-requires

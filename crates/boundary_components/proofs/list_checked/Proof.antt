@@ -122,15 +122,19 @@ same-length-7 c = search needs
 -- src/lib.rt:96:1
 returns-4 : tie.Need-returns-4
 returns-4 c =
-    let st = c .before .before .before .before .before .before .before .before .before .before .before .before .before .before .before .before .before .before .before .before .before .before .before .stage in
-    let s = c .before .before .before .before .before .before .before .before .before .before .before .before .before .before .before .before .before .before .before .before .before .before .before .before .before .before .before .before .before .before in
-    let a = s .args in
     let one = c .before .before .before .before .before .before .before .before .before .before .before .before .write-list in
     let two = c .before .before .before .before .before .before .before .write-list2 in
     let three = c .before .before .write-list3 in
+    let third = c .before .before .before .before .before .before .before .before .before .before .before .before .before .before .before in
+    let second = third .before in
+    let first = second .before in
+    let staged = first .before .before .before .before .before .before in
+    let st = staged .stage in
+    let s = staged .before .before .before .before .before .before .before in
+    let a = s .args in
     written (a .vertices) (a .facets .now) (a .work .now) (st .last .1 .1 .0) (st .result .edges) (st .result .components) (st .result .irregular) (s .pre) (st .ensures)
-    (a .out-edges .now) (a .out-components .now) (a .out-irregular .now) (c .before .before .before .before .before .before .before .before .before .before .before .before .before .before .before .before .before .if1 .left) (c .before .before .before .before .before .before .before .before .before .before .before .before .before .before .before .before .if2 .left)
-    (one .last .1 .1 .1 .0) (two .last .1 .1 .1 .0) (three .last .1 .1 .1 .0) (c .before .before .before .before .before .before .before .before .before .before .before .before .before .before .before .if3 .left) (one .ensures) (two .ensures) (three .ensures)
+    (a .out-edges .now) (a .out-components .now) (a .out-irregular .now) (first .if1 .left) (second .if2 .left)
+    (one .last .1 .1 .1 .0) (two .last .1 .1 .1 .0) (three .last .1 .1 .1 .0) (third .if3 .left) (one .ensures) (two .ensures) (three .ensures)
 
 pub list-checked-spec : {M : Type 1} → statement M
 list-checked-spec =

@@ -24,8 +24,10 @@ enum-told c = search needs
 -- src/lib.rt:144:28
 list-checked-requires : tie.Need-list-checked-requires
 list-checked-requires c κs =
-    let a = c .before .before .before .before .before .before .before .before .before .before .before .before .args in
-    passed (a .vertices) (a .facets .now) (limits (a .ceiling) (length (a .work .now))) (sym (c .before .before .before .before .before .before .check .ensures) ∙ c .before .before .before .before .enum-told .given .1)
+    let told = c .before .before .before .before in
+    let checked = told .before .before in
+    let a = checked .before .before .before .before .before .before .args in
+    passed (a .vertices) (a .facets .now) (limits (a .ceiling) (length (a .work .now))) (sym (checked .check .ensures) ∙ told .enum-told .given .1)
 
 -- src/lib.rt:152:26
 enum-known-r : tie.Need-enum-known-r
@@ -50,9 +52,12 @@ same-length-4 c = search needs
 -- src/lib.rt:130:1
 returns : tie.Need-returns
 returns c =
-    let a = c .before .before .before .before .before .before .before .before .before .before .before .before .before .before .before .before .before .before .before .before .before .args in
-    behind (boundaryTests (a .vertices) (a .facets .now) (limits (a .ceiling) (length (a .work .now)))) _ _ (sym (c .before .before .before .before .before .before .before .before .before .before .before .before .before .before .before .check .ensures) ∙ c .before .before .before .before .before .before .before .before .before .before .before .before .before .enum-told .given .1)
-    (c .before .before .before .before .before .before .before .before .list-checked .ensures)
+    let listed = c .before .before .before .before .before .before .before .before in
+    let told = listed .before .before .before .before .before in
+    let checked = told .before .before in
+    let a = checked .before .before .before .before .before .before .args in
+    behind (boundaryTests (a .vertices) (a .facets .now) (limits (a .ceiling) (length (a .work .now)))) _ _
+    (sym (checked .check .ensures) ∙ told .enum-told .given .1) (listed .list-checked .ensures)
 
 -- src/lib.rt:130:1
 returns-2 : tie.Need-returns-2

@@ -80,10 +80,11 @@ returns c =
     let grouped = c .before .before .group-edges in
     let cleared = c .before .before .before .before .before .before .zero-part in
     let kept = c .before .before .before .before .before .before .before .before .before .before .keep-open in
-    let table = c .before .before .before .before .before .before .before .before .before .before .before .before .before .before .before .before .before .before .sort-sides in
-    let found = c .before .before .before .before .before .before .before .before .before .before .before .before .before .before .irregular-edges in
-    let corners = c .before .before .before .before .before .before .before .before .before .before .before .before .before .before .before .before .before .before .before .before .before .shared-slice-known in
-    let s = c .before .before .before .before .before .before .before .before .before .before .before .before .before .before .before .before .before .before .before .before .before .before in
+    let listing = c .before .before .before .before .before .before .before .before .before .before .before .before .before .before in
+    let found = listing .irregular-edges in
+    let table = listing .before .before .before .before .sort-sides in
+    let corners = listing .before .before .before .before .before .before .before .shared-slice-known in
+    let s = listing .before .before .before .before .before .before .before .before in
     let fs = s .args .facets .now in
     let w = s .args .work .now in
     listed (s .args .vertices) fs w (table .last .1 .0) (found .last .1 .0) (found .result) (s .pre) (λ i. omega (arith, corners .given i)) (table .ensures) (found .ensures)
