@@ -54,15 +54,15 @@ unfolding every some keep place insertBy sortBy distinctFrom upFrom flatMap thre
     admitted badIndex workNeed sameSide isIrregular irregularEdges shareVertex together groups openPairs boundaryComponents isRing componentWords boundaryTests
 listed =
     record {
-        c8 = refl;
-        c8-reply = refl;
-        c8-need = refl;
-        c8-room = refl;
-        c8-ceiling = refl;
-        closed = refl;
-        apart = refl;
-        meeting = refl;
-        loop = refl;
-        loops = refl;
-        turned = refl
+      c8 = refl;
+      c8-reply = refl;
+      c8-need = refl;
+      c8-room = refl;
+      c8-ceiling = refl;
+      closed = refl;
+      apart = refl;
+      meeting = refl;
+      loop = refl;
+      loops = refl;
+      turned = refl;
     }
