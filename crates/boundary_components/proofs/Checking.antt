@@ -1,6 +1,6 @@
 -- Laws of tests 1, 2, 3 and 7, one after the other, and of what is known once they have passed. Assumes nothing.
 --   ragged-refused, many-refused, index-refused, room-refused, all-passed   which test the row stops at
---   over-vertices, over-facets, not-over   2, of the vertex count and of the facets
+--   many, over-vertices, over-facets, not-over   2, of the vertex count and of the facets
 --   need-small                             no count wraps
 --   passed                                 what all of them give        told   2, of a number that is what the ceiling admits
 use Prim.Native.Nat.{ℕ, _+_, _*_, _/_, _%_, _≤_, _<_}
@@ -24,7 +24,7 @@ use Rattle.boundary_components.specs.Boundary.{boundaryTests}
 use Rattle.boundary_components.specs.Steps.{Ready}
 
 module _ (vertices : ℕ) (fs : List ℕ) (l : Limits) where
-  abbrev many : Bool
+  abbrev pub many : Bool
   many = ltb (admitted (l .ceiling)) vertices || tooMany (admitted (l .ceiling)) (length fs) 3
 
   abbrev need : ℕ

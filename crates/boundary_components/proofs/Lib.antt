@@ -3,3 +3,4 @@ pub mod Regular
 pub mod Nothing
 pub mod Staging
 pub mod Delivery
+pub mod UnderBoth

@@ -2,6 +2,7 @@
 -- promises. Assumes nothing.
 --   boundaryTests      1, 2, 3, 7                     boundaryOutputs   open edges, components, irregular edges
 --   Closed             every edge has two different ends and is borne by two sides, one each way        Nothing   all outputs are empty
+--   ListsAlike         two calls of it ended alike: reply, outputs and work room
 use Prim.Native.Nat.{ℕ, _/_}
 use mathlib.Core.Path.{_≡_}
 use mathlib.Core.Bool.{_||_}
@@ -43,3 +44,10 @@ pub record Nothing (facets : List (Triangle ℕ)) : Type 0 where
   pub edges : pairWords (flatMap (λ g. g) (boundaryComponents facets)) ≡ []
   pub components : componentWords (boundaryComponents facets) ≡ []
   pub irregular : pairWords (irregularEdges facets) ≡ []
+
+pub record ListsAlike (reply₁ reply₂ w₁ w₂ e₁ e₂ c₁ c₂ i₁ i₂ : List ℕ) : Type 0 where
+  pub reply : reply₁ ≡ reply₂
+  pub edges : e₁ ≡ e₂
+  pub components : c₁ ≡ c₂
+  pub irregular : i₁ ≡ i₂
+  pub work : w₁ ≡ w₂
