@@ -65,7 +65,10 @@ LIST = [
     ("cap_triangles/Listed", "tests 10 and 11"),
     ("cap_closing/Closing", "what the triangles taken write; demand 3"),
     ("caps/Operation", "what caps answers and leaves"),
-    ("yongpham/Calls", "the same five for C: a box as six doubles, a reply as a number and four words, the mode"),
+    ("irregular_edges/Irregular", "edges of three sides or more, or of two that run the same way"),
+    ("boundary_groups/Groups", "open edges by components, and which of these are rings"),
+    ("boundary_components/Boundary", "what boundary components answers and leaves; what it is for a mesh to be closed"),
+    ("yongpham/Calls", "the first five for C: a box as six doubles, a reply as a number and four words, the mode"),
 ]
 
 
