@@ -22,9 +22,9 @@ use Rattle.geometry.specs.Triangles.{Triangle}
 use Rattle.edges.specs.Edges.{sides, sortedPair, samePair, bearers, isOpen, pairBefore, openEdges, pairWords}
 use Rattle.irregular_edges.specs.Irregular.{sameSide, isIrregular, irregularEdges}
 use Rattle.components.specs.Joined.{Joined}
-use Rattle.boundary_groups.specs.Groups.{edgeAt, groups, SameComponent, openPairs, boundaryComponents, componentWords}
+use Rattle.boundary_groups.specs.Groups.{nthEdge, groups, SameComponent, openPairs, boundaryComponents, componentWords}
 use Rattle.boundary_groups.proofs.Together.{one-component}
-use Rattle.boundary_components.specs.Boundary.{Closed, Nothing}
+use Rattle.boundary_components.specs.Boundary.{ClosedMesh, Nothing}
 use Rattle.boundary_components.proofs.Regular.{two-ends, two-sides, one-back, not-open, not-irregular}
 
 none-of-length : {A : Type 0} (l : List A) → length l ≡ 0 → l ≡ []
@@ -84,7 +84,7 @@ module _ (facets : List (Triangle ℕ)) where
 
   pub no-components : openEdges facets ≡ [] → boundaryComponents facets ≡ []
   unfolding boundaryComponents openPairs groups upFrom keep
-  no-components e = ap (λ (l : List (ℕ × ℕ)). let es = map sortedPair l in map (λ g. map (edgeAt es) g) (groups es)) e
+  no-components e = ap (λ (l : List (ℕ × ℕ)). let es = map sortedPair l in map (λ g. map (nthEdge es) g) (groups es)) e
 
   -- a list that has a member is not empty
   has-none : {A : Type 0} {x : A} {l : List A} → l ≡ [] → List·Memᴰ x l → ⊥
@@ -100,9 +100,9 @@ module _ (facets : List (Triangle ℕ)) where
           let es = openPairs facets in
           let long : 0 < length es = subst (λ (k : List (ℕ × ℕ)). 0 < length (map sortedPair k)) (sym h) (omega arith) in
           let c = one-component es 0 0 long long .1 Joined.same in
-          absurd (has-none e (flatMap-of (λ g. g) (Memᴰ·map (λ g. map (edgeAt es) g) (c .listed)) (Memᴰ·map (edgeAt es) (c .left-in))))
+          absurd (has-none e (flatMap-of (λ g. g) (Memᴰ·map (λ g. map (nthEdge es) g) (c .listed)) (Memᴰ·map (nthEdge es) (c .left-in))))
 
-  pub nothing-closed : Nothing facets → Closed facets
+  pub nothing-closed : Nothing facets → ClosedMesh facets
   nothing-closed n =
       let e = edges-grouped (no-pairs (flatMap (λ g. g) (boundaryComponents facets)) (n .edges)) in
       let shut : (s : ℕ × ℕ) → List·Memᴰ s S → bearers S s ≡ 1 → ⊥ = λ s m h. never (isOpen S s) (eq-eqb (bearers S s) 1 h) (no-open e s m) in
@@ -113,7 +113,7 @@ module _ (facets : List (Triangle ℕ)) where
         one-back = λ s m. one-back S s m (shut s m) (regular s m);
       }
 
-  pub closed-nothing : Closed facets → Nothing facets
+  pub closed-nothing : ClosedMesh facets → Nothing facets
   unfolding pairWords componentWords flatMap
   closed-nothing c =
       let shut = none-open (λ s m. not-once (bearers S s) (not-open S s m (c .two-ends s m) (c .two-sides s m) (c .one-back s m))) in

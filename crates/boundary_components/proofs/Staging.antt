@@ -31,7 +31,7 @@ use Rattle.irregular_edges.specs.Irregular.{irregularEdges}
 use Rattle.irregular_edges.specs.Listed.{IrregularListed}
 use Rattle.irregular_edges.proofs.Walking.{table-kept}
 use Rattle.boundary_groups.specs.Groups.{openPairs, boundaryComponents, componentWords}
-use Rattle.boundary_groups.specs.Staged.{edgeIn, edgesIn, grouped, EdgesReady, Grouped}
+use Rattle.boundary_groups.specs.Staged.{edgeIn, keyedEdges, grouped, GroupRoom, Grouped}
 use Rattle.boundary_components.specs.Steps.{Ready, Listed}
 
 module _ (vertices : ℕ) (fs w w₁ w₂ : List ℕ) (q : ℕ) (ready : Ready vertices fs (length w)) (bound : (i : ℕ) → getD fs i 0 < 4294967296)
@@ -74,8 +74,8 @@ module _ (vertices : ℕ) (fs w w₁ w₂ : List ℕ) (q : ℕ) (ready : Ready v
         let e = open-again .key i h in
         λ d. ((ap pairFirst e ∙ key-first s (small i h)) d, (ap pairSecond e ∙ key-second s (small i h)) d)
 
-    pub pairs-in : edgesIn w₄ k ≡ openPairs (threes fs)
-    unfolding edgesIn openPairs
+    pub pairs-in : keyedEdges w₄ k ≡ openPairs (threes fs)
+    unfolding keyedEdges openPairs
     pairs-in =
         ext-getD (0, 0) (map (edgeIn w₄) (upTo k)) (map sortedPair es)
         (length-map (upTo k) (edgeIn w₄) ∙ length-up 0 k ∙ open-again .count ∙ sym (length-map es sortedPair)) (λ i h.
@@ -97,7 +97,7 @@ module _ (vertices : ℕ) (fs w w₁ w₂ : List ℕ) (q : ℕ) (ready : Ready v
         let e : getD es i (0, 0) ≡ (getD fs s 0, getD fs (nextSide s) 0) = sym (open-again .side i h) ∙ side-at fs s (ready .whole) b in
         rw e (low s b, low (nextSide s) (next-in n s (ready .whole) b))
 
-    pub edges-ready : EdgesReady w₄ k n vertices (5 * n)
+    pub edges-ready : GroupRoom w₄ k n vertices (5 * n)
     edges-ready =
         record {
           few = o .within;
@@ -107,11 +107,11 @@ module _ (vertices : ℕ) (fs w w₁ w₂ : List ℕ) (q : ℕ) (ready : Ready v
           second-low = λ i h. let e = ends-low i h in let f = ap (λ (p : ℕ × ℕ). p .1) (pair-in i h) in omega (arith, e .0, e .1, f);
         }
 
-    module _ (w₅ : List ℕ) (c : ℕ) (g : Grouped (edgesIn w₄ k) w₄ w₅ k n vertices (5 * n) c) where
+    module _ (w₅ : List ℕ) (c : ℕ) (g : Grouped (keyedEdges w₄ k) w₄ w₅ k n vertices (5 * n) c) where
       same₄ : length w₄ ≡ length w₂
       same₄ = open-again .same
 
-      parts : grouped (edgesIn w₄ k) ≡ boundaryComponents (threes fs)
+      parts : grouped (keyedEdges w₄ k) ≡ boundaryComponents (threes fs)
       unfolding boundaryComponents
       parts = ap grouped pairs-in
 

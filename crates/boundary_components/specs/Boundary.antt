@@ -1,7 +1,7 @@
 -- The operation boundary components (document 02, E13): what it lists of facets, its tests in the table's order, its three outputs. With `Answered` of crate refusals that is all it
 -- promises. Assumes nothing.
 --   boundaryTests      1, 2, 3, 7                     boundaryOutputs   open edges, components, irregular edges
---   Closed             every edge has two different ends and is borne by two sides, one each way        Nothing   all outputs are empty
+--   ClosedMesh             every edge has two different ends and is borne by two sides, one each way        Nothing   all outputs are empty
 --   ListsAlike         two calls of it ended alike: reply, outputs and work room
 use Prim.Native.Nat.{ℕ, _/_}
 use mathlib.Core.Path.{_≡_}
@@ -34,7 +34,7 @@ boundaryOutputs facets e e' c c' i i' =
     output (pairWords (flatMap (λ g. g) cs)) e e' ∷ output (componentWords cs) c c' ∷ output (pairWords (irregularEdges facets)) i i' ∷ []
 
 -- "every edge has two different ends and is borne by two sides, one each way"
-pub record Closed (facets : List (Triangle ℕ)) : Type 0 where
+pub record ClosedMesh (facets : List (Triangle ℕ)) : Type 0 where
   pub two-ends : (s : ℕ × ℕ) → List·Memᴰ s (sides facets) → s .0 ≡ s .1 → ⊥
   pub two-sides : (s : ℕ × ℕ) → List·Memᴰ s (sides facets) → bearers (sides facets) s ≡ 2
   pub one-back : (s : ℕ × ℕ) → List·Memᴰ s (sides facets) → count (sameSide (s .1, s .0)) (sides facets) ≡ 1

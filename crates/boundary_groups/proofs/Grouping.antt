@@ -25,12 +25,12 @@ use Rattle.records.specs.Records.{sorted, recordBefore}
 use Rattle.records.specs.Runs.{runs}
 use Rattle.records.proofs.Records.{le-or-lt, length-records-at, records-at-get, records-at-same, records-take}
 use Rattle.sorting.specs.Sorting.{SortedRecords}
-use Rattle.boundary_groups.specs.Groups.{edgeAt, groups, isRing, componentWords}
+use Rattle.boundary_groups.specs.Groups.{nthEdge, groups, isRing, componentWords}
 use Rattle.boundary_groups.specs.Staged.{
   edgeIn,
-  edgesIn,
+  keyedEdges,
   grouped,
-  EdgesReady,
+  GroupRoom,
   Grouped,
   EndsPut,
   TallyRoom,
@@ -112,12 +112,12 @@ two-each f g (x ∷ l) = let h = two-each f g l in omega arith
 -- ---- the edges
 
 module _ (w : List ℕ) (k : ℕ) where
-  pub edges-length : length (edgesIn w k) ≡ k
-  unfolding edgesIn
+  pub edges-length : length (keyedEdges w k) ≡ k
+  unfolding keyedEdges
   edges-length = length-map (upTo k) (edgeIn w) ∙ length-up 0 k
 
-  pub edges-at : (i : ℕ) → i < k → edgeAt (edgesIn w k) i ≡ edgeIn w i
-  unfolding edgesIn
+  pub edges-at : (i : ℕ) → i < k → nthEdge (keyedEdges w k) i ≡ edgeIn w i
+  unfolding keyedEdges
   edges-at i h = at-map-up (edgeIn w) (0, 0) 0 k i h ∙ ap (edgeIn w) (omega arith)
 
 -- ---- what the steps ask
@@ -135,7 +135,7 @@ module _ (k n m at : ℕ) where
   abbrev out : ℕ
   out = at + 2 * n + 2 * n + m + m + 2 * n
 
-  module _ (w a : List ℕ) (R : EdgesReady w k n m at) (A : EndsPut w a k at) where
+  module _ (w a : List ℕ) (R : GroupRoom w k n m at) (A : EndsPut w a k at) where
     ends-low : (i : ℕ) → i < 2 * k → getD a (at + i) 0 < m
     ends-low i h =
         ⊎-elim
@@ -270,7 +270,7 @@ module _ (k n m at : ℕ) where
 
           module _ (q : List ℕ) (c′ : ℕ) (Q : ComponentsPut p q k at degrees out c′) where
             abbrev es : List (ℕ × ℕ)
-            es = edgesIn w k
+            es = keyedEdges w k
 
             abbrev labels : List ℕ
             labels = view a at (k * 2)
@@ -299,7 +299,7 @@ module _ (k n m at : ℕ) where
             sorted-h : recordsAt h 0 k ≡ sorted (unsorted es labels E c N)
             sorted-h = records-h ∙ ap (λ (x : ℕ). sorted (map (numbered number) (upTo x))) (sym (edges-length w k))
 
-            edge-of : (v : List ℕ) → ((i : ℕ) → i < 2 * k → getD v (at + i) 0 ≡ getD a (at + i) 0) → (j : ℕ) → j < k → pairAt v at j ≡ edgeAt es j
+            edge-of : (v : List ℕ) → ((i : ℕ) → i < 2 * k → getD v (at + i) 0 ≡ getD a (at + i) 0) → (j : ℕ) → j < k → pairAt v at j ≡ nthEdge es j
             edge-of v same j l = (λ t. (first t, second t)) ∙ sym (edges-at w k j l)
               where
                 shift : (x y : ℕ) → x + y + 1 ≡ x + (y + 1)
@@ -316,7 +316,7 @@ module _ (k n m at : ℕ) where
             ends-p i l = below-p (at + i) (omega (arith, R .few)) ∙ ends-h i l
 
             pairs-d : view d at (2 * k) ≡ pairWords es
-            unfolding edgesIn
+            unfolding keyedEdges
             pairs-d =
                 let r = R .room in
                 let u = R .few in
@@ -329,24 +329,24 @@ module _ (k n m at : ℕ) where
             abbrev degree : ℕ → ℕ
             degree v = count (eqb v) (pairWords es)
 
-            turns-p : (j : ℕ) → j < k → turnsOf p at degrees (numbered number j) ≡ (twoEnds (edgeAt es j) && endsTwice degree (edgeAt es j))
+            turns-p : (j : ℕ) → j < k → turnsOf p at degrees (numbered number j) ≡ (twoEnds (nthEdge es j) && endsTwice degree (nthEdge es j))
             unfolding turnsOf
             turns-p j l =
                 ap (λ (e : ℕ × ℕ). not (eqb (e .0) (e .1)) && (eqb (getD p (degrees + e .0) 0) 2 && eqb (getD p (degrees + e .1) 0) 2)) (edge-of p ends-p j l)
-                ∙ (λ t. twoEnds (edgeAt es j) && (eqb (degree-p (edgeAt es j .0) low0 t) 2 && eqb (degree-p (edgeAt es j .1) low1 t) 2))
+                ∙ (λ t. twoEnds (nthEdge es j) && (eqb (degree-p (nthEdge es j .0) low0 t) 2 && eqb (degree-p (nthEdge es j .1) low1 t) 2))
               where
-                low0 : edgeAt es j .0 < m
+                low0 : nthEdge es j .0 < m
                 low0 = subst (λ (e : ℕ × ℕ). e .0 < m) (sym (edges-at w k j l)) (R .first-low j l)
 
-                low1 : edgeAt es j .1 < m
+                low1 : nthEdge es j .1 < m
                 low1 = subst (λ (e : ℕ × ℕ). e .1 < m) (sym (edges-at w k j l)) (R .second-low j l)
 
-            ring-p : (gr : List ℕ) → List·Memᴰ gr (groups es) → every (turnsOf p at degrees) (map (numbered number) gr) ≡ isRing (map (edgeAt es) gr)
+            ring-p : (gr : List ℕ) → List·Memᴰ gr (groups es) → every (turnsOf p at degrees) (map (numbered number) gr) ≡ isRing (map (nthEdge es) gr)
             ring-p gr mem =
                 every-map (turnsOf p at degrees) (numbered number) gr
-                ∙ every-same (λ j. turnsOf p at degrees (numbered number j)) (λ j. twoEnds (edgeAt es j) && endsTwice degree (edgeAt es j)) gr (λ j o.
+                ∙ every-same (λ j. turnsOf p at degrees (numbered number j)) (λ j. twoEnds (nthEdge es j) && endsTwice degree (nthEdge es j)) gr (λ j o.
                 turns-p j (omega (arith, edges-length w k, group-told es gr (of-groups es gr mem) j o .0)))
-                ∙ sym (every-map (λ e. twoEnds e && endsTwice degree e) (edgeAt es) gr)
+                ∙ sym (every-map (λ e. twoEnds e && endsTwice degree e) (nthEdge es) gr)
                 ∙ sym (ring-degrees es gr mem)
 
             abbrev pairOf : List (ℕ × ℕ) → List ℕ
@@ -360,9 +360,9 @@ module _ (k n m at : ℕ) where
                 (records-at-same h p 0 k (λ x l. below-p (0 + x) (omega (arith, R .few, R .front))) ∙ sorted-h)
                 ∙ ap (flatMap (runWords (turnsOf p at degrees))) (sorted-runs es labels E c N)
                 ∙ flat-map (runWords (turnsOf p at degrees)) (map (numbered number)) (groups es)
-                ∙ flat-same (λ gr. runWords (turnsOf p at degrees) (map (numbered number) gr)) (λ gr. pairOf (map (edgeAt es) gr)) (groups es) (λ gr mem t.
-                (length-map gr (numbered number) ∙ sym (length-map gr (edgeAt es))) t ∷ cond (ring-p gr mem t) 1 0 ∷ [])
-                ∙ sym (flat-map pairOf (map (edgeAt es)) (groups es))
+                ∙ flat-same (λ gr. runWords (turnsOf p at degrees) (map (numbered number) gr)) (λ gr. pairOf (map (nthEdge es) gr)) (groups es) (λ gr mem t.
+                (length-map gr (numbered number) ∙ sym (length-map gr (nthEdge es))) t ∷ cond (ring-p gr mem t) 1 0 ∷ [])
+                ∙ sym (flat-map pairOf (map (nthEdge es)) (groups es))
 
             edges-q : view q edges (2 * k) ≡ pairWords (flatMap (λ g. g) (grouped es))
             edges-q =
@@ -370,11 +370,11 @@ module _ (k n m at : ℕ) where
                 let u = R .few in
                 view-same p q edges (2 * k) (omega (arith, P .long, long-h)) (Q .long) (λ i l. Q .below (edges + i) (omega arith))
                 ∙ view-pairs p edges k (omega (arith, P .long, long-h))
-                ∙ ap pairWords (map-below (pairAt p edges) (λ j. edgeAt es (getD h (2 * j + 1) 0)) k (λ j l.
+                ∙ ap pairWords (map-below (pairAt p edges) (λ j. nthEdge es (getD h (2 * j + 1) 0)) k (λ j l.
                 (λ t. (P .first j l t, P .second j l t)) ∙ edge-of h ends-h (getD h (2 * j + 1) 0) (payload-h j l))
-                ∙ sym (map-map (λ x. edgeAt es (x .1)) (λ j. recordOf h (2 * j)) (upTo k))
-                ∙ ap (map (λ x. edgeAt es (x .1))) (sym (records-up h k) ∙ sorted-h)
-                ∙ sorted-list es labels E c N (edgeAt es))
+                ∙ sym (map-map (λ x. nthEdge es (x .1)) (λ j. recordOf h (2 * j)) (upTo k))
+                ∙ ap (map (λ x. nthEdge es (x .1))) (sym (records-up h k) ∙ sorted-h)
+                ∙ sorted-list es labels E c N (nthEdge es))
 
             count-q : c′ ≡ length (groups es)
             unfolding componentWords
@@ -385,7 +385,7 @@ module _ (k n m at : ℕ) where
                 let x = view-length q out (2 * c′) (omega (arith, Q .long, P .long, long-h)) in
                 let y = ap length words-q in
                 let v = two-each (λ e. length e) (λ e. cond (isRing e) 1 0) (grouped es) in
-                let o = length-map (groups es) (map (edgeAt es)) in
+                let o = length-map (groups es) (map (nthEdge es)) in
                 omega arith
 
             between-q : (x : ℕ) → 4 * n ≤ x → x < at → getD q x 0 ≡ getD w x 0

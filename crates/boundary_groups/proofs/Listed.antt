@@ -24,7 +24,7 @@ use Rattle.components.proofs.Numbers.{number-in, number-own}
 use Rattle.records.specs.Records.{recordBefore, sorted}
 use Rattle.records.specs.Runs.{runs}
 use Rattle.records.proofs.Comparing.{not-lex, record-order}
-use Rattle.boundary_groups.specs.Groups.{places, groups}
+use Rattle.boundary_groups.specs.Groups.{allPlaces, groups}
 use Rattle.boundary_groups.proofs.Together.{place-in, in-place, eqb-T}
 use Rattle.boundary_groups.proofs.Numbered.{EndsOf, numbers-groups}
 use Rattle.boundary_groups.proofs.ByNumber.{hasKey, keysBelow, runs-keys, runs-together}
@@ -74,12 +74,12 @@ module _ (es : List (ℕ × ℕ)) (labels : List ℕ) (E : EndsOf es labels) (c 
   number i = getD c i 0
 
   abbrev pub unsorted : List (ℕ × ℕ)
-  unsorted = map (numbered number) (places es)
+  unsorted = map (numbered number) (allPlaces es)
 
   below : keysBelow 0 (length es) (sorted unsorted)
   below =
       each-sortBy recordBefore (λ y. (0 ≤ y .0) × (y .0 < length es)) unsorted (each-of (λ y. (0 ≤ y .0) × (y .0 < length es)) unsorted (λ y m.
-      let q = Memᴰ·of-map (numbered number) (places es) m in
+      let q = Memᴰ·of-map (numbered number) (allPlaces es) m in
       (omega arith, subst (λ (x : ℕ × ℕ). x .0 < length es) (q .2) (number-in labels (length es) 2 c N (q .0) (in-place es (q .1))))))
 
   -- a number is a component's exactly if it is its own
@@ -91,7 +91,7 @@ module _ (es : List (ℕ × ℕ)) (labels : List ℕ) (E : EndsOf es labels) (c 
       from : T (some (hasKey r) unsorted) → number r ≡ r
       from t =
           let f = of-some (hasKey r) unsorted t in
-          let q = Memᴰ·of-map (numbered number) (places es) (f .1) in
+          let q = Memᴰ·of-map (numbered number) (allPlaces es) (f .1) in
           let e : number (q .0) ≡ r = ap (λ (x : ℕ × ℕ). x .0) (q .2) ∙ eqb→eq (f .0 .0) r (f .2) in
           sym (ap number e) ∙ number-own labels (length es) 2 c N (q .0) (in-place es (q .1)) ∙ e
 
@@ -102,10 +102,10 @@ module _ (es : List (ℕ × ℕ)) (labels : List ℕ) (E : EndsOf es labels) (c 
   sorted-runs =
       runs-keys (length es) (sorted unsorted) (ascending-sortBy recordBefore record-order unsorted) below
       ∙ ap (map (λ r. keep (hasKey r) (sorted unsorted)))
-      (keep-same (λ r. some (hasKey r) (sorted unsorted)) (λ r. eqb (number r) r) (places es) (λ r m. own r (in-place es m)))
-      ∙ map-same (λ r. keep (hasKey r) (sorted unsorted)) (λ r. map (numbered number) (keep (λ j. eqb (number j) r) (places es))) (keep (λ r. eqb (number r) r) (places es))
+      (keep-same (λ r. some (hasKey r) (sorted unsorted)) (λ r. eqb (number r) r) (allPlaces es) (λ r m. own r (in-place es m)))
+      ∙ map-same (λ r. keep (hasKey r) (sorted unsorted)) (λ r. map (numbered number) (keep (λ j. eqb (number j) r) (allPlaces es))) (keep (λ r. eqb (number r) r) (allPlaces es))
       (λ r m. kept-sorted number r (length es))
-      ∙ sym (map-map (map (numbered number)) (λ r. keep (λ j. eqb (number j) r) (places es)) (keep (λ r. eqb (number r) r) (places es)))
+      ∙ sym (map-map (map (numbered number)) (λ r. keep (λ j. eqb (number j) r) (allPlaces es)) (keep (λ r. eqb (number r) r) (allPlaces es)))
       ∙ ap (map (map (numbered number))) (sym (numbers-groups es labels E c N))
 
   -- their payloads, through a function

@@ -19,7 +19,7 @@ use Rattle.lists.proofs.Multiplicity.{more, count-cons, keep-yes, keep-no}
 use Rattle.lists.proofs.Places.{length-up}
 use Rattle.components.specs.Joined.{one, via}
 use Rattle.edges.specs.Edges.{pairWords}
-use Rattle.boundary_groups.specs.Groups.{isEnd, places, edgeAt, linked, together, groups, isRing, Ring}
+use Rattle.boundary_groups.specs.Groups.{isEnd, allPlaces, nthEdge, linked, together, groups, isRing, Ring}
 use Rattle.boundary_groups.proofs.Together.{eqb-T, first-end, second-end, share-of, place-in, in-place, at-place, together-told, Group, of-groups, group-told}
 
 module _ {A : Type 0} where
@@ -110,25 +110,25 @@ ends-edges v (e ∷ es) f =
 
 module _ (es : List (ℕ × ℕ)) (g : List ℕ) (m : List·Memᴰ g (groups es)) where
   abbrev group : List (ℕ × ℕ)
-  group = map (edgeAt es) g
+  group = map (nthEdge es) g
 
   G : Group es g
   G = of-groups es g m
 
   -- all edges at a vertex are in one component
-  at-vertex : (v i j : ℕ) → List·Memᴰ i g → j < length es → T (isEnd v (edgeAt es i)) → T (isEnd v (edgeAt es j)) → T (together es (G .least) j)
+  at-vertex : (v i j : ℕ) → List·Memᴰ i g → j < length es → T (isEnd v (nthEdge es i)) → T (isEnd v (nthEdge es j)) → T (together es (G .least) j)
   at-vertex v i j k h a b =
       let t = group-told es g G i k in
       together-told es (G .least) j (G .least-in) .complete
-      (via (t .1) (one (record { left-in = place-in es (t .0); right-in = place-in es h; linked = share-of v (edgeAt es i) (edgeAt es j) a b })))
+      (via (t .1) (one (record { left-in = place-in es (t .0); right-in = place-in es h; linked = share-of v (nthEdge es i) (nthEdge es j) a b })))
 
-  ends-group : (v i : ℕ) → List·Memᴰ i g → T (isEnd v (edgeAt es i)) → count (isEnd v) group ≡ count (isEnd v) es
+  ends-group : (v i : ℕ) → List·Memᴰ i g → T (isEnd v (nthEdge es i)) → count (isEnd v) group ≡ count (isEnd v) es
   ends-group v i k a =
-      count-map (isEnd v) (edgeAt es) g
-      ∙ ap (count (λ j. isEnd v (edgeAt es j))) (G .is)
-      ∙ ap length (keep-keep (λ j. isEnd v (edgeAt es j)) (together es (G .least)) (places es) (λ j n b. at-vertex v i j k (in-place es n) a b))
-      ∙ count-places (λ j. isEnd v (edgeAt es j)) (isEnd v) 0 (0, 0) (places es) es (length-up 0 (length es))
-      (λ j h. ap (λ (x : ℕ). isEnd v (edgeAt es x)) (at-place es j (omega (arith, length-up 0 (length es)))))
+      count-map (isEnd v) (nthEdge es) g
+      ∙ ap (count (λ j. isEnd v (nthEdge es j))) (G .is)
+      ∙ ap length (keep-keep (λ j. isEnd v (nthEdge es j)) (together es (G .least)) (allPlaces es) (λ j n b. at-vertex v i j k (in-place es n) a b))
+      ∙ count-places (λ j. isEnd v (nthEdge es j)) (isEnd v) 0 (0, 0) (allPlaces es) es (length-up 0 (length es))
+      (λ j h. ap (λ (x : ℕ). isEnd v (nthEdge es x)) (at-place es j (omega (arith, length-up 0 (length es)))))
     where
       count-map : {A B : Type 0} (p : B → Bool) (f : A → B) (l : List A) → count p (map f l) ≡ count (λ x. p (f x)) l
       count-map p f [] = count-nil p ∙ sym (count-nil (λ x. p (f x)))
@@ -139,14 +139,14 @@ module _ (es : List (ℕ × ℕ)) (g : List ℕ) (m : List·Memᴰ g (groups es)
 
   degrees : T (every twoEnds group) → (v : ℕ) (e : ℕ × ℕ) → List·Memᴰ e group → T (isEnd v e) → count (isEnd v) group ≡ degree v
   degrees t v e k a =
-      let q = Memᴰ·of-map (edgeAt es) g k in
+      let q = Memᴰ·of-map (nthEdge es) g k in
       let b = subst (λ (d : ℕ × ℕ). T (isEnd v d)) (sym (q .2)) a in
       ends-group v (q .0) (q .1) b
       ∙ ends-edges v es (λ d n u.
       let p = mem-getD (0, 0) n in
       let w = subst (λ (d : ℕ × ℕ). T (isEnd v d)) (sym (p .2)) u in
       let j-in = subst (λ (l : List ℕ). List·Memᴰ (p .0) l) (sym (G .is)) (keep-of (together es (G .least)) (place-in es (p .1)) (at-vertex v (q .0) (p .0) (q .1) (p .1) b w)) in
-      subst (λ (d : ℕ × ℕ). T (twoEnds d)) (p .2) (every-at twoEnds (Memᴰ·map (edgeAt es) j-in) t))
+      subst (λ (d : ℕ × ℕ). T (twoEnds d)) (p .2) (every-at twoEnds (Memᴰ·map (nthEdge es) j-in) t))
 
   pub ring-degrees : isRing group ≡ every (λ e. twoEnds e && endsTwice degree e) group
   unfolding isRing

@@ -1,5 +1,5 @@
 -- Components of open edges (document 02, E13; the paper's "slit" is such a component). Assumes nothing.
---   shareVertex      two edges have a vertex in common
+--   shareEnd         two edges have a vertex in common
 --   together         two edges, by their places in a list, are joined by a chain of shared vertices
 --   groups           the places of a list of edges by components: in order of their smallest, ascending within each
 --   boundaryComponents   the open edges of facets so grouped, each once and the smaller end first
@@ -21,22 +21,22 @@ use Rattle.components.specs.Components.{components, componentOf}
 abbrev pub isEnd : ℕ → ℕ × ℕ → Bool
 isEnd v e = eqb v (e .0) || eqb v (e .1)
 
-unfoldable pub shareVertex : ℕ × ℕ → ℕ × ℕ → Bool
-shareVertex e d = isEnd (e .0) d || isEnd (e .1) d
+unfoldable pub shareEnd : ℕ × ℕ → ℕ × ℕ → Bool
+shareEnd e d = isEnd (e .0) d || isEnd (e .1) d
 
 module _ (es : List (ℕ × ℕ)) where
-  abbrev pub places : List ℕ
-  places = upTo (length es)
+  abbrev pub allPlaces : List ℕ
+  allPlaces = upTo (length es)
 
-  abbrev pub edgeAt : ℕ → ℕ × ℕ
-  edgeAt i = getD es i (0, 0)
+  abbrev pub nthEdge : ℕ → ℕ × ℕ
+  nthEdge i = getD es i (0, 0)
 
   abbrev pub linked : ℕ → ℕ → Bool
-  linked i j = shareVertex (edgeAt i) (edgeAt j)
+  linked i j = shareEnd (nthEdge i) (nthEdge j)
 
   -- "Open edges joined by a chain of shared vertices are one slit"
   unfoldable pub together : ℕ → ℕ → Bool
-  together i j = has (componentOf (components linked places) i) j
+  together i j = has (componentOf (components linked allPlaces) i) j
 
   -- no earlier edge is in its component
   abbrev pub isSmallest : ℕ → Bool
@@ -44,11 +44,11 @@ module _ (es : List (ℕ × ℕ)) where
 
   -- "Slits come in order of their smallest edge, and edges ascend within each"
   unfoldable pub groups : List (List ℕ)
-  groups = map (λ i. keep (together i) places) (keep isSmallest places)
+  groups = map (λ i. keep (together i) allPlaces) (keep isSmallest allPlaces)
 
   -- the chain itself, which names no groups
   abbrev pub Chained : ℕ → ℕ → Type 0
-  Chained = Joined (Among linked places)
+  Chained = Joined (Among linked allPlaces)
 
   pub record SameComponent (i j : ℕ) : Type 0 where
     pub group : List ℕ
@@ -61,7 +61,7 @@ unfoldable pub openPairs : List (Triangle ℕ) → List (ℕ × ℕ)
 openPairs facets = map sortedPair (openEdges facets)
 
 unfoldable pub boundaryComponents : List (Triangle ℕ) → List (List (ℕ × ℕ))
-boundaryComponents facets = let es = openPairs facets in map (λ g. map (edgeAt es) g) (groups es)
+boundaryComponents facets = let es = openPairs facets in map (λ g. map (nthEdge es) g) (groups es)
 
 -- "It is a ring exactly if no edge joins a vertex to itself and each of its vertices is an end of exactly two of its edges"
 unfoldable pub isRing : List (ℕ × ℕ) → Bool

@@ -1,6 +1,6 @@
 -- What `group_edges` asks of the words, and what it leaves in the words w′ that were w; and what its steps leave. Assumes nothing.
---   edgesIn      the k edges whose packed pairs are the keys of k records at the front
---   EdgesReady   their ends are below m; and there is room
+--   keyedEdges      the k edges whose packed pairs are the keys of k records at the front
+--   GroupRoom   their ends are below m; and there is room
 --   Grouped      the edges by components stand in the words, then of each component its two words; c is how many components there are
 --   EndsPut, EndsTallied, RecordsNumbered, EdgesPut, ComponentsPut   the steps
 --   turnsOf      the edge whose number a record holds has two ends, each of degree two
@@ -17,18 +17,18 @@ use Rattle.words.specs.Packed.{pairFirst, pairSecond}
 use Rattle.records.specs.Buffer.{recordsAt}
 use Rattle.records.specs.Runs.{runs}
 use Rattle.edges.specs.Edges.{pairWords}
-use Rattle.boundary_groups.specs.Groups.{edgeAt, groups, componentWords}
+use Rattle.boundary_groups.specs.Groups.{nthEdge, groups, componentWords}
 
 abbrev pub edgeIn : List ℕ → ℕ → ℕ × ℕ
 edgeIn w i = (pairFirst (getD w (2 * i) 0), pairSecond (getD w (2 * i) 0))
 
-unfoldable pub edgesIn : List ℕ → ℕ → List (ℕ × ℕ)
-edgesIn w k = map (edgeIn w) (upTo k)
+unfoldable pub keyedEdges : List ℕ → ℕ → List (ℕ × ℕ)
+keyedEdges w k = map (edgeIn w) (upTo k)
 
 abbrev pub grouped : List (ℕ × ℕ) → List (List (ℕ × ℕ))
-grouped es = map (map (edgeAt es)) (groups es)
+grouped es = map (map (nthEdge es)) (groups es)
 
-pub record EdgesReady (w : List ℕ) (k n m at : ℕ) : Type 0 where
+pub record GroupRoom (w : List ℕ) (k n m at : ℕ) : Type 0 where
   pub few : k ≤ n
   pub front : 4 * n ≤ at
   pub room : at + 8 * n + 2 * m ≤ length w

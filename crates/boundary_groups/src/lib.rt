@@ -12,7 +12,7 @@ ghost use Prim.Native.Nat.{ℕ, _+_, _*_, _-_, _≤_, _<_};
 ghost use lib.ListN.{length, getD};
 ghost use Rattle.lists.specs.Lists.{every};
 ghost use Rattle.records.specs.Buffer.{recordsAt};
-ghost use Rattle.boundary_groups.specs.Staged.{edgesIn, EdgesReady, Grouped, EndsPut, TallyRoom, EndsTallied, RecordsNumbered, EndsReady, EdgesPut, turnsOf, ComponentsPut};
+ghost use Rattle.boundary_groups.specs.Staged.{keyedEdges, GroupRoom, Grouped, EndsPut, TallyRoom, EndsTallied, RecordsNumbered, EndsReady, EdgesPut, turnsOf, ComponentsPut};
 
 // The ends of the k open edges, whose records stand at the front, smaller first, from `to` on.
 fn put_ends(w: &mut [u64], k: usize, to: usize)
@@ -134,8 +134,8 @@ fn put_components(
 // The k open edges, whose records stand at the front, by components. From `at` on stand then: ends, as before (2n words, for n sides); the table of components
 // (2n and a word a vertex); degrees (a word a vertex); the edges in groups (2n); the components (2n). Answers how many components there are.
 pub fn group_edges(w: &mut [u64], k: usize, n: usize, m: usize, at: usize) -> usize
-    requires { ⌜ EdgesReady (now w) k n m at ⌝ }
-    ensures { λ c. ⌜ Grouped (edgesIn (now (w .entry)) k) (now (w .entry)) (now (w .exit)) k n m at c ⌝ }
+    requires { ⌜ GroupRoom (now w) k n m at ⌝ }
+    ensures { λ c. ⌜ Grouped (keyedEdges (now (w .entry)) k) (now (w .entry)) (now (w .exit)) k n m at c ⌝ }
 {
     let table = at + 2 * n;
     let degrees = table + 2 * n + m;

@@ -12,7 +12,7 @@ use Rattle.refusals.specs.Refusals.{documented, firstRefusal}
 use Rattle.refusals.specs.Answers.{replyWith, roomTests}
 use Rattle.input_tests.specs.Front.{limits, ragged, tooMany, admitted, badIndex, workNeed}
 use Rattle.irregular_edges.specs.Irregular.{sameSide, isIrregular, irregularEdges}
-use Rattle.boundary_groups.specs.Groups.{shareVertex, together, groups, openPairs, boundaryComponents, isRing, componentWords}
+use Rattle.boundary_groups.specs.Groups.{shareEnd, together, groups, openPairs, boundaryComponents, isRing, componentWords}
 use Rattle.boundary_components.specs.Boundary.{boundaryTests, boundaryOutputs}
 
 -- open edges, components, irregular edges
@@ -51,7 +51,7 @@ pub record BoundaryBlocks : Type 0 where
 
 pub listed : BoundaryBlocks
 unfolding every some keep place insertBy sortBy distinctFrom upFrom flatMap threes samePair pairBefore openEdges pairWords components documented firstRefusal roomTests ragged tooMany
-    admitted badIndex workNeed sameSide isIrregular irregularEdges shareVertex together groups openPairs boundaryComponents isRing componentWords boundaryTests
+    admitted badIndex workNeed sameSide isIrregular irregularEdges shareEnd together groups openPairs boundaryComponents isRing componentWords boundaryTests
 listed =
     record {
       c8 = refl;
