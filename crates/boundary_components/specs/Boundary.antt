@@ -1,7 +1,7 @@
 -- The operation boundary components (document 02, E13): what it lists of facets, its tests in the table's order, its three outputs. With `Answered` of crate refusals that is all it
 -- promises. Assumes nothing.
 --   boundaryTests      1, 2, 3, 7                     boundaryOutputs   open edges, components, irregular edges
---   ClosedMesh             every edge has two different ends and is borne by two sides, one each way        Nothing   all outputs are empty
+--   ClosedMesh         every edge has two different ends and is borne by two sides, one each way        Nothing   all outputs are empty
 --   ListsAlike         two calls of it ended alike: reply, outputs and work room
 use Prim.Native.Nat.{ℕ, _/_}
 use mathlib.Core.Path.{_≡_}

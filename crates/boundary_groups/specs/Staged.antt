@@ -1,6 +1,6 @@
 -- What `group_edges` asks of the words, and what it leaves in the words w′ that were w; and what its steps leave. Assumes nothing.
---   keyedEdges      the k edges whose packed pairs are the keys of k records at the front
---   GroupRoom   their ends are below m; and there is room
+--   keyedEdges   the k edges whose packed pairs are the keys of k records at the front
+--   GroupRoom    their ends are below m; and there is room
 --   Grouped      the edges by components stand in the words, then of each component its two words; c is how many components there are
 --   EndsPut, EndsTallied, RecordsNumbered, EdgesPut, ComponentsPut   the steps
 --   turnsOf      the edge whose number a record holds has two ends, each of degree two
