@@ -14,6 +14,7 @@ use crate::layout::is_laid;
 use crate::listings::listing_answer_agrees;
 use crate::meshes::mesh_answer_agrees;
 
+// The operations 4 and 6 write lists of words, the others a mesh.
 fn answer_agrees(stored: &[u64], vertices: &[f64], facets: &[u32]) -> bool
     requires { ⌜ Laid (now stored) ⌝ }
     ensures { λ r. ⌜ Decides (AnswerStored (now (stored .entry)) (now (vertices .entry)) (now (facets .entry))) r ⌝ }
