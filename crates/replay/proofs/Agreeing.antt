@@ -7,7 +7,7 @@
 --   clip-reply, clip-result, clean-reply, clean-result, caps-reply, caps-result   from the values of a call to those of the record
 --   lent-caps, lists-decides        the cap list as lent, and a request of the lists as read
 --   as-reported, zero-each, length-table   a reply as reported, work room that ends zero, the length of a table
---   as-clip, as-clean, as-caps, no-operation, as-candidates, as-mesh, as-tolerance, as-lists, short   by a record's operation
+--   as-clip, as-clean, as-caps, no-operation, as-listing-4, as-listing-6, as-mesh, as-tolerance, as-lists, short   by a record's operation
 use Prim.Native.Nat.{ℕ, _+_, _-_, _≤_, _<_}
 use mathlib.Core.Path.{_≡_, sym, ap, ap₂, _∙_, subst}
 use mathlib.Core.Bool.{Bool}
@@ -41,15 +41,17 @@ use Rattle.replay.specs.Agreement.{
   ResultStored,
   ClipStored,
   CleanStored,
-  CandidatesStored,
   CapsStored,
   MeshStored,
   clip,
   clean,
   caps,
+  ListingStored,
+  candidates,
+  boundary,
   AnswerStored,
   mesh,
-  candidates,
+  listing,
   ListsStored,
   PlainDoubles,
   ToleranceAgrees,
@@ -243,24 +245,31 @@ module _ (stored : List ℕ) (vs : List Float) (fs : List ℕ) where
   no-operation no-clip no-clean no-caps (clean k s) = no-clean k
   no-operation no-clip no-clean no-caps (caps k s) = no-caps k
 
--- the operations that write a mesh are 2, 3 and 5
-mesh-number : (stored : List ℕ) (vs : List Float) (fs : List ℕ) → MeshStored stored vs fs → (2 ≤ getD stored 1 0) × (getD stored 1 0 ≡ 4 → ⊥)
-mesh-number stored vs fs (clip k s) = (omega arith, λ e. omega arith)
-mesh-number stored vs fs (clean k s) = (omega arith, λ e. omega arith)
-mesh-number stored vs fs (caps k s) = (omega arith, λ e. omega arith)
+-- the operations that write a mesh are 2, 3 and 5, those that write lists of words 4 and 6
+mesh-number : (stored : List ℕ) (vs : List Float) (fs : List ℕ) → MeshStored stored vs fs
+    → (2 ≤ getD stored 1 0) × ((getD stored 1 0 ≡ 4 → ⊥) × (getD stored 1 0 ≡ 6 → ⊥))
+mesh-number stored vs fs (clip k s) = (omega arith, (λ e. omega arith, λ e. omega arith))
+mesh-number stored vs fs (clean k s) = (omega arith, (λ e. omega arith, λ e. omega arith))
+mesh-number stored vs fs (caps k s) = (omega arith, (λ e. omega arith, λ e. omega arith))
 
 lists-number : (stored : List ℕ) (vs : List Float) (fs : List ℕ) → AnswerStored stored vs fs → 2 ≤ getD stored 1 0
 lists-number stored vs fs (mesh m) = mesh-number stored vs fs m .0
-lists-number stored vs fs (candidates k s) = omega arith
+lists-number stored vs fs (listing (candidates k s)) = omega arith
+lists-number stored vs fs (listing (boundary k s)) = omega arith
 
 module _ (stored : List ℕ) (vs : List Float) (fs : List ℕ) where
-  pub as-candidates : getD stored 1 0 ≡ 4 → AnswerStored stored vs fs → CandidatesStored stored vs fs
-  as-candidates e (mesh m) = absurd (mesh-number stored vs fs m .1 e)
-  as-candidates e (candidates k s) = s
+  pub as-listing-4 : getD stored 1 0 ≡ 4 → AnswerStored stored vs fs → ListingStored stored vs fs
+  as-listing-4 e (mesh m) = absurd (mesh-number stored vs fs m .1 .0 e)
+  as-listing-4 e (listing l) = l
 
-  pub as-mesh : (getD stored 1 0 ≡ 4 → ⊥) → AnswerStored stored vs fs → MeshStored stored vs fs
-  as-mesh never (mesh m) = m
-  as-mesh never (candidates k s) = absurd (never k)
+  pub as-listing-6 : getD stored 1 0 ≡ 6 → AnswerStored stored vs fs → ListingStored stored vs fs
+  as-listing-6 e (mesh m) = absurd (mesh-number stored vs fs m .1 .1 e)
+  as-listing-6 e (listing l) = l
+
+  pub as-mesh : (getD stored 1 0 ≡ 4 → ⊥) → (getD stored 1 0 ≡ 6 → ⊥) → AnswerStored stored vs fs → MeshStored stored vs fs
+  as-mesh no-candidates no-boundary (mesh m) = m
+  as-mesh no-candidates no-boundary (listing (candidates k s)) = absurd (no-candidates k)
+  as-mesh no-candidates no-boundary (listing (boundary k s)) = absurd (no-boundary k)
 
 module _ (stored : List ℕ) where
   pub as-tolerance : getD stored 1 0 ≡ 1 → Agrees stored → ToleranceAgrees stored

@@ -1,10 +1,11 @@
 -- Laws of comparisons: of two lists of words, of a reply, and of a double with its bits. Assumes nothing.
 --   Alike                        two lists that agree below i: start, more, end;   other-length, other-at   two that do not
 --   other-number, same-values    a reply: its number differs; it agrees, and the values decide
---   part-decides                 a list beside the part of a record that begins at `from`
+--   part-decides                 a list beside the part of a record that begins at `from`, as it is lent
+--   coordinates-decides, numbers-decides, one-decides, two-decides, three-decides, four-decides   a list beside an output of a record
 --   number-itself, same-bits, no-number   a double beside its bits
 use Prim.Native.Nat.{ℕ, _+_, _*_, _-_, _≤_, _<_}
-use mathlib.Core.Path.{_≡_, refl, sym, ap, ap₂, _∙_, subst}
+use mathlib.Core.Path.{_≡_, refl, ap, ap₂, _∙_, subst}
 use mathlib.Core.Bool.{Bool, true, false, not, _&&_, _||_, Bool·beq}
 use mathlib.Core.List.{List, _∷_}
 use native.Mathlib.Omega.{arith}
@@ -13,13 +14,14 @@ use borrow.Author.Count.{below-none, below-more}
 use borrow.Author.Tests.{eqb-true, eq-eqb}
 use lib.Dec.{T, eqb}
 use lib.Ieee.{Float, nan, inf, fin, binary64, up, down, level, eq, isNan, toBits}
-use lib.ListN.{length, getD, take, drop, length-drop}
-use lib.Seq.{ext-getD, drop-cons, getD-take, getD-drop, length-take-le}
+use lib.ListN.{length, getD, take, drop}
+use lib.Seq.{ext-getD, drop-cons}
 use Rattle.lists.specs.Lists.{Decides}
+use Rattle.lists.specs.Regions.{view}
 use Rattle.lists.proofs.Bools.{is-true, yes}
-use Rattle.replay.proofs.Deciding.{refuted, shown, ends}
-use Rattle.replay.specs.Layout.{storedReply}
-use Rattle.replay.specs.Agreement.{SameDouble, SameWords}
+use Rattle.replay.proofs.Deciding.{refuted, shown}
+use Rattle.replay.specs.Layout.{storedReply, outputsFrom, outputOne, outputTwo, outputThree, outputFour}
+use Rattle.replay.specs.Agreement.{SameDouble, SameDoubles, SameWords}
 use Rattle.root.proofs.Numbers.{number-itself}
 
 -- ---- two lists of words
@@ -46,18 +48,35 @@ module _ (a b : List ℕ) where
 
 -- ---- a list beside a part of a record
 
-module _ (stored output : List ℕ) (from n : ℕ) (long : n ≡ length output) (within : from + length output ≤ length stored) where
-  part-at : (i : ℕ) → i < n → getD (take n (drop from stored)) i 0 ≡ getD stored (from + i) 0
-  part-at i h = getD-take n (drop from stored) i 0 h ∙ getD-drop from stored i 0
+-- the part, lent from `from` to its end
+pub part-decides : (stored output : List ℕ) (from n : ℕ) (r : Bool) → Decides (output ≡ take (from + n - from) (drop from stored)) r
+    → Decides (output ≡ view stored from n) r
+part-decides stored output from n r d =
+    let e : from + n - from ≡ n = omega arith in
+    subst (λ (k : ℕ). Decides (output ≡ take k (drop from stored)) r) e d
 
-  part-length : length output ≡ length (take n (drop from stored))
-  part-length = sym long ∙ sym (length-take-le n (drop from stored) (simp length-drop (omega arith)))
+-- the outputs of a record, from where the first begins: of a mesh, and of words
+module _ (stored : List ℕ) (from : ℕ) (e : from ≡ outputsFrom stored) where
+  pub coordinates-decides : (output : List Float) (r : Bool) → Decides (SameDoubles stored from output) r → Decides (SameDoubles stored (outputsFrom stored) output) r
+  coordinates-decides output r d = subst (λ (k : ℕ). Decides (SameDoubles stored k output) r) e d
 
-  pub part-decides : (r : Bool) → Decides (output ≡ take n (drop from stored)) r → Decides (SameWords stored from output) r
-  part-decides r d =
-      ends (SameWords stored from output) d
-      (λ p i h. ap (λ (l : List ℕ). getD l i 0) p ∙ part-at i (omega arith))
-      (λ s. ext-getD 0 output (take n (drop from stored)) part-length (λ i h. s i h ∙ sym (part-at i (omega arith))))
+  pub numbers-decides : (n : ℕ) (output : List ℕ) (r : Bool) → Decides (SameWords stored (from + n) output) r → Decides (SameWords stored (outputsFrom stored + n) output) r
+  numbers-decides n output r d = subst (λ (k : ℕ). Decides (SameWords stored (k + n) output) r) e d
+
+  pub one-decides : (output : List ℕ) (r : Bool) → Decides (output ≡ view stored from (getD stored 15 0)) r → Decides (output ≡ outputOne stored) r
+  one-decides output r d = subst (λ (k : ℕ). Decides (output ≡ view stored k (getD stored 15 0)) r) e d
+
+  pub two-decides : (output : List ℕ) (r : Bool) → Decides (output ≡ view stored (from + getD stored 15 0) (getD stored 16 0)) r → Decides (output ≡ outputTwo stored) r
+  two-decides output r d = subst (λ (k : ℕ). Decides (output ≡ view stored (k + getD stored 15 0) (getD stored 16 0)) r) e d
+
+  pub three-decides : (output : List ℕ) (r : Bool) → Decides (output ≡ view stored (from + getD stored 15 0 + getD stored 16 0) (getD stored 17 0)) r
+      → Decides (output ≡ outputThree stored) r
+  three-decides output r d = subst (λ (k : ℕ). Decides (output ≡ view stored (k + getD stored 15 0 + getD stored 16 0) (getD stored 17 0)) r) e d
+
+  pub four-decides : (output : List ℕ) (r : Bool) → Decides (output ≡ view stored (from + getD stored 15 0 + getD stored 16 0 + getD stored 17 0) (getD stored 18 0)) r
+      → Decides (output ≡ outputFour stored) r
+  four-decides output r d =
+      subst (λ (k : ℕ). Decides (output ≡ view stored (k + getD stored 15 0 + getD stored 16 0 + getD stored 17 0) (getD stored 18 0)) r) e d
 
 -- ---- replies: a number, then four values
 

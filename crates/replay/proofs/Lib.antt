@@ -2,5 +2,5 @@ pub mod Deciding
 pub mod Comparing
 pub mod Filling
 pub mod Agreeing
-pub mod WordLists
+pub mod Listing
 pub mod Tallying

@@ -5,9 +5,11 @@ ghost use Prim.Native.Nat.{_+_, _≤_};
 ghost use lib.ListN.{length, getD};
 ghost use lib.Ieee.{nan};
 ghost use Rattle.lists.specs.Lists.{Decides};
+ghost use Rattle.lists.specs.Regions.{view};
 ghost use Rattle.replay.specs.Words.{Everywhere};
-ghost use Rattle.replay.specs.Layout.{storedReply, outputsFrom};
-ghost use Rattle.replay.specs.Agreement.{SameDouble, SameDoubles, SameWords, AgreesWith};
+ghost use Rattle.replay.specs.Layout.{storedReply, outputsFrom, Laid};
+ghost use Rattle.replay.specs.Agreement.{SameDouble, SameDoubles, SameWords, AgreesWith, ThreeListed};
+use crate::layout::outputs_from;
 
 pub fn same_words(a: &[u64], b: &[u64]) -> bool
     ensures { λ r. ⌜ Decides (now (a .entry) ≡ now (b .entry)) r ⌝ }
@@ -74,12 +76,12 @@ pub fn same_numbers(stored: &[u64], from: usize, output: &[u32]) -> bool
     true
 }
 
-pub fn same_list(stored: &[u64], from: usize, output: &[u64]) -> bool
-    requires { ⌜ from + length (now output) ≤ length (now stored) ⌝ }
-    ensures { λ r. ⌜ Decides (SameWords (now (stored .entry)) from (now (output .entry))) r ⌝ }
+// The n words of a record from `from` on are an output, no more and no less.
+pub fn same_list(stored: &[u64], from: usize, n: usize, output: &[u64]) -> bool
+    requires { ⌜ from + n ≤ length (now stored) ⌝ }
+    ensures { λ r. ⌜ Decides (now (output .entry) ≡ view (now (stored .entry)) from n) r ⌝ }
 {
-    let end = from + output.len();
-    same_words(output, &stored[from..end])
+    same_words(output, &stored[from..from + n])
 }
 
 pub fn is_zero(room: &[u64]) -> bool
@@ -111,7 +113,7 @@ pub fn same_answer(
     if !same_reply(stored, number, values) {
         return false;
     }
-    let from = 32 + stored[2] as usize + stored[3] as usize + stored[4] as usize;
+    let from = outputs_from(stored);
     if !same_doubles(stored, from, out_vertices) {
         return false;
     }
@@ -119,4 +121,36 @@ pub fn same_answer(
         return false;
     }
     is_zero(work)
+}
+
+// The answer of an operation that writes lists of words, up to its third list.
+pub fn same_listing(
+    stored: &[u64],
+    number: u32,
+    values: &[u64; 4],
+    first: &[u64],
+    second: &[u64],
+    third: &[u64],
+    work: &[u64],
+) -> bool
+    requires { ⌜ Laid (now stored) ⌝ }
+    ensures { λ r. ⌜ Decides
+        (ThreeListed (now (stored .entry)) (number ∷ now (values .entry)) (now (first .entry)) (now (second .entry)) (now (third .entry)) (now (work .entry))) r ⌝ }
+{
+    if !same_reply(stored, number, values) {
+        return false;
+    }
+    if !is_zero(work) {
+        return false;
+    }
+    let from = outputs_from(stored);
+    let f = stored[15] as usize;
+    let s = stored[16] as usize;
+    if !same_list(stored, from, f, first) {
+        return false;
+    }
+    if !same_list(stored, from + f, s, second) {
+        return false;
+    }
+    same_list(stored, from + f + s, stored[17] as usize, third)
 }

@@ -7,7 +7,7 @@ ghost use lib.ListN.{length, getD, drop};
 ghost use lib.Ieee.{binary64, nanBits};
 ghost use Rattle.lists.specs.Lists.{Decides};
 ghost use Rattle.replay.specs.Words.{recordLength, Everywhere};
-ghost use Rattle.replay.specs.Layout.{sizeOf, Few, Laid};
+ghost use Rattle.replay.specs.Layout.{sizeOf, outputsFrom, Few, Laid};
 ghost use Rattle.replay.specs.Counting.{Records, AnswersFile};
 
 // "yongpham", the least byte first
@@ -140,4 +140,12 @@ pub fn is_laid(stored: &[u64]) -> bool
         return false;
     }
     size(stored) == stored.len()
+}
+
+// Where the outputs begin: behind the lists.
+pub fn outputs_from(stored: &[u64]) -> usize
+    requires { ⌜ (32 ≤ length (now stored)) × (outputsFrom (now stored) ≤ length (now stored)) ⌝ }
+    ensures { λ r. ⌜ r ≡ outputsFrom (now (stored .entry)) ⌝ }
+{
+    32 + stored[2] as usize + stored[3] as usize + stored[4] as usize
 }

@@ -1,12 +1,14 @@
-// Replays stored answers: requests with the answers that the Rust gave (README.md), each run again here. It writes a line an operation: its
-// name, how many requests the file has of it, and how many of these are answered as the Rust answered them.
+// Replays stored answers: requests with the answers that the oracle gave (README.md), each run again here. It writes a line an operation: its
+// name, how many requests the file has of it, and how many of these are answered as the oracle answered them.
 mod agreement;
+mod boundary;
 mod candidates;
 mod compare;
 mod contents;
 mod counting;
 mod file;
 mod layout;
+mod listings;
 mod meshes;
 mod requests;
 
@@ -35,6 +37,7 @@ fn replay(file: &[u64]) {
     print_line(b"clean", count(file, 3));
     print_line(b"candidates", count(file, 4));
     print_line(b"caps", count(file, 5));
+    print_line(b"boundary_components", count(file, 6));
 }
 
 fn main() {

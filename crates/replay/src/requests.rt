@@ -4,7 +4,6 @@ ghost use lib.ListN.{length, getD};
 ghost use Rattle.lists.specs.Lists.{Decides};
 ghost use Rattle.replay.specs.Layout.{Laid};
 ghost use Rattle.replay.specs.Agreement.{AnswerStored, ListsStored, StoredNumbers, ListsAgree};
-use crate::candidates::candidates_answer_agrees;
 use crate::contents::read_doubles;
 use crate::contents::read_numbers;
 use crate::contents::room_for_doubles;
@@ -12,14 +11,19 @@ use crate::contents::room_for_numbers;
 use crate::layout::are_few;
 use crate::layout::are_numbers;
 use crate::layout::is_laid;
+use crate::listings::listing_answer_agrees;
 use crate::meshes::mesh_answer_agrees;
 
+// The operations 4 and 6 write lists of words, the others a mesh.
 fn answer_agrees(stored: &[u64], vertices: &[f64], facets: &[u32]) -> bool
     requires { ⌜ Laid (now stored) ⌝ }
     ensures { λ r. ⌜ Decides (AnswerStored (now (stored .entry)) (now (vertices .entry)) (now (facets .entry))) r ⌝ }
 {
     if stored[1] == 4 {
-        return candidates_answer_agrees(stored, vertices, facets);
+        return listing_answer_agrees(stored, vertices, facets);
+    }
+    if stored[1] == 6 {
+        return listing_answer_agrees(stored, vertices, facets);
     }
     mesh_answer_agrees(stored, vertices, facets)
 }

@@ -1,6 +1,5 @@
-use native.Mathlib.Omega.{arith}
 use denote.Ref.{now}
-use Rattle.replay.proofs.WordLists.{lent-after, candidates-reply, candidates-result, candidates-called, candidates-decides}
+use Rattle.replay.proofs.Listing.{candidates-decides}
 use Rattle.replay.proofs.Agreeing.{same-box}
 use borrow.Author.Needs.{needs}
 use Rattle.replay.proofs.candidates.candidates_agree.Statement.{statement}
@@ -68,17 +67,9 @@ yongpham-candidates-requires c κs = search needs
 same-candidates-requires : tie.Need-same-candidates-requires
 same-candidates-requires c κs =
     let s = c .before .before .before .before .before .before .before .before .before .before .before .before .before .before .before .before .before .before .before .before
-    .before .before .before .before .before .before .before .before .before .before .before .before .before .before .before .before .before .before .before .before .before .before
-    .before .before .before .before .before .before in
-    let yongpham-candidates = c .before .before .before .before .before .before .before .before .before .before .before .before .before .before .before .before
-    .yongpham-candidates in (
-      (s .pre .0 .head, omega (arith, s .pre .0 .whole)),
-      lent-after (now (s .args .stored)) (now (s .args .work)) (now (s .args .candidates)) (now (s .args .face-lists))
-          (now (s .args .constraints)) (now (s .args .open-edges)) (s .pre .1) (yongpham-candidates .last .1 .1 .1 .1 .1 .1 .1 .1 .1 .1 .1 .1 .0) (yongpham-candidates .last .1 .1 .1 .1 .1 .1
-          .1 .1 .1 .1 .1 .1 .1 .0) (yongpham-candidates .last .1 .1 .1 .1 .1 .1 .1 .1 .1 .1 .1 .1 .1 .1 .0) (yongpham-candidates .last .1 .1 .1 .1 .1 .1 .1 .1 .1 .1 .1 .1 .1 .1 .1 .0)
-          (yongpham-candidates .kept .1 .1 .1 .1 .1 .1 .1 .1 .1 .1 .1 .1 .0) (yongpham-candidates .kept .1 .1 .1 .1 .1 .1 .1 .1 .1 .1 .1 .1 .1 .0) (yongpham-candidates .kept .1 .1 .1 .1 .1 .1 .1
-          .1 .1 .1 .1 .1 .1 .1 .0) (yongpham-candidates .kept .1 .1 .1 .1 .1 .1 .1 .1 .1 .1 .1 .1 .1 .1 .1 .0),
-    )
+    .before .before .before .before .before .before .before .before .before .before .before .before .before .before .before .before .before .before .before .before .before
+    .before .before .before .before .before .before .before in
+    s .pre .0
 
 same-length : tie.Need-same-length
 same-length c = search needs
@@ -98,31 +89,28 @@ same-length-5 c = search needs
 returns : tie.Need-returns
 returns c =
     let s = c .before .before .before .before .before .before .before .before .before .before .before .before .before .before .before .before .before .before .before .before
-    .before .before .before .before .before .before .before .before .before .before .before .before .before .before .before .before .before .before .before .before .before .before
-    .before .before .before .before .before .before .before in
-    let double = c .before .before .before .before .before .before .before .before .before .before .before .before .before .before .before .before .before .before .before .before
-    .before .before .before .before .before .before .before .before .before .before .before .before .before .before .before .before .before .before .before .double in
-    let double2 = c .before .before .before .before .before .before .before .before .before .before .before .before .before .before .before .before .before .before .before .before
-    .before .before .before .before .before .before .before .before .before .before .before .before .before .before .before .before .before .double2 in
-    let double3 = c .before .before .before .before .before .before .before .before .before .before .before .before .before .before .before .before .before .before .before .before
-    .before .before .before .before .before .before .before .before .before .before .before .before .before .before .before .double3 in
-    let double4 = c .before .before .before .before .before .before .before .before .before .before .before .before .before .before .before .before .before .before .before .before
-    .before .before .before .before .before .before .before .before .before .before .before .before .before .double4 in
-    let double5 = c .before .before .before .before .before .before .before .before .before .before .before .before .before .before .before .before .before .before .before .before
-    .before .before .before .before .before .before .before .before .before .before .before .double5 in
-    let double6 = c .before .before .before .before .before .before .before .before .before .before .before .before .before .before .before .before .before .before .before .before
-    .before .before .before .before .before .before .before .before .before .double6 in
-    let double7 = c .before .before .before .before .before .before .before .before .before .before .before .before .before .before .before .before .before .before .before .before
-    .before .before .before .before .before .before .before .double7 in
-    let double8 = c .before .before .before .before .before .before .before .before .before .before .before .before .before .before .before .before .before .before .before .before
-    .before .before .before .before .before .double8 in
-    candidates-decides (now (s .args .stored)) _ _ _ _ _ _ (now (s .args .work)) _ (now (s .args .candidates)) _ (now (s .args .face-lists)) _ (now (s .args .constraints)) _ (now
-    (s .args .open-edges)) _ (s .pre .1) (candidates-called _ _ _ _ _ _ _ _ _ _ _ _ _ _ (c .before .before .before .before .before .before .before .before .before .before .before
-    .before .before .before .before .before .before .yongpham-candidates .ensures)) (candidates-reply (now (s .args .stored)) (now (s .args .work)) (now (s .args .candidates))
-    (now (s .args .face-lists)) (now (s .args .constraints)) (now (s .args .open-edges)) (s .pre .1) (now (s .args .vertices)) (now (s .args .facets)) (same-box (now (s .args
-    .stored)) (double .ensures) (double2 .ensures) (double3 .ensures) (double4 .ensures) (double5 .ensures) (double6 .ensures)) (double7 .ensures) (double8 .ensures))
-    (candidates-result (now (s .args .stored)) (now (s .args .vertices)) (now (s .args .facets)) (same-box (now (s .args .stored)) (double .ensures) (double2 .ensures) (double3
-    .ensures) (double4 .ensures) (double5 .ensures) (double6 .ensures)) (double7 .ensures) (double8 .ensures)) _ (c .same-candidates .ensures)
+    .before .before .before .before .before .before .before .before .before .before .before .before .before .before .before .before .before .before .before .before .before
+    .before .before .before .before .before .before .before .before in
+    let double = c .before .before .before .before .before .before .before .before .before .before .before .before .before .before .before .before .before .before .before
+    .before .before .before .before .before .before .before .before .before .before .before .before .before .before .before .before .before .before .before .before .double in
+    let double2 = c .before .before .before .before .before .before .before .before .before .before .before .before .before .before .before .before .before .before .before
+    .before .before .before .before .before .before .before .before .before .before .before .before .before .before .before .before .before .before .double2 in
+    let double3 = c .before .before .before .before .before .before .before .before .before .before .before .before .before .before .before .before .before .before .before
+    .before .before .before .before .before .before .before .before .before .before .before .before .before .before .before .before .double3 in
+    let double4 = c .before .before .before .before .before .before .before .before .before .before .before .before .before .before .before .before .before .before .before
+    .before .before .before .before .before .before .before .before .before .before .before .before .before .before .double4 in
+    let double5 = c .before .before .before .before .before .before .before .before .before .before .before .before .before .before .before .before .before .before .before
+    .before .before .before .before .before .before .before .before .before .before .before .before .double5 in
+    let double6 = c .before .before .before .before .before .before .before .before .before .before .before .before .before .before .before .before .before .before .before
+    .before .before .before .before .before .before .before .before .before .before .double6 in
+    let double7 = c .before .before .before .before .before .before .before .before .before .before .before .before .before .before .before .before .before .before .before
+    .before .before .before .before .before .before .before .before .double7 in
+    let double8 = c .before .before .before .before .before .before .before .before .before .before .before .before .before .before .before .before .before .before .before
+    .before .before .before .before .before .before .double8 in
+    candidates-decides (now (s .args .stored)) (now (s .args .work)) _ (now (s .args .candidates)) _ (now (s .args .face-lists)) _ (now (s .args .constraints)) _ (now (s .args
+    .open-edges)) _ (now (s .args .vertices)) (now (s .args .facets)) _ _ (s .pre .1) (same-box (now (s .args .stored)) (double .ensures) (double2 .ensures) (double3 .ensures)
+    (double4 .ensures) (double5 .ensures) (double6 .ensures)) (double7 .ensures) (double8 .ensures) (c .before .before .before .before .before .before .before .before .before
+    .before .before .before .before .before .before .before .before .yongpham-candidates .ensures) _ (c .same-candidates .ensures)
 
 pub candidates-agree-spec : {M : Type 1} → statement M
 candidates-agree-spec =

@@ -1,44 +1,70 @@
+use denote.Ref.{now}
 use Rattle.replay.proofs.Deciding.{stops, passes, ends}
+use Rattle.replay.proofs.Comparing.{four-decides}
 use borrow.Author.Needs.{needs}
 use Rattle.replay.proofs.candidates.same_candidates.Statement.{statement}
 use Rattle.replay.proofs.candidates.same_candidates.Tie as tie
 use Rattle.replay.proofs.candidates.same_candidates.Reads as reads
 use Rattle.replay.proofs.candidates.same_candidates.Lts as lts
-use Rattle.replay.proofs.candidates.same_outputs.Reads as same-outputs-reads
-use Rattle.replay.proofs.compare.is_zero.Reads as is-zero-reads
-use Rattle.replay.proofs.compare.same_reply.Reads as same-reply-reads
+use Rattle.replay.proofs.compare.same_list.Reads as same-list-reads
+use Rattle.replay.proofs.compare.same_listing.Reads as same-listing-reads
+use Rattle.replay.proofs.layout.outputs_from.Reads as outputs-from-reads
 
-same-reply-requires : tie.Need-same-reply-requires
-same-reply-requires c κs = search needs
+same-listing-requires : tie.Need-same-listing-requires
+same-listing-requires c κs = search needs
 
 returns : tie.Need-returns
-returns c = stops _ (c .before .same-reply .ensures) (c .if1 .taken) (λ a. a .replied)
+returns c = stops _ (c .before .same-listing .ensures) (c .if1 .taken) (λ a. a .three)
 
-is-zero-requires : tie.Need-is-zero-requires
-is-zero-requires c κs = search needs
+outputs-from-requires : tie.Need-outputs-from-requires
+outputs-from-requires c κs = search needs
+
+shared-slice-read-from : tie.Need-shared-slice-read-from
+shared-slice-read-from c = search needs
+
+add-from : tie.Need-add-from
+add-from c = search needs
+
+shared-slice-read-from-2 : tie.Need-shared-slice-read-from-2
+shared-slice-read-from-2 c = search needs
+
+add-from-2 : tie.Need-add-from-2
+add-from-2 c = search needs
+
+shared-slice-read-from-3 : tie.Need-shared-slice-read-from-3
+shared-slice-read-from-3 c = search needs
+
+add-from-3 : tie.Need-add-from-3
+add-from-3 c = search needs
+
+shared-slice-read-same-list : tie.Need-shared-slice-read-same-list
+shared-slice-read-same-list c = search needs
+
+same-list-requires : tie.Need-same-list-requires
+same-list-requires c κs = search needs
 
 returns-2 : tie.Need-returns-2
-returns-2 c = stops _ (c .before .is-zero .ensures) (c .if2 .taken) (λ a. a .cleared)
-
-same-outputs-requires : tie.Need-same-outputs-requires
-same-outputs-requires c κs = search needs
-
-returns-3 : tie.Need-returns-3
-returns-3 c =
-    ends _ (c .same-outputs .ensures) (λ z. record {
-      replied = passes (c .before .before .before .before .same-reply .ensures) (c .before .before .before .if1 .left);
-      cleared =
-          passes (c .before .before .is-zero .ensures) (c .before .if2 .left);
-      outputs = z;
-    }) (λ a. a .outputs)
+returns-2 c =
+    let s = c .before .before .before .before .before .before .before .before .before .before .before .before .before .before in
+    let from = c .before .before .before .before .before .outputs-from in
+    ends _ (four-decides (now (s .args .stored)) _ (from .ensures) _ _ (c .same-list .ensures)) (λ z. record {
+      three = passes (c .before .before .before .before .before .before .before .same-listing .ensures) (c .before .before .before .before .before .before .if1 .left);
+      fourth = z;
+    }) (λ a. a .fourth)
 
 pub same-candidates-spec : {M : Type 1} → statement M
 same-candidates-spec =
     tie.close
     (tie.spec
-    same-reply-requires
+    same-listing-requires
     returns
-    is-zero-requires
-    returns-2
-    same-outputs-requires
-    returns-3)
+    outputs-from-requires
+    shared-slice-read-from
+    add-from
+    shared-slice-read-from-2
+    add-from-2
+    shared-slice-read-from-3
+    add-from-3
+    shared-slice-read-same-list
+    same-list-requires
+    returns-2)

@@ -1,3 +1,5 @@
+use denote.Ref.{now}
+use Rattle.replay.proofs.Comparing.{coordinates-decides, numbers-decides}
 use Rattle.replay.proofs.Deciding.{stops, passes, ends}
 use borrow.Author.Needs.{needs}
 use Rattle.replay.proofs.compare.same_answer.Statement.{statement}
@@ -8,6 +10,7 @@ use Rattle.replay.proofs.compare.is_zero.Reads as is-zero-reads
 use Rattle.replay.proofs.compare.same_doubles.Reads as same-doubles-reads
 use Rattle.replay.proofs.compare.same_numbers.Reads as same-numbers-reads
 use Rattle.replay.proofs.compare.same_reply.Reads as same-reply-reads
+use Rattle.replay.proofs.layout.outputs_from.Reads as outputs-from-reads
 
 same-reply-requires : tie.Need-same-reply-requires
 same-reply-requires c κs = search needs
@@ -15,29 +18,18 @@ same-reply-requires c κs = search needs
 returns : tie.Need-returns
 returns c = stops _ (c .before .same-reply .ensures) (c .if1 .taken) (λ a. a .replied)
 
-shared-slice-read-from : tie.Need-shared-slice-read-from
-shared-slice-read-from c = search needs
-
-add-from : tie.Need-add-from
-add-from c = search needs
-
-shared-slice-read-from-2 : tie.Need-shared-slice-read-from-2
-shared-slice-read-from-2 c = search needs
-
-add-from-2 : tie.Need-add-from-2
-add-from-2 c = search needs
-
-shared-slice-read-from-3 : tie.Need-shared-slice-read-from-3
-shared-slice-read-from-3 c = search needs
-
-add-from-3 : tie.Need-add-from-3
-add-from-3 c = search needs
+outputs-from-requires : tie.Need-outputs-from-requires
+outputs-from-requires c κs = search needs
 
 same-doubles-requires : tie.Need-same-doubles-requires
 same-doubles-requires c κs = search needs
 
 returns-2 : tie.Need-returns-2
-returns-2 c = stops _ (c .before .same-doubles .ensures) (c .if2 .taken) (λ a. a .coordinates)
+returns-2 c =
+    let s = c .before .before .before .before .before .before .before .before .before in
+    let from = c .before .before .outputs-from in
+    stops _ (coordinates-decides (now (s .args .stored)) _ (from .ensures) (now (s .args .out-vertices)) _ (c .before .same-doubles .ensures)) (c .if2 .taken) (λ a. a
+    .coordinates)
 
 add-same-numbers : tie.Need-add-same-numbers
 add-same-numbers c = search needs
@@ -46,19 +38,24 @@ same-numbers-requires : tie.Need-same-numbers-requires
 same-numbers-requires c κs = search needs
 
 returns-3 : tie.Need-returns-3
-returns-3 c = stops _ (c .before .same-numbers .ensures) (c .if3 .taken) (λ a. a .numbers)
+returns-3 c =
+    let s = c .before .before .before .before .before .before .before .before .before .before .before in
+    let from = c .before .before .before .before .outputs-from in
+    stops _ (numbers-decides (now (s .args .stored)) _ (from .ensures) _ (now (s .args .out-facets)) _ (c .before .same-numbers .ensures)) (c .if3 .taken) (λ a. a .numbers)
 
 is-zero-requires : tie.Need-is-zero-requires
 is-zero-requires c κs = search needs
 
 returns-4 : tie.Need-returns-4
 returns-4 c =
+    let s = c .before .before .before .before .before .before .before .before .before .before .before .before in
+    let from = c .before .before .before .before .before .outputs-from in
     ends _ (c .is-zero .ensures) (λ z. record {
-      replied = passes (c .before .before .before .before .before .before .before .before .before .same-reply .ensures)
-          (c .before .before .before .before .before .before .before .before .if1 .left);
-      coordinates = passes (c .before .before .before .before .same-doubles .ensures)
-          (c .before .before .before .if2 .left);
-      numbers = passes (c .before .before .same-numbers .ensures) (c .before .if3 .left);
+      replied = passes (c .before .before .before .before .before .before .before .same-reply .ensures) (c .before .before .before .before .before .before .if1 .left);
+      coordinates = passes (coordinates-decides (now (s .args .stored)) _ (from .ensures) (now (s .args .out-vertices)) _ (c .before .before .before .before .same-doubles
+          .ensures)) (c .before .before .before .if2 .left);
+      numbers = passes (numbers-decides (now (s .args .stored)) _ (from .ensures) _ (now (s .args .out-facets)) _ (c .before .before .same-numbers .ensures)) (c .before .if3
+          .left);
       cleared = z;
     }) (λ a. a .cleared)
 
@@ -68,12 +65,7 @@ same-answer-spec =
     (tie.spec
     same-reply-requires
     returns
-    shared-slice-read-from
-    add-from
-    shared-slice-read-from-2
-    add-from-2
-    shared-slice-read-from-3
-    add-from-3
+    outputs-from-requires
     same-doubles-requires
     returns-2
     add-same-numbers

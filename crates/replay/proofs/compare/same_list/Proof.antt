@@ -1,6 +1,3 @@
-use Prim.Native.Nat.{_+_, _-_}
-use lib.ListN.{length}
-use native.Mathlib.Omega.{arith}
 use denote.Ref.{now}
 use Rattle.replay.proofs.Comparing.{part-decides}
 use borrow.Author.Needs.{needs}
@@ -10,8 +7,8 @@ use Rattle.replay.proofs.compare.same_list.Reads as reads
 use Rattle.replay.proofs.compare.same_list.Lts as lts
 use Rattle.replay.proofs.compare.same_words.Reads as same-words-reads
 
-add-end : tie.Need-add-end
-add-end c = search needs
+add-same-words : tie.Need-add-same-words
+add-same-words c = search needs
 
 mul-same-words : tie.Need-mul-same-words
 mul-same-words c = search needs
@@ -30,15 +27,14 @@ same-words-requires c κs = search needs
 
 returns : tie.Need-returns
 returns c =
-    part-decides (now (c .before .before .before .before .args .stored)) (now (c .before .before .before .before .args .output)) (c .before .before .before .before .args .from)
-    (c .before .before .before .before .args .from + length (now (c .before .before .before .before .args .output)) - c .before .before .before .before .args .from) (omega arith)
-    (c .before .before .before .before .pre) _ (c .same-words .ensures)
+    let s = c .before .before .before .before in
+    part-decides (now (s .args .stored)) (now (s .args .output)) (s .args .from) (s .args .n) _ (c .same-words .ensures)
 
 pub same-list-spec : {M : Type 1} → statement M
 same-list-spec =
     tie.close
     (tie.spec
-    add-end
+    add-same-words
     mul-same-words
     sub-same-words
     part-same-words-start

@@ -3,11 +3,11 @@ use lib.Dec.{lit<}
 use Rattle.replay.proofs.Filling.{front-length}
 use mathlib.Core.Path.{sym}
 use borrow.Author.Needs.{needs}
-use Rattle.replay.proofs.candidates.candidates_answer_agrees.Statement.{statement}
-use Rattle.replay.proofs.candidates.candidates_answer_agrees.Tie as tie
-use Rattle.replay.proofs.candidates.candidates_answer_agrees.Reads as reads
-use Rattle.replay.proofs.candidates.candidates_answer_agrees.Lts as lts
-use Rattle.replay.proofs.candidates.run_candidates.Reads as run-candidates-reads
+use Rattle.replay.proofs.listings.listing_answer_agrees.Statement.{statement}
+use Rattle.replay.proofs.listings.listing_answer_agrees.Tie as tie
+use Rattle.replay.proofs.listings.listing_answer_agrees.Reads as reads
+use Rattle.replay.proofs.listings.listing_answer_agrees.Lts as lts
+use Rattle.replay.proofs.listings.run_listing.Reads as run-listing-reads
 use Rattle.replay.proofs.contents.room_for_words.Reads as room-for-words-reads
 use Rattle.replay.proofs.contents.room_for_work.Reads as room-for-work-reads
 
@@ -29,29 +29,29 @@ room-for-words-requires-4 c κs = search needs
 shared-slice-read-lent : tie.Need-shared-slice-read-lent
 shared-slice-read-lent c = search needs
 
-shared-slice-read-c : tie.Need-shared-slice-read-c
-shared-slice-read-c c = search needs
+shared-slice-read-f : tie.Need-shared-slice-read-f
+shared-slice-read-f c = search needs
+
+shared-slice-read-s : tie.Need-shared-slice-read-s
+shared-slice-read-s c = search needs
+
+shared-slice-read-t : tie.Need-shared-slice-read-t
+shared-slice-read-t c = search needs
 
 shared-slice-read-l : tie.Need-shared-slice-read-l
 shared-slice-read-l c = search needs
 
-shared-slice-read-k : tie.Need-shared-slice-read-k
-shared-slice-read-k c = search needs
-
-shared-slice-read-e : tie.Need-shared-slice-read-e
-shared-slice-read-e c = search needs
-
 array-borrow-prefix-work : tie.Need-array-borrow-prefix-work
 array-borrow-prefix-work c = search needs
 
-slice-aggregate-run-candidates : tie.Need-slice-aggregate-run-candidates
-slice-aggregate-run-candidates c =
+slice-aggregate-run-listing : tie.Need-slice-aggregate-run-listing
+slice-aggregate-run-listing c =
     sym (front-length _ _ (c .before .before .before .before .before .before .before .before .before .before .room-for-work .result)
     (c .before .before .before .before .before .before .before .before .before .before .room-for-work .ensures)
     (c .before .before .before .before .before .before .before .before .before .before .before .before .before .before .pre .work))
 
-array-borrow-prefix-candidates : tie.Need-array-borrow-prefix-candidates
-array-borrow-prefix-candidates c =
+array-borrow-prefix-first : tie.Need-array-borrow-prefix-first
+array-borrow-prefix-first c =
     omega (
       arith,
       c .before .before .before .before .before .before .before .before .before .room-for-words .ensures,
@@ -59,14 +59,14 @@ array-borrow-prefix-candidates c =
           .before .before .before .before .before .before .before .pre .outputs 0 (lit< tt),
     )
 
-slice-aggregate-run-candidates-2 : tie.Need-slice-aggregate-run-candidates-2
-slice-aggregate-run-candidates-2 c =
+slice-aggregate-run-listing-2 : tie.Need-slice-aggregate-run-listing-2
+slice-aggregate-run-listing-2 c =
     sym (front-length _ _ (c .before .before .before .before .before .before .before .before .before .before .room-for-words .result)
     (c .before .before .before .before .before .before .before .before .before .before .room-for-words .ensures)
     (c .before .before .before .before .before .before .before .before .before .before .before .before .before .before .before .pre .outputs 0 (lit< tt)))
 
-array-borrow-prefix-face-lists : tie.Need-array-borrow-prefix-face-lists
-array-borrow-prefix-face-lists c =
+array-borrow-prefix-second : tie.Need-array-borrow-prefix-second
+array-borrow-prefix-second c =
     omega (
       arith,
       c .before .before .before .before .before .before .before .before .before .room-for-words2 .ensures,
@@ -74,14 +74,14 @@ array-borrow-prefix-face-lists c =
           .before .before .before .before .before .before .before .before .pre .outputs 1 (lit< tt),
     )
 
-slice-aggregate-run-candidates-3 : tie.Need-slice-aggregate-run-candidates-3
-slice-aggregate-run-candidates-3 c =
+slice-aggregate-run-listing-3 : tie.Need-slice-aggregate-run-listing-3
+slice-aggregate-run-listing-3 c =
     sym (front-length _ _ (c .before .before .before .before .before .before .before .before .before .before .room-for-words2 .result)
     (c .before .before .before .before .before .before .before .before .before .before .room-for-words2 .ensures)
     (c .before .before .before .before .before .before .before .before .before .before .before .before .before .before .before .before .pre .outputs 1 (lit< tt)))
 
-array-borrow-prefix-constraints : tie.Need-array-borrow-prefix-constraints
-array-borrow-prefix-constraints c =
+array-borrow-prefix-third : tie.Need-array-borrow-prefix-third
+array-borrow-prefix-third c =
     omega (
       arith,
       c .before .before .before .before .before .before .before .before .before .room-for-words3 .ensures,
@@ -89,14 +89,14 @@ array-borrow-prefix-constraints c =
           .before .before .before .before .before .before .before .before .before .pre .outputs 2 (lit< tt),
     )
 
-slice-aggregate-run-candidates-4 : tie.Need-slice-aggregate-run-candidates-4
-slice-aggregate-run-candidates-4 c =
+slice-aggregate-run-listing-4 : tie.Need-slice-aggregate-run-listing-4
+slice-aggregate-run-listing-4 c =
     sym (front-length _ _ (c .before .before .before .before .before .before .before .before .before .before .room-for-words3 .result)
     (c .before .before .before .before .before .before .before .before .before .before .room-for-words3 .ensures)
     (c .before .before .before .before .before .before .before .before .before .before .before .before .before .before .before .before .before .pre .outputs 2 (lit< tt)))
 
-array-borrow-prefix-open-edges : tie.Need-array-borrow-prefix-open-edges
-array-borrow-prefix-open-edges c =
+array-borrow-prefix-fourth : tie.Need-array-borrow-prefix-fourth
+array-borrow-prefix-fourth c =
     omega (
       arith,
       c .before .before .before .before .before .before .before .before .before .room-for-words4 .ensures,
@@ -104,32 +104,36 @@ array-borrow-prefix-open-edges c =
           .before .before .before .before .before .before .before .before .before .before .pre .outputs 3 (lit< tt),
     )
 
-slice-aggregate-run-candidates-5 : tie.Need-slice-aggregate-run-candidates-5
-slice-aggregate-run-candidates-5 c =
+slice-aggregate-run-listing-5 : tie.Need-slice-aggregate-run-listing-5
+slice-aggregate-run-listing-5 c =
     sym (front-length _ _ (c .before .before .before .before .before .before .before .before .before .before .room-for-words4 .result)
     (c .before .before .before .before .before .before .before .before .before .before .room-for-words4 .ensures)
     (c .before .before .before .before .before .before .before .before .before .before .before .before .before .before .before .before .before .before .pre .outputs 3 (lit< tt)))
 
-run-candidates-requires : tie.Need-run-candidates-requires
-run-candidates-requires c κs = (
+run-listing-requires : tie.Need-run-listing-requires
+run-listing-requires c κs = (
   c .before .before .before .before .before .before .before .before .before .before .before .before .before .before .before .before .before .before .pre,
   (
     front-length _ _ (c .before .before .before .before .before .before .before .before .before .before .before .before .before .before .room-for-work .result)
         (c .before .before .before .before .before .before .before .before .before .before .before .before .before .before .room-for-work .ensures)
         (c .before .before .before .before .before .before .before .before .before .before .before .before .before .before .before .before .before .before .pre .work),
     record {
-      candidates = front-length _ _ (c .before .before .before .before .before .before .before .before .before .before .before .before .before .room-for-words .result)
+      first = front-length _ _ (c .before .before .before .before .before .before .before .before .before .before .before .before .before .room-for-words .result)
           (c .before .before .before .before .before .before .before .before .before .before .before .before .before .room-for-words .ensures)
-          (c .before .before .before .before .before .before .before .before .before .before .before .before .before .before .before .before .before .before .pre .outputs 0 (lit< tt));
-      face-lists = front-length _ _ (c .before .before .before .before .before .before .before .before .before .before .before .before .room-for-words2 .result)
+          (c .before .before .before .before .before .before .before .before .before .before .before .before .before .before .before .before .before .before .pre .outputs 0
+          (lit< tt));
+      second = front-length _ _ (c .before .before .before .before .before .before .before .before .before .before .before .before .room-for-words2 .result)
           (c .before .before .before .before .before .before .before .before .before .before .before .before .room-for-words2 .ensures)
-          (c .before .before .before .before .before .before .before .before .before .before .before .before .before .before .before .before .before .before .pre .outputs 1 (lit< tt));
-      constraints = front-length _ _ (c .before .before .before .before .before .before .before .before .before .before .before .room-for-words3 .result)
+          (c .before .before .before .before .before .before .before .before .before .before .before .before .before .before .before .before .before .before .pre .outputs 1
+          (lit< tt));
+      third = front-length _ _ (c .before .before .before .before .before .before .before .before .before .before .before .room-for-words3 .result)
           (c .before .before .before .before .before .before .before .before .before .before .before .room-for-words3 .ensures)
-          (c .before .before .before .before .before .before .before .before .before .before .before .before .before .before .before .before .before .before .pre .outputs 2 (lit< tt));
-      open-edges = front-length _ _ (c .before .before .before .before .before .before .before .before .before .before .room-for-words4 .result)
+          (c .before .before .before .before .before .before .before .before .before .before .before .before .before .before .before .before .before .before .pre .outputs 2
+          (lit< tt));
+      fourth = front-length _ _ (c .before .before .before .before .before .before .before .before .before .before .room-for-words4 .result)
           (c .before .before .before .before .before .before .before .before .before .before .room-for-words4 .ensures)
-          (c .before .before .before .before .before .before .before .before .before .before .before .before .before .before .before .before .before .before .pre .outputs 3 (lit< tt));
+          (c .before .before .before .before .before .before .before .before .before .before .before .before .before .before .before .before .before .before .pre .outputs 3
+          (lit< tt));
     },
   ),
 )
@@ -137,8 +141,8 @@ run-candidates-requires c κs = (
 returns : tie.Need-returns
 returns c = search needs
 
-pub candidates-answer-agrees-spec : {M : Type 1} → statement M
-candidates-answer-agrees-spec =
+pub listing-answer-agrees-spec : {M : Type 1} → statement M
+listing-answer-agrees-spec =
     tie.close
     (tie.spec
     room-for-work-requires
@@ -147,19 +151,19 @@ candidates-answer-agrees-spec =
     room-for-words-requires-3
     room-for-words-requires-4
     shared-slice-read-lent
-    shared-slice-read-c
+    shared-slice-read-f
+    shared-slice-read-s
+    shared-slice-read-t
     shared-slice-read-l
-    shared-slice-read-k
-    shared-slice-read-e
     array-borrow-prefix-work
-    slice-aggregate-run-candidates
-    array-borrow-prefix-candidates
-    slice-aggregate-run-candidates-2
-    array-borrow-prefix-face-lists
-    slice-aggregate-run-candidates-3
-    array-borrow-prefix-constraints
-    slice-aggregate-run-candidates-4
-    array-borrow-prefix-open-edges
-    slice-aggregate-run-candidates-5
-    run-candidates-requires
+    slice-aggregate-run-listing
+    array-borrow-prefix-first
+    slice-aggregate-run-listing-2
+    array-borrow-prefix-second
+    slice-aggregate-run-listing-3
+    array-borrow-prefix-third
+    slice-aggregate-run-listing-4
+    array-borrow-prefix-fourth
+    slice-aggregate-run-listing-5
+    run-listing-requires
     returns)
