@@ -320,7 +320,7 @@ fn apart(random: &mut Random) -> Request {
 }
 
 /// Each vertex with the two before it, all facets the same way round.
-fn strip(count: u32) -> Vec<Facet> {
+pub fn strip(count: u32) -> Vec<Facet> {
     let facet = |c: u32| [c - 2 + c % 2, c - 1 - c % 2, c];
     (2..count).map(facet).collect()
 }
