@@ -324,3 +324,113 @@ pub fn strip(count: u32) -> Vec<Facet> {
     let facet = |c: u32| [c - 2 + c % 2, c - 1 - c % 2, c];
     (2..count).map(facet).collect()
 }
+
+#[cfg(test)]
+mod tests {
+    use super::*;
+    use crate::clean;
+    use crate::lent::Old;
+    use crate::operation::{self, fitted};
+    use std::collections::BTreeSet;
+
+    /// "C8's square has one slit, a ring of four": the two facets as cleaning leaves them, by
+    /// the oracle and by our library.
+    #[test]
+    fn c8_is_a_ring_of_four() {
+        let corners = [[0.0, 0.0], [1.0, 0.0], [1.0, 1.0], [0.0, 1.0]];
+        let points = corners.iter().flat_map(|&[x, y]| [x, y, 0.0]).collect();
+        let extents = [0.0, 0.0, 0.0, 1.0, 1.0, 1.0];
+        let list = vec![0, 1, 2, 0, 2, 3];
+        let mut square = Request::new("C8", points, list, extents, 2f64.powi(-20));
+        let mut work = Lent::new(0, Old::Junk);
+        square.work = (clean::OPERATION.need)(&square) as usize;
+        let cleaned = fitted(clean::OPERATION.ours, &mut square, &mut work);
+        assert_eq!(cleaned.reply.values, [12, 6, 0, 0]);
+        let list = cleaned.outputs[1][..6].iter().map(|&id| id as u32);
+        for ask in [OPERATION.oracle, OPERATION.ours] {
+            let mut request = Request::counted("C8", 4, list.clone().collect());
+            request.work = need(&request) as usize;
+            request.outputs = [8, 2, 0, 0];
+            let answer = ask(&request, &mut work);
+            assert_eq!((answer.reply.number, answer.fault), (0, None));
+            assert_eq!(answer.reply.values, [8, 2, 0, 0]);
+            // Each side of the square once, smaller number first, ascending; a ring of four.
+            let sides = vec![0, 1, 0, 3, 1, 2, 2, 3];
+            assert_eq!(answer.outputs, [sides, vec![4, 1], vec![]]);
+        }
+    }
+
+    /// Every list of at most three facets has its turn, and none two.
+    #[test]
+    fn all_lists_are_met() {
+        let mut random = Random::new(1, "small", 0);
+        let (count, small) = OPERATION.small;
+        let mut met = BTreeSet::new();
+        for turn in PAST_THE_END..count {
+            met.insert(small(&mut random, turn).facets);
+        }
+        assert_eq!(met.len(), 1 + 64 + 64 * 64 + 64 * 64 * 64);
+        assert_eq!(met.iter().flatten().max(), Some(&3));
+    }
+
+    /// Each reply comes often enough for 100 of it among 20,000 requests, and so does 12 by each
+    /// output.
+    #[test]
+    fn every_reply_is_met() {
+        let mut work = Lent::new(0, Old::Junk);
+        let (mut met, mut short) = ([0; 13], [0; 3]);
+        for number in 0..4_000 {
+            let request = operation::request(&OPERATION, 1, number, &mut work);
+            let reply = (OPERATION.oracle)(&request, &mut work).reply;
+            met[reply.number as usize] += 1;
+            if reply.number == 12 {
+                let lengths = lengths(&request);
+                let first = (0..3).find(|&place| request.outputs[place] < lengths[place]);
+                short[first.expect("an output is short")] += 1;
+            }
+        }
+        for number in [0, 1, 2, 3, 7, 12] {
+            assert!(met[number] >= 20, "{met:?}");
+        }
+        assert!(short.iter().all(|&count| count >= 20), "{short:?}");
+    }
+
+    /// What the outputs can tell is met: rings and others, several components, an edge a, a
+    /// that is open, edges with two sides the same way and with more; and nothing at all.
+    #[test]
+    fn every_kind_of_boundary_is_met() {
+        let mut met = [0; 7];
+        for number in 0..4_000 {
+            let mut random = Random::new(1, OPERATION.name, number);
+            let request = generate(&mut random, number);
+            let past = request.facets.iter().any(|&id| u64::from(id) >= OFFICE);
+            if request.facets.len() % 3 != 0 || past {
+                continue;
+            }
+            let [edges, components, irregular] = oracle::boundary_lists(&request.facets);
+            let rings = components.chunks(2).filter(|component| component[1] == 1);
+            let rings = rings.count();
+            let kinds = [
+                rings > 0,
+                rings < components.len() / 2,
+                rings > 0 && rings < components.len() / 2,
+                components.len() > 10,
+                edges.chunks(2).any(|edge| edge[0] == edge[1]),
+                !irregular.is_empty(),
+                !request.facets.is_empty() && edges.is_empty() && irregular.is_empty(),
+            ];
+            met = [0, 1, 2, 3, 4, 5, 6].map(|kind| met[kind] + u32::from(kinds[kind]));
+        }
+        assert!(met.iter().all(|&count| count >= 50), "{met:?}");
+    }
+
+    /// Counts that test 2 refuses are lent what a need cut to 64 bits would ask for.
+    #[test]
+    fn refused_counts_are_lent_a_wrapped_need() {
+        let of = |count| need(&Request::counted("", count, vec![0; 6]));
+        assert_eq!(of((1 << 57) + 4), of(4));
+        assert_eq!(of(u64::MAX), 1_024 + 128);
+        assert_eq!(of((1 << 57) - 10), 1);
+        assert_eq!(of(OFFICE + 1), MOST_REFUSED);
+    }
+}
