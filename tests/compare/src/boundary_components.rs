@@ -2,7 +2,7 @@
 //! it.
 
 use crate::boundary_meshes::{
-    cube, facets, from, polygon, retold, sheet, torus, turned, used, Facet, TETRAHEDRON,
+    cube, facets, from, polygon, retold, sheet, strip, torus, turned, used, Facet, TETRAHEDRON,
 };
 use crate::ceilings::{LISTED, OFFICE};
 use crate::chosen::{self, Room};
@@ -95,9 +95,20 @@ fn count_vertices(random: &mut Random, request: &mut Request) {
         0 => count.saturating_sub(1),
         1..=5 => count + 1,
         6..=9 => count + random.below(40) as u64,
-        10 if random.one_in(40) => random.pick(&[OFFICE - 1, OFFICE]),
+        10 if random.one_in(40) => at_the_end(random, request),
         _ => count,
     });
+}
+
+/// As many vertices as can be, of which the facets mostly name the last.
+fn at_the_end(random: &mut Random, request: &mut Request) -> u64 {
+    let count = random.pick(&[OFFICE - 1, OFFICE]);
+    if !random.one_in(4) && request.count() <= count {
+        for number in &mut request.facets {
+            *number = count as u32 - 1 - *number;
+        }
+    }
+    count
 }
 
 /// Breaks one thing: a length, a number, a count, the ceiling.
@@ -317,12 +328,6 @@ fn apart(random: &mut Random) -> Request {
     }
     retold(random, &mut list);
     named("apart and strips", list)
-}
-
-/// Each vertex with the two before it, all facets the same way round.
-pub fn strip(count: u32) -> Vec<Facet> {
-    let facet = |c: u32| [c - 2 + c % 2, c - 1 - c % 2, c];
-    (2..count).map(facet).collect()
 }
 
 #[cfg(test)]

@@ -49,6 +49,12 @@ pub fn torus(u: usize, v: usize) -> Vec<Facet> {
         .collect()
 }
 
+/// Each vertex with the two before it, all facets the same way round.
+pub fn strip(count: u32) -> Vec<Facet> {
+    let facet = |c: u32| [c - 2 + c % 2, c - 1 - c % 2, c];
+    (2..count).map(facet).collect()
+}
+
 /// A list as facets; it has a multiple of three numbers.
 pub fn facets(list: &[u32]) -> Vec<Facet> {
     list.chunks_exact(3)
@@ -127,6 +133,7 @@ mod tests {
     #[test]
     fn sheets_and_polygons_have_one_ring() {
         assert_eq!(told(&sheet(3, 4)), (vec![14], 0));
+        assert_eq!(told(&strip(9)), (vec![9], 0));
         assert_eq!(told(&polygon(&[4, 0, 3, 1, 2])), (vec![5], 0));
     }
 

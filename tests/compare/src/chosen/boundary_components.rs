@@ -24,7 +24,7 @@ fn mesh(family: &'static str, facets: &[Facet]) -> Request {
 }
 
 /// "C8's square has one slit, a ring of four."
-pub fn c8() -> Request {
+fn c8() -> Request {
     mesh("worked block", &[[0, 1, 2], [0, 2, 3]])
 }
 

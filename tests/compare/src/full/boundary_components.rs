@@ -2,8 +2,7 @@
 //! makes the outputs, a component or an edge's bearers as many as can be.
 
 use super::MOST;
-use crate::boundary_components::strip;
-use crate::boundary_meshes::{facets, retold, sheet, torus, Facet};
+use crate::boundary_meshes::{facets, from, retold, sheet, strip, torus, Facet};
 use crate::meshes;
 use crate::random::Random;
 use crate::request::Request;
@@ -15,11 +14,7 @@ fn holes() -> Vec<Facet> {
     let kept = |at: &usize| at / 2 % 10 != 7;
     let mut list: Vec<Facet> = (0..MOST).filter(kept).map(|at| whole[at]).collect();
     let missing = (MOST - list.len()) as u32;
-    list.extend(
-        apart(missing)
-            .iter()
-            .map(|facet| facet.map(|n| vertices + n)),
-    );
+    list.extend(from(vertices, &apart(missing)));
     list
 }
 
