@@ -48,6 +48,35 @@ pub fn surface(facets: usize, middle: f64, reach: f64) -> Mesh {
     }
 }
 
+/// A surface without some of its cells: every sixteenth of every sixteenth row.
+pub fn with_holes(mesh: &Mesh) -> Mesh {
+    let cells = ((mesh.count() / 2) as f64).sqrt() as usize;
+    let is_hole = |cell: usize| (cell / cells) % 16 == 8 && (cell % cells) % 16 == 8;
+    let list = mesh.facets.chunks_exact(6).enumerate();
+    Mesh {
+        vertices: mesh.vertices.clone(),
+        facets: list
+            .filter(|&(cell, _)| !is_hole(cell))
+            .flat_map(|(_, facets)| facets.to_vec())
+            .collect(),
+    }
+}
+
+/// The sheet's facets with its opposite sides made one, which leaves no edge open; the vertices
+/// of two of the sides are then unused.
+pub fn closed(facets: usize) -> Mesh {
+    let mut mesh = surface(facets, 0.5, 1.0);
+    let cells = ((mesh.count() / 2) as f64).sqrt() as usize;
+    for number in &mut mesh.facets {
+        let (i, j) = (
+            *number as usize / (cells + 1),
+            *number as usize % (cells + 1),
+        );
+        *number = (i % cells * (cells + 1) + j % cells) as u32;
+    }
+    mesh
+}
+
 /// A surface in one cell of the side 1e-12, which is the cells' side for eps 0: no two
 /// vertices join, and each is compared with all before it. What `count` has over
 /// the surface's vertices no facet uses.

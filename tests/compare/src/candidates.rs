@@ -15,7 +15,9 @@ pub const OPERATION: Operation = Operation {
     name: "candidates",
     number: 4,
     generate,
+    damage: meshes::damage,
     small: (19_683, lattice_facet),
+    small_room: None,
     chosen: chosen::candidates,
     need: |r| oracle::need_words(r.vertices.len() / 3, r.facets.len() / 3, 0, grid(r)),
     lengths: |r| {

@@ -15,7 +15,9 @@ pub const OPERATION: Operation = Operation {
     name: "caps",
     number: 5,
     generate,
+    damage: meshes::damage,
     small: (2_048 + 2 * 19_683, small),
+    small_room: None,
     chosen: chosen::caps,
     need: |r| {
         oracle::need_words(

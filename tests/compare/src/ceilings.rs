@@ -23,7 +23,7 @@ pub const LISTED: [u64; 7] = [0, 1, HANDHELD, OFFICE, OFFICE + 1, LOW_HALF_ZERO,
 
 /// Vertices and facets of a mesh.
 fn counts(request: &Request) -> [u64; 2] {
-    [request.vertices.len(), request.facets.len()].map(|length| length as u64 / 3)
+    [request.count(), request.facets.len() as u64 / 3]
 }
 
 fn admits(ceiling: u64, request: &Request) -> bool {
@@ -38,7 +38,8 @@ pub fn choose(random: &mut Random, request: &mut Request) {
     if !random.one_in(4) {
         return;
     }
-    let own = counts(request).map(|count| [count.saturating_sub(1), count, count + 1]);
+    let own =
+        counts(request).map(|count| [count.saturating_sub(1), count, count.saturating_add(1)]);
     request.ceiling = if random.one_in(3) {
         random.pick(&LISTED)
     } else {

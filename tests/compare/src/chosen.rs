@@ -2,6 +2,7 @@
 //! names, each refusal, and the refusals in their order; and some for the comparison alone,
 //! which are too large to be stored.
 
+mod boundary_components;
 mod candidates;
 mod caps;
 mod ceilings;
@@ -21,11 +22,15 @@ pub enum Room {
     /// Outputs longer than the result.
     Ample,
     Exact,
+    /// One element more than the result in every output.
+    OneMore,
     /// One word less than test 7 asks for.
     ShortWork,
     NoWork,
     /// One element less than the result in the output of this place.
     Short(usize),
+    /// The output of this place is empty, the others exact.
+    Empty(usize),
     NoOutput,
     /// Neither work room nor outputs.
     Nothing,
@@ -50,9 +55,11 @@ impl Chosen {
         match self.room {
             Room::Ample => request.outputs = request.outputs.map(|length| length + 4),
             Room::Exact => {}
+            Room::OneMore => request.outputs = request.outputs.map(|length| length + 1),
             Room::ShortWork => request.work -= 1,
             Room::NoWork => request.work = 0,
             Room::Short(place) => request.outputs[place] -= 1,
+            Room::Empty(place) => request.outputs[place] = 0,
             Room::NoOutput | Room::Nothing => request.outputs = [0; 4],
         }
         request
@@ -159,6 +166,10 @@ pub fn clean() -> Vec<Chosen> {
 
 pub fn candidates() -> Vec<Chosen> {
     candidates::chosen()
+}
+
+pub fn boundary_components() -> Vec<Chosen> {
+    boundary_components::chosen()
 }
 
 pub fn caps() -> Vec<Chosen> {

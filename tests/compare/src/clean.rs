@@ -13,7 +13,9 @@ pub const OPERATION: Operation = Operation {
     name: "clean",
     number: 3,
     generate,
+    damage: meshes::damage,
     small: (4_161, small_lists),
+    small_room: None,
     chosen: chosen::clean,
     need: |r| oracle::need_words(r.vertices.len() / 3, r.facets.len() / 3, 0, 0),
     lengths: |r| {

@@ -12,7 +12,9 @@ pub const OPERATION: Operation = Operation {
     name: "clip",
     number: 2,
     generate,
+    damage: meshes::damage,
     small: (LISTS + 262_144, small),
+    small_room: None,
     chosen: chosen::clip,
     need: |r| oracle::need_words(r.vertices.len() / 3, r.facets.len() / 3, 0, 0),
     lengths: |r| {

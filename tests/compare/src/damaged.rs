@@ -4,7 +4,7 @@ use crate::lent::Lent;
 use crate::operation::{compare, with_room, Operation};
 use crate::random::Random;
 use crate::report::Row;
-use crate::{meshes, Options};
+use crate::Options;
 
 /// Any request of the operation, damaged once to three times more.
 pub fn row(operation: &Operation, options: &Options, work: &mut Lent<u64>) -> Row {
@@ -14,7 +14,7 @@ pub fn row(operation: &Operation, options: &Options, work: &mut Lent<u64>) -> Ro
         let mut random = Random::new(options.seed, "damaged", 8 * number + operation.number);
         let mut request = (operation.generate)(&mut random, number);
         for _ in 0..1 + random.below(3) {
-            meshes::damage(&mut random, &mut request);
+            (operation.damage)(&mut random, &mut request);
         }
         let request = with_room(operation, &mut random, request, work);
         compare(&mut row, &request, work, (operation, ours), || {

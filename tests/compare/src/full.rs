@@ -3,6 +3,8 @@
 //! 65,536, 65,537 or 2^64 - 1, and what is done is asked again under the other two, which must
 //! change nothing. Then the handheld's: 4,096 vertices and facets, and one more of either.
 
+mod boundary_components;
+
 use crate::ceilings::{differs_under, HANDHELD, OFFICE};
 use crate::lent::Lent;
 use crate::meshes::{self, lattice};
@@ -288,7 +290,7 @@ fn timed(
         format!("full-size request {} of {}", request.family, operation.name)
     });
     println!(
-        "{:<11}{:<30} mode {} ceiling {} reply {} {:?} ours {seconds:.2} s, both {:.2} s{}",
+        "{:<20} {:<30} mode {} ceiling {} reply {} {:?} ours {seconds:.2} s, both {:.2} s{}",
         operation.name,
         request.family,
         request.mode,
@@ -313,6 +315,7 @@ pub fn row(operation: &Operation, options: &Options, work: &mut Lent<u64>) -> Ro
         "clip" => clip(&mut random),
         "clean" => clean(&mut random),
         "candidates" => closing(&mut random),
+        "boundary_components" => boundary_components::requests(&mut random),
         _ => caps(&mut random, work),
     };
     for (place, mut request) in requests.into_iter().enumerate() {

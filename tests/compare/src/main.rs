@@ -21,6 +21,8 @@
 //! Requests are numbered from 0; request I of a seed is made again by itself with
 //! `--only NAME --first I --requests 1`. Exits 1 at any difference.
 
+mod boundary_components;
+mod boundary_meshes;
 mod boxes;
 mod candidates;
 mod caps;
@@ -58,6 +60,7 @@ const OPERATIONS: &[Operation] = &[
     clean::OPERATION,
     candidates::OPERATION,
     caps::OPERATION,
+    boundary_components::OPERATION,
 ];
 
 pub struct Options {

@@ -1,7 +1,7 @@
 //! How an operation is compared: its generator, its oracle, our function.
 
 use crate::ceilings;
-use crate::chosen::{self, Chosen};
+use crate::chosen::{self, Chosen, Room};
 use crate::early;
 use crate::lent::{Cell, Lent};
 use crate::random::Random;
@@ -10,15 +10,19 @@ use crate::request::Request;
 use crate::Options;
 use oracle::Reply;
 
-/// One of clip, clean, candidates, caps. Each has a file that makes this record.
+/// One of clip, clean, candidates, caps, boundary_components. Each has a file that makes this record.
 pub struct Operation {
     pub name: &'static str,
     /// Its number in a file of stored answers.
     pub number: u64,
     /// Makes request number `n`; ceiling, work room and outputs are chosen afterwards.
     pub generate: fn(&mut Random, u64) -> Request,
+    /// Breaks one thing of a request.
+    pub damage: fn(&mut Random, &mut Request),
     /// How many small requests there are, and the one of a number: all of a kind, in turn.
     pub small: (u64, fn(&mut Random, u64) -> Request),
+    /// What a small request is lent; chosen at random, with its ceiling, where this is nothing.
+    pub small_room: Option<Room>,
     /// Requests that a file of stored answers has in any case.
     pub chosen: fn() -> Vec<Chosen>,
     /// Words of work room that test 7 asks for.
@@ -97,15 +101,14 @@ pub fn mesh_answer(
     )
 }
 
-/// Calls candidates, which writes four lists of words.
-pub fn lists_answer(
+/// Calls an operation that writes lists of words.
+pub fn lists_answer<const N: usize>(
     request: &Request,
     work: &mut Lent<u64>,
-    call: impl FnOnce(&mut [u64], [&mut [u64]; 4]) -> Reply,
+    call: impl FnOnce(&mut [u64], [&mut [u64]; N]) -> Reply,
 ) -> Answer {
-    let mut lists = request
-        .outputs
-        .map(|length| Lent::<u64>::new(length, work.old()));
+    let mut lists: [Lent<u64>; N] =
+        std::array::from_fn(|place| Lent::new(request.outputs[place], work.old()));
     let reply = call(work.lend(request.work), lists.each_mut().map(Lent::slice));
     let guards = lists.iter().all(Lent::guards_stand);
     answer(

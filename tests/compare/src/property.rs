@@ -9,7 +9,12 @@
 //! the two volumes add up to the box's within VOLUME_BOUND of it.
 //!
 //! For each condition a request is kept that breaks it, with the open edges that it gives.
+//!
+//! The surface, what clipping and cleaning leave of it, and the closed meshes are each asked for
+//! their boundary too: it has to be what the sides say when they are counted here, and nothing
+//! exactly if the mesh is closed (property/boundaries.rs).
 
+mod boundaries;
 mod kept;
 
 use crate::lent::{Lent, Old};
@@ -18,6 +23,7 @@ use crate::random::Random;
 use crate::request::Request;
 use crate::triangulation::{by_face, sound_list, AXES};
 use crate::{candidates, caps, clean, clip, meshes, Options};
+use boundaries::Told;
 use std::collections::{BTreeMap, HashSet};
 use std::process::ExitCode;
 
@@ -50,9 +56,21 @@ enum End {
 struct Library<'a> {
     options: &'a Options,
     work: Lent<u64>,
+    /// How many boundaries were asked for, and how many of them are nothing.
+    boundaries: u64,
+    nothing_told: u64,
 }
 
-impl Library<'_> {
+impl<'a> Library<'a> {
+    fn new(options: &'a Options) -> Self {
+        Library {
+            options,
+            work: Lent::new(0, Old::Junk),
+            boundaries: 0,
+            nothing_told: 0,
+        }
+    }
+
     /// The outputs of an operation, cut to the lengths that it answered.
     fn run(&mut self, operation: &Operation, request: &Request) -> Result<Vec<Vec<u64>>, End> {
         let ask = operation.asked(self.options);
@@ -78,7 +96,8 @@ impl Library<'_> {
     fn mesh(&mut self, operation: &Operation, request: &mut Request) -> Result<(), End> {
         let outputs = self.run(operation, request)?;
         (request.vertices, request.facets) = mesh(&outputs);
-        Ok(())
+        self.boundary(&request.vertices, &request.facets)
+            .map(|_| ())
     }
 
     /// The supplied list of a mesh with its candidates; `None` if there is nothing to close.
@@ -232,6 +251,7 @@ fn surface(random: &mut Random) -> Request {
 fn tried(library: &mut Library, mut request: Request) -> Result<f64, End> {
     let left = |reason: &str| Err(End::Left(reason.into()));
     let fails = |text: String| Err(End::Fails(text));
+    library.boundary(&request.vertices, &request.facets)?;
     library.mesh(&OPERATIONS[0], &mut request)?;
     library.mesh(&OPERATIONS[1], &mut request)?;
     if shares_a_key(&request) {
@@ -254,7 +274,11 @@ fn tried(library: &mut Library, mut request: Request) -> Result<f64, End> {
     }
     request.caps = list.concat();
     let closed = library.closed(&request)?;
-    for (mode, (_, facets)) in closed.iter().enumerate() {
+    for (mode, (vertices, facets)) in closed.iter().enumerate() {
+        let told = library.boundary(vertices, facets)?;
+        if told != Told::Nothing {
+            return fails(format!("mode {}: a boundary is told", mode + 1));
+        }
         let open = open_edges(facets);
         if !open.is_empty() {
             return fails(format!("mode {}: open edges {open:?}", mode + 1));
@@ -274,10 +298,7 @@ fn tried(library: &mut Library, mut request: Request) -> Result<f64, End> {
 
 /// Runs the kept requests and those of a seed; prints what was met.
 pub fn run(options: &Options) -> ExitCode {
-    let mut library = Library {
-        options,
-        work: Lent::new(0, Old::Junk),
-    };
+    let mut library = Library::new(options);
     let mut failures = kept::failures(&mut library);
     let (mut closed, mut largest) = (0, 0f64);
     let mut left: BTreeMap<String, u64> = BTreeMap::new();
@@ -299,6 +320,10 @@ pub fn run(options: &Options) -> ExitCode {
         "property    {:>10} requests, {failures} failures",
         options.requests
     );
+    println!(
+        "{:>22} boundaries asked for, {} of them nothing",
+        library.boundaries, library.nothing_told
+    );
     println!("{closed:>22} closed in both modes; volumes add up within {largest:.2e} of the box's");
     for (reason, count) in left {
         println!("{count:>22} left: {reason}");
@@ -319,10 +344,7 @@ mod tests {
     fn oracle_closes() {
         let mut options = crate::Options::default();
         options.self_check = true;
-        let mut library = Library {
-            options: &options,
-            work: Lent::new(0, Old::Junk),
-        };
+        let mut library = Library::new(&options);
         assert_eq!(kept::failures(&mut library), 0);
         let mut closed = 0;
         for number in 0..200 {

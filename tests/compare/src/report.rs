@@ -9,7 +9,7 @@ pub struct Row {
     pub requests: u64,
     pub replies: [u64; 13],
     /// How often it was done at each point of `early`.
-    pub early: [u64; 4],
+    pub early: [u64; 5],
     /// What test 2 went by, as `ceilings` names it.
     pub over: [u64; 5],
     /// How often ours was asked again under another ceiling.
@@ -27,7 +27,7 @@ impl Row {
             name,
             requests: 0,
             replies: [0; 13],
-            early: [0; 4],
+            early: [0; 5],
             over: [0; 5],
             again: 0,
             differences: 0,
@@ -53,11 +53,11 @@ fn table(title: &str, names: &[&str], rows: &[&Row], counts: fn(&Row) -> Vec<u64
     if rows.is_empty() {
         return;
     }
-    print!("\n{title:<12}");
+    print!("\n{title:<20}");
     names.iter().for_each(|name| print!("{name:>15}"));
     println!();
     for row in rows {
-        print!("{:<12}", row.name);
+        print!("{:<20}", row.name);
         counts(row).iter().for_each(|count| print!("{count:>15}"));
         println!();
     }
@@ -65,11 +65,11 @@ fn table(title: &str, names: &[&str], rows: &[&Row], counts: fn(&Row) -> Vec<u64
 
 /// Prints the tables; answers whether nothing differed.
 pub fn print(rows: &[Row]) -> bool {
-    print!("{:<12}{:>10}{:>10}", "operation", "requests", "done");
+    print!("{:<20}{:>10}{:>10}", "operation", "requests", "done");
     (1..13).for_each(|number| print!("{number:>8}"));
     println!("{:>13}", "differences");
     for row in rows {
-        print!("{:<12}{:>10}{:>10}", row.name, row.requests, row.replies[0]);
+        print!("{:<20}{:>10}{:>10}", row.name, row.requests, row.replies[0]);
         row.replies[1..]
             .iter()
             .for_each(|count| print!("{count:>8}"));

@@ -1,5 +1,5 @@
-//! A request to one of the four mesh operations. An operation reads its fields and
-//! leaves the others; so a request made for one serves for all.
+//! A request to one of the mesh operations. An operation reads its fields and leaves the
+//! others; so a request made for one serves for all.
 
 use crate::ceilings::OFFICE;
 use crate::random::Random;
@@ -11,6 +11,8 @@ pub struct Request {
     /// The family of requests that it comes from.
     pub family: &'static str,
     pub vertices: Vec<f64>,
+    /// Stands for a list of vertices where an operation asks for their count alone.
+    pub vertex_count: Option<u64>,
     pub facets: Vec<u32>,
     /// Four words a cap triangle.
     pub caps: Vec<u64>,
@@ -38,6 +40,7 @@ impl Request {
         Request {
             family,
             vertices,
+            vertex_count: None,
             facets,
             caps: Vec::new(),
             extents,
@@ -48,6 +51,20 @@ impl Request {
             work: 0,
             outputs: [0; 4],
         }
+    }
+
+    /// A mesh whose vertices are only counted. What is not asked for is 0.
+    pub fn counted(family: &'static str, vertex_count: u64, facets: Vec<u32>) -> Self {
+        let mut request = Request::new(family, Vec::new(), facets, [0.0; 6], 0.0);
+        request.vertex_count = Some(vertex_count);
+        request.resolution = 0.0;
+        request.mode = 0;
+        request
+    }
+
+    /// How many vertices the mesh has.
+    pub fn count(&self) -> u64 {
+        self.vertex_count.unwrap_or(self.vertices.len() as u64 / 3)
     }
 
     /// The facets as the reference takes them.
@@ -73,9 +90,10 @@ impl Request {
             text
         };
         format!(
-            "family {}\nvertices ({} elements)\n{}facets {:?}\ncaps {:?}\nbox\n{}eps{}resolution{}\
+            "family {}\n{} vertices ({} elements)\n{}facets {:?}\ncaps {:?}\nbox\n{}eps{}resolution{}\
              mode {}  ceiling {}  work {}  outputs {:?}\n",
             self.family,
+            self.count(),
             self.vertices.len(),
             hex(&self.vertices, 3),
             self.facets,

@@ -31,7 +31,8 @@ fn all_counted() -> impl Iterator<Item = Request> {
     (0..=MOST as u64 + 1).flat_map(under)
 }
 
-/// Ceiling, work room and outputs, and what the family leaves open, are chosen at random.
+/// Ceiling, work room and outputs are chosen at random if the operation says nothing of them,
+/// and so is what the family leaves open.
 pub fn row(operation: &Operation, options: &Options, work: &mut Lent<u64>) -> Row {
     let mut row = Row::new(operation.name);
     let ours = operation.asked(options);
@@ -39,7 +40,10 @@ pub fn row(operation: &Operation, options: &Options, work: &mut Lent<u64>) -> Ro
     for turn in 0..count {
         let mut random = Random::new(options.seed, "small", turn);
         let request = small(&mut random, turn);
-        let request = with_room(operation, &mut random, request, work);
+        let request = match operation.small_room {
+            Some(room) => Chosen { request, room }.with_room(operation, work),
+            None => with_room(operation, &mut random, request, work),
+        };
         compare(&mut row, &request, work, (operation, ours), || {
             format!(
                 "small request {turn} of {}, seed {}",

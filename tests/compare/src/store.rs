@@ -8,7 +8,7 @@
 use crate::lent::{Cell, Lent, Old};
 use crate::operation::{self, Answer, Operation};
 use crate::request::Request;
-use crate::{tolerance, Options, OPERATIONS};
+use crate::{boundary_components, tolerance, Options, OPERATIONS};
 use std::collections::BTreeMap;
 use std::process::ExitCode;
 
@@ -16,9 +16,11 @@ use std::process::ExitCode;
 const MAGIC: u64 = u64::from_le_bytes(*b"yongpham");
 /// 1 had a head of 24 words, without a ceiling.
 const FORMAT: u64 = 2;
-/// Words in front of the lists of a request, those behind the ceiling free.
+/// Words in front of the lists of a request, those behind the vertex count free.
 const HEAD: usize = 32;
 const TOLERANCE: u64 = 1;
+/// Its requests have a count of vertices in place of coordinates.
+const BOUNDARY_COMPONENTS: u64 = boundary_components::OPERATION.number;
 /// How many boxes the file gets.
 const TOLERANCES: usize = 250;
 /// A mesh operation that the program replays, and how many of its requests the file gets beside
@@ -63,6 +65,13 @@ const REPLAYED: &[Replayed] = &[
         most: 285,
         largest: 500,
         of_a_kind: 5,
+        any_reply: true,
+    },
+    Replayed {
+        name: "boundary_components",
+        most: 200,
+        largest: 100,
+        of_a_kind: 4,
         any_reply: true,
     },
 ];
@@ -116,6 +125,7 @@ fn record(number: u64, request: &Request, answer: &Answer) -> Vec<u64> {
     words.push(answer.reply.number.into());
     words.extend(answer.reply.values);
     words.push(request.ceiling);
+    words.push(request.vertex_count.unwrap_or(0));
     words.resize(HEAD, 0);
     words.extend(request.vertices.iter().map(|x| x.bits()));
     words.extend(request.facets.iter().map(|x| x.bits()));
@@ -144,6 +154,7 @@ fn request(words: &[u64]) -> Request {
     request.resolution = double(13);
     request.mode = words[5] as u32;
     request.ceiling = words[24];
+    request.vertex_count = (words[1] == BOUNDARY_COMPONENTS).then_some(words[25]);
     request.work = length(14);
     request.outputs = [15, 16, 17, 18].map(length);
     request

@@ -1,10 +1,9 @@
-//! Open boundaries listed (document 02, E13), written from its paragraph: plain maps, and
-//! chains followed edge by edge.
+//! Open boundaries listed (document 02, E13), written from its paragraph: sides sorted by their
+//! pair, and chains followed edge by edge.
 
 use crate::refusals::*;
 use crate::reply::{finish, room, write_front};
 use crate::Reply;
-use std::collections::BTreeMap;
 
 type Pair = (u32, u32);
 
@@ -27,27 +26,28 @@ pub fn boundary_components(
     out_irregular: &mut [u64],
 ) -> Reply {
     let outcome = tested(vertex_count, facets, ceiling, work).and_then(|()| {
-        let found = boundary(facets);
-        let edges = words(found.components.iter().flatten());
-        let components: Vec<u64> = found
-            .components
-            .iter()
-            .flat_map(|c| [c.len() as u64, u64::from(is_ring(c))])
-            .collect();
-        let irregular = words(&found.irregular);
-        room(&edges, out_edges)?;
-        room(&components, out_components)?;
-        room(&irregular, out_irregular)?;
-        write_front(&edges, out_edges);
-        write_front(&components, out_components);
-        write_front(&irregular, out_irregular);
-        Ok(Reply::done(&[
-            edges.len(),
-            components.len(),
-            irregular.len(),
-        ]))
+        let lists = boundary_lists(facets);
+        let mut outputs = [out_edges, out_components, out_irregular];
+        for (list, output) in lists.iter().zip(&outputs) {
+            room(list, output)?;
+        }
+        for (list, output) in lists.iter().zip(&mut outputs) {
+            write_front(list, output);
+        }
+        Ok(Reply::done(&lists.map(|list| list.len())))
     });
     finish(outcome, work)
+}
+
+/// The three outputs as words.
+pub fn boundary_lists(facets: &[u32]) -> [Vec<u64>; 3] {
+    let found = boundary(facets);
+    let component = |edges: &Vec<Pair>| [edges.len() as u64, u64::from(is_ring(edges))];
+    [
+        words(found.components.iter().flatten()),
+        found.components.iter().flat_map(component).collect(),
+        words(&found.irregular),
+    ]
 }
 
 fn words<'a>(pairs: impl IntoIterator<Item = &'a Pair>) -> Vec<u64> {
@@ -74,43 +74,41 @@ fn tested(vertex_count: u64, facets: &[u32], ceiling: u64, work: &[u64]) -> Resu
     Ok(())
 }
 
+/// The pair of a side, smaller vertex first, and whether the side runs down: "an edge a, a
+/// counts as the same way".
+fn sides(facet: &[u32]) -> [(Pair, bool); 3] {
+    [(0, 1), (1, 2), (2, 0)].map(|(from, to)| {
+        let (from, to) = (facet[from], facet[to]);
+        ((from.min(to), from.max(to)), from > to)
+    })
+}
+
 pub fn boundary(facets: &[u32]) -> Boundary {
-    let mut bearers: BTreeMap<Pair, Vec<Pair>> = BTreeMap::new();
-    for facet in facets.chunks(3) {
-        for (from, to) in [
-            (facet[0], facet[1]),
-            (facet[1], facet[2]),
-            (facet[2], facet[0]),
-        ] {
-            bearers
-                .entry((from.min(to), from.max(to)))
-                .or_default()
-                .push((from, to));
+    let mut all: Vec<(Pair, bool)> = facets.chunks(3).flat_map(sides).collect();
+    all.sort_unstable();
+    let (mut open, mut irregular) = (Vec::new(), Vec::new());
+    for bearers in all.chunk_by(|one, other| one.0 == other.0) {
+        let pair = bearers[0].0;
+        match bearers {
+            [_] => open.push(pair),
+            [one, other] if one.1 != other.1 => {}
+            _ => irregular.push(pair),
         }
     }
-    let open: Vec<Pair> = bearers
-        .iter()
-        .filter(|(_, sides)| sides.len() == 1)
-        .map(|(&pair, _)| pair)
-        .collect();
-    let irregular = |sides: &[Pair]| sides.len() > 2 || (sides.len() == 2 && sides[0] == sides[1]);
     Boundary {
         components: chained(&open),
-        irregular: bearers
-            .iter()
-            .filter(|(_, sides)| irregular(sides))
-            .map(|(&pair, _)| pair)
-            .collect(),
+        irregular,
     }
 }
 
 /// "Open edges joined by a chain of shared vertices are one slit. Slits come in order of their
 /// smallest edge, and edges ascend within each": the edges ascend already.
 fn chained(open: &[Pair]) -> Vec<Vec<Pair>> {
-    let mut at_vertex: BTreeMap<u32, Vec<usize>> = BTreeMap::new();
+    let vertices = open.iter().map(|edge| edge.1 + 1).max().unwrap_or(0);
+    let mut at_vertex = vec![Vec::new(); vertices as usize];
     for (place, &(a, b)) in open.iter().enumerate() {
-        at_vertex.entry(a).or_default().push(place);
-        at_vertex.entry(b).or_default().push(place);
+        at_vertex[a as usize].push(place);
+        at_vertex[b as usize].push(place);
     }
     let mut seen = vec![false; open.len()];
     let mut all = Vec::new();
@@ -123,10 +121,13 @@ fn chained(open: &[Pair]) -> Vec<Vec<Pair>> {
         while next < reached.len() {
             let (a, b) = open[reached[next]];
             next += 1;
-            for &place in at_vertex[&a].iter().chain(&at_vertex[&b]) {
-                if !seen[place] {
-                    seen[place] = true;
-                    reached.push(place);
+            for vertex in [a, b] {
+                // Once is enough for a vertex.
+                for place in std::mem::take(&mut at_vertex[vertex as usize]) {
+                    if !seen[place] {
+                        seen[place] = true;
+                        reached.push(place);
+                    }
                 }
             }
         }
@@ -139,15 +140,9 @@ fn chained(open: &[Pair]) -> Vec<Vec<Pair>> {
 /// "It is a ring exactly if no edge joins a vertex to itself and each of its vertices is an end
 /// of exactly two of its edges."
 fn is_ring(component: &[Pair]) -> bool {
-    let mut edges_at: BTreeMap<u32, u32> = BTreeMap::new();
-    for &(a, b) in component {
-        if a == b {
-            return false;
-        }
-        *edges_at.entry(a).or_default() += 1;
-        *edges_at.entry(b).or_default() += 1;
-    }
-    edges_at.values().all(|&edges| edges == 2)
+    let mut ends: Vec<u32> = component.iter().flat_map(|&(a, b)| [a, b]).collect();
+    ends.sort_unstable();
+    component.iter().all(|(a, b)| a != b) && ends.chunk_by(u32::eq).all(|edges| edges.len() == 2)
 }
 
 #[cfg(test)]
@@ -195,6 +190,22 @@ mod tests {
         assert_eq!(told(&[0, 0, 1]), (vec![(1, false)], vec![]));
         assert_eq!(told(&[0, 0, 0]), (vec![], vec![(0, 0)]));
         assert_eq!(told(&[0, 0, 1, 0, 0, 2]), (vec![], vec![(0, 0)]));
+    }
+
+    /// Edges are grouped by components, and those come in the order of their smallest edges.
+    #[test]
+    fn order() {
+        let found = boundary(&[1, 2, 4, 0, 3, 5]);
+        let expected = [vec![(0, 3), (0, 5), (3, 5)], vec![(1, 2), (1, 4), (2, 4)]];
+        assert_eq!(found.components, expected);
+    }
+
+    /// As many edges as vertices, and no ring: a triangle with a tail.
+    #[test]
+    fn a_tail() {
+        let (components, irregular) = told(&[0, 1, 2, 2, 3, 4, 3, 4, 4, 2, 4, 4]);
+        assert_eq!(components, [(4, false)]);
+        assert_eq!(irregular, [(2, 4), (3, 4), (4, 4)]);
     }
 
     /// Two facets alike: each edge is borne twice the same way; turned round, nothing is told.

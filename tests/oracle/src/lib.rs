@@ -48,7 +48,7 @@ mod lent;
 #[cfg(test)]
 mod worked_blocks;
 
-pub use boundary_components::{boundary, boundary_components, Boundary};
+pub use boundary_components::{boundary, boundary_components, boundary_lists, Boundary};
 pub use candidates::candidates;
 pub use caps::caps;
 pub use clean::clean;

@@ -1,5 +1,6 @@
 //! Requests that break a condition each, and the open edges that closing leaves.
 
+use super::boundaries::Told;
 use super::{
     has_a_small_cap, has_an_unused_vertex, is_full, open_edges, shares_a_key, End, Library, Pairs,
 };
@@ -148,9 +149,14 @@ impl Kept {
             return Err(End::Fails("cleaning changes it".into()));
         }
         request.caps = list.concat();
-        let open = library
-            .closed(&request)?
-            .map(|(_, facets)| open_edges(&facets));
+        let closed = library.closed(&request)?;
+        for ((vertices, facets), open) in closed.iter().zip(&self.open) {
+            let told = library.boundary(vertices, facets)?;
+            if open.is_empty() != (told == Told::Nothing) {
+                return Err(End::Fails(format!("boundary: {told:?}")));
+            }
+        }
+        let open = closed.map(|(_, facets)| open_edges(&facets));
         if open != self.open {
             return Err(End::Fails(format!("open edges {open:?}")));
         }
