@@ -15,7 +15,9 @@ use yongpham_library::Extents;
 const SAME_WAY: &str = "borne by two facet sides that run the same way: a facet beside it is turned round";
 const OVERLAPS: &str =
     "borne by more than two facets, not as many one way as the other: parts of the surface overlap or face the wrong way";
-const TOUCHES: &str =
+const TOUCHES: &str = "borne by two facets or more each way: the mesh touches itself there, or parts of it stand twice";
+/// The same of a solid in its box.
+const TOUCHES_BOX: &str =
     "borne by two facets or more each way: the solid touches itself there, as it does where the surface touches a face of the \
 box without passing through it; a box whose face stands a little off does not";
 
@@ -57,13 +59,17 @@ pub fn verdict(library: &mut Library, mesh: &Mesh, extents: &Extents) -> Verdict
         return Verdict::Empty;
     }
     match edges::list(library, mesh.vertex_count(), &mesh.facets) {
-        Ok(edges) => of_edges(mesh, &edges).unwrap_or_else(|| sized(mesh, extents)),
+        Ok(edges) => judged(mesh, &edges, TOUCHES_BOX).unwrap_or_else(|| sized(mesh, extents)),
         Err(why) => Verdict::NotChecked(not_checked(mesh, &why)),
     }
 }
 
-/// What the lists say is wrong; nothing exactly if they are empty.
+/// What the lists say is wrong with any mesh; nothing exactly if they are empty.
 pub fn of_edges(mesh: &Mesh, edges: &Edges) -> Option<Verdict> {
+    judged(mesh, edges, TOUCHES)
+}
+
+fn judged(mesh: &Mesh, edges: &Edges, touches: &str) -> Option<Verdict> {
     if edges.are_sound() {
         return None;
     }
@@ -77,7 +83,7 @@ pub fn of_edges(mesh: &Mesh, edges: &Edges) -> Option<Verdict> {
     if let Some(fault) = found(mesh, &edges.open, &format!("borne by one facet only{grouped}")) {
         return Some(Verdict::Open(fault));
     }
-    let fault = found(mesh, &of(Irregular::Overlaps), OVERLAPS).or_else(|| found(mesh, &of(Irregular::Touches), TOUCHES));
+    let fault = found(mesh, &of(Irregular::Overlaps), OVERLAPS).or_else(|| found(mesh, &of(Irregular::Touches), touches));
     // Lists that are not empty are never taken for empty ones.
     let none = || Fault { what: "the library lists a component without an edge".into(), edges: vec![] };
     Some(Verdict::TurnedWrong(fault.unwrap_or_else(none)))
@@ -158,13 +164,13 @@ mod tests {
     const CORNERS: [f64; 12] = [0., 0., 0., 2., 0., 0., 0., 2., 0., 0., 0., 2.];
     const FACETS: [u32; 12] = [0, 2, 1, 0, 1, 3, 0, 3, 2, 1, 2, 3];
 
-    fn judged(corners: &[f64], facets: &[u32], extents: &Extents) -> Verdict {
+    fn given(corners: &[f64], facets: &[u32], extents: &Extents) -> Verdict {
         let mesh = Mesh { vertices: corners.to_vec(), facets: facets.to_vec() };
         verdict(&mut Library::default(), &mesh, extents)
     }
 
     fn told(facets: &[u32]) -> (String, String) {
-        match judged(&CORNERS, facets, &UNIT) {
+        match given(&CORNERS, facets, &UNIT) {
             Verdict::Open(fault) => (format!("open: {}", fault.what), fault.place()),
             Verdict::TurnedWrong(fault) => (format!("turned: {}", fault.what), fault.place()),
             other => (format!("{other:?}"), String::new()),
@@ -173,7 +179,7 @@ mod tests {
 
     #[test]
     fn a_tetrahedron_is_closed() {
-        let Verdict::Closed(volume) = judged(&CORNERS, &FACETS, &UNIT) else {
+        let Verdict::Closed(volume) = given(&CORNERS, &FACETS, &UNIT) else {
             panic!("{:?}", told(&FACETS));
         };
         assert!((volume.value - 8.0 / 6.0).abs() <= volume.bound);
@@ -217,7 +223,7 @@ mod tests {
     #[test]
     fn a_solid_larger_than_the_box_is_not_closed() {
         let small = [0., 0., 0., 1., 1., 1.];
-        let verdict = judged(&CORNERS, &FACETS, &small);
+        let verdict = given(&CORNERS, &FACETS, &small);
         assert!(matches!(verdict, Verdict::TurnedWrong(fault) if fault.what.contains("over the box's 1.0")));
     }
 
@@ -225,8 +231,36 @@ mod tests {
     #[test]
     fn the_whole_box_and_nothing_are_in_range() {
         let flat = [0., 0., 0., 2., 0., 0., 0., 2., 0., 1., 1., 0.];
-        assert!(matches!(judged(&flat, &FACETS, &UNIT), Verdict::Closed(v) if v.value == 0.0));
+        assert!(matches!(given(&flat, &FACETS, &UNIT), Verdict::Closed(v) if v.value == 0.0));
         let hull: Extents = [0., 0., 0., 2.0 / 3.0, 1.0, 2.0];
-        assert!(matches!(judged(&CORNERS, &FACETS, &hull), Verdict::Closed(_)));
+        assert!(matches!(given(&CORNERS, &FACETS, &hull), Verdict::Closed(_)));
+    }
+
+    /// By the rule of the lists: closed needs all three empty, whatever they hold.
+    #[test]
+    fn no_list_that_holds_something_is_closed() {
+        let mesh = Mesh { vertices: CORNERS.to_vec(), facets: FACETS.to_vec() };
+        let none = Edges { open: vec![], components: Some(vec![]), irregular: vec![] };
+        assert_eq!(of_edges(&mesh, &none), None);
+        assert_eq!(of_edges(&mesh, &Edges { components: None, ..none.clone() }), None);
+        let component = edges::Component { edges: 0, ring: false };
+        for lists in [
+            Edges { open: vec![[0, 1]], ..none.clone() },
+            Edges { components: Some(vec![component]), ..none.clone() },
+            Edges { irregular: vec![[0, 1]], ..none.clone() },
+            Edges { irregular: vec![[7, 9]], components: None, ..none },
+        ] {
+            assert!(matches!(of_edges(&mesh, &lists), Some(Verdict::Open(_) | Verdict::TurnedWrong(_))), "{lists:?}");
+        }
+    }
+
+    /// 70,000 facets at one edge: nothing can be said, which is not closed.
+    #[test]
+    fn what_was_not_checked_is_told() {
+        let vertices = (0..70_002).flat_map(|id| [f64::from(id), 0.0, 0.0]).collect();
+        let book = Mesh { vertices, facets: (2..70_002).flat_map(|id| [0, 1, id]).collect() };
+        let Verdict::NotChecked(why) = verdict(&mut Library::default(), &book, &UNIT) else { panic!("checked") };
+        let told = "70000 facets meet at the edge (0.0 0.0 0.0) to (1.0 0.0 0.0), and the library takes up to 65,536 facets";
+        assert!(why.starts_with(told), "{why}");
     }
 }

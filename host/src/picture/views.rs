@@ -151,7 +151,7 @@ fn lines(edges: &Edges) -> Vec<Lines<'_>> {
         }
     }
     if !edges.irregular.is_empty() {
-        let words = counted(edges.irregular.len(), "irregular edge");
+        let words = format!("{}, dashed", counted(edges.irregular.len(), "irregular edge"));
         lines.push(Lines { edges: &edges.irregular, colour: IRREGULAR, dashed: true, words });
     }
     lines
@@ -202,5 +202,74 @@ fn legend(svg: &mut String, mesh: &Mesh, lines: &[Lines], top: f64) {
             MARGIN + 26.0,
             y + 13.0
         );
+    }
+}
+
+#[cfg(test)]
+mod tests {
+    use super::*;
+
+    fn square(vertices: &[f64]) -> Mesh {
+        Mesh { vertices: vertices.to_vec(), facets: vec![0, 1, 2, 0, 2, 3] }
+    }
+
+    const SQUARE: [f64; 12] = [0., 0., 0.5, 1., 0., 0.5, 1., 1., 0.5, 0., 1., 0.5];
+
+    fn ring() -> Edges {
+        let open = vec![[0, 1], [0, 3], [1, 2], [2, 3]];
+        Edges { open, components: Some(vec![Component { edges: 4, ring: true }]), irregular: vec![] }
+    }
+
+    #[test]
+    fn each_open_edge_is_a_line_in_each_view() {
+        let drawn = draw(&square(&SQUARE), &ring(), "a < b & c");
+        assert_eq!((drawn.svg.matches("<line ").count(), drawn.left_out), (12, 0));
+        assert_eq!(drawn.svg.matches("class=\"open\" stroke=\"#e00000\"").count(), 3);
+        assert!(drawn.svg.contains("<title>a &lt; b &amp; c</title>") && drawn.svg.contains(">component 1: 4 open edges, a ring<"));
+        // A unit of space is 420 of the picture; up is up.
+        assert!(drawn.svg.contains("<line x1=\"30.0\" y1=\"450.0\" x2=\"450.0\" y2=\"450.0\"/>"), "{}", drawn.svg);
+    }
+
+    #[test]
+    fn components_have_colours_in_turn_and_irregular_edges_are_dashed() {
+        let components = vec![Component { edges: 1, ring: false }; 20];
+        let edges = Edges { open: vec![[0, 1]; 20], components: Some(components), irregular: vec![[1, 2], [2, 3]] };
+        let svg = draw(&square(&SQUARE), &edges, "").svg;
+        assert_eq!(svg.matches("<line ").count(), 3 * 22);
+        assert_eq!(svg.matches("class=\"open\" stroke=\"#e00000\"").count(), 3 * 3);
+        assert_eq!(svg.matches("class=\"irregular\" stroke=\"#dc00b4\"").count(), 3);
+        assert!(svg.contains("stroke-dasharray") && svg.contains(">2 irregular edges, dashed<"));
+        assert!(svg.contains(">component 16: 1 open edge<") && !svg.contains(">component 17"));
+        assert!(svg.contains(">and 4 further components, in the same colours again<"));
+        let ungrouped = draw(&square(&SQUARE), &Edges { components: None, ..edges }, "").svg;
+        assert!(ungrouped.contains(">20 open edges, not grouped<"));
+        assert_eq!(ungrouped.matches("<line ").count(), 3 * 22);
+    }
+
+    /// What cannot be drawn is left out and counted; what is very large, very small or a single point is drawn.
+    #[test]
+    fn no_coordinate_makes_a_picture_that_is_none() {
+        let numbers = |svg: &str| !["NaN", "inf"].iter().any(|word| svg.contains(word));
+        for (value, left_out) in [(f64::NAN, 2), (f64::INFINITY, 2), (-1e300, 2), (1e100, 0), (1e-320, 0)] {
+            let mut vertices = SQUARE;
+            vertices[4] = value;
+            let drawn = draw(&square(&vertices), &ring(), "");
+            assert_eq!(drawn.left_out, left_out, "{value}");
+            assert_eq!(drawn.svg.matches("<line ").count(), 3 * (4 - left_out), "{value}");
+            assert!(numbers(&drawn.svg), "{value}");
+        }
+        for all in [0.0, 1e100, 1e-320, f64::NAN] {
+            let drawn = draw(&square(&[all; 12]), &ring(), "");
+            assert!(numbers(&drawn.svg), "{all}");
+        }
+        assert!(numbers(&draw(&Mesh::default(), &Edges { open: vec![], components: None, irregular: vec![] }, "").svg));
+    }
+
+    #[test]
+    fn of_a_large_mesh_a_part_is_drawn_and_told() {
+        let mesh = Mesh { vertices: SQUARE.to_vec(), facets: [0, 1, 2].repeat(250_000) };
+        let svg = draw(&mesh, &ring(), "").svg;
+        assert!(svg.contains(">the mesh, 250000 facets, one in 3 drawn<"));
+        assert_eq!(svg.matches('M').count(), 3 * 83_334);
     }
 }
