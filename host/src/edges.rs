@@ -106,18 +106,29 @@ fn in_windows(library: &mut Library, vertices: usize, facets: &[u32], most: usiz
     while !rest.is_empty() {
         let (window, behind) = rest.split_at(window_length(rest, most));
         let (open, irregular) = listed(library, window, facets)?;
-        edges.open.extend(open);
-        edges.irregular.extend(irregular);
+        append(&mut edges.open, &open)?;
+        append(&mut edges.irregular, &irregular)?;
         rest = behind;
     }
     Ok(edges)
 }
 
+/// Room for more; a mesh may be larger than the machine.
+fn reserve<T>(list: &mut Vec<T>, more: usize) -> Result<(), Unlisted> {
+    let bytes = (list.len() + more) as u64 * size_of::<T>() as u64;
+    list.try_reserve(more).map_err(|_| Unlisted::Stop(Stop::NoMemory(bytes)))
+}
+
+fn append(list: &mut Vec<Edge>, more: &[Edge]) -> Result<(), Unlisted> {
+    reserve(list, more.len())?;
+    list.extend(more);
+    Ok(())
+}
+
 /// The sides in the order of their edges.
 fn sides(facets: &[u32]) -> Result<Vec<Side>, Unlisted> {
     let mut sides: Vec<Side> = Vec::new();
-    let bytes = facets.len() as u64 * size_of::<Side>() as u64;
-    sides.try_reserve_exact(facets.len()).map_err(|_| Unlisted::Stop(Stop::NoMemory(bytes)))?;
+    reserve(&mut sides, facets.len())?;
     for (place, facet) in facets.chunks_exact(3).enumerate() {
         for [a, b] in [[facet[0], facet[1]], [facet[1], facet[2]], [facet[2], facet[0]]] {
             sides.push(([a.min(b), a.max(b)], place));
@@ -142,11 +153,16 @@ fn window_length(sides: &[Side], most: usize) -> usize {
 /// The open and the irregular edges of a window, both ascending.
 fn listed(library: &mut Library, window: &[Side], facets: &[u32]) -> Result<(Vec<Edge>, Vec<Edge>), Unlisted> {
     let (first, last) = (window[0].0, window[window.len() - 1].0);
+    let crowded = Unlisted::Crowded(first, window.len());
+    // Three sides of a facet at most are one edge. No room is lent for what would be turned down.
+    if window.len() as u64 > 3 * OFFICE.in_force() {
+        return Err(crowded);
+    }
     let (numbers, compact) = compacted(window, facets);
-    let answer = library.boundary_components(numbers.len(), &compact, OFFICE).map_err(|stop| match stop {
-        Stop::Refused(2, _) => Unlisted::Crowded(first, window.len()),
-        other => Unlisted::Stop(other),
-    })?;
+    if OFFICE.exceeded_by(numbers.len() as u64, compact.len() as u64 / 3).is_some() {
+        return Err(crowded);
+    }
+    let answer = library.boundary_components(numbers.len(), &compact, OFFICE).map_err(Unlisted::Stop)?;
     let kept = |words: &[u64]| kept(words, &numbers, first..=last);
     Ok((kept(&answer.edges), kept(&answer.irregular)))
 }
@@ -304,7 +320,14 @@ mod tests {
         let fan: Vec<u32> = (1..=70_000).flat_map(|id| [0, id, id % 70_000 + 1]).collect();
         let rim = listed(70_001, &fan);
         assert_eq!((rim.open.len(), rim.irregular.len(), rim.components), (70_000, 0, None));
-        let book: Vec<u32> = (2..70_002).flat_map(|id| [0, 1, id]).collect();
-        assert_eq!(list(&mut Library::default(), 70_002, &book), Err(Unlisted::Crowded([0, 1], 70_000)));
+        for facets in [65_535, 70_000, 200_000] {
+            let book: Vec<u32> = (2..facets + 2).flat_map(|id| [0, 1, id]).collect();
+            let crowded = Unlisted::Crowded([0, 1], facets as usize);
+            assert_eq!(list(&mut Library::default(), facets as usize + 2, &book), Err(crowded));
+        }
+        // Two vertices and 65,534 more are as many as are taken at once; the third is used by no facet, so that windows are needed.
+        let book: Vec<u32> = (3..65_537).flat_map(|id| [0, 1, id]).collect();
+        let pages = listed(65_537, &book);
+        assert_eq!((pages.open.len(), pages.irregular), (2 * 65_534, vec![[0, 1]]));
     }
 }

@@ -304,7 +304,7 @@ impl<'a> Work<'a> {
 
     fn not(&self, state: State, solid: &Solid, fault: &Fault, lists: &Lists) -> Outcome {
         let trouble = Trouble {
-            value: fault.edges.len().to_string(),
+            value: fault.count.to_string(),
             place: fault.place(),
             explanation: format!("of the {} solid {}", solid.closing.name(), fault.what),
             ..Trouble::at(solid.closing.name(), "")

@@ -41,7 +41,9 @@ pub enum Verdict {
 pub struct Fault {
     /// What is wrong, and how often.
     pub what: String,
-    /// The first places, as points.
+    /// Edges at fault.
+    pub count: usize,
+    /// The first of them, as points.
     pub edges: Vec<[[f64; 3]; 2]>,
 }
 
@@ -49,8 +51,7 @@ impl Fault {
     /// The first edges with their points.
     pub fn place(&self) -> String {
         let edge = |e: &[[f64; 3]; 2]| format!("{} to {}", text::point(e[0]), text::point(e[1]));
-        let told: Vec<String> = self.edges.iter().take(TOLD).map(edge).collect();
-        told.join("; ")
+        self.edges.iter().map(edge).collect::<Vec<_>>().join("; ")
     }
 }
 
@@ -85,7 +86,7 @@ fn judged(mesh: &Mesh, edges: &Edges, touches: &str) -> Option<Verdict> {
     }
     let fault = found(mesh, &of(Irregular::Overlaps), OVERLAPS).or_else(|| found(mesh, &of(Irregular::Touches), touches));
     // Lists that are not empty are never taken for empty ones.
-    let none = || Fault { what: "the library lists a component without an edge".into(), edges: vec![] };
+    let none = || Fault { what: "the library lists a component without an edge".into(), count: 0, edges: vec![] };
     Some(Verdict::TurnedWrong(fault.unwrap_or_else(none)))
 }
 
@@ -117,9 +118,9 @@ fn kinds(irregular: &[Edge], facets: &[u32]) -> Vec<(Edge, Irregular)> {
 
 fn found(mesh: &Mesh, faulty: &[Edge], what: &str) -> Option<Fault> {
     let point = |id: u32| mesh.point(id.into()).unwrap_or([f64::NAN; 3]);
-    let edges: Vec<[[f64; 3]; 2]> = faulty.iter().map(|edge| edge.map(point)).collect();
-    let are = if edges.len() == 1 { "edge is" } else { "edges are" };
-    (!edges.is_empty()).then(|| Fault { what: format!("{} {are} {what}", edges.len()), edges })
+    let (count, edges) = (faulty.len(), faulty.iter().take(TOLD).map(|edge| edge.map(point)).collect());
+    let are = if count == 1 { "edge is" } else { "edges are" };
+    (count > 0).then(|| Fault { what: format!("{count} {are} {what}"), count, edges })
 }
 
 /// Why nothing can be said.
@@ -132,7 +133,7 @@ pub fn not_checked(mesh: &Mesh, why: &Unlisted) -> String {
         Unlisted::Crowded(ends, sides) => {
             let [a, b] = ends.map(|id| text::point(mesh.point(id.into()).unwrap_or([f64::NAN; 3])));
             let most = "65,536 facets with 65,536 vertices";
-            format!("{sides} facets meet at the edge {a} to {b}, and the library takes up to {most} at once")
+            format!("{sides} facet sides bear the edge {a} to {b}, and the library takes up to {most} at once")
         }
     }
 }
@@ -142,10 +143,7 @@ fn sized(mesh: &Mesh, extents: &Extents) -> Verdict {
     let volume = volume::enclosed(&mesh.vertices, &mesh.facets, extents);
     let whole = volume::of_box(extents);
     let slack = volume.bound + volume::slack(extents);
-    let wrong = |what: String| {
-        let edges = Vec::new();
-        Verdict::TurnedWrong(Fault { what, edges })
-    };
+    let wrong = |what: String| Verdict::TurnedWrong(Fault { what, count: 0, edges: vec![] });
     let value = volume.value;
     if value < -slack {
         wrong(format!("its volume is {value:?}, below 0: its facets face inward"))
@@ -260,7 +258,7 @@ mod tests {
         let vertices = (0..70_002).flat_map(|id| [f64::from(id), 0.0, 0.0]).collect();
         let book = Mesh { vertices, facets: (2..70_002).flat_map(|id| [0, 1, id]).collect() };
         let Verdict::NotChecked(why) = verdict(&mut Library::default(), &book, &UNIT) else { panic!("checked") };
-        let told = "70000 facets meet at the edge (0.0 0.0 0.0) to (1.0 0.0 0.0), and the library takes up to 65,536 facets";
+        let told = "70000 facet sides bear the edge (0.0 0.0 0.0) to (1.0 0.0 0.0), and the library takes up to 65,536 facets";
         assert!(why.starts_with(told), "{why}");
     }
 }

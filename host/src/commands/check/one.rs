@@ -112,7 +112,7 @@ fn judged(surface: &Surface, edges: &Edges) -> Outcome {
         return Outcome::Not(State::Empty, Trouble::at(CHECK, meshes::NO_FACET));
     }
     let not = |state: State, fault: Fault| {
-        let (value, place) = (fault.edges.len().to_string(), fault.place());
+        let (value, place) = (fault.count.to_string(), fault.place());
         Outcome::Not(state, Trouble { value, place, ..Trouble::at(CHECK, fault.what) })
     };
     match verdict::of_edges(&surface.mesh, edges) {
