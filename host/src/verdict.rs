@@ -14,8 +14,8 @@ use yongpham_library::Extents;
 
 const SAME_WAY: &str = "borne by two facet sides that run the same way: a facet beside it is turned round";
 const OVERLAPS: &str =
-    "borne by more than two facets, not as many one way as the other: parts of the surface overlap or face the wrong way";
-const TOUCHES: &str = "borne by two facets or more each way: the mesh touches itself there, or parts of it stand twice";
+    "borne by more than two facet sides, not as many one way as the other: parts of the surface overlap or face the wrong way";
+const TOUCHES: &str = "borne by two facet sides or more each way: the mesh touches itself there, or parts of it stand twice";
 /// The same of a solid in its box.
 const TOUCHES_BOX: &str =
     "borne by two facets or more each way: the solid touches itself there, as it does where the surface touches a face of the \
@@ -213,7 +213,7 @@ mod tests {
         let with = |more: &[u32]| told(&[&FACETS[..], more].concat()).0;
         assert!(with(&[0, 0, 1]).starts_with("open: "));
         assert!(with(&[0, 0, 1, 0, 0, 1]).starts_with("turned: "));
-        assert!(with(&[0, 1, 2]).starts_with("turned: 3 edges are borne by more than two facets, not as many"));
+        assert!(with(&[0, 1, 2]).starts_with("turned: 3 edges are borne by more than two facet sides, not as many"));
         assert!(with(&[0, 1, 2, 0, 2, 1]).starts_with("turned: 3 edges are borne by two facets or more each way"));
         assert!(with(&FACETS).starts_with("turned: 6 edges are borne by two facets or more each way"));
     }

@@ -7,11 +7,12 @@ mod table;
 use super::Answer;
 use crate::library::Library;
 use crate::options::Size;
+use crate::results;
 use crate::text;
 use clap::Args;
-use one::Checker;
+use one::{Checker, Row};
 use pictures::Pictures;
-use std::io::{stderr, stdout, Write};
+use std::io::{self, stderr, stdout, Write};
 use std::path::{Path, PathBuf};
 use table::Table;
 
@@ -36,16 +37,30 @@ pub fn run(arguments: &Arguments) -> Answer {
     for (place, file) in arguments.meshes.iter().enumerate() {
         let row = checker.row(file, pictures.of(place));
         all &= row.is_success();
-        let lines = table.as_ref().is_none_or(|table| !table.on_output());
-        let told = if lines { writeln!(stdout(), "{}", row.line()) } else { Ok(()) };
+        let told = tell(&row, table.as_ref().is_some_and(Table::is_on_output));
         lost = lost.or(told.err().map(|why| format!("standard output cannot be written: {why}")));
         table.iter_mut().for_each(|table| table.put(&row));
     }
     lost = lost.or(table.and_then(|table| table.end().err()));
     if let Some(why) = &lost {
-        let _ = writeln!(stderr(), "yongpham: the report is lost: {why}");
+        complain(&format!("the report is lost: {why}"));
     }
     Ok(all && lost.is_none())
+}
+
+/// The line of a mesh. Where a table takes its place, what there is to say of the picture is still told.
+fn tell(row: &Row, in_table: bool) -> io::Result<()> {
+    match (in_table, row.note()) {
+        (false, _) => writeln!(stdout(), "{}", row.line()),
+        (true, note) => {
+            note.iter().for_each(|note| complain(note));
+            Ok(())
+        }
+    }
+}
+
+fn complain(why: &str) {
+    let _ = writeln!(stderr(), "yongpham: {why}");
 }
 
 /// Nothing that is handed in is overwritten, and no two results meet.
@@ -58,8 +73,14 @@ fn guard(arguments: &Arguments, pictures: &Pictures) -> Result<(), String> {
             return Err(format!("{} is handed in and would be overwritten", text::name(path)));
         }
     }
-    match csv.filter(|csv| pictures.all().any(|picture| picture == *csv)) {
+    match csv.filter(|csv| pictures.all().any(|picture| place(picture) == place(csv))) {
         Some(path) => Err(format!("--csv and --picture both name {}", text::name(path))),
         None => Ok(()),
     }
+}
+
+/// A file by its real folder, whether it is there or not.
+fn place(path: &Path) -> PathBuf {
+    let folder = results::folder_of(path);
+    folder.canonicalize().unwrap_or(folder.into()).join(path.file_name().unwrap_or_default())
 }

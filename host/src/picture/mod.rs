@@ -9,7 +9,7 @@ pub mod views;
 use crate::edges::{self, Edge};
 use crate::library::Library;
 use crate::mesh::Mesh;
-use crate::results::{unwritable, Results};
+use crate::results::{folder_of, unwritable, Results};
 use crate::steps::Made;
 use crate::text;
 use crate::triangulator::ask;
@@ -76,8 +76,7 @@ pub fn save(path: &Path, made: &Made, extents: &Extents, time: Duration) -> Resu
 /// Writes a picture that was drawn, whole or not at all, in the format that the name ends in.
 pub fn write(path: &Path, drawn: String, time: Duration) -> Result<(), String> {
     let bytes = if ending(path) == "png" { png(&drawn, time)? } else { drawn.into_bytes() };
-    let folder = path.parent().filter(|folder| !folder.as_os_str().is_empty()).unwrap_or(Path::new("."));
-    let file = Results::new(folder)?.aside("picture", |file| file.write_all(&bytes));
+    let file = Results::new(folder_of(path))?.aside("picture", |file| file.write_all(&bytes));
     let file = file.map_err(|why| unwritable(path, &why))?;
     file.persist(path).map(|_| ()).map_err(|why| unwritable(path, &why.error))
 }

@@ -8,7 +8,7 @@ use crate::limits;
 use crate::meshes::{self, Surface};
 use crate::outcome::{Outcome, State, Trouble, Volumes};
 use crate::picture::{self, views};
-use crate::results::Results;
+use crate::results::{folder_of, Results};
 use crate::text;
 use crate::verdict::{self, Fault, Verdict};
 use std::panic::{self, AssertUnwindSafe};
@@ -150,8 +150,7 @@ fn moved(path: &Path) -> Result<Option<String>, String> {
     if !path.is_file() {
         return Ok(None);
     }
-    let folder = path.parent().filter(|folder| !folder.as_os_str().is_empty()).unwrap_or(Path::new("."));
-    Results::new(folder)?.moved(path)?;
+    Results::new(folder_of(path))?.moved(path)?;
     Ok(Some(format!("moved aside: {}", text::name(path))))
 }
 
@@ -174,6 +173,11 @@ impl Row {
     /// Closed, and with its picture if one was asked for.
     pub fn is_success(&self) -> bool {
         self.outcome.is_closed() && !self.picture_lost
+    }
+
+    /// What there is to say of the picture, with the file's name.
+    pub fn note(&self) -> Option<String> {
+        self.note.as_ref().map(|words| format!("{}: {words}", self.file))
     }
 
     pub fn line(&self) -> String {

@@ -2,7 +2,7 @@
 
 use super::one::{Row, COLUMNS};
 use crate::files;
-use crate::results::Results;
+use crate::results::{folder_of, Results};
 use crate::text;
 use std::io::{self, stdout, Write};
 use std::path::{Path, PathBuf};
@@ -30,11 +30,10 @@ impl Table {
         if path.symlink_metadata().is_ok() && start() != Ok(head.into_bytes()) {
             return Err(format!("{} is no table of ours and would be overwritten", text::name(path)));
         }
-        let folder = path.parent().filter(|folder| !folder.as_os_str().is_empty()).unwrap_or(Path::new("."));
-        Ok(Table { rows: vec![], file: Some((Results::new(folder)?, path.into())) })
+        Ok(Table { rows: vec![], file: Some((Results::new(folder_of(path))?, path.into())) })
     }
 
-    pub fn on_output(&self) -> bool {
+    pub fn is_on_output(&self) -> bool {
         self.file.is_none()
     }
 
