@@ -1,6 +1,6 @@
 //! The command line. The help texts stand in help/, so that ./run can show them before anything is built.
 
-use crate::commands::{close, cut, join, sample, Answer};
+use crate::commands::{check, close, cut, join, sample, Answer};
 use clap::{Parser, Subcommand};
 
 #[derive(Parser, Debug)]
@@ -14,6 +14,8 @@ pub struct Cli {
 enum Command {
     #[command(override_help = include_str!("../help/close.txt"))]
     Close(close::Arguments),
+    #[command(override_help = include_str!("../help/check.txt"))]
+    Check(check::Arguments),
     #[command(override_help = include_str!("../help/cut.txt"))]
     Cut(cut::Arguments),
     #[command(override_help = include_str!("../help/join.txt"))]
@@ -26,6 +28,7 @@ impl Cli {
     pub fn run(self) -> Answer {
         match self.command {
             Command::Close(arguments) => close::run(&arguments),
+            Command::Check(arguments) => check::run(&arguments),
             Command::Cut(arguments) => cut::run(&arguments),
             Command::Join(arguments) => join::run(&arguments),
             Command::Sample(arguments) => sample::run(&arguments),
@@ -44,6 +47,7 @@ mod tests {
         Cli::command().debug_assert();
         for (name, text) in [
             ("close", include_str!("../help/close.txt")),
+            ("check", include_str!("../help/check.txt")),
             ("cut", include_str!("../help/cut.txt")),
             ("join", include_str!("../help/join.txt")),
             ("sample", include_str!("../help/sample.txt")),

@@ -27,6 +27,9 @@ const CELL: f64 = (1u64 << 62) as f64;
 const CAPS: usize = 1_048_576;
 const CUT_GROWS: &str =
     "a facet that the box cuts becomes several, with vertices of their own, so a coarser surface or a smaller box gives fewer";
+/// The step of a mesh that is only checked, for which there is no box.
+pub const CHECK: &str = "check";
+const ANY_SIZE: &str = "without --handheld or --ceiling a mesh of any size is checked";
 const AXES: [&str; 3] = ["x", "y", "z"];
 
 impl Call<'_> {
@@ -73,16 +76,20 @@ impl Call<'_> {
         // Line and value are those of the first list that is over.
         let lines: [fn(&Surface) -> &Vec<u64>; 2] = [|s| &s.vertex_lines, |s| &s.facet_lines];
         let (count, lines) = if vertices > ceiling.in_force() { (vertices, lines[0]) } else { (facets, lines[1]) };
-        let (found, fewer) = match self.surface {
-            Some(_) => (format!("there are {over}"), "what lies well outside the box may be left out"),
-            // Only a mesh that the ceiling admitted is cut.
-            None => (format!("the mesh handed in was within the ceiling, but once it is cut to the box there are {over}"), CUT_GROWS),
-        };
         let office = ceiling.in_the_office(vertices, facets);
+        let (found, advice) = match self.surface {
+            Some(_) if self.step == CHECK => (format!("there are {over}"), ANY_SIZE.into()),
+            Some(_) => (format!("there are {over}"), format!("{office}; what lies well outside the box may be left out")),
+            // Only a mesh that the ceiling admitted is cut.
+            None => (
+                format!("the mesh handed in was within the ceiling, but once it is cut to the box there are {over}"),
+                format!("{office}; {CUT_GROWS}"),
+            ),
+        };
         Some(Trouble {
             line: self.line_of(lines, ceiling.in_force() as usize),
             value: count.to_string(),
-            explanation: format!("{found}, and the ceiling is {}; {office}; {fewer}", ceiling.in_words()),
+            explanation: format!("{found}, and the ceiling is {}; {advice}", ceiling.in_words()),
             ..Trouble::default()
         })
     }

@@ -5,6 +5,7 @@
 pub mod ceiling;
 pub mod cli;
 pub mod commands;
+pub mod edges;
 pub mod explain;
 pub mod faces;
 pub mod files;

@@ -59,6 +59,16 @@ pub struct Lists {
     pub open_edges: Vec<u64>,
 }
 
+/// The open boundary as the library writes it, two words an edge or a component.
+#[derive(Clone, Debug, Default, PartialEq)]
+pub struct Boundary {
+    /// Open edges, by components.
+    pub edges: Vec<u64>,
+    /// Of each component its count of edges, and 1 if it is a ring.
+    pub components: Vec<u64>,
+    pub irregular: Vec<u64>,
+}
+
 /// The outputs of an operation, in the order in which refusal 12 tests them.
 trait Outputs {
     const COUNT: usize;
@@ -98,6 +108,30 @@ impl Outputs for Lists {
 
     fn lengths(&self) -> [usize; 4] {
         [&self.candidates, &self.face_lists, &self.constraints, &self.open_edges].map(Vec::len)
+    }
+
+    fn grow(&mut self, output: usize, length: usize) -> Result<(), Stop> {
+        resize(self.each_mut()[output], length)
+    }
+
+    fn cut(&mut self, lengths: [usize; 4]) {
+        for (list, length) in self.each_mut().into_iter().zip(lengths) {
+            list.truncate(length);
+        }
+    }
+}
+
+impl Boundary {
+    fn each_mut(&mut self) -> [&mut Vec<u64>; 3] {
+        [&mut self.edges, &mut self.components, &mut self.irregular]
+    }
+}
+
+impl Outputs for Boundary {
+    const COUNT: usize = 3;
+
+    fn lengths(&self) -> [usize; 4] {
+        [self.edges.len(), self.components.len(), self.irregular.len(), 0]
     }
 
     fn grow(&mut self, output: usize, length: usize) -> Result<(), Stop> {
@@ -241,6 +275,20 @@ impl Library {
                 &mut out.vertices,
                 &mut out.facets,
             )
+        })
+    }
+
+    /// The open and the irregular edges of any mesh. Where its vertices lie is not asked.
+    pub fn boundary_components(&mut self, vertices: usize, facets: &[u32], ceiling: Ceiling) -> Result<Boundary, Stop> {
+        let count = facets.len() / 3;
+        let mut out = Boundary::default();
+        // Three sides a facet. Each may be an open edge, and a component of its own; of an irregular one there are two at least.
+        for (output, length) in [6 * count, 6 * count, 3 * count].into_iter().enumerate() {
+            out.grow(output, length)?;
+        }
+        self.settle(ITEM * (vertices + count) + BESIDE, out, |work, out: &mut Boundary| {
+            let [edges, components, irregular] = out.each_mut();
+            library::boundary_components(vertices as u64, facets, ceiling.asked(), work, edges, components, irregular)
         })
     }
 }

@@ -36,15 +36,20 @@ pub struct Size {
 }
 
 impl Size {
-    /// The ceiling named, else the office's. Two that differ are wrong use: which of them was meant cannot be known.
+    /// The ceiling named, else the office's.
     pub fn ceiling(&self) -> Result<Ceiling, String> {
+        Ok(self.named()?.unwrap_or_default())
+    }
+
+    /// The ceiling named, if one is. Two that differ are wrong use: which of them was meant cannot be known.
+    pub fn named(&self) -> Result<Option<Ceiling>, String> {
         match self.ceiling {
             Some(named) if self.handheld && named != HANDHELD => {
                 let (handheld, named) = (HANDHELD.asked(), named.asked());
                 Err(format!("--handheld is --ceiling {handheld}, and --ceiling {named} is given too; give one of them"))
             }
-            None if self.handheld => Ok(HANDHELD),
-            named => Ok(named.unwrap_or_default()),
+            None if self.handheld => Ok(Some(HANDHELD)),
+            named => Ok(named),
         }
     }
 }

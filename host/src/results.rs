@@ -109,6 +109,11 @@ impl Results {
     }
 }
 
+/// The folder that a file is written to.
+pub fn folder_of(file: &Path) -> &Path {
+    file.parent().filter(|folder| !folder.as_os_str().is_empty()).unwrap_or(Path::new("."))
+}
+
 pub fn unwritable(path: &Path, why: &io::Error) -> String {
     format!("{} cannot be written: {why}", crate::text::name(path))
 }

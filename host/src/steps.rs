@@ -1,6 +1,7 @@
 //! A mesh through the library, step by step, up to the verdict.
 
 use crate::ceiling::Ceiling;
+use crate::edges;
 use crate::explain::Call;
 use crate::faces::{self, Answer};
 use crate::library::{Extents, Library, Lists, Setting, Stop};
@@ -59,6 +60,8 @@ pub struct Made {
     /// What each step gave, in words.
     pub told: Vec<(&'static str, String)>,
     pub cleaned: Option<Mesh>,
+    /// Open edges of the last mesh made before caps, if they could be counted.
+    pub open_edges: Option<usize>,
     pub solids: Vec<Solid>,
     /// What the triangulator was handed and what it answered.
     pub faces: String,
@@ -199,8 +202,8 @@ impl<'a> Work<'a> {
     ) -> Result<Mesh, Outcome> {
         let call = Call { step, surface, mesh: from, setting, lists: None, answer: None };
         let mesh = made.map_err(|stop| call.outcome(stop))?;
-        let open = verdict::open_edge_count(&mesh.facets);
-        self.tell(step, counts(&mesh, open));
+        self.made.open_edges = edges::list(&mut self.library, mesh.vertex_count(), &mesh.facets).ok().map(|edges| edges.open.len());
+        self.tell(step, counts(&mesh, self.made.open_edges));
         Ok(mesh)
     }
 
@@ -247,12 +250,13 @@ impl<'a> Work<'a> {
             Outcome::Not(State::Refused, trouble) => Outcome::Not(State::Refused, self.with_cause(trouble, lists)),
             other => other,
         })?;
-        let verdict = verdict::verdict(&closed.vertices, &closed.facets, &setting.extents);
+        let verdict = verdict::verdict(&mut self.library, &closed, &setting.extents);
         let told = match &verdict {
             Verdict::Closed(volume) => format!("closed, volume {}", volume.value),
             Verdict::Open(fault) => format!("open: {}", fault.what),
             Verdict::TurnedWrong(fault) => format!("turned wrong: {}", fault.what),
             Verdict::Empty => "empty".into(),
+            Verdict::NotChecked(why) => format!("not checked: {why}"),
         };
         self.tell(step, format!("{} vertices, {} facets, {told}", closed.vertex_count(), closed.facet_count()));
         Ok(Solid { closing, mesh: closed, surface_facets: mesh.facet_count(), verdict })
@@ -281,6 +285,10 @@ impl<'a> Work<'a> {
                     let why = "the solid has no facet";
                     return Err(Outcome::Not(State::Empty, Trouble::at(solid.closing.name(), why)));
                 }
+                Verdict::NotChecked(why) => {
+                    let (name, what) = (solid.closing.name(), "whether it is closed was not checked");
+                    return Err(Outcome::failed(name, format!("of the {name} solid {what}: {why}")));
+                }
             };
             sum = Volume { value: sum.value + volume.value, bound: sum.bound + volume.bound };
             match solid.closing {
@@ -296,7 +304,7 @@ impl<'a> Work<'a> {
 
     fn not(&self, state: State, solid: &Solid, fault: &Fault, lists: &Lists) -> Outcome {
         let trouble = Trouble {
-            value: fault.edges.len().to_string(),
+            value: fault.count.to_string(),
             place: fault.place(),
             explanation: format!("of the {} solid {}", solid.closing.name(), fault.what),
             ..Trouble::at(solid.closing.name(), "")
@@ -330,7 +338,8 @@ impl<'a> Work<'a> {
     }
 }
 
-pub fn counts(mesh: &Mesh, open_edges: usize) -> String {
+pub fn counts(mesh: &Mesh, open_edges: Option<usize>) -> String {
     let (vertices, facets) = (mesh.vertex_count(), mesh.facet_count());
-    format!("{vertices} vertices, {facets} facets, {open_edges} open edges")
+    let open = open_edges.map_or("open edges not counted".into(), |count| format!("{count} open edges"));
+    format!("{vertices} vertices, {facets} facets, {open}")
 }

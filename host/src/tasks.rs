@@ -40,7 +40,7 @@ pub fn default_name(file: &Path) -> String {
 const LONGEST: usize = 200;
 
 /// Why a name cannot be a file's.
-fn bad_name(name: &str) -> bool {
+pub fn bad_name(name: &str) -> bool {
     name.is_empty() || name.len() > LONGEST || name.starts_with('.') || name.chars().any(|c| c == '/' || c == '\\' || c.is_control())
 }
 

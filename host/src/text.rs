@@ -36,6 +36,12 @@ fn bounded(words: &str, most: usize) -> String {
     told
 }
 
+/// How many of something: "1 facet", "2 facets".
+pub fn counted(count: usize, what: &str) -> String {
+    let many = if count == 1 { "" } else { "s" };
+    format!("{count} {what}{many}")
+}
+
 /// A point as it is told.
 pub fn point(p: [f64; 3]) -> String {
     format!("({:?} {:?} {:?})", p[0], p[1], p[2])

@@ -70,7 +70,11 @@ fn a_solid_that_is_left_open_is_no_success() {
     let others = &TRIANGLES[TRIANGLES.find("1 2 1 0").unwrap_or(0)..];
     folder.put("triangles", format!("{face}{others}"));
     let run = folder.close(&["--eps", "0.0009765625", "cells.obj"]);
-    folder.not_closed(&run, "open", &["3 edges are borne by one facet only: (0.0 0.0 0.5) to (0.0 0.4996337890625 0.4996337890625); "]);
+    folder.not_closed(
+        &run,
+        "open",
+        &["3 edges are borne by one facet only, in 1 component, a ring: (0.0 0.0 0.5) to (0.0 0.4996337890625 0.4996337890625); "],
+    );
     assert!(folder.row()["where"].matches(" to ").count() == 3);
 }
 

@@ -9,7 +9,6 @@ use crate::steps::{self, Made};
 use crate::tasks::{self, Task};
 use crate::text;
 use crate::triangulator::Triangulator;
-use crate::verdict;
 use clap::Args;
 use std::io::{stdout, Write};
 use std::path::PathBuf;
@@ -94,6 +93,5 @@ fn write(task: &Task, made: &Made, save_faces: bool, results: &Results) -> Resul
     }
     let files = results.name(written)?;
     let names: Vec<String> = files.iter().map(|file| text::name(file)).collect();
-    let open = verdict::open_edge_count(&mesh.facets);
-    Ok(format!("cut: {}; {}", steps::counts(&mesh, open), names.join(", ")))
+    Ok(format!("cut: {}; {}", steps::counts(&mesh, made.open_edges), names.join(", ")))
 }

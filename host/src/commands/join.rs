@@ -4,7 +4,7 @@ use super::Answer;
 use crate::files;
 use crate::limits;
 use crate::report::COLUMNS;
-use crate::results::Results;
+use crate::results::{folder_of, Results};
 use crate::text;
 use clap::Args;
 use std::collections::BTreeMap;
@@ -70,8 +70,7 @@ fn write(rows: &Rows, file: impl Write) -> io::Result<()> {
 
 /// A summary that is one of the parts, or no summary, is not overwritten.
 fn save(rows: &Rows, path: &Path) -> Result<io::Result<()>, String> {
-    let folder = path.parent().filter(|folder| !folder.as_os_str().is_empty()).unwrap_or(Path::new("."));
-    let results = Results::new(folder)?;
+    let results = Results::new(folder_of(path))?;
     if path.exists() && take(path, &mut Rows::new()).is_err() {
         return Err(format!("{} is no summary of ours and would be overwritten", text::name(path)));
     }

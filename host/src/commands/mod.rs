@@ -1,5 +1,6 @@
 //! A module a subcommand. Each answers whether all went well, or why it was called wrongly.
 
+pub mod check;
 pub mod close;
 pub mod cut;
 pub mod join;

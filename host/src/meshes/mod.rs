@@ -41,7 +41,19 @@ impl Unread {
 /// Bytes at a file's start by which its kind is told.
 const START: u64 = 4096;
 
+/// As much of a mesh as the library admits, and one more.
 pub fn read(path: &Path) -> Result<Surface, Unread> {
+    let surface = read_up_to(path, limits::ELEMENTS)?;
+    match surface.facets {
+        0 => Err(Unread::whole(format!("no mesh: {NO_FACET}"))),
+        _ => Ok(surface),
+    }
+}
+
+pub const NO_FACET: &str = "it has vertices, but no facet (no f line)";
+
+/// Of vertices and of facets as many as given are kept. That there is no facet is not tested.
+pub fn read_up_to(path: &Path, most: usize) -> Result<Surface, Unread> {
     let mut file = files::open(path).map_err(Unread::whole)?;
     let cannot = |why: std::io::Error| Unread::whole(format!("cannot be read: {why}"));
     let length = file.metadata().map_err(cannot)?.len();
@@ -54,10 +66,9 @@ pub fn read(path: &Path) -> Result<Surface, Unread> {
         return Err(Unread::whole(format!("is not read: it is larger than {} bytes", limits::MESH)));
     }
     file.seek(SeekFrom::Start(0)).map_err(cannot)?;
-    let surface = obj::read(BufReader::new(file.take(limits::MESH)))?;
-    match (surface.vertices, surface.facets) {
-        (0, _) => Err(Unread::whole("no mesh: it has no vertex (no v line)")),
-        (_, 0) => Err(Unread::whole("no mesh: it has vertices, but no facet (no f line)")),
+    let surface = obj::read_up_to(BufReader::new(file.take(limits::MESH)), most)?;
+    match surface.vertices {
+        0 => Err(Unread::whole("no mesh: it has no vertex (no v line)")),
         _ => Ok(surface),
     }
 }

@@ -68,7 +68,13 @@ const PASSED_OVER: [&str; 46] = [
 /// Numbers that a vertex may have: a place, and a weight or a colour.
 const NUMBERS: usize = 8;
 
-pub fn read(mut file: impl BufRead) -> Result<Surface, Unread> {
+/// As much as the library admits, and one more.
+pub fn read(file: impl BufRead) -> Result<Surface, Unread> {
+    read_up_to(file, limits::ELEMENTS)
+}
+
+/// Of vertices and of facets as many as given are kept.
+pub fn read_up_to(mut file: impl BufRead, most: usize) -> Result<Surface, Unread> {
     let mut surface = Surface::default();
     let mut bytes = Vec::new();
     for number in 1.. {
@@ -81,7 +87,7 @@ pub fn read(mut file: impl BufRead) -> Result<Surface, Unread> {
         if taken == 0 {
             break;
         }
-        read_line(&bytes, number, &mut surface).map_err(|(value, why)| Unread { line: Some(number), value, why })?;
+        read_line(&bytes, number, most, &mut surface).map_err(|(value, why)| Unread { line: Some(number), value, why })?;
     }
     Ok(surface)
 }
@@ -94,7 +100,7 @@ fn fault<T>(value: &str, why: &str) -> Result<T, Fault> {
     Err((value.clone(), format!("{value} {why}")))
 }
 
-fn read_line(bytes: &[u8], number: u64, surface: &mut Surface) -> Result<(), Fault> {
+fn read_line(bytes: &[u8], number: u64, most: usize, surface: &mut Surface) -> Result<(), Fault> {
     if bytes.len() > limits::LINE {
         let why = format!("the line is longer than {} bytes", limits::LINE);
         return Err((String::new(), why));
@@ -112,10 +118,10 @@ fn read_line(bytes: &[u8], number: u64, surface: &mut Surface) -> Result<(), Fau
         return fault(kind, "goes on in the next line, which is not read");
     }
     match kind {
-        "v" => put_vertex(vertex(words)?, number, surface),
+        "v" => put_vertex(vertex(words)?, number, most, surface)?,
         "f" => {
             let corners: Vec<&str> = words.take(limits::LINE).collect();
-            put_facet(&corners, number, surface)?;
+            put_facet(&corners, number, most, surface)?;
         }
         _ if PASSED_OVER.contains(&kind) => {}
         "V" | "F" => return fault(kind, "begins no line of an OBJ file: a vertex is v, a facet is f, in small letters"),
@@ -124,15 +130,23 @@ fn read_line(bytes: &[u8], number: u64, surface: &mut Surface) -> Result<(), Fau
     Ok(())
 }
 
-fn put_vertex(point: [f64; 3], line: u64, surface: &mut Surface) {
+/// Room for more; a machine that has none is told so.
+fn reserve<T>(list: &mut Vec<T>, more: usize) -> Result<(), Fault> {
+    list.try_reserve(more).map_err(|_| (String::new(), "there is not enough memory for the mesh up to here".into()))
+}
+
+fn put_vertex(point: [f64; 3], line: u64, most: usize, surface: &mut Surface) -> Result<(), Fault> {
     surface.vertices += 1;
-    if surface.mesh.vertex_count() < limits::ELEMENTS {
+    if surface.mesh.vertex_count() < most {
+        reserve(&mut surface.mesh.vertices, 3)?;
+        reserve(&mut surface.vertex_lines, 1)?;
         surface.mesh.vertices.extend(point);
         surface.vertex_lines.push(line);
     }
+    Ok(())
 }
 
-fn put_facet(words: &[&str], line: u64, surface: &mut Surface) -> Result<(), Fault> {
+fn put_facet(words: &[&str], line: u64, most: usize, surface: &mut Surface) -> Result<(), Fault> {
     let [a, b, c] = words else {
         let why = format!("a face has {} corners; only triangles are read", words.len());
         return Err((words.len().to_string(), why));
@@ -145,7 +159,9 @@ fn put_facet(words: &[&str], line: u64, surface: &mut Surface) -> Result<(), Fau
         }
     }
     surface.facets += 1;
-    if surface.mesh.facet_count() < limits::ELEMENTS {
+    if surface.mesh.facet_count() < most {
+        reserve(&mut surface.mesh.facets, 3)?;
+        reserve(&mut surface.facet_lines, 1)?;
         surface.mesh.facets.extend(facet);
         surface.facet_lines.push(line);
     }
@@ -290,6 +306,8 @@ mod tests {
         let surface = read(many.as_bytes()).unwrap_or_default();
         assert_eq!(surface.mesh.vertex_count(), limits::ELEMENTS);
         assert_eq!(surface.vertices, limits::ELEMENTS as u64 + 1000);
+        let all = read_up_to(many.as_bytes(), usize::MAX).unwrap_or_default();
+        assert_eq!((all.mesh.vertex_count() as u64, all.vertex_lines.len() as u64), (surface.vertices, surface.vertices));
     }
 
     #[test]

@@ -1,10 +1,15 @@
-//! A picture of a solid in its box: the surface, the caps in a colour for each face, open edges in red.
+//! Pictures: of a solid in its box, with the caps in a colour for each face and open edges in red (`svg`); and of any mesh in three views,
+//! with its open edges by component (`views`).
 
+mod patches;
 mod svg;
 mod view;
+pub mod views;
 
+use crate::edges::{self, Edge};
+use crate::library::Library;
 use crate::mesh::Mesh;
-use crate::results::{unwritable, Results};
+use crate::results::{folder_of, unwritable, Results};
 use crate::steps::Made;
 use crate::text;
 use crate::triangulator::ask;
@@ -26,6 +31,19 @@ pub struct Subject<'a> {
     pub surface_facets: usize,
     pub title: String,
     pub extents: Extents,
+    pub open: Vec<Edge>,
+    /// No facet is seen from inside.
+    pub closed: bool,
+}
+
+impl<'a> Subject<'a> {
+    /// The edges are the library's to list; where it does not, none is shown.
+    pub fn new(mesh: &'a Mesh, surface_facets: usize, title: String, extents: &Extents) -> Self {
+        let edges = edges::list(&mut Library::default(), mesh.vertex_count(), &mesh.facets);
+        let closed = edges.as_ref().is_ok_and(|edges| edges.open.is_empty());
+        let open = edges.map(|edges| edges.open).unwrap_or_default();
+        Subject { mesh, surface_facets, title, extents: *extents, open, closed }
+    }
 }
 
 /// Whether a picture can be written under the name.
@@ -45,19 +63,20 @@ fn ending(path: &Path) -> String {
 pub fn save(path: &Path, made: &Made, extents: &Extents, time: Duration) -> Result<(), String> {
     let title = |name: &str| format!("{name} in the box {}", corners(extents));
     let subject = match (made.solids.first(), &made.cleaned) {
-        (Some(solid), _) => Subject {
-            mesh: &solid.mesh,
-            surface_facets: solid.surface_facets,
-            title: title(&format!("{} solid", solid.closing.name())),
-            extents: *extents,
-        },
-        (None, Some(mesh)) => Subject { mesh, surface_facets: mesh.facet_count(), title: title("surface, not closed,"), extents: *extents },
+        (Some(solid), _) => {
+            let title = title(&format!("{} solid", solid.closing.name()));
+            Subject::new(&solid.mesh, solid.surface_facets, title, extents)
+        }
+        (None, Some(mesh)) => Subject::new(mesh, mesh.facet_count(), title("surface, not closed,"), extents),
         (None, None) => return Ok(()),
     };
-    let drawn = svg::draw(&subject);
+    write(path, svg::draw(&subject), time)
+}
+
+/// Writes a picture that was drawn, whole or not at all, in the format that the name ends in.
+pub fn write(path: &Path, drawn: String, time: Duration) -> Result<(), String> {
     let bytes = if ending(path) == "png" { png(&drawn, time)? } else { drawn.into_bytes() };
-    let folder = path.parent().filter(|folder| !folder.as_os_str().is_empty()).unwrap_or(Path::new("."));
-    let file = Results::new(folder)?.aside("picture", |file| file.write_all(&bytes));
+    let file = Results::new(folder_of(path))?.aside("picture", |file| file.write_all(&bytes));
     let file = file.map_err(|why| unwritable(path, &why))?;
     file.persist(path).map(|_| ()).map_err(|why| unwritable(path, &why.error))
 }

@@ -1,13 +1,12 @@
 //! The picture as SVG. What is behind is drawn first: the far edges of the box, far caps, the surface from far to near, near caps, then
 //! the other edges of the box and the open edges. A near cap lies on a face that the eye looks at from outside, so nothing covers it.
 
+use super::patches::{hex, put_patches, Colour, Patch};
 use super::view::{corners, View, MARGIN};
 use super::Subject;
+use crate::edges::Edge;
 use crate::faces::NAMES;
-use crate::verdict;
 use std::fmt::Write;
-
-type Colour = [f64; 3];
 
 const GROUND: Colour = [126.0, 158.0, 92.0];
 const BACK: Colour = [150.0, 146.0, 140.0];
@@ -21,15 +20,6 @@ const LIGHT: [f64; 3] = [0.25, -0.45, 0.86];
 const SHADES: f64 = 28.0;
 const LEGEND: f64 = 46.0;
 
-/// A facet in the picture.
-struct Patch {
-    points: [[f64; 3]; 3],
-    colour: Colour,
-    /// 0 far caps, 1 surface, 2 near caps.
-    layer: u8,
-    near: f64,
-}
-
 pub fn draw(subject: &Subject) -> String {
     let view = View::new(&subject.extents);
     let [width, height] = view.size;
@@ -42,13 +32,13 @@ pub fn draw(subject: &Subject) -> String {
     );
     let _ = writeln!(svg, "<title>{}</title>\n<rect width=\"100%\" height=\"100%\" fill=\"#fff\"/>", subject.title);
     box_edges(&mut svg, &view, subject, true);
-    let mut open = verdict::open_edges(&subject.mesh.facets);
-    let (patches, used) = patches(subject, &view, open.is_empty());
+    let (patches, used) = patches(subject, &view);
+    let mut open = subject.open.to_vec();
     if subject.surface_facets == subject.mesh.facet_count() {
         // No cap was added yet: edges on a face of the box are where caps would begin, and no fault.
         open.retain(|ends| !on_a_face(subject, ends.map(|id| point_of(subject, id))));
     }
-    put_patches(&mut svg, &patches);
+    put_patches(&mut svg, &patches, "c");
     box_edges(&mut svg, &view, subject, false);
     put_open_edges(&mut svg, subject, &view, &open);
     legend(&mut svg, &used, open.len(), height);
@@ -79,14 +69,14 @@ fn face_of(subject: &Subject, corners: [[f64; 3]; 3]) -> usize {
 }
 
 /// The facets in the order in which they are drawn, and which faces have a cap that is seen. Of a closed solid no facet is seen from inside.
-fn patches(subject: &Subject, view: &View, closed: bool) -> (Vec<Patch>, [bool; 6]) {
+fn patches(subject: &Subject, view: &View) -> (Vec<Patch>, [bool; 6]) {
     let mut used = [false; 6];
     let mut patches = Vec::new();
     for (place, facet) in subject.mesh.facets.chunks_exact(3).enumerate() {
         let space = [facet[0], facet[1], facet[2]].map(|id| point_of(subject, id));
         let points = space.map(|p| view.point(p));
         let front = is_front(&points);
-        if closed && !front {
+        if subject.closed && !front {
             continue;
         }
         let (colour, layer) = if place < subject.surface_facets {
@@ -123,35 +113,6 @@ fn shaded(colour: Colour, [a, b, c]: [[f64; 3]; 3], front: bool) -> Colour {
     colour.map(|part| (part * shade).min(255.0))
 }
 
-fn hex(colour: Colour) -> String {
-    let [r, g, b] = colour.map(|part| part.round().clamp(0.0, 255.0) as u8);
-    format!("#{r:02x}{g:02x}{b:02x}")
-}
-
-/// Neighbours in the order of drawing that have one colour are one path, in whole tenths and relative to the first corner; a colour is a
-/// class. That makes the file half as long. The stroke covers the seams between facets.
-fn put_patches(svg: &mut String, patches: &[Patch]) {
-    let mut colours: Vec<String> = patches.iter().map(|patch| hex(patch.colour)).collect();
-    colours.sort_unstable();
-    colours.dedup();
-    svg.push_str("<style>");
-    for (place, colour) in colours.iter().enumerate() {
-        let _ = write!(svg, ".c{place}{{fill:{colour};stroke:{colour}}}");
-    }
-    svg.push_str("</style>\n<g stroke-width=\"6\" stroke-linejoin=\"round\" transform=\"scale(.1)\">\n");
-    for run in patches.chunk_by(|a, b| a.colour == b.colour) {
-        let class = colours.binary_search(&hex(run[0].colour)).unwrap_or(0);
-        let _ = write!(svg, "<path class=\"c{class}\" d=\"");
-        for patch in run {
-            let [a, b, c] = patch.points.map(|p| [p[0], p[1]].map(|x| (10.0 * x).round()));
-            let [u, v] = [[b[0] - a[0], b[1] - a[1]], [c[0] - b[0], c[1] - b[1]]];
-            let _ = write!(svg, "M{} {}l{} {} {} {}z", a[0], a[1], u[0], u[1], v[0], v[1]);
-        }
-        svg.push_str("\"/>\n");
-    }
-    svg.push_str("</g>\n");
-}
-
 /// The edges of the box: the three at the far corner, which the solid may cover, or the others.
 fn box_edges(svg: &mut String, view: &View, subject: &Subject, far: bool) {
     /// XMin, YMax, ZMin.
@@ -170,7 +131,7 @@ fn box_edges(svg: &mut String, view: &View, subject: &Subject, far: bool) {
 }
 
 /// Edges that one facet bears, over everything else.
-fn put_open_edges(svg: &mut String, subject: &Subject, view: &View, edges: &[[u32; 2]]) {
+fn put_open_edges(svg: &mut String, subject: &Subject, view: &View, edges: &[Edge]) {
     if !edges.is_empty() {
         svg.push_str("<path fill=\"none\" stroke=\"#e00000\" stroke-width=\"2.4\" stroke-linecap=\"round\" d=\"");
         for [a, b] in edges.iter().map(|ends| ends.map(|id| view.point(point_of(subject, id)))) {
@@ -203,11 +164,14 @@ fn legend(svg: &mut String, used: &[bool; 6], open: usize, top: f64) {
 #[cfg(test)]
 mod tests {
     use super::*;
+    use crate::library::Extents;
     use crate::mesh::Mesh;
+
+    const CUBE: Extents = [0., 0., 0., 2., 2., 2.];
 
     fn picture(facets: Vec<u32>, surface_facets: usize) -> String {
         let mesh = Mesh { vertices: vec![0., 0., 0., 2., 0., 0., 0., 2., 0., 0., 0., 2.], facets };
-        draw(&Subject { mesh: &mesh, surface_facets, title: "a".into(), extents: [0., 0., 0., 2., 2., 2.] })
+        draw(&Subject::new(&mesh, surface_facets, "a".into(), &CUBE))
     }
 
     #[test]
@@ -215,7 +179,7 @@ mod tests {
         // The side 1, 2 lies on ZMin, 2, 3 on XMin and 3, 1 on YMin; of 0, 1, 2 alone all lie on ZMin.
         assert!(!picture(vec![1, 2, 3], 1).contains("open edges"));
         let mesh = Mesh { vertices: vec![0., 0., 0., 2., 0., 0., 1., 1., 1.], facets: vec![0, 1, 2] };
-        let drawn = draw(&Subject { mesh: &mesh, surface_facets: 1, title: "a".into(), extents: [0., 0., 0., 2., 2., 2.] });
+        let drawn = draw(&Subject::new(&mesh, 1, "a".into(), &CUBE));
         assert!(drawn.contains(">2 open edges<"));
     }
 
