@@ -185,14 +185,7 @@ fn a_solid_over_the_offices_ceiling_is_told_too() {
         return;
     }
     let folder = Folder::new();
-    let mut terrain = Terrain { vertices: vec![], facets: vec![] };
-    for place in 0..182 * 182 {
-        let (i, j) = (place / 182, place % 182);
-        terrain.vertices.push([i as f64 / 181.0, j as f64 / 181.0, 0.5]);
-        if i < 181 && j < 181 {
-            terrain.facets.extend([[place, place + 182, place + 183], [place, place + 183, place + 1]]);
-        }
-    }
+    let terrain = Terrain::large();
     folder.put("large.obj", terrain.obj());
     for words in [&[][..], &["--ceiling", "18446744073709551615"]] {
         let run = folder.unit(&[words, &["--mode", "positive", "large.obj"]].concat());

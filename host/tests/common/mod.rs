@@ -140,6 +140,19 @@ pub struct Terrain {
 pub const TERRAIN_BOX: [&str; 7] = ["--box", "0", "0", "0", "80", "80", "50"];
 
 impl Terrain {
+    /// A sheet at half the height of the unit box, of 65,522 facets: the library takes it, and with caps it has more than the library takes.
+    pub fn large() -> Terrain {
+        let mut terrain = Terrain { vertices: vec![], facets: vec![] };
+        for place in 0..182 * 182 {
+            let (i, j) = (place / 182, place % 182);
+            terrain.vertices.push([i as f64 / 181.0, j as f64 / 181.0, 0.5]);
+            if i < 181 && j < 181 {
+                terrain.facets.extend([[place, place + 182, place + 183], [place, place + 183, place + 1]]);
+            }
+        }
+        terrain
+    }
+
     pub fn new() -> Self {
         let mut terrain = Terrain { vertices: vec![], facets: vec![] };
         for i in 0..7 {
