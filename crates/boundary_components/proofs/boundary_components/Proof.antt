@@ -12,31 +12,24 @@ use Rattle.boundary_components.proofs.boundary_components.Lts as lts
 use Rattle.boundary_components.proofs.list_lent.Reads as list-lent-reads
 use Rattle.words.proofs.zero_front.Reads as zero-front-reads
 
--- src/lib.rt:170:9
 list-lent-requires : tie.Need-list-lent-requires
 list-lent-requires c κs = search needs
 
--- src/lib.rt:180:5
 zero-front-requires : tie.Need-zero-front-requires
 zero-front-requires c κs = search needs
 
--- src/lib.rt:157:1
 same-length : tie.Need-same-length
 same-length c = search needs
 
--- src/lib.rt:157:1
 same-length-2 : tie.Need-same-length-2
 same-length-2 c = search needs
 
--- src/lib.rt:157:1
 same-length-3 : tie.Need-same-length-3
 same-length-3 c = search needs
 
--- src/lib.rt:157:1
 same-length-4 : tie.Need-same-length-4
 same-length-4 c = search needs
 
--- src/lib.rt:157:1
 returns : tie.Need-returns
 returns c =
     let lent = c .before .before .before .before .before .before .before .before .before .before .before .before in

@@ -13,22 +13,18 @@ use Rattle.input_tests.proofs.is_too_many.Reads as is-too-many-reads
 use Rattle.input_tests.proofs.most_admitted.Reads as most-admitted-reads
 use Rattle.input_tests.proofs.work_need.Reads as work-need-reads
 
--- src/lib.rt:16:8
 is-ragged-requires : tie.Need-is-ragged-requires
 is-ragged-requires c κs = search needs
 
--- src/lib.rt:17:9
 returns : tie.Need-returns
 returns c =
     let s = c .before .before .before in
     let l = limits (s .args .ceiling) (s .args .lent) in
     ragged-refused (s .args .vertices) (s .args .facets .now) l (sym (c .before .is-ragged .ensures) ∙ c .if1 .taken)
 
--- src/lib.rt:19:9
 most-admitted-requires : tie.Need-most-admitted-requires
 most-admitted-requires c κs = search needs
 
--- src/lib.rt:21:9
 returns-2 : tie.Need-returns-2
 returns-2 c =
     let is-ragged = c .before .before .before .is-ragged in
@@ -38,11 +34,9 @@ returns-2 c =
     let over = over-vertices (s .args .vertices) (s .args .facets .now) l (omega (arith, most, c .if2 .taken)) in
     many-refused (s .args .vertices) (s .args .facets .now) l (sym (is-ragged .ensures) ∙ c .before .before .if1 .left) over
 
--- src/lib.rt:23:8
 is-too-many-requires : tie.Need-is-too-many-requires
 is-too-many-requires c κs = search needs
 
--- src/lib.rt:24:9
 returns-3 : tie.Need-returns-3
 returns-3 c =
     let is-ragged = c .before .before .before .before .before .is-ragged in
@@ -55,11 +49,9 @@ returns-3 c =
     let over = over-facets (s .args .vertices) (s .args .facets .now) l (omega (arith, most, if2 .left)) (told _ most many (c .if3 .taken)) in
     many-refused (s .args .vertices) (s .args .facets .now) l (sym (is-ragged .ensures) ∙ if1 .left) over
 
--- src/lib.rt:26:8
 has-bad-index-requires : tie.Need-has-bad-index-requires
 has-bad-index-requires c κs = search needs
 
--- src/lib.rt:27:9
 returns-4 : tie.Need-returns-4
 returns-4 c =
     let is-ragged = c .before .before .before .before .before .before .before .is-ragged in
@@ -74,7 +66,6 @@ returns-4 c =
     let two = not-over (s .args .vertices) (s .args .facets .now) l (omega (arith, most, if2 .left)) (told _ most many (if3 .left)) in
     index-refused (s .args .vertices) (s .args .facets .now) l one two (sym (c .before .has-bad-index .ensures) ∙ c .if4 .taken)
 
--- src/lib.rt:29:9
 work-need-requires : tie.Need-work-need-requires
 work-need-requires c κs =
     let is-ragged = c .before .before .before .before .before .before .before .is-ragged in
@@ -90,7 +81,6 @@ work-need-requires c κs =
     let f = few (s .args .vertices) (s .args .facets .now) l two in
     omega (arith, f .0, f .1)
 
--- src/lib.rt:31:9
 returns-5 : tie.Need-returns-5
 returns-5 c =
     let is-ragged = c .before .before .before .before .before .before .before .before .before .is-ragged in
@@ -107,7 +97,6 @@ returns-5 c =
     let two = not-over (s .args .vertices) (s .args .facets .now) l (omega (arith, most, if2 .left)) (told _ most many (if3 .left)) in
     room-refused (s .args .vertices) (s .args .facets .now) l one two three _ need (c .if5 .taken)
 
--- src/lib.rt:15:1
 returns-6 : tie.Need-returns-6
 returns-6 c =
     let is-ragged = c .before .before .before .before .before .before .before .before .before .is-ragged in

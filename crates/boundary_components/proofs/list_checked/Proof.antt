@@ -8,27 +8,21 @@ use Rattle.boundary_components.proofs.list_checked.Lts as lts
 use Rattle.boundary_components.proofs.stage.Reads as stage-reads
 use Rattle.boundary_components.proofs.write_list.Reads as write-list-reads
 
--- src/lib.rt:109:9
 stage-requires : tie.Need-stage-requires
 stage-requires c κs = search needs
 
--- src/lib.rt:110:17
 mul-edges : tie.Need-mul-edges
 mul-edges c = search needs
 
--- src/lib.rt:111:22
 mul-components : tie.Need-mul-components
 mul-components c = search needs
 
--- src/lib.rt:112:21
 mul-irregular : tie.Need-mul-irregular
 mul-irregular c = search needs
 
--- src/lib.rt:114:9
 same-length : tie.Need-same-length
 same-length c = search needs
 
--- src/lib.rt:114:9
 returns : tie.Need-returns
 returns c =
     let st = c .before .before .before .before .before .before .stage in
@@ -37,11 +31,9 @@ returns c =
     short-edges (a .vertices) (a .facets .now) (a .work .now) (st .last .1 .1 .0) (st .result .edges) (st .result .components) (st .result .irregular) (s .pre) (st .ensures)
     (a .out-edges .now) (a .out-components .now) (a .out-irregular .now) (c .if1 .taken)
 
--- src/lib.rt:117:9
 same-length-2 : tie.Need-same-length-2
 same-length-2 c = search needs
 
--- src/lib.rt:117:9
 returns-2 : tie.Need-returns-2
 returns-2 c =
     let st = c .before .before .before .before .before .before .before .stage in
@@ -50,11 +42,9 @@ returns-2 c =
     short-components (a .vertices) (a .facets .now) (a .work .now) (st .last .1 .1 .0) (st .result .edges) (st .result .components) (st .result .irregular) (s .pre) (st .ensures)
     (a .out-edges .now) (a .out-components .now) (a .out-irregular .now) (c .before .if1 .left) (c .if2 .taken)
 
--- src/lib.rt:120:9
 same-length-3 : tie.Need-same-length-3
 same-length-3 c = search needs
 
--- src/lib.rt:120:9
 returns-3 : tie.Need-returns-3
 returns-3 c =
     let st = c .before .before .before .before .before .before .before .before .stage in
@@ -63,63 +53,48 @@ returns-3 c =
     short-irregular (a .vertices) (a .facets .now) (a .work .now) (st .last .1 .1 .0) (st .result .edges) (st .result .components) (st .result .irregular) (s .pre) (st .ensures)
     (a .out-edges .now) (a .out-components .now) (a .out-irregular .now) (c .before .before .if1 .left) (c .before .if2 .left) (c .if3 .taken)
 
--- src/lib.rt:123:22
 mul-write-list : tie.Need-mul-write-list
 mul-write-list c = search needs
 
--- src/lib.rt:123:30
 mul-write-list-2 : tie.Need-mul-write-list-2
 mul-write-list-2 c = search needs
 
--- src/lib.rt:123:22
 add-write-list : tie.Need-add-write-list
 add-write-list c = search needs
 
--- src/lib.rt:123:5
 write-list-requires : tie.Need-write-list-requires
 write-list-requires c κs = search needs
 
--- src/lib.rt:124:22
 mul-write-list-3 : tie.Need-mul-write-list-3
 mul-write-list-3 c = search needs
 
--- src/lib.rt:124:31
 mul-write-list-4 : tie.Need-mul-write-list-4
 mul-write-list-4 c = search needs
 
--- src/lib.rt:124:22
 add-write-list-2 : tie.Need-add-write-list-2
 add-write-list-2 c = search needs
 
--- src/lib.rt:124:5
 write-list-requires-2 : tie.Need-write-list-requires-2
 write-list-requires-2 c κs = search needs
 
--- src/lib.rt:125:22
 mul-write-list-5 : tie.Need-mul-write-list-5
 mul-write-list-5 c = search needs
 
--- src/lib.rt:125:5
 write-list-requires-3 : tie.Need-write-list-requires-3
 write-list-requires-3 c κs = search needs
 
--- src/lib.rt:96:1
 same-length-4 : tie.Need-same-length-4
 same-length-4 c = search needs
 
--- src/lib.rt:96:1
 same-length-5 : tie.Need-same-length-5
 same-length-5 c = search needs
 
--- src/lib.rt:96:1
 same-length-6 : tie.Need-same-length-6
 same-length-6 c = search needs
 
--- src/lib.rt:96:1
 same-length-7 : tie.Need-same-length-7
 same-length-7 c = search needs
 
--- src/lib.rt:96:1
 returns-4 : tie.Need-returns-4
 returns-4 c =
     let one = c .before .before .before .before .before .before .before .before .before .before .before .before .write-list in

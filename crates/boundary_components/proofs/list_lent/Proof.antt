@@ -13,15 +13,12 @@ use Rattle.boundary_components.proofs.list_lent.Lts as lts
 use Rattle.boundary_components.proofs.check.Reads as check-reads
 use Rattle.boundary_components.proofs.list_checked.Reads as list-checked-reads
 
--- src/lib.rt:143:11
 check-requires : tie.Need-check-requires
 check-requires c κs = search needs
 
--- src/lib.rt:145:13
 enum-told : tie.Need-enum-told
 enum-told c = search needs
 
--- src/lib.rt:144:28
 list-checked-requires : tie.Need-list-checked-requires
 list-checked-requires c κs =
     let told = c .before .before .before .before in
@@ -29,27 +26,21 @@ list-checked-requires c κs =
     let a = checked .before .before .before .before .before .before .args in
     passed (a .vertices) (a .facets .now) (limits (a .ceiling) (length (a .work .now))) (sym (checked .check .ensures) ∙ told .enum-told .given .1)
 
--- src/lib.rt:152:26
 enum-known-r : tie.Need-enum-known-r
 enum-known-r c = search needs
 
--- src/lib.rt:130:1
 same-length : tie.Need-same-length
 same-length c = search needs
 
--- src/lib.rt:130:1
 same-length-2 : tie.Need-same-length-2
 same-length-2 c = search needs
 
--- src/lib.rt:130:1
 same-length-3 : tie.Need-same-length-3
 same-length-3 c = search needs
 
--- src/lib.rt:130:1
 same-length-4 : tie.Need-same-length-4
 same-length-4 c = search needs
 
--- src/lib.rt:130:1
 returns : tie.Need-returns
 returns c =
     let listed = c .before .before .before .before .before .before .before .before in
@@ -59,7 +50,6 @@ returns c =
     behind (boundaryTests (a .vertices) (a .facets .now) (limits (a .ceiling) (length (a .work .now)))) _ _
     (sym (checked .check .ensures) ∙ told .enum-told .given .1) (listed .list-checked .ensures)
 
--- src/lib.rt:130:1
 returns-2 : tie.Need-returns-2
 returns-2 c =
     let a = c .before .before .before .before .before .before .before .before .before .args in

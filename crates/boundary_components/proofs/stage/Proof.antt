@@ -12,19 +12,15 @@ use Rattle.edges.proofs.sort_sides.Reads as sort-sides-reads
 use Rattle.irregular_edges.proofs.irregular_edges.Reads as irregular-edges-reads
 use Rattle.words.proofs.zero_part.Reads as zero-part-reads
 
--- src/lib.rt:75:5
 sort-sides-requires : tie.Need-sort-sides-requires
 sort-sides-requires c κs = search needs
 
--- src/lib.rt:76:51
 mul-irregular-edges : tie.Need-mul-irregular-edges
 mul-irregular-edges c = search needs
 
--- src/lib.rt:76:9
 irregular-edges-requires : tie.Need-irregular-edges-requires
 irregular-edges-requires c κs = search needs
 
--- src/lib.rt:77:9
 keep-open-requires : tie.Need-keep-open-requires
 keep-open-requires c κs =
     let table = c .before .before .before .before .before .before .before .sort-sides in
@@ -36,27 +32,21 @@ keep-open-requires c κs =
     let again = table-again (s .args .vertices) fs w (table .last .1 .0) (found .last .1 .0) (found .result) (s .pre) (λ i. omega (arith, corners .given i)) (table .ensures) (found .ensures) in
     (omega (arith, again .same), ascends fs (found .last .1 .0) (found .last .1 .0) again)
 
--- src/lib.rt:78:21
 mul-zero-part : tie.Need-mul-zero-part
 mul-zero-part c = search needs
 
--- src/lib.rt:78:37
 sub-zero-part : tie.Need-sub-zero-part
 sub-zero-part c = search needs
 
--- src/lib.rt:78:32
 mul-zero-part-2 : tie.Need-mul-zero-part-2
 mul-zero-part-2 c = search needs
 
--- src/lib.rt:78:5
 zero-part-requires : tie.Need-zero-part-requires
 zero-part-requires c κs = search needs
 
--- src/lib.rt:79:60
 mul-group-edges : tie.Need-mul-group-edges
 mul-group-edges c = search needs
 
--- src/lib.rt:79:9
 group-edges-requires : tie.Need-group-edges-requires
 group-edges-requires c κs =
     let cleared = c .before .before .before .zero-part in
@@ -70,11 +60,9 @@ group-edges-requires c κs =
     edges-ready (s .args .vertices) fs w (table .last .1 .0) (found .last .1 .0) (found .result) (s .pre) (λ i. omega (arith, corners .given i)) (table .ensures) (found .ensures)
     (kept .last .0) (cleared .last .0) (kept .result) (kept .ensures) (cleared .ensures)
 
--- src/lib.rt:70:1
 same-length : tie.Need-same-length
 same-length c = search needs
 
--- src/lib.rt:70:1
 returns : tie.Need-returns
 returns c =
     let grouped = c .before .before .group-edges in

@@ -6,35 +6,27 @@ use Rattle.boundary_components.proofs.write_list.Reads as reads
 use Rattle.boundary_components.proofs.write_list.Lts as lts
 use Rattle.words.proofs.copy_words.Reads as copy-words-reads
 
--- src/lib.rt:92:25
 add-copy-words : tie.Need-add-copy-words
 add-copy-words c = search needs
 
--- src/lib.rt:92:16
 mul-copy-words : tie.Need-mul-copy-words
 mul-copy-words c = search needs
 
--- src/lib.rt:92:16
 sub-copy-words : tie.Need-sub-copy-words
 sub-copy-words c = search needs
 
--- src/lib.rt:92:16
 part-copy-words-start : tie.Need-part-copy-words-start
 part-copy-words-start c = search needs
 
--- src/lib.rt:92:16
 part-copy-words-end : tie.Need-part-copy-words-end
 part-copy-words-end c = search needs
 
--- src/lib.rt:92:5
 copy-words-requires : tie.Need-copy-words-requires
 copy-words-requires c κs = search needs
 
--- src/lib.rt:88:1
 same-length : tie.Need-same-length
 same-length c = search needs
 
--- src/lib.rt:88:1
 returns : tie.Need-returns
 returns c =
     let a = c .before .before .before .before .before .before .before .args in

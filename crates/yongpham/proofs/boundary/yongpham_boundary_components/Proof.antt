@@ -7,31 +7,24 @@ use Rattle.yongpham.proofs.boundary.yongpham_boundary_components.Lts as
 use Rattle.boundary_components.proofs.boundary_components.Reads as boundary-components-reads
 use Rattle.refusals.proofs.report.report_reply.Reads as report-reply-reads
 
--- src/boundary.rt:25:9
 boundary-components-requires : tie.Need-boundary-components-requires
 boundary-components-requires c κs = search needs
 
--- src/boundary.rt:34:5
 report-reply-requires : tie.Need-report-reply-requires
 report-reply-requires c κs = search needs
 
--- src/boundary.rt:10:1
 same-length : tie.Need-same-length
 same-length c = search needs
 
--- src/boundary.rt:10:1
 same-length-2 : tie.Need-same-length-2
 same-length-2 c = search needs
 
--- src/boundary.rt:10:1
 same-length-3 : tie.Need-same-length-3
 same-length-3 c = search needs
 
--- src/boundary.rt:10:1
 same-length-4 : tie.Need-same-length-4
 same-length-4 c = search needs
 
--- src/boundary.rt:10:1
 returns : tie.Need-returns
 returns c = called _ _ _ _ _ _ _ (c .before .before .before .before .before .before .before .before .before .before .boundary-components .ensures) (c .report-reply .ensures)
 
