@@ -1,8 +1,8 @@
 -- The steps of `group_edges` together: the words w, then after each step a, b, d, f, g, h, p and q. Assumes nothing.
 --   view-pairs, records-up     words as pairs, and as records
 --   edges-length, edges-at     the edges that the keys hold
---   label-room, tally-room, sorted-ready, grouped-ready     what each step asks
---   all-grouped                what the steps leave
+--   label-room, tally-room     what the first steps ask
+--   StepsTo                    the steps up to the sort as one; steps-ready, then-ready   what the others ask; then-grouped   what all leave
 use Prim.Native.Nat.{ℕ, zero, suc, _+_, _*_, _-_, _/_, _≤_, _<_}
 use native.Mathlib.Omega.{arith}
 use mathlib.Core.Path.{_≡_, refl, sym, ap, _∙_, subst}
@@ -248,7 +248,7 @@ module _ (k n m at : ℕ) where
                 let e : r .0 ≡ y .1 = ap (λ (z : ℕ × ℕ). z .1) (r .2) in
                 omega arith))
 
-        pub sorted-ready : EndsReady h k m at degrees
+        sorted-ready : EndsReady h k m at degrees
         sorted-ready =
             let r = R .room in
             let u = R .few in
@@ -265,7 +265,7 @@ module _ (k n m at : ℕ) where
           below-p : (x : ℕ) → x < edges → getD p x 0 ≡ getD h x 0
           below-p x l = P .rest x (λ j u e. omega arith)
 
-          pub grouped-ready : EndsReady p k m at degrees
+          grouped-ready : EndsReady p k m at degrees
           grouped-ready = ready-still h p k m at degrees edges sorted-ready (omega (arith, R .few)) (omega arith) (P .long) below-p
 
           module _ (q : List ℕ) (c′ : ℕ) (Q : ComponentsPut p q k at degrees out c′) where
@@ -393,7 +393,7 @@ module _ (k n m at : ℕ) where
                 Q .below x (omega arith) ∙ below-p x (omega arith) ∙ behind x (omega (arith, R .few)) ∙ G .rest x (omega (arith, R .few)) ∙ F .rest x (λ j l e. omega arith)
                 ∙ D .rest x (λ j l e. omega arith) ∙ B .rest x (λ j l e. omega arith) ∙ A .rest x (λ j l e. omega arith)
 
-            pub all-grouped : Grouped es w q k n m at c′
+            all-grouped : Grouped es w q k n m at c′
             all-grouped =
                 record {
                   long = Q .long ∙ P .long ∙ long-h;
@@ -409,3 +409,33 @@ module _ (k n m at : ℕ) where
 
                 out-place : at + 6 * n + 2 * m ≡ out
                 out-place = omega arith
+
+-- ---- the steps up to the sort as one: they lead from the words w to h
+
+pub record StepsTo (k n m at : ℕ) (w h : List ℕ) : Type 0 where
+  pub a : List ℕ
+  pub b : List ℕ
+  pub d : List ℕ
+  pub f : List ℕ
+  pub g : List ℕ
+  pub room : GroupRoom w k n m at
+  pub ends : EndsPut w a k at
+  pub numbers : ComponentTable (view a at (k * 2)) k 2 m (table k n m at) a b
+  pub zeros : PartZeroed b d (degrees k n m at) m
+  pub tallied : EndsTallied d f at (2 * k) (degrees k n m at) m
+  pub records : RecordsNumbered f g k (table k n m at)
+  pub sorted : SortedRecords g h k
+
+module _ (k n m at : ℕ) (w h : List ℕ) (s : StepsTo k n m at w h) where
+  pub steps-long : length h ≡ length w
+  steps-long = s .sorted .same ∙ s .records .long ∙ s .tallied .long ∙ s .zeros .long ∙ s .numbers .long ∙ s .ends .long
+
+  pub steps-ready : EndsReady h k m at (degrees k n m at)
+  steps-ready = sorted-ready k n m at w (s .a) (s .room) (s .ends) (s .b) (s .d) (s .numbers) (s .zeros) (s .f) (s .g) h (s .tallied) (s .records) (s .sorted)
+
+  pub then-ready : (p : List ℕ) → EdgesPut h p k at (edges k n m at) → EndsReady p k m at (degrees k n m at)
+  then-ready = grouped-ready k n m at w (s .a) (s .room) (s .ends) (s .b) (s .d) (s .numbers) (s .zeros) (s .f) (s .g) h (s .tallied) (s .records) (s .sorted)
+
+  pub then-grouped : (p : List ℕ) → EdgesPut h p k at (edges k n m at) → (q : List ℕ) (c : ℕ) → ComponentsPut p q k at (degrees k n m at) (out k n m at) c
+      → Grouped (keyedEdges w k) w q k n m at c
+  then-grouped = all-grouped k n m at w (s .a) (s .room) (s .ends) (s .b) (s .d) (s .numbers) (s .zeros) (s .f) (s .g) h (s .tallied) (s .records) (s .sorted)

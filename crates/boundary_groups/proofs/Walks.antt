@@ -148,6 +148,36 @@ module _ (w : List ℕ) (k m ends degrees j : ℕ) (R : EndsReady w k m ends deg
       shift : (a b : ℕ) → a + (b + 1) ≡ a + b + 1
       shift a b = omega arith
 
+-- what bounds the numbers of a turn over runs: from record i to e, with c components put from `to` on
+pub record TurnBounds (w₀ : List ℕ) (k to : ℕ) (w : List ℕ) (c i e : ℕ) : Type 0 where
+  pub same : length w ≡ length w₀
+  pub few : c ≤ i
+  pub more : i < e
+  pub within : e ≤ k
+  pub room : to + 2 * k ≤ length w₀
+
+-- what bounds the reads of the edge that record j holds
+pub record EdgeBounds (w : List ℕ) (k m ends degrees j : ℕ) : Type 0 where
+  pub place : j < k
+  pub front : 2 * k ≤ ends
+  pub ends-room : ends + 2 * k ≤ length w
+  pub room : degrees + m ≤ length w
+  pub number-low : getD w (2 * j + 1) 0 < k
+  pub first-low : getD w (ends + 2 * getD w (2 * j + 1) 0) 0 < m
+  pub second-low : getD w (ends + 2 * getD w (2 * j + 1) 0 + 1) 0 < m
+
+pub edge-bounds : (w : List ℕ) (k m ends degrees j : ℕ) → EndsReady w k m ends degrees → j < k → EdgeBounds w k m ends degrees j
+edge-bounds w k m ends degrees j R h =
+    record {
+      place = h;
+      front = R .front;
+      ends-room = R .ends-room;
+      room = R .room;
+      number-low = R .payload j h;
+      first-low = ready-first w k m ends degrees j R h;
+      second-low = ready-second w k m ends degrees j R h;
+    }
+
 module _ (w : List ℕ) (ends degrees : ℕ) (r : ℕ × ℕ) where
   abbrev from : ℕ
   from = getD w (ends + 2 * r .1) 0

@@ -1,7 +1,9 @@
-use Rattle.boundary_components.proofs.Checking.{ragged-refused, over-vertices, over-facets, not-over, many-refused, index-refused, room-refused, all-passed, few, told}
-use Rattle.input_tests.specs.Front.{limits}
+use Rattle.boundary_components.proofs.Checking.{many, ragged-refused, over-vertices, over-facets, not-over, many-refused, index-refused, room-refused, all-passed, few, told}
+use Rattle.input_tests.specs.Front.{limits, ragged}
+use lib.ListN.{length}
+use mathlib.Core.Bool.{false}
 use native.Mathlib.Omega.{arith}
-use mathlib.Core.Path.{sym, _∙_}
+use mathlib.Core.Path.{_≡_, sym, _∙_}
 use borrow.Author.Needs.{needs}
 use Rattle.boundary_components.proofs.check.Statement.{statement}
 use Rattle.boundary_components.proofs.check.Tie as tie
@@ -52,66 +54,51 @@ returns-3 c =
 has-bad-index-requires : tie.Need-has-bad-index-requires
 has-bad-index-requires c κs = search needs
 
+-- 1 and 2 have passed
+counted : (c : lts.Else3 (
+  is-ragged-reads.Asked,
+  is-ragged-reads.Learnt,
+  most-admitted-reads.Asked,
+  most-admitted-reads.Learnt,
+  is-too-many-reads.Asked,
+  is-too-many-reads.Learnt,
+  has-bad-index-reads.Asked,
+  has-bad-index-reads.Learnt,
+  work-need-reads.Asked,
+  work-need-reads.Learnt,
+) reads.Pre reads.Post)
+    → (ragged (length (c .before .before .before .before .before .before .before .args .facets .now)) 3 ≡ false)
+    × (many (c .before .before .before .before .before .before .before .args .vertices) (c .before .before .before .before .before .before .before .args .facets .now) (limits (c .before .before .before .before .before .before .before .args .ceiling) (c .before .before .before .before .before .before .before .args .lent)) ≡ false)
+counted c =
+    let s = c .before .before .before .before .before .before .before in
+    let most = c .before .before .before .most-admitted .ensures in (
+      sym (c .before .before .before .before .before .is-ragged .ensures) ∙ c .before .before .before .before .if1 .left,
+      not-over (s .args .vertices) (s .args .facets .now) (limits (s .args .ceiling) (s .args .lent)) (omega (arith, most, c .before .before .if2 .left))
+          (told _ most (c .before .is-too-many .ensures) (c .if3 .left)),
+    )
+
 returns-4 : tie.Need-returns-4
 returns-4 c =
-    let is-ragged = c .before .before .before .before .before .before .before .is-ragged in
-    let if1 = c .before .before .before .before .before .before .if1 in
-    let most = c .before .before .before .before .before .most-admitted .ensures in
-    let if2 = c .before .before .before .before .if2 in
-    let many = c .before .before .before .is-too-many .ensures in
-    let if3 = c .before .before .if3 in
-    let s = c .before .before .before .before .before .before .before .before .before in
-    let l = limits (s .args .ceiling) (s .args .lent) in
-    let one = sym (is-ragged .ensures) ∙ if1 .left in
-    let two = not-over (s .args .vertices) (s .args .facets .now) l (omega (arith, most, if2 .left)) (told _ most many (if3 .left)) in
-    index-refused (s .args .vertices) (s .args .facets .now) l one two (sym (c .before .has-bad-index .ensures) ∙ c .if4 .taken)
+    let passed = counted (c .before .before) in
+    index-refused _ _ _ (passed .0) (passed .1) (sym (c .before .has-bad-index .ensures) ∙ c .if4 .taken)
 
 work-need-requires : tie.Need-work-need-requires
 work-need-requires c κs =
-    let is-ragged = c .before .before .before .before .before .before .before .is-ragged in
-    let if1 = c .before .before .before .before .before .before .if1 in
-    let most = c .before .before .before .before .before .most-admitted .ensures in
-    let if2 = c .before .before .before .before .if2 in
-    let many = c .before .before .before .is-too-many .ensures in
-    let if3 = c .before .before .if3 in
-    let s = c .before .before .before .before .before .before .before .before .before in
-    let l = limits (s .args .ceiling) (s .args .lent) in
-    let one = sym (is-ragged .ensures) ∙ if1 .left in
-    let two = not-over (s .args .vertices) (s .args .facets .now) l (omega (arith, most, if2 .left)) (told _ most many (if3 .left)) in
-    let f = few (s .args .vertices) (s .args .facets .now) l two in
+    let s = c .before .before .before .before .before .before .before .before .before .args in
+    let f = few (s .vertices) (s .facets .now) (limits (s .ceiling) (s .lent)) (counted (c .before .before) .1) in
     omega (arith, f .0, f .1)
 
 returns-5 : tie.Need-returns-5
 returns-5 c =
-    let is-ragged = c .before .before .before .before .before .before .before .before .before .is-ragged in
-    let if1 = c .before .before .before .before .before .before .before .before .if1 in
-    let most = c .before .before .before .before .before .before .before .most-admitted .ensures in
-    let if2 = c .before .before .before .before .before .before .if2 in
-    let many = c .before .before .before .before .before .is-too-many .ensures in
-    let if3 = c .before .before .before .before .if3 in
+    let passed = counted (c .before .before .before .before) in
     let three = sym (c .before .before .before .has-bad-index .ensures) ∙ c .before .before .if4 .left in
-    let need = c .before .work-need .ensures in
-    let s = c .before .before .before .before .before .before .before .before .before .before .before in
-    let l = limits (s .args .ceiling) (s .args .lent) in
-    let one = sym (is-ragged .ensures) ∙ if1 .left in
-    let two = not-over (s .args .vertices) (s .args .facets .now) l (omega (arith, most, if2 .left)) (told _ most many (if3 .left)) in
-    room-refused (s .args .vertices) (s .args .facets .now) l one two three _ need (c .if5 .taken)
+    room-refused _ _ _ (passed .0) (passed .1) three _ (c .before .work-need .ensures) (c .if5 .taken)
 
 returns-6 : tie.Need-returns-6
 returns-6 c =
-    let is-ragged = c .before .before .before .before .before .before .before .before .before .is-ragged in
-    let if1 = c .before .before .before .before .before .before .before .before .if1 in
-    let most = c .before .before .before .before .before .before .before .most-admitted .ensures in
-    let if2 = c .before .before .before .before .before .before .if2 in
-    let many = c .before .before .before .before .before .is-too-many .ensures in
-    let if3 = c .before .before .before .before .if3 in
+    let passed = counted (c .before .before .before .before) in
     let three = sym (c .before .before .before .has-bad-index .ensures) ∙ c .before .before .if4 .left in
-    let need = c .before .work-need .ensures in
-    let s = c .before .before .before .before .before .before .before .before .before .before .before in
-    let l = limits (s .args .ceiling) (s .args .lent) in
-    let one = sym (is-ragged .ensures) ∙ if1 .left in
-    let two = not-over (s .args .vertices) (s .args .facets .now) l (omega (arith, most, if2 .left)) (told _ most many (if3 .left)) in
-    all-passed (s .args .vertices) (s .args .facets .now) l one two three _ need (c .if5 .left)
+    all-passed _ _ _ (passed .0) (passed .1) three _ (c .before .work-need .ensures) (c .if5 .left)
 
 pub check-spec : {M : Type 1} → statement M
 check-spec =

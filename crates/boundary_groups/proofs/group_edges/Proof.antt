@@ -1,7 +1,7 @@
 -- `group_edges`: the steps one after the other. Assumes nothing.
 use mathlib.Core.Path.{_∙_}
 use native.Mathlib.Omega.{arith}
-use Rattle.boundary_groups.proofs.Grouping.{label-room, tally-room, sorted-ready, grouped-ready, all-grouped}
+use Rattle.boundary_groups.proofs.Grouping.{label-room, tally-room, StepsTo, steps-long, steps-ready, then-ready, then-grouped}
 use borrow.Author.Needs.{needs}
 use Rattle.boundary_groups.proofs.group_edges.Statement.{statement}
 use Rattle.boundary_groups.proofs.group_edges.Tie as tie
@@ -77,75 +77,73 @@ number-records-requires c κs = search needs
 sort-records-requires : tie.Need-sort-records-requires
 sort-records-requires c κs = search needs
 
+-- what has been done once the records are sorted
+steps : (c : lts.After-sort-records (
+  put-ends-reads.Asked,
+  put-ends-reads.Learnt,
+  components-reads.Asked,
+  components-reads.Learnt,
+  zero-part-reads.Asked,
+  zero-part-reads.Learnt,
+  tally-ends-reads.Asked,
+  tally-ends-reads.Learnt,
+  number-records-reads.Asked,
+  number-records-reads.Learnt,
+  sort-records-reads.Asked,
+  sort-records-reads.Learnt,
+  put-grouped-reads.Asked,
+  put-grouped-reads.Learnt,
+  put-components-reads.Asked,
+  put-components-reads.Learnt,
+) reads.Pre reads.Post)
+    → StepsTo (c .before .before .before .before .before .before .before .before .before .before .before .before .before .before .before .before .before .before .before .before .before .before .before .args .k)
+    (c .before .before .before .before .before .before .before .before .before .before .before .before .before .before .before .before .before .before .before .before .before .before .before .args .n)
+    (c .before .before .before .before .before .before .before .before .before .before .before .before .before .before .before .before .before .before .before .before .before .before .before .args .m)
+    (c .before .before .before .before .before .before .before .before .before .before .before .before .before .before .before .before .before .before .before .before .before .before .before .args .at)
+    (c .before .before .before .before .before .before .before .before .before .before .before .before .before .before .before .before .before .before .before .before .before .before .before .args .w .now)
+    (c .sort-records .last .0)
+steps c =
+    let at-g = c .before .before .before .before in
+    let at-f = at-g .before .before .before .before in
+    let at-d = at-f .before .before .before .before in
+    let at-b = at-d .before .before .before .before in
+    let at-a = at-b .before .before .before .before in
+    record {
+      a = at-a .put-ends .last .0;
+      b = at-b .components .last .0;
+      d = at-d .zero-part .last .0;
+      f = at-f .tally-ends .last .0;
+      g = at-g .number-records .last .0;
+      room = at-a .before .before .before .pre;
+      ends = at-a .put-ends .ensures;
+      numbers = at-b .components .ensures;
+      zeros = at-d .zero-part .ensures;
+      tallied = at-f .tally-ends .ensures;
+      records = at-g .number-records .ensures;
+      sorted = c .sort-records .ensures;
+    }
+
 put-grouped-requires : tie.Need-put-grouped-requires
 put-grouped-requires c κs =
-    let at-h = c .before .before .before in
-    let h = at-h .sort-records in
-    let at-g = at-h .before .before .before .before in
-    let g = at-g .number-records in
-    let at-f = at-g .before .before .before .before in
-    let f = at-f .tally-ends in
-    let at-d = at-f .before .before .before .before in
-    let d = at-d .zero-part in
-    let at-b = at-d .before .before .before .before in
-    let b = at-b .components in
-    let at-a = at-b .before .before .before .before in
-    let a = at-a .put-ends in
-    let at-s = at-a .before .before .before in
-    let R = at-s .pre in
-    let x = at-s .args in
-    let l = h .ensures .same ∙ g .ensures .long ∙ f .ensures .long ∙ d .ensures .long ∙ b .ensures .long ∙ a .ensures .long in
-    let ready = sorted-ready (x .k) (x .n) (x .m) (x .at) (x .w .now) (a .last .0) R (a .ensures) (b .last .0) (d .last .0) (b .ensures) (d .ensures)
-    (f .last .0) (g .last .0) (h .last .0) (f .ensures) (g .ensures) (h .ensures) in
-    (ready .payload, (omega (arith, R .few, R .front), (omega (arith, R .few), omega (arith, l, R .few, R .room))))
+    let s = steps (c .before .before .before) in
+    let R = s .room in
+    let l = steps-long _ _ _ _ _ _ s in
+    (steps-ready _ _ _ _ _ _ s .payload, (omega (arith, R .few, R .front), (omega (arith, R .few), omega (arith, l, R .few, R .room))))
 
 put-components-requires : tie.Need-put-components-requires
 put-components-requires c κs =
     let at-p = c .before .before .before in
     let p = at-p .put-grouped in
-    let at-h = at-p .before .before .before .before in
-    let h = at-h .sort-records in
-    let at-g = at-h .before .before .before .before in
-    let g = at-g .number-records in
-    let at-f = at-g .before .before .before .before in
-    let f = at-f .tally-ends in
-    let at-d = at-f .before .before .before .before in
-    let d = at-d .zero-part in
-    let at-b = at-d .before .before .before .before in
-    let b = at-b .components in
-    let at-a = at-b .before .before .before .before in
-    let a = at-a .put-ends in
-    let at-s = at-a .before .before .before in
-    let R = at-s .pre in
-    let x = at-s .args in
-    let l = h .ensures .same ∙ g .ensures .long ∙ f .ensures .long ∙ d .ensures .long ∙ b .ensures .long ∙ a .ensures .long in
-    let ready = grouped-ready (x .k) (x .n) (x .m) (x .at) (x .w .now) (a .last .0) R (a .ensures) (b .last .0) (d .last .0) (b .ensures) (d .ensures)
-    (f .last .0) (g .last .0) (h .last .0) (f .ensures) (g .ensures) (h .ensures) (p .last .0) (p .ensures) in
-    (ready, (omega (arith, R .few), (omega arith, omega (arith, l, p .ensures .long, R .few, R .room))))
+    let s = steps (at-p .before .before .before .before) in
+    let R = s .room in
+    let l = steps-long _ _ _ _ _ _ s in
+    (then-ready _ _ _ _ _ _ s (p .last .0) (p .ensures), (omega (arith, R .few), (omega arith, omega (arith, l, p .ensures .long, R .few, R .room))))
 
 same-length : tie.Need-same-length
 same-length c =
     let at-q = c .before .before in
-    let q = at-q .put-components in
     let at-p = at-q .before .before .before .before in
-    let p = at-p .put-grouped in
-    let at-h = at-p .before .before .before .before in
-    let h = at-h .sort-records in
-    let at-g = at-h .before .before .before .before in
-    let g = at-g .number-records in
-    let at-f = at-g .before .before .before .before in
-    let f = at-f .tally-ends in
-    let at-d = at-f .before .before .before .before in
-    let d = at-d .zero-part in
-    let at-b = at-d .before .before .before .before in
-    let b = at-b .components in
-    let at-a = at-b .before .before .before .before in
-    let a = at-a .put-ends in
-    let at-s = at-a .before .before .before in
-    let R = at-s .pre in
-    let x = at-s .args in
-    let l = h .ensures .same ∙ g .ensures .long ∙ f .ensures .long ∙ d .ensures .long ∙ b .ensures .long ∙ a .ensures .long in
-    q .ensures .long ∙ p .ensures .long ∙ l
+    at-q .put-components .ensures .long ∙ at-p .put-grouped .ensures .long ∙ steps-long _ _ _ _ _ _ (steps (at-p .before .before .before .before))
 
 returns : tie.Need-returns
 returns c =
@@ -153,24 +151,7 @@ returns c =
     let q = at-q .put-components in
     let at-p = at-q .before .before .before .before in
     let p = at-p .put-grouped in
-    let at-h = at-p .before .before .before .before in
-    let h = at-h .sort-records in
-    let at-g = at-h .before .before .before .before in
-    let g = at-g .number-records in
-    let at-f = at-g .before .before .before .before in
-    let f = at-f .tally-ends in
-    let at-d = at-f .before .before .before .before in
-    let d = at-d .zero-part in
-    let at-b = at-d .before .before .before .before in
-    let b = at-b .components in
-    let at-a = at-b .before .before .before .before in
-    let a = at-a .put-ends in
-    let at-s = at-a .before .before .before in
-    let R = at-s .pre in
-    let x = at-s .args in
-    all-grouped (x .k) (x .n) (x .m) (x .at) (x .w .now) (a .last .0) R (a .ensures) (b .last .0) (d .last .0) (b .ensures) (d .ensures)
-    (f .last .0) (g .last .0) (h .last .0) (f .ensures) (g .ensures) (h .ensures) (p .last .0) (p .ensures)
-    (q .last .0) (q .result) (q .ensures)
+    then-grouped _ _ _ _ _ _ (steps (at-p .before .before .before .before)) (p .last .0) (p .ensures) (q .last .0) (q .result) (q .ensures)
 
 pub group-edges-spec : {M : Type 1} → statement M
 group-edges-spec =

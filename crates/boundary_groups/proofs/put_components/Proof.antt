@@ -3,7 +3,7 @@ use Prim.Native.Nat.{_+_, _*_, _-_}
 use lib.ListN.{length-set}
 use mathlib.Core.Path.{refl}
 use native.Mathlib.Omega.{arith}
-use Rattle.boundary_groups.proofs.Walks.{Putting, putting-start, putting-ready, putting-turn, putting-end, flag}
+use Rattle.boundary_groups.proofs.Walks.{Putting, TurnBounds, putting-start, putting-ready, putting-turn, putting-end, flag}
 use Rattle.boundary_groups.proofs.put_components.Statement.{statement}
 use Rattle.boundary_groups.proofs.put_components.Tie as tie
 use Rattle.boundary_groups.proofs.put_components.Reads as reads
@@ -16,6 +16,16 @@ Inv-loop w₀ k m ends degrees to c₀ i₀ w c i = Putting w₀ k ends degrees 
 
 abbrev μ-loop : tie.MeasureT-loop
 μ-loop w₀ k m ends degrees to c₀ i₀ w c i = k - i
+
+-- what bounds a turn's numbers
+turn : (c : lts.After-is-ring (run-end-reads.Asked, run-end-reads.Learnt, is-ring-reads.Asked, is-ring-reads.Learnt) reads.Pre reads.Post Inv-loop μ-loop)
+    → TurnBounds (c .before .before .before .before .before .before .before .args .w .now) (c .before .before .before .before .before .before .before .args .k)
+    (c .before .before .before .before .before .before .before .args .to) (c .before .before .before .before .before .loop .w) (c .before .before .before .before .before .loop .c)
+    (c .before .before .before .before .before .loop .i) (c .before .before .run-end .result)
+turn c =
+    let inv = c .before .before .before .before .before .loop .inv in
+    let run = c .before .before .run-end .ensures in
+    record { same = inv .long; few = inv .few; more = run .more; within = run .within; room = c .before .before .before .before .before .before .before .pre .1 .1 .1 }
 
 loop-again : tie.Need-loop-again Inv-loop μ-loop
 loop-again c =
@@ -52,108 +62,47 @@ is-ring-requires c κs =
     )
 
 sub-w : tie.Need-sub-w Inv-loop μ-loop
-sub-w c =
-    let l = c .before .before .before .before .before .loop in
-    let s = c .before .before .before .before .before .before .before .args in
-    let pre = c .before .before .before .before .before .before .before .pre in
-    let run = c .before .before .run-end .ensures in
-    omega (arith, l .inv .long, l .inv .few, run .more, run .within, pre .1 .1 .1)
+sub-w c = let b = turn c in omega arith
 
 mul-w : tie.Need-mul-w Inv-loop μ-loop
-mul-w c =
-    let l = c .before .before .before .before .before .loop in
-    let s = c .before .before .before .before .before .before .before .args in
-    let pre = c .before .before .before .before .before .before .before .pre in
-    let run = c .before .before .run-end .ensures in
-    omega (arith, l .inv .long, l .inv .few, run .more, run .within, pre .1 .1 .1)
+mul-w c = let b = turn c in omega arith
 
 add-w : tie.Need-add-w Inv-loop μ-loop
-add-w c =
-    let l = c .before .before .before .before .before .loop in
-    let s = c .before .before .before .before .before .before .before .args in
-    let pre = c .before .before .before .before .before .before .before .pre in
-    let run = c .before .before .run-end .ensures in
-    omega (arith, l .inv .long, l .inv .few, run .more, run .within, pre .1 .1 .1)
+add-w c = let b = turn c in omega arith
 
 mul-w-2 : tie.Need-mul-w-2 Inv-loop μ-loop
-mul-w-2 c =
-    let l = c .before .before .before .before .before .loop in
-    let s = c .before .before .before .before .before .before .before .args in
-    let pre = c .before .before .before .before .before .before .before .pre in
-    let run = c .before .before .run-end .ensures in
-    omega (arith, l .inv .long, l .inv .few, run .more, run .within, pre .1 .1 .1)
+mul-w-2 c = let b = turn c in omega arith
 
 slice-write-w : tie.Need-slice-write-w Inv-loop μ-loop
-slice-write-w c =
-    let l = c .before .before .before .before .before .loop in
-    let s = c .before .before .before .before .before .before .before .args in
-    let pre = c .before .before .before .before .before .before .before .pre in
-    let run = c .before .before .run-end .ensures in
-    omega (arith, l .inv .long, l .inv .few, run .more, run .within, pre .1 .1 .1)
+slice-write-w c = let b = turn c in omega arith
 
 cast-w : tie.Need-cast-w Inv-loop μ-loop
-cast-w c =
-    let l = c .before .before .before .before .before .loop in
-    let s = c .before .before .before .before .before .before .before .args in
-    let pre = c .before .before .before .before .before .before .before .pre in
-    let run = c .before .before .run-end .ensures in
-    omega (arith, l .inv .long, l .inv .few, run .more, run .within, pre .1 .1 .1)
+cast-w c = let b = turn c in omega arith
 
 mul-w-3 : tie.Need-mul-w-3 Inv-loop μ-loop
-mul-w-3 c =
-    let l = c .before .before .before .before .before .loop in
-    let s = c .before .before .before .before .before .before .before .args in
-    let pre = c .before .before .before .before .before .before .before .pre in
-    let run = c .before .before .run-end .ensures in
-    omega (arith, l .inv .long, l .inv .few, run .more, run .within, pre .1 .1 .1)
+mul-w-3 c = let b = turn c in omega arith
 
 add-w-2 : tie.Need-add-w-2 Inv-loop μ-loop
-add-w-2 c =
-    let l = c .before .before .before .before .before .loop in
-    let s = c .before .before .before .before .before .before .before .args in
-    let pre = c .before .before .before .before .before .before .before .pre in
-    let run = c .before .before .run-end .ensures in
-    omega (arith, l .inv .long, l .inv .few, run .more, run .within, pre .1 .1 .1)
+add-w-2 c = let b = turn c in omega arith
 
 add-w-3 : tie.Need-add-w-3 Inv-loop μ-loop
-add-w-3 c =
-    let l = c .before .before .before .before .before .loop in
-    let s = c .before .before .before .before .before .before .before .args in
-    let pre = c .before .before .before .before .before .before .before .pre in
-    let run = c .before .before .run-end .ensures in
-    omega (arith, l .inv .long, l .inv .few, run .more, run .within, pre .1 .1 .1)
+add-w-3 c = let b = turn c in omega arith
 
 mul-w-4 : tie.Need-mul-w-4 Inv-loop μ-loop
-mul-w-4 c =
-    let l = c .before .before .before .before .before .loop in
-    let s = c .before .before .before .before .before .before .before .args in
-    let pre = c .before .before .before .before .before .before .before .pre in
-    let run = c .before .before .run-end .ensures in
-    omega (arith, l .inv .long, l .inv .few, run .more, run .within, pre .1 .1 .1)
+mul-w-4 c = let b = turn c in omega arith
 
 slice-write-w-2 : tie.Need-slice-write-w-2 Inv-loop μ-loop
 slice-write-w-2 c =
+    let b = turn c in
     let l = c .before .before .before .before .before .loop in
     let s = c .before .before .before .before .before .before .before .args in
-    let pre = c .before .before .before .before .before .before .before .pre in
-    let run = c .before .before .run-end .ensures in
-    omega (arith, l .inv .long, l .inv .few, length-set (l .w) (s .to + 2 * l .c) (c .before .before .run-end .result - l .i), pre .1 .1 .1)
+    omega (arith, length-set (l .w) (s .to + 2 * l .c) (c .before .before .run-end .result - l .i))
 
 add-c : tie.Need-add-c Inv-loop μ-loop
-add-c c =
-    let l = c .before .before .before .before .before .loop in
-    let s = c .before .before .before .before .before .before .before .args in
-    let pre = c .before .before .before .before .before .before .before .pre in
-    let run = c .before .before .run-end .ensures in
-    omega (arith, l .inv .long, l .inv .few, run .more, run .within, pre .1 .1 .1)
+add-c c = let b = turn c in omega arith
 
 loop-less : tie.Need-loop-less Inv-loop μ-loop
-loop-less c =
-    let l = c .before .before .before .before .before .loop in
-    let s = c .before .before .before .before .before .before .before .args in
-    let pre = c .before .before .before .before .before .before .before .pre in
-    let run = c .before .before .run-end .ensures in
-    omega (arith, l .inv .long, l .inv .few, run .more, run .within, pre .1 .1 .1)
+loop-less c = let b = turn c in omega arith
 
 same-length : tie.Need-same-length Inv-loop μ-loop
 same-length c = omega (arith, c .before .loop .inv .long)
