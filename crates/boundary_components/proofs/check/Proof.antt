@@ -1,5 +1,5 @@
 use Rattle.boundary_components.proofs.Checking.{many, ragged-refused, over-vertices, over-facets, not-over, many-refused, index-refused, room-refused, all-passed, few, told}
-use Rattle.input_tests.specs.Front.{limits, ragged}
+use Rattle.input_tests.specs.Front.{Limits, limits, ragged}
 use lib.ListN.{length}
 use mathlib.Core.Bool.{false}
 use native.Mathlib.Omega.{arith}
@@ -55,7 +55,7 @@ has-bad-index-requires : tie.Need-has-bad-index-requires
 has-bad-index-requires c κs = search needs
 
 -- 1 and 2 have passed
-counted : (c : lts.Else3 (
+module _ (c : lts.Else3 (
   is-ragged-reads.Asked,
   is-ragged-reads.Learnt,
   most-admitted-reads.Asked,
@@ -66,16 +66,20 @@ counted : (c : lts.Else3 (
   has-bad-index-reads.Learnt,
   work-need-reads.Asked,
   work-need-reads.Learnt,
-) reads.Pre reads.Post)
-    → (ragged (length (c .before .before .before .before .before .before .before .args .facets .now)) 3 ≡ false)
-    × (many (c .before .before .before .before .before .before .before .args .vertices) (c .before .before .before .before .before .before .before .args .facets .now) (limits (c .before .before .before .before .before .before .before .args .ceiling) (c .before .before .before .before .before .before .before .args .lent)) ≡ false)
-counted c =
-    let s = c .before .before .before .before .before .before .before in
-    let most = c .before .before .before .most-admitted .ensures in (
-      sym (c .before .before .before .before .before .is-ragged .ensures) ∙ c .before .before .before .before .if1 .left,
-      not-over (s .args .vertices) (s .args .facets .now) (limits (s .args .ceiling) (s .args .lent)) (omega (arith, most, c .before .before .if2 .left))
-          (told _ most (c .before .is-too-many .ensures) (c .if3 .left)),
-    )
+) reads.Pre reads.Post) where
+  abbrev start : tie.Start
+  start = c .before .before .before .before .before .before .before
+
+  abbrev allowed : Limits
+  allowed = limits (start .args .ceiling) (start .args .lent)
+
+  counted : (ragged (length (start .args .facets .now)) 3 ≡ false) × (many (start .args .vertices) (start .args .facets .now) allowed ≡ false)
+  counted =
+      let most = c .before .before .before .most-admitted .ensures in (
+        sym (c .before .before .before .before .before .is-ragged .ensures) ∙ c .before .before .before .before .if1 .left,
+        not-over (start .args .vertices) (start .args .facets .now) allowed (omega (arith, most, c .before .before .if2 .left))
+            (told _ most (c .before .is-too-many .ensures) (c .if3 .left)),
+      )
 
 returns-4 : tie.Need-returns-4
 returns-4 c =
@@ -84,8 +88,8 @@ returns-4 c =
 
 work-need-requires : tie.Need-work-need-requires
 work-need-requires c κs =
-    let s = c .before .before .before .before .before .before .before .before .before .args in
-    let f = few (s .vertices) (s .facets .now) (limits (s .ceiling) (s .lent)) (counted (c .before .before) .1) in
+    let s = start (c .before .before) .args in
+    let f = few (s .vertices) (s .facets .now) (allowed (c .before .before)) (counted (c .before .before) .1) in
     omega (arith, f .0, f .1)
 
 returns-5 : tie.Need-returns-5

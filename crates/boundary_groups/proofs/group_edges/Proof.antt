@@ -78,7 +78,7 @@ sort-records-requires : tie.Need-sort-records-requires
 sort-records-requires c κs = search needs
 
 -- what has been done once the records are sorted
-steps : (c : lts.After-sort-records (
+module _ (c : lts.After-sort-records (
   put-ends-reads.Asked,
   put-ends-reads.Learnt,
   components-reads.Asked,
@@ -95,33 +95,31 @@ steps : (c : lts.After-sort-records (
   put-grouped-reads.Learnt,
   put-components-reads.Asked,
   put-components-reads.Learnt,
-) reads.Pre reads.Post)
-    → StepsTo (c .before .before .before .before .before .before .before .before .before .before .before .before .before .before .before .before .before .before .before .before .before .before .before .args .k)
-    (c .before .before .before .before .before .before .before .before .before .before .before .before .before .before .before .before .before .before .before .before .before .before .before .args .n)
-    (c .before .before .before .before .before .before .before .before .before .before .before .before .before .before .before .before .before .before .before .before .before .before .before .args .m)
-    (c .before .before .before .before .before .before .before .before .before .before .before .before .before .before .before .before .before .before .before .before .before .before .before .args .at)
-    (c .before .before .before .before .before .before .before .before .before .before .before .before .before .before .before .before .before .before .before .before .before .before .before .args .w .now)
-    (c .sort-records .last .0)
-steps c =
-    let at-g = c .before .before .before .before in
-    let at-f = at-g .before .before .before .before in
-    let at-d = at-f .before .before .before .before in
-    let at-b = at-d .before .before .before .before in
-    let at-a = at-b .before .before .before .before in
-    record {
-      a = at-a .put-ends .last .0;
-      b = at-b .components .last .0;
-      d = at-d .zero-part .last .0;
-      f = at-f .tally-ends .last .0;
-      g = at-g .number-records .last .0;
-      room = at-a .before .before .before .pre;
-      ends = at-a .put-ends .ensures;
-      numbers = at-b .components .ensures;
-      zeros = at-d .zero-part .ensures;
-      tallied = at-f .tally-ends .ensures;
-      records = at-g .number-records .ensures;
-      sorted = c .sort-records .ensures;
-    }
+) reads.Pre reads.Post) where
+  abbrev start : tie.Start
+  start = c .before .before .before .before .before .before .before .before .before .before .before .before .before .before .before .before .before .before .before .before .before .before .before
+
+  steps : StepsTo (start .args .k) (start .args .n) (start .args .m) (start .args .at) (start .args .w .now) (c .sort-records .last .0)
+  steps =
+      let at-g = c .before .before .before .before in
+      let at-f = at-g .before .before .before .before in
+      let at-d = at-f .before .before .before .before in
+      let at-b = at-d .before .before .before .before in
+      let at-a = at-b .before .before .before .before in
+      record {
+        a = at-a .put-ends .last .0;
+        b = at-b .components .last .0;
+        d = at-d .zero-part .last .0;
+        f = at-f .tally-ends .last .0;
+        g = at-g .number-records .last .0;
+        room = start .pre;
+        ends = at-a .put-ends .ensures;
+        numbers = at-b .components .ensures;
+        zeros = at-d .zero-part .ensures;
+        tallied = at-f .tally-ends .ensures;
+        records = at-g .number-records .ensures;
+        sorted = c .sort-records .ensures;
+      }
 
 put-grouped-requires : tie.Need-put-grouped-requires
 put-grouped-requires c κs =

@@ -18,14 +18,16 @@ abbrev μ-loop : tie.MeasureT-loop
 μ-loop w₀ k m ends degrees to c₀ i₀ w c i = k - i
 
 -- what bounds a turn's numbers
-turn : (c : lts.After-is-ring (run-end-reads.Asked, run-end-reads.Learnt, is-ring-reads.Asked, is-ring-reads.Learnt) reads.Pre reads.Post Inv-loop μ-loop)
-    → TurnBounds (c .before .before .before .before .before .before .before .args .w .now) (c .before .before .before .before .before .before .before .args .k)
-    (c .before .before .before .before .before .before .before .args .to) (c .before .before .before .before .before .loop .w) (c .before .before .before .before .before .loop .c)
-    (c .before .before .before .before .before .loop .i) (c .before .before .run-end .result)
-turn c =
-    let inv = c .before .before .before .before .before .loop .inv in
-    let run = c .before .before .run-end .ensures in
-    record { same = inv .long; few = inv .few; more = run .more; within = run .within; room = c .before .before .before .before .before .before .before .pre .1 .1 .1 }
+module _ (c : lts.After-is-ring (run-end-reads.Asked, run-end-reads.Learnt, is-ring-reads.Asked, is-ring-reads.Learnt) reads.Pre reads.Post Inv-loop μ-loop) where
+  abbrev start : tie.Start Inv-loop μ-loop
+  start = c .before .before .before .before .before .before .before
+
+  turn : TurnBounds (start .args .w .now) (start .args .k) (start .args .to) (c .before .before .before .before .before .loop .w)
+      (c .before .before .before .before .before .loop .c) (c .before .before .before .before .before .loop .i) (c .before .before .run-end .result)
+  turn =
+      let inv = c .before .before .before .before .before .loop .inv in
+      let run = c .before .before .run-end .ensures in
+      record { same = inv .long; few = inv .few; more = run .more; within = run .within; room = start .pre .1 .1 .1 }
 
 loop-again : tie.Need-loop-again Inv-loop μ-loop
 loop-again c =
