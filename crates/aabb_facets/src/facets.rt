@@ -21,7 +21,7 @@ use geometry::vertices::{corner_at, facet_at, vertex_at};
 use words::put_number;
 
 // How many vertices and how many facet numbers have been made.
-#[derive(Drop)]
+#[derive(Clone, Copy)]
 pub struct Counts {
     pub vertices: usize,
     pub numbers: usize,

@@ -9,7 +9,7 @@ use geometry::aabb::AABB;
 use geometry::point::Point;
 
 // `BoxPlane`
-#[derive(Drop)]
+#[derive(Clone, Copy)]
 pub enum BoxPlane {
     XMin,
     XMax,

@@ -1,4 +1,5 @@
 // Open boundaries listed (document 02, E13): open edges by components, rings among these, and edges that no closed surface has.
+#![tactic(auto)]
 ghost use Rattle.std.specs.Prelude.{◌≡◌, [], ◌+◌, ◌≤◌, length};
 ghost use Rattle.geometry.specs.Triangles.{threes};
 ghost use Rattle.refusals.specs.Refusals.{documented_reply, first_refusal};
@@ -42,7 +43,7 @@ fn check(vertices: u64, facets: &[u32], ceiling: u64, lent: usize) -> Checked
 }
 
 // How many open edges, components and irregular edges there are.
-#[derive(Drop)]
+#[derive(Clone, Copy)]
 pub struct Found {
     pub edges: usize,
     pub components: usize,

@@ -1,6 +1,7 @@
 // Components of open edges (document 02, E13), staged in the work room: the edges in groups, and of each group how many edges it has and whether
 // it is a ring. Item i is open edge i, its labels are its two ends, so that `components` joins what shares a vertex; a component's number is its
 // smallest edge, and records (number, edge), sorted, are the groups in order.
+#![tactic(auto)]
 ghost use Rattle.std.specs.Prelude.{◌≡◌, ℕ, ◌+◌, ◌*◌, ◌-◌, ◌≤◌, ◌<◌, length, get_or};
 ghost use Rattle.lists.specs.Lists.{every};
 ghost use Rattle.records.specs.Buffer.{records_at};

@@ -40,7 +40,7 @@ use geometry::point::Point;
 use input_tests::grid::segments_of;
 
 // The open edges of the face worked on, as `count` segments from `at` on, and how near to one a point lies on it.
-#[derive(Drop)]
+#[derive(Clone, Copy)]
 pub struct Near {
     pub at: usize,
     pub count: usize,
@@ -48,7 +48,7 @@ pub struct Near {
 }
 
 // A row of a face's grid: its place on the face's own axis and on u, and whether it is neither the first nor the last.
-#[derive(Drop)]
+#[derive(Clone, Copy)]
 pub struct Row {
     pub at: f64,
     pub u: f64,

@@ -17,7 +17,7 @@ use mesh_weld::cells::Cell;
 use words::zero_part;
 
 // "mesh vertex + 1 or 0", as it stands in a candidate: 0 where it has no mesh vertex.
-#[derive(Drop)]
+#[derive(Clone, Copy)]
 struct MeshWord(u64);
 
 fn mesh_word(v: MeshVertexId) -> MeshWord

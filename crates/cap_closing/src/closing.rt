@@ -9,7 +9,7 @@ use crate::entering::start_entering;
 use crate::firsts::find_firsts;
 
 // How many facets are left after the area test, and how many of them are the first of their three corners.
-#[derive(Drop)]
+#[derive(Clone, Copy)]
 pub struct CapCount {
     pub left: usize,
     pub caps: usize,

@@ -1,4 +1,5 @@
 // Caps (document 01, module 6; boundary_closure.rs).
+#![tactic(auto)]
 pub mod closing;
 mod front;
 pub mod mode;

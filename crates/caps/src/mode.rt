@@ -2,7 +2,7 @@
 ghost use Rattle.std.specs.Prelude.{◌≡◌};
 ghost use Rattle.caps.specs.Operation.{leaves_open, is_positive};
 
-#[derive(Drop)]
+#[derive(Clone, Copy)]
 pub enum BoundaryClosure {
     // Do not add cap triangles; leave the clipped surface open.
     None,

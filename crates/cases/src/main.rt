@@ -1,4 +1,5 @@
 // The worked blocks of document 01 that are run: a line each, its name, a tab, and `ok` where every stated result came out, else `bad`. Reads nothing.
+#![tactic(auto)]
 mod bits;
 mod cleaning;
 mod closing;

@@ -6,7 +6,7 @@ ghost use Rattle.geometry.specs.Points.{difference, dot, cross, norm2, norm};
 
 use root::sqrt;
 
-#[derive(Drop)]
+#[derive(Clone, Copy)]
 pub struct Point {
     pub x: f64,
     pub y: f64,

@@ -1,6 +1,7 @@
 // The length of a segment from its extents: the double nearest the exact root of the exact sum of their squares, the even one where two are equally near
 // (document 02, E3). No floating-point operation is made: of the two bit patterns the sum of the squares is a whole number, and the digits of its root are drawn
 // as on paper, like those of `sqrt` (crate root).
+#![tactic(auto)]
 ghost use Rattle.std.specs.Prelude.{◌≡◌, ◌+◌, ◌*◌, ◌^◌, ◌≤◌, ◌<◌};
 ghost use Rattle.root.specs.Bounds.{Within};
 ghost use Rattle.root.specs.Patterns.{pattern_units};
@@ -19,14 +20,14 @@ const WORD: u64 = 18014398509481984;
 const SIGN: u64 = 9223372036854775808;
 
 // high * 2^54 + low
-#[derive(Drop)]
+#[derive(Clone, Copy)]
 struct Wide {
     high: u64,
     low: u64,
 }
 
 // high * 2^54 + low, and a part of one
-#[derive(Drop)]
+#[derive(Clone, Copy)]
 struct Parted {
     high: u64,
     low: u64,
@@ -34,7 +35,7 @@ struct Parted {
 }
 
 // A root in half units of the last place, and whether it is more than that.
-#[derive(Drop)]
+#[derive(Clone, Copy)]
 struct Halves {
     root: u64,
     more: u64,

@@ -19,6 +19,7 @@ use Rattle.lists.specs.Lists.{every, some, keep, place, has}
 
 pub or_left : (b c : Bool) → T b → T (b || c)
 or_left true c t = tt
+or_left false c t = elim t [ ]
 
 pub or_right : (b c : Bool) → T c → T (b || c)
 or_right true c t = tt
@@ -60,6 +61,7 @@ module _ {A : Type 0} (p : A → Bool) where
     where
       go : (b : Bool) → T b → Memᴰ x (cond b (y ∷ keep p xs) (keep p xs))
       go true u = Memᴰ.head e
+      go false u = elim u [ ]
   keep_of {x} (Memᴰ.tail {x = y} {xs} m) t = go (p y) (keep_of m t)
     where
       go : (b : Bool) → Memᴰ x (keep p xs) → Memᴰ x (cond b (y ∷ keep p xs) (keep p xs))

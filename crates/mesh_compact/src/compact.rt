@@ -5,7 +5,7 @@ use crate::renumber::renumber;
 use components::components;
 
 // A mesh to be written, as it stands in the work room: the old numbers of its vertices from `order` on, the numbers of its facets' corners from `corners` on.
-#[derive(Drop)]
+#[derive(Clone, Copy)]
 pub struct Staged {
     pub order: usize,
     pub vertices: usize,

@@ -8,7 +8,7 @@ use geometry::vertices::facet_in;
 use words::zero_part;
 
 // How many vertices and how many corners have been numbered.
-#[derive(Drop)]
+#[derive(Clone, Copy)]
 pub struct Numbered {
     pub vertices: usize,
     pub corners: usize,

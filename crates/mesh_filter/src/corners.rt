@@ -16,7 +16,7 @@ use geometry::vertices::{facet_at, vertex_at, vertex_in};
 use words::pack_triple;
 
 // Where the welded vertices stand in the work room: the `count` kept ones, by their old numbers, from `kept` on; each old vertex's new number from `numbers` on.
-#[derive(Drop)]
+#[derive(Clone, Copy)]
 pub struct WeldedAt {
     pub kept: usize,
     pub count: usize,

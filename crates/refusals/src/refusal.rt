@@ -1,5 +1,5 @@
 // Every way in which an operation turns its input down: document 01, "Refusals, in the order tested". specs/Refusals.antt gives each its number.
-#[derive(Drop)]
+#[derive(Clone, Copy)]
 pub enum Refusal {
     // a list length is no multiple of 3 (cap list: of 4)
     Ragged,
@@ -28,7 +28,7 @@ pub enum Refusal {
 }
 
 // What a row of tests found.
-#[derive(Drop)]
+#[derive(Clone, Copy)]
 pub enum Checked {
     Passed,
     Refused(Refusal),

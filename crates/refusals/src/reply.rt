@@ -2,7 +2,7 @@
 use crate::refusal::Refusal;
 
 // Done: the lengths written, in the order of the outputs, of an operation with so many of them.
-#[derive(Drop)]
+#[derive(Clone, Copy)]
 pub enum Reply {
     DoneTwo(usize, usize),
     DoneThree(usize, usize, usize),

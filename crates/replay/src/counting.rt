@@ -5,7 +5,7 @@ ghost use Rattle.replay.specs.Counting.{OneIf, Requested, Agreeing, Tallied};
 use crate::agreement::agrees;
 use crate::layout::record_length;
 
-#[derive(Drop)]
+#[derive(Clone, Copy)]
 pub struct Tally {
     pub requests: u64,
     pub agreeing: u64,

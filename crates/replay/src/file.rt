@@ -25,7 +25,7 @@ fn word(bytes: &[u8; 8]) -> u64
     low + 4294967296 * high
 }
 
-#[derive(Drop)]
+#[derive(Clone, Copy)]
 enum Read {
     Word(u64),
     End,

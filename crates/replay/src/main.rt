@@ -1,5 +1,6 @@
 // Replays stored answers: requests with the answers that the oracle gave (README.md), each run again here. It writes a line an operation: its
 // name, how many requests the file has of it, and how many of these are answered as the oracle answered them.
+#![tactic(auto)]
 mod agreement;
 mod boundary;
 mod candidates;

@@ -234,6 +234,7 @@ le_units x y F G p q = ap (λ (k : Bool). k || eq x y) (lt_units x y F G p q) �
 
 or_left : (p q : Bool) → T p → T (p || q)
 or_left true q h = tt
+or_left false q h = elim h [ ]
 
 or_right : (p q : Bool) → T q → T (p || q)
 or_right true q h = tt

@@ -1,5 +1,7 @@
 // The square root of a double, correctly rounded, from its bit pattern (document 01, module 1). No floating-point operation is made:
 // the root's binary digits are drawn one by one, as on paper, by shifts and subtractions.
+#![tactic(auto)]
+
 ghost use Rattle.std.specs.Prelude.{◌≡◌, ◌+◌, ◌*◌, ◌^◌, ◌≤◌, ◌<◌, T};
 ghost use Rattle.root.specs.Root.{rootable, Rooted};
 ghost use Rattle.root.specs.Patterns.{pattern_units};
@@ -10,7 +12,7 @@ ghost use Rattle.root.specs.Digits.{Digits, RootAt};
 const LEAD: u64 = 4503599627370496;
 
 // What is drawn of a root so far, and what its square leaves of the digits brought down so far.
-#[derive(Drop)]
+#[derive(Clone, Copy)]
 pub struct Drawing {
     pub root: u64,
     pub rest: u64,

@@ -1,4 +1,5 @@
 // The roots of 169 and of 2 drawn on paper in base two, step by step, as docs/ROOT.md shows them: each step is root's own `draw`. Reads nothing.
+#![tactic(auto)]
 mod spelling;
 mod steps;
 

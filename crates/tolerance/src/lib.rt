@@ -1,4 +1,5 @@
 // The tolerance of a box (document 01, module 2; `bbox_eps` of aabb_clipping.rs).
+#![tactic(auto)]
 ghost use Rattle.std.specs.Prelude.{◌≡◌};
 ghost use Rattle.tolerance.specs.Tolerance.{box_lengths, Tolerated};
 
@@ -9,7 +10,7 @@ use refusals::refusal::Refusal;
 use rounding::max;
 
 // The tolerance, or why there is none.
-#[derive(Drop)]
+#[derive(Clone, Copy)]
 pub enum Tolerance {
     Of(f64),
     Refused(Refusal),

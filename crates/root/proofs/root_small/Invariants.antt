@@ -1,0 +1,12 @@
+use mathlib.Core.Path.{subst}
+use Prim.Native.Nat.{ℕ}
+use Rattle.root.specs.Digits.{RootAt}
+use native.Mathlib.Omega.{arith}
+use Rattle.root.proofs.Scaling.{Moved, unmoved, still, move, same}
+use Rattle.root.proofs.root_small.Given as goal
+
+abbrev pub invariant-loop-d : goal.invariant-loop-d
+invariant-loop-d l = Moved l.t l.d l.e
+
+abbrev pub decreases-loop-d : goal.decreases-loop-d
+decreases-loop-d l = l.e

@@ -1,0 +1,13 @@
+use Prim.Native.Nat.{◌-◌}
+use mathlib.Core.Path.{refl}
+use native.Mathlib.Omega.{arith}
+use lib.ListN.{length}
+use Rattle.words.proofs.Overlay.{Writing, writing_start, writing_turn, writing_end}
+use Rattle.words.proofs.copying.copy_numbers.Given as goal
+
+-- `copy_numbers` meets its contract: after j turns the first j numbers are written. Assumes nothing.
+abbrev pub invariant-loop-j : goal.invariant-loop-j
+invariant-loop-j l = Writing l.from l.initial.to l.to l.j
+
+abbrev pub decreases-loop-j : goal.decreases-loop-j
+decreases-loop-j l = length l.from - l.j
