@@ -21,6 +21,7 @@ corners_of-t-requires c =
     let s = c in
     let a = s.args in
     let N = s.requires.corners_numbered in
+    let G = s.requires.filtered_so_far in
     let P = points_in_room a.welded a.vertices.now a.m.now in
     let F = facets_in_room a.welded a.vertices.now a.facets.now a.m.now in record { f_in_bounds = omega (arith, s.requires.f_lt_n, N.facets); by_index = λ j h. omega (arith, N.corner j h, N.numbers_in, N.room) }
 
@@ -29,6 +30,7 @@ returns-then-has_repeated_corner c =
     let s = c in
     let a = s.args in
     let N = s.requires.corners_numbered in
+    let G = s.requires.filtered_so_far in
     let P = points_in_room a.welded a.vertices.now a.m.now in
     let F = facets_in_room a.welded a.vertices.now a.facets.now a.m.now in
     let e = c.corners_of-t.ensures ∙ sym (facet_is a.welded a.vertices.now a.facets.now a.at a.n a.m.now N a.f s.requires.f_lt_n) in
@@ -40,6 +42,7 @@ is_flat-requires c =
     let s = c in
     let a = s.args in
     let N = s.requires.corners_numbered in
+    let G = s.requires.filtered_so_far in
     let P = points_in_room a.welded a.vertices.now a.m.now in
     let F = facets_in_room a.welded a.vertices.now a.facets.now a.m.now in
     let e = c.corners_of-t.ensures ∙ sym (facet_is a.welded a.vertices.now a.facets.now a.at a.n a.m.now N a.f s.requires.f_lt_n) in record {
@@ -54,6 +57,7 @@ returns-then-is_flat c =
     let s = c in
     let a = s.args in
     let N = s.requires.corners_numbered in
+    let G = s.requires.filtered_so_far in
     let P = points_in_room a.welded a.vertices.now a.m.now in
     let F = facets_in_room a.welded a.vertices.now a.facets.now a.m.now in
     let e = c.corners_of-t.ensures ∙ sym
@@ -69,6 +73,7 @@ corners_key-key-requires c =
     let s = c in
     let a = s.args in
     let N = s.requires.corners_numbered in
+    let G = s.requires.filtered_so_far in
     let P = points_in_room a.welded a.vertices.now a.m.now in
     let F = facets_in_room a.welded a.vertices.now a.facets.now a.m.now in
     let e = c.corners_of-t.ensures ∙ sym
@@ -80,6 +85,7 @@ returns-then-find_key-ne0 c =
     let s = c in
     let a = s.args in
     let N = s.requires.corners_numbered in
+    let G = s.requires.filtered_so_far in
     let P = points_in_room a.welded a.vertices.now a.m.now in
     let F = facets_in_room a.welded a.vertices.now a.facets.now a.m.now in
     let e = c.corners_of-t.ensures ∙ sym
@@ -87,7 +93,7 @@ returns-then-find_key-ne0 c =
     dropped a.eps P F a.at a.n a.f a.count a.m.now G N.room s.requires.f_lt_n
     (duplicate_stops a.eps P F (passed a.eps P F a.f) (facet_at F a.f)
     (is_duplicate_lem a.welded a.vertices.now a.facets.now a.at a.n a.m.now N (facet_at F a.f)
-    (facet_small a.welded a.vertices.now a.facets.now a.at a.n a.m.now N a.f) (passed a.eps P F a.f) _ c.requires.filtered_so_far.keys c.find_key.result
+    (facet_small a.welded a.vertices.now a.facets.now a.at a.n a.m.now N a.f) (passed a.eps P F a.f) _ G.keys c.find_key.result
     (c.find_key.ensures ∙ ap (λ (k : ℕ). link_to (eqb k) (view a.m.now (a.at + 9 * a.n) a.count))
     (c.corners_key-key.ensures ∙ ap corners_key e)) c.if-find_key-ne0.true))
 
@@ -96,10 +102,11 @@ enter-requires c =
     let s = c in
     let a = s.args in
     let N = s.requires.corners_numbered in
+    let G = s.requires.filtered_so_far in
     let P = points_in_room a.welded a.vertices.now a.m.now in
     let F = facets_in_room a.welded a.vertices.now a.facets.now a.m.now in record {
       b_lt_nb = c.bucket-b.ensures.low;
-      id_in_bounds = omega (arith, N.room, c.requires.filtered_so_far.within, s.requires.f_lt_n);
+      id_in_bounds = omega (arith, N.room, G.within, s.requires.f_lt_n);
       b_bound = tail_low a.eps P F a.at a.n a.f a.count a.m.now G N.room s.requires.f_lt_n
           c.bucket-b.result c.bucket-b.ensures.low;
     }
@@ -109,23 +116,26 @@ put_facet-requires c =
     let s = c in
     let a = s.args in
     let N = s.requires.corners_numbered in
+    let G = s.requires.filtered_so_far in
     let P = points_in_room a.welded a.vertices.now a.m.now in
-    let F = facets_in_room a.welded a.vertices.now a.facets.now a.m.now in record { n_in_bounds = omega (arith, N.room, c.enter.auto.m); count_lt_n = omega (arith, c.requires.filtered_so_far.within, s.requires.f_lt_n) }
+    let F = facets_in_room a.welded a.vertices.now a.facets.now a.m.now in record { n_in_bounds = omega (arith, N.room, c.enter.auto.m); count_lt_n = omega (arith, G.within, s.requires.f_lt_n) }
 
 pub overflow_add-result : goal.overflow_add-result
 overflow_add-result c =
     let s = c in
     let a = s.args in
     let N = s.requires.corners_numbered in
+    let G = s.requires.filtered_so_far in
     let P = points_in_room a.welded a.vertices.now a.m.now in
     let F = facets_in_room a.welded a.vertices.now a.facets.now a.m.now in
-    omega (arith, c.requires.filtered_so_far.within, s.requires.f_lt_n, N.small)
+    omega (arith, G.within, s.requires.f_lt_n, N.small)
 
 pub returns : goal.returns
 returns c =
     let s = c in
     let a = s.args in
     let N = s.requires.corners_numbered in
+    let G = s.requires.filtered_so_far in
     let P = points_in_room a.welded a.vertices.now a.m.now in
     let F = facets_in_room a.welded a.vertices.now a.facets.now a.m.now in
     let e = c.corners_of-t.ensures ∙
@@ -147,7 +157,7 @@ returns c =
     ((ap (λ (u : Triangle ℕ). is_flat a.eps P u) (sym e) ∙ sym (c.is_flat.ensures ∙ flat_is a.welded a.vertices.now a.facets.now a.at a.n a.m.now N a.eps
     (mesh_vertices_of c.corners_of-t.result) (subst (Below a.welded.count) (sym e) (facet_below a.welded a.vertices.now a.facets.now a.at a.n a.m.now N a.f s.requires.f_lt_n)))) ∙ c.if-is_flat.false)
     (no_duplicate a.welded a.vertices.now a.facets.now a.at a.n a.m.now N (facet_at F a.f)
-    (facet_small a.welded a.vertices.now a.facets.now a.at a.n a.m.now N a.f) (passed a.eps P F a.f) _ c.requires.filtered_so_far.keys
+    (facet_small a.welded a.vertices.now a.facets.now a.at a.n a.m.now N a.f) (passed a.eps P F a.f) _ G.keys
     c.find_key.result
     (c.find_key.ensures ∙ ap
     (λ (k : ℕ). link_to (eqb k) (view a.m.now (a.at + 9 * a.n) a.count))
