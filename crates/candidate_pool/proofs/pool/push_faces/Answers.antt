@@ -4,6 +4,7 @@ use mathlib.Core.List.{List}
 use mathlib.Core.Logic.{⊎_elim}
 use native.Mathlib.Omega.{arith}
 use Rattle.candidate_pool.proofs.Adding.{Adding, adding_start, adding_low, adding_turn, adding_skip, adding_end}
+use Rattle.candidate_pool.proofs.pool.push_faces.Goals.{then-has_face, else-has_face}
 use Rattle.candidate_pool.proofs.pool.push_faces.Goals as goal
 
 pub loop-face-init : goal.loop-face-init
@@ -38,21 +39,14 @@ loop-face-smaller c = omega (arith, c.loop-face-test.true)
 pub loop-face-preserved : goal.loop-face-preserved
 loop-face-preserved c = (
   omega (arith, c.loop-face-test.true),
-  ⊎_elim (λ t. subst
-      (λ (u : List ℕ). Adding c.args.eps c.args.n
-      c.args.id.0 c.args.mask (c.loop-face.face + 1)
-      c.args.w.now u) (sym t.5)
-      (adding_turn c.args.eps c.args.n c.args.id.0
-      c.args.mask c.args.w.now c.requires.id_bound
-      c.loop-face.face c.loop-face.w c.loop-face.invariant.1 t.2.last.0
-      (sym c.has_face.ensures ∙ t.0.taken) t.2.ensures))
-      (λ t. subst (λ (u : List ℕ). Adding c.args.eps c.args.n
-      c.args.id.0 c.args.mask (c.loop-face.face + 1)
-      c.args.w.now u) (sym t.1)
-      (adding_skip c.args.eps c.args.n c.args.id.0
-      c.args.mask c.args.w.now c.requires.id_bound
-      c.loop-face.face c.loop-face.w c.loop-face.invariant.1 (sym c.has_face.ensures ∙ t.0.left)))
-      c.if-has_face.branch,
+  elim c.if-has_face.branch [
+    | then-has_face w ↦ subst (λ (u : List ℕ). Adding c.args.eps c.args.n c.args.id.0 c.args.mask (c.loop-face.face + 1) c.args.w.now u) (sym w.w-is)
+        (adding_turn c.args.eps c.args.n c.args.id.0 c.args.mask c.args.w.now c.requires.id_bound c.loop-face.face c.loop-face.w c.loop-face.invariant.1
+        w.push_face.new.w (sym c.has_face.ensures ∙ w.if-has_face.true) w.push_face.ensures)
+    | else-has_face w ↦ subst (λ (u : List ℕ). Adding c.args.eps c.args.n c.args.id.0 c.args.mask (c.loop-face.face + 1) c.args.w.now u) (sym w.w-is)
+        (adding_skip c.args.eps c.args.n c.args.id.0 c.args.mask c.args.w.now c.requires.id_bound c.loop-face.face c.loop-face.w c.loop-face.invariant.1
+        (sym c.has_face.ensures ∙ w.if-has_face.false))
+  ],
 )
 
 pub shape_of-w : goal.shape_of-w
