@@ -19,7 +19,7 @@ insert_grid_point-requires c = record { holds = c.requires.holds; point_in = (c.
 pub returns : goal.returns
 returns c =
     cell_in _ _ _ _ _ _ _ (elim c.if-inner.branch [
-      | then-inner w ↦ and_next _ _ _ w.if-inner.true
+      | then-inner+else-is_skipped w ↦ and_next _ _ _ w.if-inner.true
           (sym (ap (skips_near c.args.w.now c.args.near) w.project.ensures) ∙ sym w.is_skipped.ensures ∙ w.if-is_skipped.false)
       | else-inner w ↦ and_stop _ _ w.if-inner.false
     ]) _ c.insert_grid_point.ensures
