@@ -30,8 +30,7 @@ returns-then-not-point_inside_aabb c =
       arith,
       loop-test.true,
       length_points_of s.args.vertices.now,
-    )) (ap (inside_box s.args.extents s.args.eps) (sym vertex_at.ensures) ∙ sym point-inside-aabb.ensures ∙ not-true _
-    c.if-not-point_inside_aabb.true-raw))
+    )) (ap (inside_box s.args.extents s.args.eps) (sym vertex_at.ensures) ∙ sym point-inside-aabb.ensures ∙ c.if-not-point_inside_aabb.true))
 
 pub loop-k-preserved : goal.loop-k-preserved
 unfolding inside_box
