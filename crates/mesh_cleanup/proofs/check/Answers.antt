@@ -53,8 +53,7 @@ returns-then-has_far_key c =
     let s = c in
     let a = s.args in
     key_refused a.vertices.now a.facets.now (clean_asked a.eps) (limits a.ceiling a.lent)
-    (sym c.check_lists-lists.ensures ∙ c.in_default.is) (ap not (and_next _ _ _ (sym c.all_in_range.ensures ∙ not-false _
-    c.if-not-all_in_range.false-raw)
+    (sym c.check_lists-lists.ensures ∙ c.in_default.is) (ap not (and_next _ _ _ (sym c.all_in_range.ensures ∙ c.if-not-all_in_range.false)
     (sym c.eps_in_range.ensures ∙ c.if-not-eps_in_range.false))) _
     c.work_need-need.ensures c.if-lent-need.false (sym c.has_far_key.ensures ∙ c.if-has_far_key.true)
 
@@ -63,7 +62,6 @@ returns c =
     let s = c in
     let a = s.args in
     all_passed_lem a.vertices.now a.facets.now (clean_asked a.eps) (limits a.ceiling a.lent)
-    (sym c.check_lists-lists.ensures ∙ c.in_default.is) (ap not (and_next _ _ _ (sym c.all_in_range.ensures ∙ not-false _
-    c.if-not-all_in_range.false-raw)
+    (sym c.check_lists-lists.ensures ∙ c.in_default.is) (ap not (and_next _ _ _ (sym c.all_in_range.ensures ∙ c.if-not-all_in_range.false)
     (sym c.eps_in_range.ensures ∙ c.if-not-eps_in_range.false))) _
     c.work_need-need.ensures c.if-lent-need.false (sym c.has_far_key.ensures ∙ c.if-has_far_key.false)
