@@ -71,13 +71,13 @@ returns c =
     let before-constraints = constraints.before.before in
     let lists = before-constraints in
     let words = lists in
-    let fit = words.before.before in
-    let numbers = fit.before.before.before.before in
-    let s = numbers.before.before.before.before.before.before.before in
+    let fit = words in
+    let numbers = fit in
+    let s = numbers in
     let a = s.args in
     let w = a.w.now in
-    done a.n a.nf a.k a.listed a.total w s.requires _ numbers.listed_numbers.ensures.0 a.candidates.now a.face_lists.now a.constraints.now
-    a.open_edges.now fit.before.before.before.if1.false fit.before.before.if2.false fit.before.if3.false fit.if4.false _ _ _ _ words.write_words.ensures
+    done a.n a.nf a.k a.listed a.total w s.requires _ numbers.listed_numbers-l.ensures.0 a.candidates.now a.face_lists.now a.constraints.now
+    a.open_edges.now fit.if-candidates-c.false fit.if-face_lists-l.false fit.if-constraints-t.false fit.if-open_edges-e.false _ _ _ _ words.write_words.ensures
     lists.write_face_lists.ensures
     (constraints.write_constraints.ensures ∙ ap (λ (x : ℕ). sets a.constraints.now 0 (constraint_words (map unpacked (view w x a.total))))
     before-constraints.constraints_at.ensures)
