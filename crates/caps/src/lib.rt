@@ -1,5 +1,6 @@
 // Caps (document 01, module 6; boundary_closure.rs).
 #![tactic(auto)]
+
 pub mod closing;
 mod front;
 pub mod mode;

@@ -1,0 +1,115 @@
+use Rattle.caps.specs.Steps.{closed_mesh}
+use Rattle.caps.proofs.Ordering.{no_ends_left, ends_left, tests_are, closed_is, no_ends, ends_refused, ends_closed}
+use Rattle.caps.proofs.Fitting.{closable}
+use Rattle.caps.proofs.Listing.{pooled, supplied}
+use Rattle.candidate_surface.proofs.Completing.{fits_same}
+use Rattle.candidate_surface.proofs.Fitting.{vertices_in, most_small}
+use Rattle.refusals.specs.Refusals.{first_refusal}
+use native.Mathlib.Omega.{arith}
+use lib.ListN.{length}
+use mathlib.Core.Path.{sym, ap, ◌∙◌}
+use Rattle.candidate_surface.specs.Asked.{asked}
+use borrow.Author.Rules.{rules}
+use Rattle.caps.proofs.front.cap_edges.Goals as goal
+
+pub enter_surface-listed-requires : goal.enter_surface-listed-requires
+enter_surface-listed-requires c =
+    let a = c.args in record {
+      mesh_fits = c.requires.mesh_fits.0;
+      tabled = c.requires.tabled;
+      vertices_in = vertices_in a.vertices.now a.facets.now (asked a.extents a.eps a.resolution)
+          c.requires.sound;
+    }
+
+pub deliver_mesh-requires : goal.deliver_mesh-requires
+deliver_mesh-requires c = (
+  c.requires.sound.lists.whole_vertices,
+  c.requires.sound.lists.whole_facets,
+)
+
+pub returns-then-listed-eq0 : goal.returns-then-listed-eq0
+returns-then-listed-eq0 c =
+    let a = c.args in
+    no_ends a.vertices.now a.facets.now a.cap_list.now (asked a.extents a.eps a.resolution) a.mode a.out_vertices.now _ a.out_facets.now _ _
+    (no_ends_left a.vertices.now a.facets.now a.cap_list.now (asked a.extents a.eps a.resolution) a.mode
+    c.enter_surface-listed.result
+    c.enter_surface-listed.ensures.1
+    c.if-listed-eq0.true) c.deliver_mesh.ensures
+
+pub complete-requires : goal.complete-requires
+complete-requires c =
+    let a = c.args in record {
+      sound = c.requires.sound;
+      mesh_fits = (
+        fits_same a.vertices.now a.facets.now a.n a.w.now c.enter_surface-listed.new.w
+            c.enter_surface-listed.auto.w
+            c.requires.mesh_fits.0,
+        c.requires.mesh_fits.1,
+        c.requires.tabled.table.within,
+      );
+      surfaced = c.enter_surface-listed.ensures.0;
+    }
+
+pub check_caps-requires : goal.check_caps-requires
+check_caps-requires c =
+    let a = c.args in record {
+      supplied = supplied a.eps a.vertices.now a.facets.now a.cap_list.now a.n a.w.now c.complete.new.w
+          (let q = most_small a.vertices.now a.facets.now (asked a.extents a.eps a.resolution)
+          c.requires.sound in omega
+          (arith, c.requires.mesh_fits.1, q))
+          c.requires.sound.lists.few_facets
+          c.requires.listable
+          (c.complete.auto.w ∙ c.enter_surface-listed.auto.w)
+          c.complete.ensures.holds;
+      edges_held = (
+        c.complete.ensures.held,
+        (let t = c.requires.tabled.table.within in let
+            u = c.requires.mesh_fits.0.threes in omega
+            (arith, t, u)),
+      );
+      listed_value = c.enter_surface-listed.ensures.1 ∙ sym
+          (ap length c.complete.ensures.edges);
+    }
+
+pub close_mesh-requires : goal.close_mesh-requires
+close_mesh-requires c =
+    let a = c.args in
+    closable a.vertices.now a.facets.now a.cap_list.now (asked a.extents a.eps a.resolution) a.n a.k
+    c.enter_surface-listed.new.w
+    c.complete.new.w
+    c.check_caps.new.w _
+    c.requires.sound c.enter_surface-listed.ensures.0 c.complete.ensures
+    c.check_caps.ensures c.in-Passed.is
+
+pub returns-in-Passed : goal.returns-in-Passed
+returns-in-Passed c =
+    let a = c.args in
+    ends_closed a.vertices.now a.facets.now a.cap_list.now (asked a.extents a.eps a.resolution) a.mode a.out_vertices.now _ a.out_facets.now _ _
+    (ends_left a.vertices.now a.facets.now a.cap_list.now (asked a.extents a.eps a.resolution) a.mode
+    c.enter_surface-listed.result c.enter_surface-listed.ensures.1
+    c.if-listed-eq0.false) (ap first_refusal (sym (tests_are a.vertices.now a.facets.now a.cap_list.now (asked a.extents a.eps a.resolution) a.mode a.n a.k
+    c.complete.new.w c.complete.ensures)) ∙ sym c.check_caps.ensures.found ∙ c.in-Passed.is)
+    (closed_mesh a.vertices.now a.facets.now a.cap_list.now a.n a.k
+    c.is_positive.result
+    c.check_caps.new.w)
+    (closed_is a.vertices.now a.facets.now a.cap_list.now (asked a.extents a.eps a.resolution) a.mode a.n a.k
+    c.complete.new.w c.complete.ensures c.check_caps.new.w
+    (pooled a.eps a.n c.complete.new.w c.complete.ensures.holds) (let t = c.requires.tabled.table.within in
+    let u = c.requires.mesh_fits.0.threes in omega (arith, t, u))
+    (c.check_caps.ensures.above
+    c.in-Passed.is)
+    c.is_positive.result
+    c.is_positive.ensures) c.close_mesh.ensures
+
+pub returns-in-Refused : goal.returns-in-Refused
+returns-in-Refused c =
+    let a = c.args in
+    ends_refused a.vertices.now a.facets.now a.cap_list.now (asked a.extents a.eps a.resolution) a.mode a.out_vertices.now a.out_facets.now _
+    (ends_left a.vertices.now a.facets.now a.cap_list.now (asked a.extents a.eps a.resolution) a.mode
+    c.enter_surface-listed.result
+    c.enter_surface-listed.ensures.1
+    c.if-listed-eq0.false)
+    (ap first_refusal (sym (tests_are a.vertices.now a.facets.now a.cap_list.now (asked a.extents a.eps a.resolution) a.mode a.n a.k
+    c.complete.new.w
+    c.complete.ensures)) ∙ sym c.check_caps.ensures.found ∙
+    c.in-Refused.is)

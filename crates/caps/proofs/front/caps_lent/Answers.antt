@@ -1,0 +1,68 @@
+use Rattle.caps.proofs.Ordering.{front_refused, handed_back, gone_on, over_open, over_none, over_neither}
+use Rattle.caps.proofs.Fitting.{listable}
+use Rattle.closure_tests.proofs.Checking.{sound}
+use Rattle.closure_tests.specs.Tests.{closure_tests}
+use native.Mathlib.Omega.{arith}
+use lib.ListN.{length}
+use mathlib.Core.Path.{sym, ◌∙◌}
+use Rattle.input_tests.specs.Front.{limits}
+use Rattle.candidate_surface.specs.Asked.{asked}
+use borrow.Author.Rules.{rules}
+use Rattle.caps.proofs.front.caps_lent.Goals as goal
+
+pub deliver_mesh-requires : goal.deliver_mesh-requires
+deliver_mesh-requires c =
+    let a = c.args in
+    let s = sound a.vertices.now a.facets.now (asked a.extents a.eps a.resolution) (length a.cap_list.now) (limits a.ceiling (length a.work.now))
+    (sym c.check_closure.ensures ∙ c.in-Passed.is) in
+    (s.lists.whole_vertices, s.lists.whole_facets)
+
+pub returns-then-leaves_open : goal.returns-then-leaves_open
+returns-then-leaves_open c =
+    let a = c.args in
+    handed_back a.vertices.now a.facets.now a.cap_list.now (asked a.extents a.eps a.resolution) a.mode a.out_vertices.now _ a.out_facets.now _ _
+    (closure_tests a.vertices.now a.facets.now (asked a.extents a.eps a.resolution) (length a.cap_list.now) (limits a.ceiling (length a.work.now)))
+    (sym c.check_closure.ensures ∙ c.in-Passed.is) (over_open a.vertices.now a.facets.now a.cap_list.now (asked a.extents a.eps a.resolution) a.mode
+    (sym c.leaves_open.ensures ∙ c.if-leaves_open.true))
+    c.deliver_mesh.ensures
+
+pub deliver_mesh-requires-then-facets-eq0 : goal.deliver_mesh-requires-then-facets-eq0
+deliver_mesh-requires-then-facets-eq0 c =
+    let a = c.args in
+    let s = sound a.vertices.now a.facets.now (asked a.extents a.eps a.resolution) (length a.cap_list.now) (limits a.ceiling (length a.work.now))
+    (sym c.check_closure.ensures ∙ c.in-Passed.is) in
+    (s.lists.whole_vertices, s.lists.whole_facets)
+
+pub returns-then-facets-eq0 : goal.returns-then-facets-eq0
+returns-then-facets-eq0 c =
+    let a = c.args in
+    handed_back a.vertices.now a.facets.now a.cap_list.now (asked a.extents a.eps a.resolution) a.mode a.out_vertices.now _ a.out_facets.now _ _
+    (closure_tests a.vertices.now a.facets.now (asked a.extents a.eps a.resolution) (length a.cap_list.now) (limits a.ceiling (length a.work.now)))
+    (sym c.check_closure.ensures ∙ c.in-Passed.is) (over_none a.vertices.now a.facets.now a.cap_list.now (asked a.extents a.eps a.resolution)
+    a.mode (sym c.leaves_open.ensures ∙ c.if-leaves_open.false) c.if-facets-eq0.true) c.deliver_mesh-then-facets-eq0.ensures
+
+pub make_caps-requires : goal.make_caps-requires
+make_caps-requires c =
+    let a = c.args in record {
+      sound = sound a.vertices.now a.facets.now (asked a.extents a.eps a.resolution) (length a.cap_list.now) (limits a.ceiling (length a.work.now))
+          (sym c.check_closure.ensures ∙ c.in-Passed.is);
+      listable = listable a.vertices.now a.facets.now a.cap_list.now (asked a.extents a.eps a.resolution) a.ceiling a.work.now
+          (sym c.check_closure.ensures ∙ c.in-Passed.is);
+    }
+
+pub returns-else-facets-eq0 : goal.returns-else-facets-eq0
+returns-else-facets-eq0 c =
+    let a = c.args in
+    gone_on a.vertices.now a.facets.now a.cap_list.now (asked a.extents a.eps a.resolution) a.mode a.out_vertices.now _ a.out_facets.now _ _
+    (closure_tests a.vertices.now a.facets.now (asked a.extents a.eps a.resolution) (length a.cap_list.now) (limits a.ceiling (length a.work.now)))
+    (sym c.check_closure.ensures ∙ c.in-Passed.is)
+    (over_neither a.vertices.now a.facets.now a.cap_list.now (asked a.extents a.eps a.resolution) a.mode
+    (sym c.leaves_open.ensures ∙ c.if-leaves_open.false) c.if-facets-eq0.false)
+    c.make_caps.ensures
+
+pub returns-in-Refused : goal.returns-in-Refused
+returns-in-Refused c =
+    let a = c.args in
+    front_refused a.vertices.now a.facets.now a.cap_list.now (asked a.extents a.eps a.resolution) a.mode a.out_vertices.now a.out_facets.now _
+    (closure_tests a.vertices.now a.facets.now (asked a.extents a.eps a.resolution) (length a.cap_list.now) (limits a.ceiling (length a.work.now)))
+    (sym c.check_closure.ensures ∙ c.in-Refused.is)

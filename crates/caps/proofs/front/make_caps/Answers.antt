@@ -1,0 +1,72 @@
+use Rattle.caps.proofs.Ordering.{edges_refused, edges_passed}
+use Rattle.caps.proofs.Fitting.{tabled_room, listable_same}
+use Rattle.candidate_surface.specs.Steps.{most_candidates}
+use Rattle.candidate_surface.proofs.Fitting.{mesh_fits, most_small}
+use native.Mathlib.Omega.{arith}
+use mathlib.Core.Path.{sym, ◌∙◌}
+use Rattle.candidate_surface.specs.Asked.{asked}
+use borrow.Author.Rules.{rules}
+use Rattle.caps.proofs.front.make_caps.Goals as goal
+
+pub table_edges-k-requires : goal.table_edges-k-requires
+table_edges-k-requires c =
+    let a = c.args in record {
+      facets_len = c.requires.sound.lists.whole_facets;
+      n_bound = (
+        let q = most_small a.vertices.now a.facets.now (asked a.extents a.eps a.resolution)
+            c.requires.sound in omega (arith, c.most_candidates-n.ensures, q),
+        omega
+            (arith, c.requires.sound.lists.few_facets),
+      );
+      facets_in_bounds = let q = tabled_room a.vertices.now a.facets.now
+          a.cap_list.now (most_candidates a.vertices.now (asked a.extents a.eps a.resolution)) a.w.now
+          c.requires.listable in omega (arith, q, c.most_candidates-n.ensures);
+    }
+
+pub check_edges-requires : goal.check_edges-requires
+check_edges-requires c =
+    let a = c.args in record {
+      mesh_fits = mesh_fits a.vertices.now a.facets.now (asked a.extents a.eps a.resolution)
+          c.requires.sound c.most_candidates-n.result
+          c.table_edges-k.new.w c.most_candidates-n.ensures
+          (let q = tabled_room a.vertices.now a.facets.now a.cap_list.now (most_candidates a.vertices.now (asked a.extents a.eps a.resolution)) a.w.now
+          c.requires.listable in omega
+          (arith, q, c.table_edges-k.auto.w));
+      tabled = c.table_edges-k.ensures;
+    }
+
+pub cap_edges-requires : goal.cap_edges-requires
+cap_edges-requires c =
+    let a = c.args in record {
+      sound = c.requires.sound;
+      mesh_fits = (
+        mesh_fits a.vertices.now a.facets.now (asked a.extents a.eps a.resolution)
+            c.requires.sound
+            c.most_candidates-n.result
+            c.table_edges-k.new.w
+            c.most_candidates-n.ensures
+            (let q = tabled_room a.vertices.now a.facets.now a.cap_list.now (most_candidates a.vertices.now (asked a.extents a.eps a.resolution)) a.w.now
+            c.requires.listable in omega
+            (arith, q, c.table_edges-k.auto.w)),
+        c.most_candidates-n.ensures,
+      );
+      listable = listable_same a.vertices.now a.facets.now a.cap_list.now (most_candidates a.vertices.now (asked a.extents a.eps a.resolution))
+          c.most_candidates-n.result a.w.now
+          c.table_edges-k.new.w
+          c.most_candidates-n.ensures
+          c.table_edges-k.auto.w
+          c.requires.listable;
+      tabled = c.table_edges-k.ensures;
+    }
+
+pub returns-in-Passed : goal.returns-in-Passed
+returns-in-Passed c =
+    let a = c.args in
+    edges_passed a.vertices.now a.facets.now a.cap_list.now (asked a.extents a.eps a.resolution) a.mode a.out_vertices.now _ a.out_facets.now _ _
+    (sym c.check_edges.ensures ∙ c.in-Passed.is) c.cap_edges.ensures
+
+pub returns-in-Refused : goal.returns-in-Refused
+returns-in-Refused c =
+    let a = c.args in
+    edges_refused a.vertices.now a.facets.now a.cap_list.now (asked a.extents a.eps a.resolution) a.mode a.out_vertices.now a.out_facets.now _
+    (sym c.check_edges.ensures ∙ c.in-Refused.is)
