@@ -2,6 +2,7 @@
 #![tactic(auto)]
 
 ghost use Rattle.std.specs.Prelude.{◌≡◌, IsOk, OnOk};
+ghost use Rattle.std.specs.Fmt.{decimal};
 ghost use Rattle.std.specs.Io.KnownBytes.{Appends};
 
 use std::io;
@@ -36,6 +37,7 @@ impl<W: Write> Page<W> {
     // In decimal.
     pub fn number(&mut self, n: u64)
         ensures before { OnOk self.new.written (IsOk self.old.written) }
+        ensures appends { OnOk self.new.written (Appends (W.contents self.old.writer) (W.contents self.new.writer) (decimal n)) }
     {
         if self.written.is_ok() {
             self.written = write!(self.writer, "{n}");

@@ -33,27 +33,28 @@ enum Read {
     Part,
 }
 
-fn read_word(fd: i32) -> Read {
-    let mut bytes = [0u8; 8];
-    let n = io::read_full(fd, &mut bytes);
-    if n == 0 {
+// The word at the front of the bytes that are left.
+fn read_word(left: &[u8]) -> Read {
+    if left.is_empty() {
         return Read::End;
     }
-    if n < 8 {
-        return Read::Part;
+    match left.first_chunk::<8>() {
+        Some(bytes) => Read::Word(word(bytes)),
+        None => Read::Part,
     }
-    Read::Word(word(&bytes))
 }
 
 // Puts the file's words at the front of `words`, as many as there is room for, and answers how many: none, if the file ends within a word.
-pub fn load(fd: i32, words: &mut [u64]) -> usize
+pub fn load(file: &[u8], words: &mut [u64]) -> usize
     ensures { (result ≤ length words.new) × (result ≡ length (take result words.new)) }
 {
+    let mut left = file;
     let mut i = 0;
     while i < words.len() {
-        match read_word(fd) {
+        match read_word(left) {
             Read::Word(w) => {
                 words[i] = w;
+                left = &left[8..];
             }
             Read::End => {
                 return i;
