@@ -1,5 +1,6 @@
 // The faces of the box, by number 0 to 5, and what lies on them (document 01, module 5; `BoxFace` of boundary_closure.rs).
 #![tactic(auto)]
+
 pub mod faces;
 pub mod lines;
 pub mod segments;

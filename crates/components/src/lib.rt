@@ -3,6 +3,7 @@
 // Its table stands in the buffer from `at` on: n words for the items' links, which end as the numbers of their components; n words for the
 // components' sizes; m words for the labels, each the first item seen with that label, plus one, or 0 while there is none.
 #![tactic(auto)]
+
 ghost use Rattle.std.specs.Prelude.{◌≡◌, ℕ, ◌+◌, ◌*◌, ◌≤◌, ◌<◌, length, get_or};
 ghost use Rattle.lists.specs.Regions.{view};
 ghost use Rattle.components.specs.Table.{LabelRoom, ComponentTable};

@@ -1,5 +1,6 @@
 // Points, triangles, the box and the three numberings (document 01, module 1; geometry/point.rs and geometry/triangle.rs of the Rust).
 #![tactic(auto)]
+
 pub mod aabb;
 pub mod fraction;
 pub mod numbers;

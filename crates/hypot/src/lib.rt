@@ -2,6 +2,7 @@
 // (document 02, E3). No floating-point operation is made: of the two bit patterns the sum of the squares is a whole number, and the digits of its root are drawn
 // as on paper, like those of `sqrt` (crate root).
 #![tactic(auto)]
+
 ghost use Rattle.std.specs.Prelude.{◌≡◌, ◌+◌, ◌*◌, ◌^◌, ◌≤◌, ◌<◌};
 ghost use Rattle.root.specs.Bounds.{Within};
 ghost use Rattle.root.specs.Patterns.{pattern_units};

@@ -69,10 +69,12 @@ zeros zero (suc b) = or_l (ltb 0 (zero + suc b)) (level true zero false (suc b) 
   where
     or_l : (p q : Bool) → T p → T (p || q)
     or_l true q h = tt
+    or_l false q h = elim h [ ]
 zeros (suc a) b = or_l (ltb 0 (suc a + b)) (level true (suc a) false b && true) (lt→ltb 0 (suc a + b) (omega arith))
   where
     or_l : (p q : Bool) → T p → T (p || q)
     or_l true q h = tt
+    or_l false q h = elim h [ ]
 
 module _ (a b : ℕ) (h : a < 2 ^ 63) (k : b < 2 ^ 63) where
   coded_before : (s t : Bool) → below s a t b || (level s a t b && (s && not t)) ≡ ltb (coded s a) (coded t b)

@@ -1,6 +1,7 @@
 // Rounding to whole numbers (document 01, module 1), the key of a cell (module 4), the segments of an axis (module 5), and Rust's comparisons
 // of doubles. A function that needs a number's bits tests for a NaN first, which has none of its own.
 #![tactic(auto)]
+
 ghost use Rattle.std.specs.Prelude.{◌≡◌, not, ◌*◌, ◌^◌, ◌<◌, ◌≤◌, T};
 ghost use Prim.Native.Nat as Nat;
 ghost use Rattle.std.specs.Float.Ieee.{is_nan};

@@ -1,0 +1,27 @@
+use Rattle.geometry.specs.Points.{along}
+use borrow.Author.Rules.{rules}
+use Rattle.aabb_planes.proofs.plane.coordinate.Goals as goal
+
+pub returns-in-XMin : goal.returns-in-XMin
+unfolding along
+returns-in-XMin c = simp c.enum_told-1.given.1
+
+pub returns-in-XMax : goal.returns-in-XMax
+unfolding along
+returns-in-XMax c = simp c.enum_told-in-XMax-1.given.1
+
+pub returns-in-YMin : goal.returns-in-YMin
+unfolding along
+returns-in-YMin c = simp c.enum_told-in-YMin-1.given.1
+
+pub returns-in-YMax : goal.returns-in-YMax
+unfolding along
+returns-in-YMax c = simp c.enum_told-in-YMax-1.given.1
+
+pub returns-in-ZMin : goal.returns-in-ZMin
+unfolding along
+returns-in-ZMin c = simp c.enum_told-in-ZMin-1.given.1
+
+pub returns-in-ZMax : goal.returns-in-ZMax
+unfolding along
+returns-in-ZMax c = simp c.enum_told-in-ZMax-1.given.1

@@ -1,0 +1,30 @@
+use mathlib.Core.Path.{◌≡◌, refl, sym, ap, ◌∙◌}
+use Prim.Native.Nat.{ℕ, ◌+◌, ◌*◌, ◌≤◌, ◌<◌, ◌-◌, ◌/◌}
+use native.Mathlib.Omega.{arith}
+use lib.ListN.{get_or, length, length-set}
+use Rattle.chains.proofs.Entering.{place_in}
+use borrow.Author.Rules.{rules}
+use Rattle.chains.proofs.links.enter.Goals as goal
+
+pub offset_bounds-m-p : goal.offset_bounds-m-p
+offset_bounds-m-p c =
+    let s = c.args in
+    let e = c.link_place-p.ensures in
+    let h = place_in s.at s.nb s.id s.b (get_or s.m.now (s.at + s.nb + s.b) 0) (omega arith) (omega arith) in
+    omega arith
+
+pub bounds-m-p : goal.bounds-m-p
+bounds-m-p c =
+    let s = c.args in
+    let e = c.link_place-p.ensures in
+    let h = place_in s.at s.nb s.id s.b (get_or s.m.now (s.at + s.nb + s.b) 0) (omega arith) (omega arith) in
+    omega arith
+
+pub bounds-m-at-2 : goal.bounds-m-at-2
+bounds-m-at-2 c = simp length-set (omega arith)
+
+pub bounds-m-at-3 : goal.bounds-m-at-3
+bounds-m-at-3 c = simp length-set (omega arith)
+
+pub returns : goal.returns
+returns c = rw c.link_place-p.ensures refl

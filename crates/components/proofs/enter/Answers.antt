@@ -1,0 +1,138 @@
+use mathlib.Core.Path.{◌≡◌, refl, sym, ap, ◌∙◌}
+use Prim.Native.Nat.{ℕ, ◌+◌, ◌*◌, ◌≤◌, ◌<◌, ◌-◌, ◌/◌}
+use native.Mathlib.Omega.{arith}
+use lib.ListN.{get_or, length, length-set}
+use Rattle.components.proofs.Forest.{unite_up, unite_down, rooted_up, rooted_down, rooted_elsewhere}
+use borrow.Author.Rules.{rules}
+use Rattle.components.proofs.enter.Goals as goal
+
+pub shape_of-w-then-f-eq0 : goal.shape_of-w-then-f-eq0
+shape_of-w-then-f-eq0 c = simp length-set (omega arith)
+
+pub returns-then-f-eq0 : goal.returns-then-f-eq0
+returns-then-f-eq0 c =
+    let s = c.args in
+    record {
+      unseen =
+          λ e. refl;
+      seen = λ f e. absurd (omega arith);
+      rooted = rooted_elsewhere s.w.now s.at s.n s.i s.r s.s (s.i + 1) (omega arith) (omega arith) c.requires.root_of;
+    }
+
+pub find-t-requires : goal.find-t-requires
+find-t-requires c =
+    let s = c.args in
+    let first : ℕ = get_or s.w.now s.s 0 - 1 in
+    let first-in : first < s.n = c.requires.by_index first (omega arith) in record { n_in_bounds = omega arith; x_lt_n = first-in; forest = c.requires.forest }
+
+pub overflow_add-w-then-r-t : goal.overflow_add-w-then-r-t
+overflow_add-w-then-r-t c =
+    let s = c.args in
+    let first : ℕ = get_or s.w.now s.s 0 - 1 in
+    let first-in : first < s.n = c.requires.by_index first (omega arith) in
+    let found = c.find-t in
+    let a = c.requires.root_of.small in
+    let t = found.ensures.small in
+    let e = found.ensures.kept.long in
+    omega arith
+
+pub offset_bounds-w-at : goal.offset_bounds-w-at
+offset_bounds-w-at c =
+    let s = c.args in
+    let first : ℕ = get_or s.w.now s.s 0 - 1 in
+    let first-in : first < s.n = c.requires.by_index first (omega arith) in
+    let found = c.find-t in
+    let a = c.requires.root_of.small in
+    let t = found.ensures.small in
+    let e = found.ensures.kept.long in
+    omega arith
+
+pub bounds-w-at : goal.bounds-w-at
+bounds-w-at c =
+    let s = c.args in
+    let first : ℕ = get_or s.w.now s.s 0 - 1 in
+    let first-in : first < s.n = c.requires.by_index first (omega arith) in
+    let found = c.find-t in
+    let a = c.requires.root_of.small in
+    let t = found.ensures.small in
+    let e = found.ensures.kept.long in
+    omega arith
+
+pub shape_of-w-then-r-t : goal.shape_of-w-then-r-t
+shape_of-w-then-r-t c =
+    let s = c.args in
+    let first : ℕ = get_or s.w.now s.s 0 - 1 in
+    let first-in : first < s.n = c.requires.by_index first (omega arith) in
+    let found = c.find-t in
+    let a = c.requires.root_of.small in
+    let t = found.ensures.small in
+    let e = found.ensures.kept.long in
+    simp length-set (omega arith)
+
+pub returns-then-r-t : goal.returns-then-r-t
+returns-then-r-t c =
+    let s = c.args in
+    let first : ℕ = get_or s.w.now s.s 0 - 1 in
+    let first-in : first < s.n = c.requires.by_index first (omega arith) in
+    let found = c.find-t in
+    let united = unite_up s.w.now found.new.w s.at s.n s.i first s.r _ (omega arith) (omega arith) first-in c.requires.root_of
+    found.ensures c.if-r-t.true in
+    let rooted = rooted_up s.w.now found.new.w s.at s.n s.i first s.r _ (omega arith) (omega arith) first-in c.requires.root_of
+    found.ensures c.if-r-t.true in
+    record { unseen = λ e. absurd (omega arith); seen = λ f e. let h : f ≡ first = omega arith in rw h united; rooted = rooted }
+
+pub overflow_add-w-2 : goal.overflow_add-w-2
+overflow_add-w-2 c =
+    let s = c.args in
+    let first : ℕ = get_or s.w.now s.s 0 - 1 in
+    let first-in : first < s.n = c.requires.by_index first (omega arith) in
+    let found = c.find-t in
+    let a = c.requires.root_of.small in
+    let t = found.ensures.small in
+    let e = found.ensures.kept.long in
+    omega arith
+
+pub offset_bounds-w-at-2 : goal.offset_bounds-w-at-2
+offset_bounds-w-at-2 c =
+    let s = c.args in
+    let first : ℕ = get_or s.w.now s.s 0 - 1 in
+    let first-in : first < s.n = c.requires.by_index first (omega arith) in
+    let found = c.find-t in
+    let a = c.requires.root_of.small in
+    let t = found.ensures.small in
+    let e = found.ensures.kept.long in
+    omega arith
+
+pub bounds-w-at-2 : goal.bounds-w-at-2
+bounds-w-at-2 c =
+    let s = c.args in
+    let first : ℕ = get_or s.w.now s.s 0 - 1 in
+    let first-in : first < s.n = c.requires.by_index first (omega arith) in
+    let found = c.find-t in
+    let a = c.requires.root_of.small in
+    let t = found.ensures.small in
+    let e = found.ensures.kept.long in
+    omega arith
+
+pub shape_of-w : goal.shape_of-w
+shape_of-w c =
+    let s = c.args in
+    let first : ℕ = get_or s.w.now s.s 0 - 1 in
+    let first-in : first < s.n = c.requires.by_index first (omega arith) in
+    let found = c.find-t in
+    let a = c.requires.root_of.small in
+    let t = found.ensures.small in
+    let e = found.ensures.kept.long in
+    simp length-set (omega arith)
+
+pub returns : goal.returns
+returns c =
+    let s = c.args in
+    let first : ℕ = get_or s.w.now s.s 0 - 1 in
+    let first-in : first < s.n = c.requires.by_index first (omega arith) in
+    let found = c.find-t in
+    let united = unite_down s.w.now found.new.w s.at s.n s.i first s.r _ (omega arith) (omega arith) first-in c.requires.root_of
+    found.ensures c.if-r-t.false in
+    let rooted = rooted_down s.w.now found.new.w s.at s.n s.i first s.r _ (omega arith) (omega arith) first-in c.requires.root_of
+    found.ensures c.if-r-t.false in
+    record { unseen = λ e. absurd (omega arith); seen = λ f e. let h : f ≡ first = omega arith in rw h united; rooted = rooted }

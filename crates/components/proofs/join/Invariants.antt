@@ -1,0 +1,15 @@
+use mathlib.Core.Path.{◌≡◌, refl, sym, ap, ◌∙◌}
+use Prim.Native.Nat.{ℕ, ◌+◌, ◌*◌, ◌≤◌, ◌<◌, ◌-◌, ◌/◌}
+use native.Mathlib.Omega.{arith}
+use lib.ListN.{get_or, length, length-set}
+use Rattle.lists.specs.Regions.{view}
+use Rattle.components.specs.Forest.{Swept}
+use Rattle.components.proofs.Turns.{swept_at, join_item_start, join_again}
+use Rattle.components.proofs.join.Given as goal
+
+-- `components::join`. The loop's invariant: the items before i are done. The measure is what is left.
+abbrev pub invariant-loop-i : goal.invariant-loop-i
+invariant-loop-i l = (l.i ≤ l.n) × Swept (view l.initial.w l.labels (l.n * l.k)) l.n l.k l.m l.at l.initial.w l.w (l.i * l.k)
+
+abbrev pub decreases-loop-i : goal.decreases-loop-i
+decreases-loop-i l = l.n - l.i

@@ -1,0 +1,156 @@
+use mathlib.Core.Path.{◌≡◌, refl, sym, ap, ◌∙◌}
+use Prim.Native.Nat.{ℕ, ◌+◌, ◌*◌, ◌≤◌, ◌<◌, ◌-◌, ◌/◌}
+use native.Mathlib.Omega.{arith}
+use lib.ListN.{get_or, length, length-set}
+use lib.Arith.{digits_lt}
+use Rattle.lists.specs.Regions.{view}
+use Rattle.components.specs.Table.{LabelRoom}
+use Rattle.components.specs.Forest.{Swept, RootOf}
+use Rattle.components.proofs.Forest.{found_rooted}
+use Rattle.components.proofs.Turns.{read_length, label_read, label_low, item_joining, item_start, item_end, swept_seen, swept_turn}
+use Rattle.components.proofs.join_item.Goals as goal
+
+pub overflow_add-firsts : goal.overflow_add-firsts
+overflow_add-firsts c = omega arith
+
+pub overflow_add-firsts-2 : goal.overflow_add-firsts-2
+overflow_add-firsts-2 c = omega arith
+
+pub overflow_mul-from : goal.overflow_mul-from
+overflow_mul-from c = let u = c.requires.label_room in let h = c.requires.swept.upto in omega arith
+
+pub overflow_add-from : goal.overflow_add-from
+overflow_add-from c = let u = c.requires.label_room in let h = c.requires.swept.upto in omega arith
+
+pub find-r-requires : goal.find-r-requires
+find-r-requires c = let u = c.requires.label_room in record { n_in_bounds = omega arith; x_lt_n = omega arith; forest = c.requires.swept.going.forest }
+
+pub loop-j-init : goal.loop-j-init
+loop-j-init c =
+    let s = c.args in
+    let found = c.find-r in
+    let joining = item_joining s.w.now s.labels s.n s.k s.m s.at c.requires.label_room found.new.w
+    found.ensures.kept in
+    let swept = item_start s.w.now s.labels s.n s.k s.m s.at c.requires.label_room found.new.w
+    found.ensures.kept (s.i * s.k) (s.i * s.k + 0) (omega arith) c.requires.swept in
+    (joining, omega arith, swept, found_rooted _ _ _ _ _ _ found.ensures)
+
+pub overflow_add-q : goal.overflow_add-q
+overflow_add-q c =
+    let l = c.loop-j in
+    let s = c.args in
+    let found = c.find-r in
+    let slot : ℕ = s.i * s.k + l.j in
+    let x : slot < s.n * s.k = digits_lt {q = s.i} {m = s.n} {r = l.j} {c = s.k} (omega arith) (omega arith) in
+    let q = label_read found.new.w s.labels s.n s.k s.m s.at l.invariant.0 l.w slot slot (s.labels + s.i * s.k + l.j) l.invariant.2
+    x (omega arith) in
+    let b = label_low found.new.w s.labels s.n s.k s.m s.at l.invariant.0 slot x in
+    let e = l.invariant.2.long in
+    let a = found.ensures.kept.long in
+    let u = c.requires.label_room in
+    omega arith
+
+pub offset_bounds-w-from : goal.offset_bounds-w-from
+offset_bounds-w-from c =
+    let l = c.loop-j in
+    let s = c.args in
+    let found = c.find-r in
+    let slot : ℕ = s.i * s.k + l.j in
+    let x : slot < s.n * s.k = digits_lt {q = s.i} {m = s.n} {r = l.j} {c = s.k} (omega arith) (omega arith) in
+    let q = label_read found.new.w s.labels s.n s.k s.m s.at l.invariant.0 l.w slot slot (s.labels + s.i * s.k + l.j) l.invariant.2
+    x (omega arith) in
+    let b = label_low found.new.w s.labels s.n s.k s.m s.at l.invariant.0 slot x in
+    let e = l.invariant.2.long in
+    let a = found.ensures.kept.long in
+    let u = c.requires.label_room in
+    omega arith
+
+pub bounds-w-from : goal.bounds-w-from
+bounds-w-from c =
+    let l = c.loop-j in
+    let s = c.args in
+    let found = c.find-r in
+    let slot : ℕ = s.i * s.k + l.j in
+    let x : slot < s.n * s.k = digits_lt {q = s.i} {m = s.n} {r = l.j} {c = s.k} (omega arith) (omega arith) in
+    let q = label_read found.new.w s.labels s.n s.k s.m s.at l.invariant.0 l.w slot slot (s.labels + s.i * s.k + l.j) l.invariant.2
+    x (omega arith) in
+    let b = label_low found.new.w s.labels s.n s.k s.m s.at l.invariant.0 slot x in
+    let e = l.invariant.2.long in
+    let a = found.ensures.kept.long in
+    let u = c.requires.label_room in
+    omega arith
+
+pub overflow_add-firsts-in-loop-j : goal.overflow_add-firsts-in-loop-j
+overflow_add-firsts-in-loop-j c =
+    let l = c.loop-j in
+    let s = c.args in
+    let found = c.find-r in
+    let slot : ℕ = s.i * s.k + l.j in
+    let x : slot < s.n * s.k = digits_lt {q = s.i} {m = s.n} {r = l.j} {c = s.k} (omega arith) (omega arith) in
+    let q = label_read found.new.w s.labels s.n s.k s.m s.at l.invariant.0 l.w slot slot (s.labels + s.i * s.k + l.j) l.invariant.2
+    x (omega arith) in
+    let b = label_low found.new.w s.labels s.n s.k s.m s.at l.invariant.0 slot x in
+    let e = l.invariant.2.long in
+    let a = found.ensures.kept.long in
+    let u = c.requires.label_room in
+    omega arith
+
+pub enter-r-requires : goal.enter-r-requires
+enter-r-requires c =
+    let l = c.loop-j in
+    let s = c.args in
+    let found = c.find-r in
+    let slot : ℕ = s.i * s.k + l.j in
+    let x : slot < s.n * s.k = digits_lt {q = s.i} {m = s.n} {r = l.j} {c = s.k} (omega arith) (omega arith) in
+    let q = label_read found.new.w s.labels s.n s.k s.m s.at l.invariant.0 l.w slot slot (s.labels + s.i * s.k + l.j) l.invariant.2
+    x (omega arith) in
+    let b = label_low found.new.w s.labels s.n s.k s.m s.at l.invariant.0 slot x in
+    let e = l.invariant.2.long in
+    let a = found.ensures.kept.long in
+    let u = c.requires.label_room in
+    let seen = swept_seen (view found.new.w s.labels (s.n * s.k)) s.n s.k s.m s.at l.invariant.0.some
+    (read_length found.new.w s.labels s.n s.k s.m s.at l.invariant.0) l.invariant.0.below found.new.w l.w s.i l.j
+    l.invariant.0.room l.invariant.2 (omega arith) (omega arith) in record { n_bound = omega arith; s_in_bounds = omega arith; i_lt_n = omega arith; by_index = rw q seen; forest = l.invariant.2.going.forest; root_of = l.invariant.3 }
+
+pub overflow_add-j : goal.overflow_add-j
+overflow_add-j c = omega arith
+
+pub loop-j-smaller : goal.loop-j-smaller
+loop-j-smaller c = omega arith
+
+pub loop-j-preserved : goal.loop-j-preserved
+loop-j-preserved c =
+    let l = c.loop-j in
+    let s = c.args in
+    let found = c.find-r in
+    let slot : ℕ = s.i * s.k + l.j in
+    let x : slot < s.n * s.k = digits_lt {q = s.i} {m = s.n} {r = l.j} {c = s.k} (omega arith) (omega arith) in
+    let q = label_read found.new.w s.labels s.n s.k s.m s.at l.invariant.0 l.w slot slot (s.labels + s.i * s.k + l.j) l.invariant.2
+    x (omega arith) in
+    let b = label_low found.new.w s.labels s.n s.k s.m s.at l.invariant.0 slot x in
+    let e = l.invariant.2.long in
+    let a = found.ensures.kept.long in
+    let u = c.requires.label_room in
+    let entered = c.enter-r in
+    let swept = swept_turn (view found.new.w s.labels (s.n * s.k)) s.n s.k s.m s.at l.invariant.0.some
+    (read_length found.new.w s.labels s.n s.k s.m s.at l.invariant.0) l.invariant.0.below found.new.w l.w s.i l.j
+    l.invariant.0.room l.invariant.2 (omega arith) (omega arith) entered.new.w entered.result (rw (← q) entered.ensures) in
+    (l.invariant.0, omega arith, swept, entered.ensures.rooted)
+
+pub shape_of-w : goal.shape_of-w
+shape_of-w c =
+    let l = c.loop-j in
+    let s = c.args in
+    let found = c.find-r in
+    let e = l.invariant.2.long in
+    let a = found.ensures.kept.long in
+    omega arith
+
+pub returns : goal.returns
+returns c =
+    let l = c.loop-j in
+    let s = c.args in
+    let found = c.find-r in
+    let e : s.i * s.k + l.j ≡ s.i * s.k + s.k = omega arith in
+    item_end s.w.now s.labels s.n s.k s.m s.at c.requires.label_room found.new.w
+    found.ensures.kept l.w (s.i * s.k + l.j) (s.i * s.k + s.k) e l.invariant.2

@@ -1,0 +1,13 @@
+use mathlib.Core.Path.{◌≡◌, refl, sym, ap, ◌∙◌}
+use Prim.Native.Nat.{ℕ, ◌+◌, ◌*◌, ◌≤◌, ◌<◌, ◌-◌, ◌/◌}
+use native.Mathlib.Omega.{arith}
+use lib.ListN.{get_or, length, length-set}
+use Rattle.components.proofs.Counting.{Counting, counting_start, counting_low, counting_turn, counting_end}
+use Rattle.components.proofs.tally.Given as goal
+
+-- `components::tally`. The loop's invariant: the numbers before i are counted. The measure is what is left.
+abbrev pub invariant-loop-i : goal.invariant-loop-i
+invariant-loop-i l = Counting l.initial.w l.w l.at l.n l.i
+
+abbrev pub decreases-loop-i : goal.decreases-loop-i
+decreases-loop-i l = l.n - l.i

@@ -1,0 +1,6 @@
+use Rattle.hypot.proofs.Products.{shifted}
+use borrow.Author.Rules.{rules}
+use Rattle.hypot.proofs.power.Goals as goal
+
+pub returns : goal.returns
+returns c = shifted c.args.d c.requires

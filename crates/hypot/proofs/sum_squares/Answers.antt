@@ -1,0 +1,8 @@
+use Rattle.hypot.proofs.Products.{summed}
+use borrow.Author.Rules.{rules}
+use Rattle.hypot.proofs.sum_squares.Goals as goal
+
+pub returns : goal.returns
+returns c =
+    let s = c in
+    summed s.square-a.ensures s.square-b.ensures s.divided-c.ensures

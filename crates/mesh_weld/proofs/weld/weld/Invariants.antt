@@ -1,0 +1,13 @@
+use Rattle.mesh_weld.proofs.Steps.{going_start, going_end, none_welds}
+use Rattle.mesh_weld.specs.Room.{WeldedSoFar}
+use lib.ListN.{length}
+use native.Mathlib.Omega.{arith}
+use Prim.Native.Nat.{◌-◌}
+use mathlib.Core.Path.{◌≡◌, refl, ◌∙◌}
+use Rattle.mesh_weld.proofs.weld.weld.Given as goal
+
+abbrev pub invariant-loop-i : goal.invariant-loop-i
+invariant-loop-i l = WeldedSoFar l.vs l.eps l.n l.i l.count l.m × (length l.m ≡ length l.initial.m)
+
+abbrev pub decreases-loop-i : goal.decreases-loop-i
+decreases-loop-i l = l.n - l.i
