@@ -25,10 +25,10 @@ overflow_add-result-5 c = omega arith
 pub returns : goal.returns
 unfolding faces_of on_face along
 returns c =
-    mask_of (λ f. on_face c.args.t3
+    mask_of (λ f. on_face c.args.extents
     c.args.eps f
     c.args.a && on_face
-    c.args.t3
+    c.args.extents
     c.args.eps f
     c.args.b) _ _ _ _ _ _
     c.both_on-x_min.ensures.1

@@ -3,13 +3,13 @@ use borrow.Author.Rules.{rules}
 use Rattle.refusals.proofs.report.report_reply.Goals as goal
 
 pub returns-in-DoneTwo : goal.returns-in-DoneTwo
-returns-in-DoneTwo c = reply_two _ _ _ _ _ c.reply-1.given.1 c.report_done.ensures
+returns-in-DoneTwo c = reply_two _ _ _ _ _ c.in-DoneTwo.is c.report_done.ensures
 
 pub returns-in-DoneThree : goal.returns-in-DoneThree
-returns-in-DoneThree c = reply_three _ _ _ _ _ _ c.reply-in-DoneThree-1.given.1 c.report_done-in-DoneThree.ensures
+returns-in-DoneThree c = reply_three _ _ _ _ _ _ c.in-DoneThree.is c.report_done-in-DoneThree.ensures
 
 pub returns-in-DoneFour : goal.returns-in-DoneFour
-returns-in-DoneFour c = reply_four _ _ _ _ _ _ _ c.reply-in-DoneFour-1.given.1 c.report_done-in-DoneFour.ensures
+returns-in-DoneFour c = reply_four _ _ _ _ _ _ _ c.in-DoneFour.is c.report_done-in-DoneFour.ensures
 
 pub returns-in-Refused : goal.returns-in-Refused
-returns-in-Refused c = reply_refused _ _ _ _ c.reply-in-Refused-1.given.1 c.report_refusal.ensures
+returns-in-Refused c = reply_refused _ _ _ _ c.in-Refused.is c.report_refusal.ensures
