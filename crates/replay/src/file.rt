@@ -1,6 +1,6 @@
-// A file as a row of 64-bit words, the least byte first. No contract can say what is read from outside; what is said here is where it is put.
+// A file's bytes as a row of 64-bit words, the least byte first. No contract can say which bytes a file holds; what is said here is what becomes of them.
 ghost use Rattle.std.specs.Prelude.{◌≡◌, ◌+◌, ◌*◌, ◌≤◌, ◌<◌, length, take};
-ghost use Rattle.replay.specs.Words.{word_of};
+ghost use Rattle.replay.specs.Words.{word_of, FrontRead, Loaded};
 
 // Room for a file of 1 MB. The `ensures` gives the length, which lending the array as a slice needs.
 pub fn room() -> [u64; 131072]
@@ -34,7 +34,9 @@ enum Read {
 }
 
 // The word at the front of the bytes that are left.
-fn read_word(left: &[u8]) -> Read {
+fn read_word(left: &[u8]) -> Read
+    ensures { FrontRead left.now result }
+{
     if left.is_empty() {
         return Read::End;
     }
@@ -46,7 +48,8 @@ fn read_word(left: &[u8]) -> Read {
 
 // Puts the file's words at the front of `words`, as many as there is room for, and answers how many: none, if the file ends within a word.
 pub fn load(file: &[u8], words: &mut [u64]) -> usize
-    ensures { (result ≤ length words.new) × (result ≡ length (take result words.new)) }
+    ensures within { (result ≤ length words.new) × (result ≡ length (take result words.new)) }
+    ensures read { Loaded file.now words.new result }
 {
     let mut left = file;
     let mut i = 0;
