@@ -65,6 +65,7 @@ counted {A} p l {x} m e = go (keep p l) (keep_of p m (yes e))
   where
     go : (k : List A) → Memᴰ x k → 0 < length k
     go (y ∷ k) m = omega arith
+    go [] m = elim m [ ]
 
 some_counted : {A : Type 0} (p : A → Bool) (l : List A) → 0 < count p l → T (some p l)
 some_counted {A} p l h = go (keep p l) refl h

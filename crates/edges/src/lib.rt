@@ -1,6 +1,7 @@
 // The sides of facets: the edge table, which is all sides sorted by their pair of ends, and the open edges in ascending order of their pair.
 // Side s of a list of facets runs from the corner facets[s] to the next corner of its facet.
 #![tactic(auto)]
+
 mod ends;
 mod open;
 mod table;

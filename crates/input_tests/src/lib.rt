@@ -1,6 +1,7 @@
 // The tests on what is handed in that the operations share (document 01, the table of refusals): 1 to 4 of lists and numbers, and the need of
 // test 7; 5 and the box in `boxes`, 6, 8 and the number of grid points in `grid`.
 #![tactic(auto)]
+
 ghost use Rattle.std.specs.Prelude.{◌≡◌, ◌&&◌, ◌||◌, ◌<◌, ◌≤◌, ◌+◌, length};
 ghost use Rattle.lists.specs.Lists.{every};
 ghost use Rattle.refusals.specs.Refusals.{first_refusal};

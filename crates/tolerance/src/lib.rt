@@ -1,5 +1,6 @@
 // The tolerance of a box (document 01, module 2; `bbox_eps` of aabb_clipping.rs).
 #![tactic(auto)]
+
 ghost use Rattle.std.specs.Prelude.{◌≡◌};
 ghost use Rattle.tolerance.specs.Tolerance.{box_lengths, Tolerated};
 

@@ -1,3 +1,0 @@
-pub mod CornerLists
-pub mod Planes
-pub mod Walks

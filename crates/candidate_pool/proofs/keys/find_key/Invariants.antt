@@ -1,0 +1,13 @@
+use Prim.Native.Nat.{◌+◌, ◌*◌, ◌-◌}
+use Rattle.candidate_pool.specs.Offsets.{chain_at}
+use Rattle.candidate_pool.proofs.Searching.{key_is, key_filed, key_told}
+use Rattle.chains.proofs.Walking.{Walk, left, walk_start, walk_low, walk_room, walk_found, walk_turn, walk_less, walk_end}
+use native.Mathlib.Omega.{arith}
+use mathlib.Core.Path.{◌∙◌}
+use Rattle.candidate_pool.proofs.keys.find_key.Given as goal
+
+abbrev pub invariant-loop-link : goal.invariant-loop-link
+invariant-loop-link l = Walk l.w (chain_at l.n) l.n l.count l.b (key_is l.w l.n l.key) l.link
+
+abbrev pub decreases-loop-link : goal.decreases-loop-link
+decreases-loop-link l = left l.count l.link

@@ -1,0 +1,14 @@
+use mathlib.Core.Path.{sym, subst, ◌∙◌}
+use Prim.Native.Nat.{ℕ, ◌+◌, ◌≤◌, ◌-◌}
+use mathlib.Core.List.{List}
+use mathlib.Core.Logic.{⊎_elim}
+use native.Mathlib.Omega.{arith}
+use Rattle.candidate_pool.proofs.Adding.{Adding, adding_start, adding_low, adding_turn, adding_skip, adding_end}
+use Rattle.candidate_pool.proofs.pool.push_faces.Given as goal
+
+-- `push_faces` meets its contract: before face k those of the mask below k were added. Assumes nothing.
+abbrev pub invariant-loop-face : goal.invariant-loop-face
+invariant-loop-face l = (l.face ≤ 6) × Adding l.eps l.n l.id.0 l.mask l.face l.initial.w l.w
+
+abbrev pub decreases-loop-face : goal.decreases-loop-face
+decreases-loop-face l = 6 - l.face

@@ -1,0 +1,31 @@
+use Prim.Native.Nat.{ℕ}
+use mathlib.Core.Path.{sym, ap, ◌∙◌}
+use native.Mathlib.Omega.{arith}
+use lib.ListN.{length, get_or}
+use Rattle.edges.proofs.Sides.{next_in, side_at_lem}
+use borrow.Author.Rules.{rules}
+use Rattle.edges.proofs.ends.edge_to.Goals as goal
+
+pub offset_bounds-facets-next : goal.offset_bounds-facets-next
+offset_bounds-facets-next c =
+    omega (
+      arith,
+      c.next_side-next.ensures,
+      next_in (length c.args.facets.now) c.args.side c.requires.0
+          c.requires.1,
+    )
+
+pub bounds-facets-next : goal.bounds-facets-next
+bounds-facets-next c =
+    omega (
+      arith,
+      c.next_side-next.ensures,
+      next_in (length c.args.facets.now) c.args.side
+          c.requires.0 c.requires.1,
+    )
+
+pub returns : goal.returns
+returns c =
+    let s = c in
+    ap (λ (n : ℕ). get_or s.args.facets.now n 0) c.next_side-next.ensures ∙ sym
+    (ap (λ (e : ℕ × ℕ). e.1) (side_at_lem s.args.facets.now s.args.side s.requires.0 s.requires.1))

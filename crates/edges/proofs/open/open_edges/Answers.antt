@@ -1,0 +1,19 @@
+use native.Mathlib.Omega.{arith}
+use Rattle.edges.proofs.Steps.{ascends, opens}
+use borrow.Author.Rules.{rules}
+use Rattle.edges.proofs.open.open_edges.Goals as goal
+
+pub keep_open-k-requires : goal.keep_open-k-requires
+keep_open-k-requires c =
+    let s = c in
+    let table = c.sort_sides in record { n_in_bounds = omega arith; ascending = ascends s.args.facets.now s.args.w.now table.new.w table.ensures }
+
+pub returns : goal.returns
+returns c =
+    let s = c in
+    let corners = c.shared_slice_known-1 in
+    let table = c.sort_sides in
+    let kept = c.keep_open-k in
+    let cleared = c.zero_part in
+    opens s.args.facets.now s.args.w.now table.new.w kept.new.w cleared.new.w kept.result s.requires.0 s.requires.1
+    (λ i. omega (arith, corners.given i)) table.ensures kept.ensures cleared.ensures

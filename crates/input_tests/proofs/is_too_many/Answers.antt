@@ -1,0 +1,8 @@
+use Rattle.input_tests.specs.Front.{too_many}
+use mathlib.Core.Path.{◌≡◌, refl, sym, ap, ◌∙◌}
+use borrow.Author.Rules.{rules}
+use Rattle.input_tests.proofs.is_too_many.Goals as goal
+
+pub returns : goal.returns
+unfolding too_many
+returns c = refl

@@ -1,0 +1,13 @@
+use Rattle.mesh_compact.proofs.Loop.{still_room, going_on, going_from, going_start, going_end}
+use Rattle.mesh_compact.specs.Room.{NumberedSoFar}
+use lib.ListN.{length}
+use native.Mathlib.Omega.{arith}
+use Prim.Native.Nat.{◌-◌}
+use mathlib.Core.Path.{◌≡◌, refl, ◌∙◌}
+use Rattle.mesh_compact.proofs.renumber.renumber.Given as goal
+
+abbrev pub invariant-loop-i : goal.invariant-loop-i
+invariant-loop-i l = NumberedSoFar l.kept l.facets l.parts l.k l.at l.n l.least l.i l.w l.initial.m l.m × (length l.m ≡ length l.initial.m)
+
+abbrev pub decreases-loop-i : goal.decreases-loop-i
+decreases-loop-i l = l.k - l.i

@@ -1,0 +1,13 @@
+use Rattle.mesh_filter.proofs.Steps.{going_start, still_numbered, turn_same, turned_on, filtered, none_filtered}
+use Rattle.mesh_filter.specs.Room.{points_in_room, facets_in_room, FacetFiltered}
+use lib.ListN.{length}
+use native.Mathlib.Omega.{arith}
+use Prim.Native.Nat.{◌+◌, ◌-◌}
+use mathlib.Core.Path.{◌≡◌, refl, ◌∙◌}
+use Rattle.mesh_filter.proofs.filter.filter.Given as goal
+
+abbrev pub invariant-loop-f : goal.invariant-loop-f
+invariant-loop-f l = FacetFiltered l.eps (points_in_room l.welded l.vertices l.initial.m) (facets_in_room l.welded l.vertices l.facets l.initial.m) l.at l.n l.f l.count l.initial.m l.m × (length l.m ≡ length l.initial.m)
+
+abbrev pub decreases-loop-f : goal.decreases-loop-f
+decreases-loop-f l = l.n - l.f
