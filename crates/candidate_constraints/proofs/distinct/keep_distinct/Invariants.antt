@@ -1,0 +1,13 @@
+use Rattle.candidate_constraints.proofs.Once.{Keeping, keeping_start, keeping_turn, keeping_end}
+use Prim.Native.Nat.{◌+◌, ◌*◌, ◌-◌}
+use mathlib.Core.Path.{◌≡◌}
+use native.Mathlib.Omega.{arith}
+use Rattle.candidate_pool.specs.Offsets.{pairs_at, constraints_at}
+use Rattle.candidate_constraints.proofs.distinct.keep_distinct.Given as goal
+
+-- `keep_distinct` meets its contract: of the runs before i the keys are listed. Assumes nothing.
+abbrev pub invariant-loop-i : goal.invariant-loop-i
+invariant-loop-i l = Keeping l.n l.nf l.c l.total l.initial.w l.w l.t l.i × (l.pairs ≡ pairs_at l.n) × (l.at ≡ constraints_at l.n l.nf)
+
+abbrev pub decreases-loop-i : goal.decreases-loop-i
+decreases-loop-i l = l.c - l.i

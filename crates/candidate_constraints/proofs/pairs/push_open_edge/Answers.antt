@@ -1,0 +1,96 @@
+use Prim.Native.Nat.{ℕ, ◌+◌, ◌*◌}
+use mathlib.Core.Path.{◌≡◌, sym, ◌∙◌}
+use mathlib.Core.List.{List}
+use mathlib.Core.Bool.{true}
+use lib.ListN.{get_or}
+use native.Mathlib.Omega.{arith}
+use Rattle.lists.specs.Lists.{has}
+use Rattle.candidate_pool.specs.Pool.{face_list}
+use Rattle.candidate_pool.specs.Standing.{pool_at}
+use Rattle.candidate_constraints.proofs.Noting.{member_low, noted_place}
+use Rattle.candidate_constraints.proofs.Pairing.{edge_ends, edge_pushed, edge_skipped}
+use borrow.Author.Rules.{rules}
+use Rattle.candidate_constraints.proofs.pairs.push_open_edge.Goals as goal
+
+pub place_of_candidate-a-requires : goal.place_of_candidate-a-requires
+place_of_candidate-a-requires c =
+    let edge : ℕ = c.open_edges_at.result + 3 * c.args.i in
+    let listed : List ℕ = face_list (pool_at c.args.n c.args.w.now) c.args.face in
+    let ends : (has listed (get_or c.args.w.now edge 0) ≡ true) × (has listed (get_or c.args.w.now (edge + 1) 0) ≡ true) = let s = c in
+    let at = c.open_edges_at in
+    edge_ends s.args.n s.args.nf s.args.i s.args.face s.args.w.now s.requires.edges_held s.requires.face_bound.0 at.result at.ensures
+    (sym c.has_face.ensures ∙ c.if-has_face.true) in
+    let s = c in (
+      omega (arith, s.requires.roomy.small),
+      omega (
+        arith,
+        member_low s.args.n s.args.face s.args.w.now s.requires.shown s.requires.face_bound.0 _ ends.0,
+        s.requires.roomy.room,
+      ),
+    )
+
+pub place_of_candidate-b-requires : goal.place_of_candidate-b-requires
+place_of_candidate-b-requires c =
+    let edge : ℕ = c.open_edges_at.result + 3 * c.args.i in
+    let listed : List ℕ = face_list (pool_at c.args.n c.args.w.now) c.args.face in
+    let ends : (has listed (get_or c.args.w.now edge 0) ≡ true) × (has listed (get_or c.args.w.now (edge + 1) 0) ≡ true) = let s = c in
+    let at = c.open_edges_at in
+    edge_ends s.args.n s.args.nf s.args.i s.args.face s.args.w.now s.requires.edges_held s.requires.face_bound.0 at.result at.ensures
+    (sym c.has_face.ensures ∙ c.if-has_face.true) in
+    let s = c in (
+      omega (arith, s.requires.roomy.small),
+      omega (
+        arith,
+        member_low s.args.n s.args.face s.args.w.now s.requires.shown s.requires.face_bound.0 _ ends.1,
+        s.requires.roomy.room,
+      ),
+    )
+
+pub put_pair-requires : goal.put_pair-requires
+put_pair-requires c =
+    let edge : ℕ = c.open_edges_at.result + 3 * c.args.i in
+    let listed : List ℕ = face_list (pool_at c.args.n c.args.w.now) c.args.face in
+    let ends : (has listed (get_or c.args.w.now edge 0) ≡ true) × (has listed (get_or c.args.w.now (edge + 1) 0) ≡ true) = let s = c in
+    let at = c.open_edges_at in
+    edge_ends s.args.n s.args.nf s.args.i s.args.face s.args.w.now s.requires.edges_held s.requires.face_bound.0 at.result at.ensures
+    (sym c.has_face.ensures ∙ c.if-has_face.true) in
+    let s = c in
+    let IF' = c in (
+      omega (arith, c.pairs_at.ensures, s.requires.roomy.room, s.requires.face_bound.2),
+      s.requires.face_bound.0,
+      omega (
+        arith,
+        c.place_of_candidate-a.ensures,
+        noted_place s.args.n s.args.face s.args.w.now s.requires.shown
+            s.requires.face_bound.0 s.requires.placed _ ends.0,
+        s.requires.roomy.small,
+      ),
+      omega (
+        arith,
+        c.place_of_candidate-b.ensures,
+        noted_place s.args.n s.args.face s.args.w.now s.requires.shown s.requires.face_bound.0
+            s.requires.placed _ ends.1,
+        s.requires.roomy.small,
+      ),
+    )
+
+pub returns-then-has_face : goal.returns-then-has_face
+returns-then-has_face c =
+    let s = c in
+    let open-edges-at' = c.open_edges_at in
+    let place-of-candidate' = c.place_of_candidate-a in
+    let place-of-candidate2' = c.place_of_candidate-b in
+    let pairs-at' = c.pairs_at in
+    let put-pair' = c.put_pair in
+    edge_pushed s.args.n s.args.nf s.args.i s.args.face s.args.c s.args.w.now s.requires.roomy s.requires.placed s.requires.edges_held
+    s.requires.face_bound.0 s.requires.face_bound.2 open-edges-at'.result open-edges-at'.ensures (sym c.has_face.ensures ∙ c.if-has_face.true)
+    place-of-candidate'.result.0 place-of-candidate2'.result.0 pairs-at'.result put-pair'.new.w
+    place-of-candidate'.ensures place-of-candidate2'.ensures pairs-at'.ensures put-pair'.ensures
+
+pub returns-else-has_face : goal.returns-else-has_face
+returns-else-has_face c =
+    let s = c in
+    let open-edges-at' = c.open_edges_at in
+    edge_skipped s.args.n s.args.nf s.args.i s.args.face s.args.c s.args.w.now s.requires.face_bound.0 open-edges-at'.result
+    open-edges-at'.ensures
+    (sym c.has_face.ensures ∙ c.if-has_face.false)

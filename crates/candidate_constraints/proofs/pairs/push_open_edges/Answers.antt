@@ -1,0 +1,59 @@
+use Rattle.candidate_constraints.proofs.Pairing.{Edging, edging_start, edging_shown, edging_roomy, edging_placed, edging_held, edging_next, edging_end}
+use native.Mathlib.Omega.{arith}
+use Prim.Native.Nat.{◌+◌, ◌*◌, ◌-◌}
+use Rattle.candidate_pool.specs.Offsets.{open_edges_at}
+use Rattle.candidate_constraints.proofs.pairs.push_open_edges.Goals as goal
+
+pub loop-i-init : goal.loop-i-init
+loop-i-init c =
+    edging_start c.args.n c.args.face (open_edges_at c.args.n c.args.nf) c.args.count c.args.w.now
+    c.args.k
+
+pub push_open_edge-c-requires : goal.push_open_edge-c-requires
+push_open_edge-c-requires c =
+    let s = c in
+    let a = s.args in
+    let l = c.loop-i in record {
+      shown = edging_shown a.n a.face (open_edges_at a.n a.nf) a.count a.w.now a.nf a.k s.requires.shown s.requires.roomy s.requires.placed s.requires.edges_held
+          s.requires.face_bound.0 (omega (arith, s.requires.face_bound)) l.w l.c l.i l.invariant;
+      roomy = edging_roomy a.n a.face (open_edges_at a.n a.nf) a.count a.w.now a.nf a.k s.requires.shown s.requires.roomy s.requires.placed s.requires.edges_held
+          s.requires.face_bound.0 (omega (arith, s.requires.face_bound)) l.w l.c l.i l.invariant;
+      placed = edging_placed a.n a.face (open_edges_at a.n a.nf) a.count a.w.now a.nf a.k s.requires.shown s.requires.roomy s.requires.placed s.requires.edges_held
+          s.requires.face_bound.0 (omega (arith, s.requires.face_bound)) l.w l.c l.i l.invariant;
+      edges_held = edging_held a.n a.face (open_edges_at a.n a.nf) a.count a.w.now a.nf a.k s.requires.shown s.requires.roomy s.requires.placed s.requires.edges_held
+          s.requires.face_bound.0 (omega (arith, s.requires.face_bound)) l.w l.c l.i l.invariant c.loop-i-test.true;
+      face_bound = (
+        s.requires.face_bound.0,
+        omega (arith, s.requires.face_bound, c.loop-i-test.true),
+        omega
+            (arith, s.requires.face_bound, l.invariant.pushed.few, c.loop-i-test.true),
+      );
+    }
+
+pub overflow_add-i : goal.overflow_add-i
+overflow_add-i c =
+    let s = c in
+    omega (arith, s.requires.roomy.small, s.requires.roomy.facets, s.requires.roomy.room, s.requires.face_bound, c.loop-i-test.true)
+
+pub loop-i-smaller : goal.loop-i-smaller
+loop-i-smaller c = omega (arith, c.loop-i-test.true)
+
+pub loop-i-preserved : goal.loop-i-preserved
+loop-i-preserved c =
+    let s = c in
+    let a = s.args in
+    let l = c.loop-i in
+    let push-open-edge' = c.push_open_edge-c in
+    edging_next a.n a.face (open_edges_at a.n a.nf) a.count a.w.now a.nf a.k s.requires.shown s.requires.roomy s.requires.placed s.requires.edges_held
+    s.requires.face_bound.0 (omega (arith, s.requires.face_bound)) l.w l.c l.i l.invariant push-open-edge'.new.w push-open-edge'.result
+    c.loop-i-test.true push-open-edge'.ensures
+
+pub shape_of-w : goal.shape_of-w
+shape_of-w c = c.loop-i.invariant.pushed.kept.long
+
+pub returns : goal.returns
+returns c =
+    let s = c in
+    let a = s.args in
+    edging_end a.n a.face (open_edges_at a.n a.nf) a.count a.w.now a.k c.loop-i.w c.loop-i.c c.loop-i.i c.loop-i.invariant
+    c.loop-i-test.false

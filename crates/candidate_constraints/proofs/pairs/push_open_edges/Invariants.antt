@@ -1,0 +1,12 @@
+use Rattle.candidate_constraints.proofs.Pairing.{Edging, edging_start, edging_shown, edging_roomy, edging_placed, edging_held, edging_next, edging_end}
+use native.Mathlib.Omega.{arith}
+use Prim.Native.Nat.{◌+◌, ◌*◌, ◌-◌}
+use Rattle.candidate_pool.specs.Offsets.{open_edges_at}
+use Rattle.candidate_constraints.proofs.pairs.push_open_edges.Given as goal
+
+-- `push_open_edges` meets its contract: after i turns the pairs are those of the first i open edges. Assumes nothing.
+abbrev pub invariant-loop-i : goal.invariant-loop-i
+invariant-loop-i l = Edging l.n l.face (open_edges_at l.n l.nf) l.count l.initial.w l.k l.w l.c l.i
+
+abbrev pub decreases-loop-i : goal.decreases-loop-i
+decreases-loop-i l = l.k - l.i

@@ -1,0 +1,105 @@
+use Prim.Native.Nat.{ℕ, ◌+◌, ◌-◌, ◌<◌}
+use mathlib.Core.Path.{◌≡◌, refl, ap}
+use lib.ListN.{get_or, length}
+use native.Mathlib.Omega.{arith}
+use Rattle.candidate_pool.specs.Offsets.{list_at, places_at}
+use Rattle.candidate_constraints.proofs.Showing.{in_list}
+use Rattle.candidate_constraints.proofs.Noting.{Noting, noted_low, noting_start, noting_named, noting_end}
+use Rattle.candidate_constraints.proofs.places.note_places.Goals as goal
+
+pub list_at-list-requires : goal.list_at-list-requires
+list_at-list-requires c =
+    let s = c in
+    (omega (arith, s.requires.n_bound.0), s.requires.n_bound.1)
+
+pub places_at-places-requires : goal.places_at-places-requires
+places_at-places-requires c = omega (arith, c.requires.n_bound.0)
+
+pub offset_bounds-w-face : goal.offset_bounds-w-face
+offset_bounds-w-face c = omega (arith, c.requires.n_bound.1)
+
+pub bounds-w-face : goal.bounds-w-face
+bounds-w-face c =
+    let s = c in
+    omega (arith, s.requires.shown.size, s.requires.n_bound.1)
+
+pub loop-i-init : goal.loop-i-init
+loop-i-init c =
+    let s = c in
+    (noting_start s.args.n s.args.face s.args.w.now, c.list_at-list.ensures, c.places_at-places.ensures, refl)
+
+pub candidate_of_place-id-requires : goal.candidate_of_place-id-requires
+candidate_of_place-id-requires c =
+    let read-in : (c.list_at-list.result + c.loop-i.i < length c.loop-i.w) ×
+    (c.loop-i.i < c.args.n) = let s = c in
+    let l = c.loop-i in
+    let h = in_list s.args.n s.args.w.now s.requires.shown s.args.face s.requires.n_bound.1 c.list_at-list.result
+    (get_or s.args.w.now s.args.face 0) l.i l.invariant.1 refl (omega (arith, l.invariant.3, c.loop-i-test.true)) in
+    (omega (arith, h.0, l.invariant.0.kept.long, s.requires.shown.size), h.1) in
+    read-in.0
+
+pub overflow_add-w : goal.overflow_add-w
+overflow_add-w c =
+    let write-in : c.places_at-places.result + get_or c.loop-i.w (c.list_at-list.result + c.loop-i.i) 0 < length
+    c.loop-i.w = let s = c in
+    let l = c.loop-i in
+    let h = noted_low s.args.n s.args.face s.args.w.now s.requires.shown s.requires.n_bound.1 s.requires.n_bound.2 l.w l.i l.invariant.0
+    (omega (arith, l.invariant.3, c.loop-i-test.true)) in
+    omega (arith, h, ap (λ (x : ℕ). get_or l.w (x + l.i) 0) l.invariant.1, l.invariant.2, l.invariant.0.kept.long, s.requires.n_bound.2) in
+    omega (arith, write-in, c.candidate_of_place-id.ensures)
+
+pub offset_bounds-w-places : goal.offset_bounds-w-places
+offset_bounds-w-places c =
+    let write-in : c.places_at-places.result + get_or c.loop-i.w (c.list_at-list.result + c.loop-i.i) 0 < length
+    c.loop-i.w = let s = c in
+    let l = c.loop-i in
+    let h = noted_low s.args.n s.args.face s.args.w.now s.requires.shown s.requires.n_bound.1 s.requires.n_bound.2 l.w l.i l.invariant.0
+    (omega (arith, l.invariant.3, c.loop-i-test.true)) in
+    omega (arith, h, ap (λ (x : ℕ). get_or l.w (x + l.i) 0) l.invariant.1, l.invariant.2, l.invariant.0.kept.long, s.requires.n_bound.2) in
+    omega (arith, write-in, c.candidate_of_place-id.ensures)
+
+pub bounds-w-places : goal.bounds-w-places
+bounds-w-places c =
+    let write-in : c.places_at-places.result + get_or c.loop-i.w (c.list_at-list.result + c.loop-i.i) 0 < length
+    c.loop-i.w = let s = c in
+    let l = c.loop-i in
+    let h = noted_low s.args.n s.args.face s.args.w.now s.requires.shown s.requires.n_bound.1 s.requires.n_bound.2 l.w l.i l.invariant.0
+    (omega (arith, l.invariant.3, c.loop-i-test.true)) in
+    omega (arith, h, ap (λ (x : ℕ). get_or l.w (x + l.i) 0) l.invariant.1, l.invariant.2, l.invariant.0.kept.long, s.requires.n_bound.2) in
+    omega (arith, write-in, c.candidate_of_place-id.ensures)
+
+pub overflow_add-i : goal.overflow_add-i
+overflow_add-i c =
+    let read-in : (c.list_at-list.result + c.loop-i.i < length c.loop-i.w) ×
+    (c.loop-i.i < c.args.n) = let s = c in
+    let l = c.loop-i in
+    let h = in_list s.args.n s.args.w.now s.requires.shown s.args.face s.requires.n_bound.1 c.list_at-list.result
+    (get_or s.args.w.now s.args.face 0) l.i l.invariant.1 refl (omega (arith, l.invariant.3, c.loop-i-test.true)) in
+    (omega (arith, h.0, l.invariant.0.kept.long, s.requires.shown.size), h.1) in
+    omega (arith, read-in)
+
+pub loop-i-smaller : goal.loop-i-smaller
+loop-i-smaller c = omega (arith, c.loop-i-test.true)
+
+pub loop-i-preserved : goal.loop-i-preserved
+loop-i-preserved c =
+    let s = c in
+    let loop' = c.loop-i in (
+      rw c.candidate_of_place-id.ensures (noting_named s.args.n s.args.face s.args.w.now s.requires.shown s.requires.n_bound.1 s.requires.n_bound.2 loop'.w loop'.i
+          loop'.invariant.0
+          c.list_at-list.result c.places_at-places.result loop'.invariant.1
+          loop'.invariant.2 (omega (arith, loop'.invariant.3, c.loop-i-test.true))),
+      loop'.invariant.1,
+      loop'.invariant.2,
+      loop'.invariant.3,
+    )
+
+pub shape_of-w : goal.shape_of-w
+shape_of-w c = c.loop-i.invariant.0.kept.long
+
+pub returns : goal.returns
+returns c =
+    let s = c in
+    let loop' = c.loop-i in
+    noting_end s.args.n s.args.face s.args.w.now s.requires.shown s.requires.n_bound.1 s.requires.n_bound.2 loop'.w loop'.i loop'.invariant.0
+    (omega (arith, loop'.invariant.3, c.loop-i-test.false))

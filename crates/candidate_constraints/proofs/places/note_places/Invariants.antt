@@ -1,0 +1,15 @@
+use Prim.Native.Nat.{ℕ, ◌+◌, ◌-◌, ◌<◌}
+use mathlib.Core.Path.{◌≡◌, refl, ap}
+use lib.ListN.{get_or, length}
+use native.Mathlib.Omega.{arith}
+use Rattle.candidate_pool.specs.Offsets.{list_at, places_at}
+use Rattle.candidate_constraints.proofs.Showing.{in_list}
+use Rattle.candidate_constraints.proofs.Noting.{Noting, noted_low, noting_start, noting_named, noting_end}
+use Rattle.candidate_constraints.proofs.places.note_places.Given as goal
+
+-- `note_places` meets its contract: after i turns the first i candidates of the list have their places noted. Assumes nothing.
+abbrev pub invariant-loop-i : goal.invariant-loop-i
+invariant-loop-i l = Noting l.n l.face l.initial.w l.w l.i × (l.list ≡ list_at l.n l.face) × (l.places ≡ places_at l.n) × (l.count ≡ get_or l.initial.w l.face 0)
+
+abbrev pub decreases-loop-i : goal.decreases-loop-i
+decreases-loop-i l = l.count - l.i

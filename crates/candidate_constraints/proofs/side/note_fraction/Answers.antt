@@ -1,0 +1,18 @@
+use Rattle.candidate_constraints.proofs.Along.{fraction_one, fraction_none}
+use borrow.Author.Rules.{rules}
+use Rattle.candidate_constraints.proofs.side.note_fraction.Goals as goal
+
+pub order_key-requires : goal.order_key-requires
+order_key-requires c = c.requires.1 c.in-At.t c.in-At.is
+
+pub returns-in-At : goal.returns-in-At
+returns-in-At c =
+    let s = c in
+    let a = s.args in
+    let t' = c.t-1 in
+    fraction_one a.at a.place.0 a.t t'.given.0.0 c.order_key.result a.w.now t'.given.1 c.order_key.ensures s.requires.0
+
+pub returns-in-Nothing : goal.returns-in-Nothing
+returns-in-Nothing c =
+    fraction_none c.args.at c.args.place.0 c.args.t c.args.w.now
+    c.in-Nothing.is

@@ -1,0 +1,325 @@
+use Rattle.candidate_constraints.proofs.Pairing.{Nearing, nearing_start, near_named, nearing_named, nearing_end}
+use native.Mathlib.Omega.{arith}
+use mathlib.Core.Path.{◌≡◌}
+use Prim.Native.Nat.{◌+◌, ◌*◌, ◌-◌, ◌<◌}
+use lib.ListN.{length}
+use Rattle.candidate_pool.specs.Offsets.{side_at, pairs_at}
+use Rattle.candidate_constraints.proofs.side.push_neighbours.Goals as goal
+
+pub side_at-at-requires : goal.side_at-at-requires
+side_at-at-requires c = omega (arith, c.requires.n_bound)
+
+pub pairs_at-pairs-requires : goal.pairs_at-pairs-requires
+pairs_at-pairs-requires c = omega (arith, c.requires.n_bound)
+
+pub loop-j-init : goal.loop-j-init
+loop-j-init c =
+    let s = c in
+    let a = s.args in
+    (nearing_start a.n a.face a.m a.count a.w.now, c.side_at-at.ensures, c.pairs_at-pairs.ensures)
+
+pub overflow_add-j : goal.overflow_add-j
+overflow_add-j c =
+    omega (arith, c.requires.n_bound, c.loop-j.invariant.0.sum, c.loop-j.invariant.0.within, c.loop-j.invariant.0.pushed.kept.long, c.loop-j.invariant.1, c.loop-j.invariant.2)
+
+pub overflow_mul-a : goal.overflow_mul-a
+overflow_mul-a c =
+    let turn_in : (c.side_at-at.result + 2 * c.loop-j.j + 3 < length c.loop-j.w)
+    × (c.pairs_at-pairs.result + 2 * c.loop-j.c + 1 < length c.loop-j.w) = let s = c in
+    let l = c.loop-j in
+    let o = l.invariant.0 in (
+      omega (arith, s.requires.n_bound, o.within, o.pushed.kept.long, l.invariant.1, c.loop-j-test.true),
+      omega (
+        arith,
+        s.requires.n_bound,
+        o.sum,
+        o.pushed.kept.long,
+        l.invariant.2,
+        c.loop-j-test.true,
+      ),
+    ) in
+    omega (arith, turn_in)
+
+pub overflow_add-a : goal.overflow_add-a
+overflow_add-a c =
+    let turn_in : (c.side_at-at.result + 2 * c.loop-j.j + 3 < length c.loop-j.w)
+    × (c.pairs_at-pairs.result + 2 * c.loop-j.c + 1 < length c.loop-j.w) = let s = c in
+    let l = c.loop-j in
+    let o = l.invariant.0 in (
+      omega (arith, s.requires.n_bound, o.within, o.pushed.kept.long, l.invariant.1, c.loop-j-test.true),
+      omega (
+        arith,
+        s.requires.n_bound,
+        o.sum,
+        o.pushed.kept.long,
+        l.invariant.2,
+        c.loop-j-test.true,
+      ),
+    ) in
+    omega (arith, turn_in)
+
+pub overflow_add-a-in-loop-j : goal.overflow_add-a-in-loop-j
+overflow_add-a-in-loop-j c =
+    let turn_in : (c.side_at-at.result + 2 * c.loop-j.j + 3 < length c.loop-j.w)
+    × (c.pairs_at-pairs.result + 2 * c.loop-j.c + 1 < length c.loop-j.w) = let s = c in
+    let l = c.loop-j in
+    let o = l.invariant.0 in (
+      omega (arith, s.requires.n_bound, o.within, o.pushed.kept.long, l.invariant.1, c.loop-j-test.true),
+      omega (
+        arith,
+        s.requires.n_bound,
+        o.sum,
+        o.pushed.kept.long,
+        l.invariant.2,
+        c.loop-j-test.true,
+      ),
+    ) in
+    omega (arith, turn_in)
+
+pub offset_bounds-w-at : goal.offset_bounds-w-at
+offset_bounds-w-at c =
+    let turn_in : (c.side_at-at.result + 2 * c.loop-j.j + 3 < length c.loop-j.w)
+    × (c.pairs_at-pairs.result + 2 * c.loop-j.c + 1 < length c.loop-j.w) = let s = c in
+    let l = c.loop-j in
+    let o = l.invariant.0 in (
+      omega (arith, s.requires.n_bound, o.within, o.pushed.kept.long, l.invariant.1, c.loop-j-test.true),
+      omega (
+        arith,
+        s.requires.n_bound,
+        o.sum,
+        o.pushed.kept.long,
+        l.invariant.2,
+        c.loop-j-test.true,
+      ),
+    ) in
+    omega (arith, turn_in)
+
+pub bounds-w-at : goal.bounds-w-at
+bounds-w-at c =
+    let turn_in : (c.side_at-at.result + 2 * c.loop-j.j + 3 < length c.loop-j.w)
+    × (c.pairs_at-pairs.result + 2 * c.loop-j.c + 1 < length c.loop-j.w) = let s = c in
+    let l = c.loop-j in
+    let o = l.invariant.0 in (
+      omega (arith, s.requires.n_bound, o.within, o.pushed.kept.long, l.invariant.1, c.loop-j-test.true),
+      omega (
+        arith,
+        s.requires.n_bound,
+        o.sum,
+        o.pushed.kept.long,
+        l.invariant.2,
+        c.loop-j-test.true,
+      ),
+    ) in
+    omega (arith, turn_in)
+
+pub overflow_mul-b : goal.overflow_mul-b
+overflow_mul-b c =
+    let turn_in : (c.side_at-at.result + 2 * c.loop-j.j + 3 < length c.loop-j.w)
+    × (c.pairs_at-pairs.result + 2 * c.loop-j.c + 1 < length c.loop-j.w) = let s = c in
+    let l = c.loop-j in
+    let o = l.invariant.0 in (
+      omega (arith, s.requires.n_bound, o.within, o.pushed.kept.long, l.invariant.1, c.loop-j-test.true),
+      omega (
+        arith,
+        s.requires.n_bound,
+        o.sum,
+        o.pushed.kept.long,
+        l.invariant.2,
+        c.loop-j-test.true,
+      ),
+    ) in
+    omega (arith, turn_in)
+
+pub overflow_add-b : goal.overflow_add-b
+overflow_add-b c =
+    let turn_in : (c.side_at-at.result + 2 * c.loop-j.j + 3 < length c.loop-j.w)
+    × (c.pairs_at-pairs.result + 2 * c.loop-j.c + 1 < length c.loop-j.w) = let s = c in
+    let l = c.loop-j in
+    let o = l.invariant.0 in (
+      omega (arith, s.requires.n_bound, o.within, o.pushed.kept.long, l.invariant.1, c.loop-j-test.true),
+      omega (
+        arith,
+        s.requires.n_bound,
+        o.sum,
+        o.pushed.kept.long,
+        l.invariant.2,
+        c.loop-j-test.true,
+      ),
+    ) in
+    omega (arith, turn_in)
+
+pub overflow_add-b-in-loop-j : goal.overflow_add-b-in-loop-j
+overflow_add-b-in-loop-j c =
+    let turn_in : (c.side_at-at.result + 2 * c.loop-j.j + 3 < length c.loop-j.w)
+    × (c.pairs_at-pairs.result + 2 * c.loop-j.c + 1 < length c.loop-j.w) = let s = c in
+    let l = c.loop-j in
+    let o = l.invariant.0 in (
+      omega (arith, s.requires.n_bound, o.within, o.pushed.kept.long, l.invariant.1, c.loop-j-test.true),
+      omega (
+        arith,
+        s.requires.n_bound,
+        o.sum,
+        o.pushed.kept.long,
+        l.invariant.2,
+        c.loop-j-test.true,
+      ),
+    ) in
+    omega (arith, turn_in)
+
+pub offset_bounds-w-at-in-loop-j : goal.offset_bounds-w-at-in-loop-j
+offset_bounds-w-at-in-loop-j c =
+    let turn_in : (c.side_at-at.result + 2 * c.loop-j.j + 3 < length c.loop-j.w)
+    × (c.pairs_at-pairs.result + 2 * c.loop-j.c + 1 < length c.loop-j.w) = let s = c in
+    let l = c.loop-j in
+    let o = l.invariant.0 in (
+      omega (arith, s.requires.n_bound, o.within, o.pushed.kept.long, l.invariant.1, c.loop-j-test.true),
+      omega (
+        arith,
+        s.requires.n_bound,
+        o.sum,
+        o.pushed.kept.long,
+        l.invariant.2,
+        c.loop-j-test.true,
+      ),
+    ) in
+    omega (arith, turn_in)
+
+pub bounds-w-at-in-loop-j : goal.bounds-w-at-in-loop-j
+bounds-w-at-in-loop-j c =
+    let turn_in : (c.side_at-at.result + 2 * c.loop-j.j + 3 < length c.loop-j.w)
+    × (c.pairs_at-pairs.result + 2 * c.loop-j.c + 1 < length c.loop-j.w) = let s = c in
+    let l = c.loop-j in
+    let o = l.invariant.0 in (
+      omega (arith, s.requires.n_bound, o.within, o.pushed.kept.long, l.invariant.1, c.loop-j-test.true),
+      omega (
+        arith,
+        s.requires.n_bound,
+        o.sum,
+        o.pushed.kept.long,
+        l.invariant.2,
+        c.loop-j-test.true,
+      ),
+    ) in
+    omega (arith, turn_in)
+
+pub overflow_mul-c : goal.overflow_mul-c
+overflow_mul-c c =
+    let turn_in : (c.side_at-at.result + 2 * c.loop-j.j + 3 < length c.loop-j.w)
+    × (c.pairs_at-pairs.result + 2 * c.loop-j.c + 1 < length c.loop-j.w) = let s = c in
+    let l = c.loop-j in
+    let o = l.invariant.0 in (
+      omega (arith, s.requires.n_bound, o.within, o.pushed.kept.long, l.invariant.1, c.loop-j-test.true),
+      omega (
+        arith,
+        s.requires.n_bound,
+        o.sum,
+        o.pushed.kept.long,
+        l.invariant.2,
+        c.loop-j-test.true,
+      ),
+    ) in
+    omega (arith, turn_in)
+
+pub overflow_add-pairs : goal.overflow_add-pairs
+overflow_add-pairs c =
+    let turn_in : (c.side_at-at.result + 2 * c.loop-j.j + 3 < length c.loop-j.w)
+    × (c.pairs_at-pairs.result + 2 * c.loop-j.c + 1 < length c.loop-j.w) = let s = c in
+    let l = c.loop-j in
+    let o = l.invariant.0 in (
+      omega (arith, s.requires.n_bound, o.within, o.pushed.kept.long, l.invariant.1, c.loop-j-test.true),
+      omega (
+        arith,
+        s.requires.n_bound,
+        o.sum,
+        o.pushed.kept.long,
+        l.invariant.2,
+        c.loop-j-test.true,
+      ),
+    ) in
+    omega (arith, turn_in)
+
+pub put_pair-requires : goal.put_pair-requires
+put_pair-requires c =
+    let turn_in : (c.side_at-at.result + 2 * c.loop-j.j + 3 < length c.loop-j.w)
+    × (c.pairs_at-pairs.result + 2 * c.loop-j.c + 1 < length c.loop-j.w) = let s = c in
+    let l = c.loop-j in
+    let o = l.invariant.0 in (
+      omega (arith, s.requires.n_bound, o.within, o.pushed.kept.long, l.invariant.1, c.loop-j-test.true),
+      omega (
+        arith,
+        s.requires.n_bound,
+        o.sum,
+        o.pushed.kept.long,
+        l.invariant.2,
+        c.loop-j-test.true,
+      ),
+    ) in
+    let s = c in
+    let loop' = c.loop-j in
+    let places = near_named s.args.n s.args.face s.args.m s.args.count s.args.w.now s.requires.n_bound.2 s.requires.n_bound.3 loop'.w loop'.c loop'.j
+    loop'.invariant.0
+    c.side_at-at.result loop'.invariant.1 s.requires.low_places (omega (arith, c.loop-j-test.true)) in
+    (omega (arith, turn_in), s.requires.n_bound.1, places.0, places.1)
+
+pub overflow_add-c : goal.overflow_add-c
+overflow_add-c c =
+    let turn_in : (c.side_at-at.result + 2 * c.loop-j.j + 3 < length c.loop-j.w)
+    × (c.pairs_at-pairs.result + 2 * c.loop-j.c + 1 < length c.loop-j.w) = let s = c in
+    let l = c.loop-j in
+    let o = l.invariant.0 in (
+      omega (arith, s.requires.n_bound, o.within, o.pushed.kept.long, l.invariant.1, c.loop-j-test.true),
+      omega (
+        arith,
+        s.requires.n_bound,
+        o.sum,
+        o.pushed.kept.long,
+        l.invariant.2,
+        c.loop-j-test.true,
+      ),
+    ) in
+    omega (arith, turn_in)
+
+pub overflow_add-j-in-loop-j : goal.overflow_add-j-in-loop-j
+overflow_add-j-in-loop-j c =
+    let turn_in : (c.side_at-at.result + 2 * c.loop-j.j + 3 < length c.loop-j.w)
+    × (c.pairs_at-pairs.result + 2 * c.loop-j.c + 1 < length c.loop-j.w) = let s = c in
+    let l = c.loop-j in
+    let o = l.invariant.0 in (
+      omega (arith, s.requires.n_bound, o.within, o.pushed.kept.long, l.invariant.1, c.loop-j-test.true),
+      omega (
+        arith,
+        s.requires.n_bound,
+        o.sum,
+        o.pushed.kept.long,
+        l.invariant.2,
+        c.loop-j-test.true,
+      ),
+    ) in
+    omega (arith, turn_in)
+
+pub loop-j-smaller : goal.loop-j-smaller
+loop-j-smaller c = omega (arith, c.loop-j-test.true)
+
+pub loop-j-preserved : goal.loop-j-preserved
+loop-j-preserved c =
+    let s = c in
+    let a = s.args in
+    let l = c.loop-j in
+    let put-pair' = c.put_pair in (
+      nearing_named a.n a.face a.m a.count a.w.now s.requires.n_bound.2 s.requires.n_bound.3 l.w l.c l.j l.invariant.0
+          c.side_at-at.result
+          c.pairs_at-pairs.result put-pair'.new.w l.invariant.1 l.invariant.2
+          c.loop-j-test.true put-pair'.ensures,
+      l.invariant.1,
+      l.invariant.2,
+    )
+
+pub shape_of-w : goal.shape_of-w
+shape_of-w c = c.loop-j.invariant.0.pushed.kept.long
+
+pub returns : goal.returns
+returns c =
+    let s = c in
+    let a = s.args in
+    nearing_end a.n a.face a.m a.count a.w.now s.requires.n_bound.2 s.requires.n_bound.3 c.loop-j.w c.loop-j.c c.loop-j.j
+    c.loop-j.invariant.0 c.loop-j-test.false

@@ -1,0 +1,39 @@
+use Prim.Native.Nat.{◌-◌}
+use native.Mathlib.Omega.{arith}
+use Rattle.candidate_edges.proofs.Passes.{CornersGoing, corners_start, corners_turn, corners_end}
+use Rattle.candidate_edges.proofs.corners.enter_corners.Goals as goal
+
+pub loop-v-init : goal.loop-v-init
+loop-v-init c =
+    let s = c in
+    let a = s.args in
+    corners_start a.vertices.now a.extents a.eps a.n a.w.now s.requires.holds s.requires.vertices_in s.requires.sourced
+
+pub enter_corner-requires : goal.enter_corner-requires
+enter_corner-requires c = record { sources_ready = c.loop-v.invariant.ready; v_in_bounds = c.loop-v-test.true }
+
+pub overflow_add-v : goal.overflow_add-v
+overflow_add-v c =
+    let r = c.loop-v.invariant.ready in
+    omega (arith, c.loop-v-test.true, r.vertices, r.holds.table.small)
+
+pub loop-v-smaller : goal.loop-v-smaller
+loop-v-smaller c = omega (arith, c.loop-v-test.true)
+
+pub loop-v-preserved : goal.loop-v-preserved
+loop-v-preserved c =
+    let s = c in
+    let a = s.args in
+    let l = c.loop-v in
+    let e = c.enter_corner in
+    corners_turn a.vertices.now a.extents a.eps a.n l.v a.w.now l.w e.new.w c.loop-v-test.true l.invariant e.ensures
+
+pub shape_of-w : goal.shape_of-w
+shape_of-w c = c.loop-v.invariant.long
+
+pub returns : goal.returns
+returns c =
+    let s = c in
+    let a = s.args in
+    let l = c.loop-v in
+    corners_end a.vertices.now a.extents a.eps a.n l.v a.w.now l.w (omega (arith, c.loop-v-test.false)) l.invariant

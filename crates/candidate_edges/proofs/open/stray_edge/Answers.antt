@@ -1,0 +1,118 @@
+use Prim.Native.Nat.{◌+◌, ◌*◌, ◌-◌, ◌/◌, ◌≤◌, ◌<◌}
+use mathlib.Core.Path.{◌≡◌, ◌∙◌}
+use native.Mathlib.Omega.{arith}
+use borrow.Author.Tests.{eq-eqb, ne_eqb}
+use lib.Dec.{eqb}
+use lib.ListN.{length, get_or, drop}
+use Rattle.lists.specs.Lists.{place}
+use Rattle.geometry.specs.Triangles.{threes}
+use Rattle.edges.specs.Edges.{sides, open_edges}
+use Rattle.lists.proofs.Sequences.{place_stop, place_more, place_end}
+use Rattle.candidate_edges.proofs.Ends.{side_is, side_low}
+use Rattle.candidate_edges.proofs.Passes.{stray, stray_test}
+use Rattle.candidate_pool.specs.Offsets.{edge_table_at}
+use Rattle.candidate_edges.proofs.open.stray_edge.Goals as goal
+
+pub edge_table_at-table-requires : goal.edge_table_at-table-requires
+edge_table_at-table-requires c = (c.requires.mesh_fits.small, c.requires.mesh_fits.few)
+
+pub loop-i-init : goal.loop-i-init
+loop-i-init c = (omega arith, omega arith)
+
+pub overflow_mul-side : goal.overflow_mul-side
+overflow_mul-side c =
+    let turn_in : c.edge_table_at-table.result + 2 * c.loop-i.i + 1 < length c.args.w.now = let s = c in omega (arith, s.requires.mesh_fits.size, s.requires.mesh_fits.threes, s.requires.table_at.within, c.loop-i-test.true, c.edge_table_at-table.ensures) in
+    omega (arith, turn_in)
+
+pub overflow_add-side : goal.overflow_add-side
+overflow_add-side c =
+    let turn_in : c.edge_table_at-table.result + 2 * c.loop-i.i + 1 < length c.args.w.now = let s = c in omega (arith, s.requires.mesh_fits.size, s.requires.mesh_fits.threes, s.requires.table_at.within, c.loop-i-test.true, c.edge_table_at-table.ensures) in
+    omega (arith, turn_in)
+
+pub overflow_add-side-in-loop-i : goal.overflow_add-side-in-loop-i
+overflow_add-side-in-loop-i c =
+    let turn_in : c.edge_table_at-table.result + 2 * c.loop-i.i + 1 < length c.args.w.now = let s = c in omega (arith, s.requires.mesh_fits.size, s.requires.mesh_fits.threes, s.requires.table_at.within, c.loop-i-test.true, c.edge_table_at-table.ensures) in
+    omega (arith, turn_in)
+
+pub offset_bounds-w-table : goal.offset_bounds-w-table
+offset_bounds-w-table c =
+    let turn_in : c.edge_table_at-table.result + 2 * c.loop-i.i + 1 < length c.args.w.now = let s = c in omega (arith, s.requires.mesh_fits.size, s.requires.mesh_fits.threes, s.requires.table_at.within, c.loop-i-test.true, c.edge_table_at-table.ensures) in
+    omega (arith, turn_in)
+
+pub bounds-w-table : goal.bounds-w-table
+bounds-w-table c =
+    let turn_in : c.edge_table_at-table.result + 2 * c.loop-i.i + 1 < length c.args.w.now = let s = c in omega (arith, s.requires.mesh_fits.size, s.requires.mesh_fits.threes, s.requires.table_at.within, c.loop-i-test.true, c.edge_table_at-table.ensures) in
+    omega (arith, turn_in)
+
+pub side_mask-requires : goal.side_mask-requires
+side_mask-requires c =
+    let s = c in
+    let a = s.args in
+    let t = c.edge_table_at-table in
+    let l = c.loop-i in record {
+      facets_len = (
+        s.requires.mesh_fits.threes,
+        side_low a.facets.now a.w.now (edge_table_at a.n (length a.facets.now / 3)) t.result a.k l.i s.requires.table_at t.ensures
+            c.loop-i-test.true,
+      );
+      by_index = s.requires.mesh_fits.numbers;
+    }
+
+pub returns-then-side_mask-eq0 : goal.returns-then-side_mask-eq0
+returns-then-side_mask-eq0 c =
+    let tested : let s = c in
+    stray s.args.vertices.now s.args.facets.now s.args.extents s.args.eps (get_or (open_edges (threes s.args.facets.now))
+    c.loop-i.i (0, 0))
+    ≡ eqb c.side_mask.result 0 = let s = c in
+    let a = s.args in
+    let t = c.edge_table_at-table in
+    let l = c.loop-i in
+    let side = get_or (sides (threes a.facets.now)) (get_or a.w.now (t.result + 2 * l.i + 1) 0) (0, 0) in
+    stray_test a.vertices.now a.facets.now a.extents a.eps c.side_mask.result (get_or (open_edges (threes a.facets.now)) l.i (0, 0)) side
+    (side_is a.facets.now a.w.now (edge_table_at a.n (length a.facets.now / 3)) t.result a.k l.i s.requires.table_at t.ensures
+    c.loop-i-test.true)
+    c.side_mask.ensures in
+    let s = c in
+    let loop' = c.loop-i in
+    place_stop (stray s.args.vertices.now s.args.facets.now s.args.extents s.args.eps) (open_edges (threes s.args.facets.now)) loop'.i
+    loop'.invariant.1 (0, 0)
+    (omega (arith, s.requires.table_at.count, c.loop-i-test.true)) (tested ∙ eq-eqb c.side_mask.result 0 c.if-side_mask-eq0.true)
+
+pub overflow_add-i : goal.overflow_add-i
+overflow_add-i c =
+    let turn_in : c.edge_table_at-table.result + 2 * c.loop-i.i + 1 < length c.args.w.now = let s = c in omega (arith, s.requires.mesh_fits.size, s.requires.mesh_fits.threes, s.requires.table_at.within, c.loop-i-test.true, c.edge_table_at-table.ensures) in
+    omega (arith, turn_in)
+
+pub loop-i-smaller : goal.loop-i-smaller
+loop-i-smaller c = omega (arith, c.loop-i-test.true)
+
+pub loop-i-preserved : goal.loop-i-preserved
+loop-i-preserved c =
+    let tested : let s = c in
+    stray s.args.vertices.now s.args.facets.now s.args.extents s.args.eps (get_or (open_edges (threes s.args.facets.now))
+    c.loop-i.i (0, 0))
+    ≡ eqb c.side_mask.result 0 = let s = c in
+    let a = s.args in
+    let t = c.edge_table_at-table in
+    let l = c.loop-i in
+    let side = get_or (sides (threes a.facets.now)) (get_or a.w.now (t.result + 2 * l.i + 1) 0) (0, 0) in
+    stray_test a.vertices.now a.facets.now a.extents a.eps c.side_mask.result (get_or (open_edges (threes a.facets.now)) l.i (0, 0)) side
+    (side_is a.facets.now a.w.now (edge_table_at a.n (length a.facets.now / 3)) t.result a.k l.i s.requires.table_at t.ensures
+    c.loop-i-test.true)
+    c.side_mask.ensures in
+    let loop-test' = c.loop-i-test in
+    let s = c in
+    let loop' = c.loop-i in (
+      omega (arith, loop-test'.true),
+      place_more (stray s.args.vertices.now s.args.facets.now s.args.extents s.args.eps) (open_edges (threes s.args.facets.now)) loop'.i
+          loop'.invariant.1 (0, 0)
+          (omega (arith, s.requires.table_at.count, loop-test'.true)) (tested ∙ ne_eqb c.side_mask.result 0 c.if-side_mask-eq0.false),
+    )
+
+pub returns : goal.returns
+returns c =
+    let s = c in
+    let a = s.args in
+    let l = c.loop-i in
+    let same : a.k ≡ l.i = omega (arith, c.loop-i-test.false, l.invariant.0) in
+    same ∙ place_end (stray a.vertices.now a.facets.now a.extents a.eps) (open_edges (threes a.facets.now)) l.i l.invariant.1 (omega (arith, s.requires.table_at.count))

@@ -1,0 +1,21 @@
+use Prim.Native.Nat.{◌+◌, ◌*◌, ◌-◌, ◌/◌, ◌≤◌, ◌<◌}
+use mathlib.Core.Path.{◌≡◌, ◌∙◌}
+use native.Mathlib.Omega.{arith}
+use borrow.Author.Tests.{eq-eqb, ne_eqb}
+use lib.Dec.{eqb}
+use lib.ListN.{length, get_or, drop}
+use Rattle.lists.specs.Lists.{place}
+use Rattle.geometry.specs.Triangles.{threes}
+use Rattle.edges.specs.Edges.{sides, open_edges}
+use Rattle.lists.proofs.Sequences.{place_stop, place_more, place_end}
+use Rattle.candidate_edges.proofs.Ends.{side_is, side_low}
+use Rattle.candidate_edges.proofs.Passes.{stray, stray_test}
+use Rattle.candidate_pool.specs.Offsets.{edge_table_at}
+use Rattle.candidate_edges.proofs.open.stray_edge.Given as goal
+
+-- `stray_edge` meets its contract. The invariant: none of the first i open edges is on no face. Assumes nothing.
+abbrev pub invariant-loop-i : goal.invariant-loop-i
+invariant-loop-i l = (l.i ≤ l.k) × (place (stray l.vertices l.facets l.extents l.eps) (open_edges (threes l.facets)) ≡ l.i + place (stray l.vertices l.facets l.extents l.eps) (drop l.i (open_edges (threes l.facets))))
+
+abbrev pub decreases-loop-i : goal.decreases-loop-i
+decreases-loop-i l = l.k - l.i

@@ -1,0 +1,22 @@
+use mathlib.Core.Logic.{⊎_elim}
+use mathlib.Core.Path.{sym, ap, ◌∙◌}
+use borrow.Author.Rules.{rules}
+use Rattle.lists.proofs.Bools.{and_next, and_stop}
+use Rattle.candidate_grids.specs.Steps.{skips_near}
+use Rattle.candidate_grids.proofs.Entries.{cell_left, cell_in}
+use Rattle.candidate_grids.proofs.grids.enter_grid_point.Goals as goal
+
+pub returns-then-is_skipped : goal.returns-then-is_skipped
+returns-then-is_skipped c =
+    cell_left _ _ _ _ _ _ _ (and_next _ _ _ c.if-inner.true
+    (sym (ap (skips_near c.args.w.now c.args.near)
+    c.project.ensures) ∙ sym c.is_skipped.ensures ∙ c.if-is_skipped.true)) c.requires.holds
+
+pub insert_grid_point-requires : goal.insert_grid_point-requires
+insert_grid_point-requires c = record { holds = c.requires.holds; point_in = (c.requires.point_in, c.requires.face_in); room_for = (λ _. c.requires.room) }
+
+pub returns : goal.returns
+returns c =
+    cell_in _ _ _ _ _ _ _ (⊎_elim (λ q. and_next _ _ _ q.0.taken
+    (sym (ap (skips_near c.args.w.now c.args.near) q.2.ensures) ∙ sym
+    q.3.ensures ∙ q.4.left)) (λ q. and_stop _ _ q.left) c.if-inner.branch) _ c.insert_grid_point.ensures

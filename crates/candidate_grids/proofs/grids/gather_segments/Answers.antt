@@ -1,0 +1,87 @@
+use Prim.Native.Nat.{ℕ, ◌-◌, ◌+◌, ◌*◌}
+use native.Mathlib.Omega.{arith}
+use mathlib.Core.Path.{◌≡◌, ap, ◌∙◌}
+use mathlib.Core.Logic.{⊎_elim}
+use lib.ListN.{get_or}
+use Rattle.box_faces.specs.Faces.{has_bit}
+use Rattle.candidate_grids.proofs.Gathering.{Gathering, gather_start, gather_pass, gather_one, gather_end, edge_ready}
+use Rattle.candidate_pool.specs.Offsets.{open_edges_at}
+use Rattle.candidate_grids.proofs.grids.gather_segments.Goals as goal
+
+pub open_edges_at-edges-requires : goal.open_edges_at-edges-requires
+open_edges_at-edges-requires c = (c.requires.small_n, c.requires.small)
+
+pub segments_at-segments-requires : goal.segments_at-segments-requires
+segments_at-segments-requires c = (c.requires.small_n, c.requires.small)
+
+pub loop-i-init : goal.loop-i-init
+loop-i-init c = gather_start _ _ _ _ _ _
+
+pub overflow_mul-i : goal.overflow_mul-i
+overflow_mul-i c = omega arith
+
+pub overflow_add-edges : goal.overflow_add-edges
+overflow_add-edges c = omega arith
+
+pub overflow_add-edges-in-loop-i : goal.overflow_add-edges-in-loop-i
+overflow_add-edges-in-loop-i c = omega arith
+
+pub offset_bounds-w-edges : goal.offset_bounds-w-edges
+offset_bounds-w-edges c = omega arith
+
+pub bounds-w-edges : goal.bounds-w-edges
+bounds-w-edges c = omega arith
+
+pub has_face-requires : goal.has_face-requires
+has_face-requires c = c.requires.face_in
+
+pub overflow_mul-count : goal.overflow_mul-count
+overflow_mul-count c = omega arith
+
+pub overflow_add-segments : goal.overflow_add-segments
+overflow_add-segments c = omega arith
+
+pub overflow_mul-i-then-has_face : goal.overflow_mul-i-then-has_face
+overflow_mul-i-then-has_face c = omega arith
+
+pub overflow_add-edges-then-has_face : goal.overflow_add-edges-then-has_face
+overflow_add-edges-then-has_face c = omega arith
+
+pub gather_segment-requires : goal.gather_segment-requires
+gather_segment-requires c =
+    let bit : c.has_face.result
+    ≡ has_bit (get_or c.loop-i.w (open_edges_at c.args.n c.args.nf + 3 * c.loop-i.i + 2) 0) c.args.face = let l = c.loop-i in
+    c.has_face.ensures ∙ ap (λ (x : ℕ). has_bit (get_or l.w (x + 3 * l.i + 2) 0) c.args.face) c.open_edges_at-edges.ensures in
+    let t = c in
+    let l = t.loop-i in
+    rw (t.segments_at-segments.ensures, t.open_edges_at-edges.ensures)
+    (edge_ready _ _ _ _ _ _ c.requires l.w l.count l.i l.invariant t.loop-i-test.true _ bit c.if-has_face.true)
+
+pub overflow_add-count : goal.overflow_add-count
+overflow_add-count c = omega arith
+
+pub overflow_add-i : goal.overflow_add-i
+overflow_add-i c = omega arith
+
+pub loop-i-smaller : goal.loop-i-smaller
+loop-i-smaller c = omega arith
+
+pub loop-i-preserved : goal.loop-i-preserved
+loop-i-preserved c =
+    let bit : c.has_face.result
+    ≡ has_bit (get_or c.loop-i.w (open_edges_at c.args.n c.args.nf + 3 * c.loop-i.i + 2) 0) c.args.face = let l = c.loop-i in
+    c.has_face.ensures ∙ ap (λ (x : ℕ). has_bit (get_or l.w (x + 3 * l.i + 2) 0) c.args.face) c.open_edges_at-edges.ensures in
+    let t = c in
+    let l = t.loop-i in
+    ⊎_elim
+    (λ q. rw (q.5, q.6)
+    (gather_one _ _ _ _ _ _ c.requires l.w l.count l.i l.invariant t.loop-i-test.true _ bit q.0.taken _
+    (rw (t.segments_at-segments.ensures, t.open_edges_at-edges.ensures) at q.2.ensures)))
+    (λ q. rw (q.1, q.2) (gather_pass _ _ _ _ _ _ c.requires l.w l.count l.i l.invariant t.loop-i-test.true _ bit q.0.left))
+    c.if-has_face.branch
+
+pub shape_of-w : goal.shape_of-w
+shape_of-w c = c.loop-i.invariant.long
+
+pub returns : goal.returns
+returns c = gather_end _ _ _ _ _ _ _ _ _ c.loop-i.invariant c.loop-i-test.false

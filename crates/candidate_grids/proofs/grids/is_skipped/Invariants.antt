@@ -1,0 +1,14 @@
+use Prim.Native.Nat.{◌-◌, ◌+◌, ◌*◌, ◌≤◌}
+use native.Mathlib.Omega.{arith}
+use mathlib.Core.Bool.{false}
+use mathlib.Core.Path.{◌≡◌, sym, ◌∙◌}
+use Rattle.lists.specs.Lists.{some, up_to}
+use Rattle.candidate_grids.specs.Steps.{hit_at, skips_at}
+use Rattle.candidate_grids.proofs.Searched.{none_yet, none_more, one_there, none_there}
+use Rattle.candidate_grids.proofs.grids.is_skipped.Given as goal
+
+abbrev pub invariant-loop-i : goal.invariant-loop-i
+invariant-loop-i l = (l.i ≤ l.near.count) × (some (λ j. hit_at l.w (l.near.at + 5 * j) l.near.tolerance l.p) (up_to l.i) ≡ false)
+
+abbrev pub decreases-loop-i : goal.decreases-loop-i
+decreases-loop-i l = l.near.count - l.i

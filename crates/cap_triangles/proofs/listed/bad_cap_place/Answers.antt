@@ -1,0 +1,68 @@
+use Prim.Native.Nat.{ℕ, ◌+◌, ◌*◌, ◌-◌}
+use mathlib.Core.Path.{◌≡◌, sym, ap, ◌∙◌}
+use lib.ListN.{get_or}
+use native.Mathlib.Omega.{arith}
+use Rattle.geometry.specs.Triangles.{Triangle}
+use Rattle.cap_triangles.specs.Steps.{bad_words}
+use Rattle.cap_triangles.proofs.Passing.{Passed, passed_start, passed_stop, passed_more, passed_end}
+use Rattle.cap_triangles.proofs.listed.bad_cap_place.Goals as goal
+
+pub loop-i-init : goal.loop-i-init
+loop-i-init c =
+    let s = c in
+    passed_start s.args.n s.args.w.now s.args.cap_list.now
+
+pub overflow_mul-face : goal.overflow_mul-face
+overflow_mul-face c = omega (arith, c.loop-i-test.true)
+
+pub offset_bounds-cap_list-i : goal.offset_bounds-cap_list-i
+offset_bounds-cap_list-i c = omega (arith, c.loop-i-test.true)
+
+pub bounds-cap_list-i : goal.bounds-cap_list-i
+bounds-cap_list-i c = omega (arith, c.loop-i-test.true)
+
+pub supplied-requires : goal.supplied-requires
+supplied-requires c = omega (arith, c.loop-i-test.true)
+
+pub is_bad_cap-requires : goal.is_bad_cap-requires
+is_bad_cap-requires c =
+    let s = c in
+    omega (arith, s.requires.0.size, s.requires.0.few)
+
+pub returns-then-is_bad_cap : goal.returns-then-is_bad_cap
+returns-then-is_bad_cap c =
+    let word : ℕ → ℕ = λ k. get_or c.args.cap_list.now (4 * c.loop-i.i + k) 0 in
+    let by-words : c.is_bad_cap.result
+    ≡ bad_words c.args.w.now c.loop-i.last (get_or c.args.cap_list.now (4 *
+    c.loop-i.i) 0) (word 1) (word 2) (word 3) = c.is_bad_cap.ensures
+    ∙ ap (λ (t : Triangle ℕ). bad_words c.args.w.now c.loop-i.last (get_or c.args.cap_list.now (4 *
+    c.loop-i.i) 0) t.a t.b t.c) c.supplied.ensures in
+    let s = c in
+    let loop' = c.loop-i in
+    passed_stop s.args.n s.args.w.now s.args.cap_list.now loop'.i loop'.last loop'.invariant c.loop-i-test.true
+    s.requires.0 (sym by-words ∙ c.if-is_bad_cap.true)
+
+pub overflow_add-i : goal.overflow_add-i
+overflow_add-i c = omega (arith, c.loop-i-test.true)
+
+pub loop-i-smaller : goal.loop-i-smaller
+loop-i-smaller c = omega (arith, c.loop-i-test.true)
+
+pub loop-i-preserved : goal.loop-i-preserved
+loop-i-preserved c =
+    let word : ℕ → ℕ = λ k. get_or c.args.cap_list.now (4 * c.loop-i.i + k) 0 in
+    let by-words : c.is_bad_cap.result
+    ≡ bad_words c.args.w.now c.loop-i.last (get_or c.args.cap_list.now (4 *
+    c.loop-i.i) 0) (word 1) (word 2) (word 3) = c.is_bad_cap.ensures
+    ∙ ap (λ (t : Triangle ℕ). bad_words c.args.w.now c.loop-i.last (get_or c.args.cap_list.now (4 *
+    c.loop-i.i) 0) t.a t.b t.c) c.supplied.ensures in
+    let s = c in
+    let loop' = c.loop-i in
+    passed_more s.args.n s.args.w.now s.args.cap_list.now loop'.i loop'.last loop'.invariant c.loop-i-test.true
+    s.requires.0 (sym by-words ∙ c.if-is_bad_cap.false)
+
+pub returns : goal.returns
+returns c =
+    let s = c in
+    let loop' = c.loop-i in
+    passed_end s.args.n s.args.w.now s.args.cap_list.now loop'.i loop'.last loop'.invariant (omega (arith, c.loop-i-test.false))
