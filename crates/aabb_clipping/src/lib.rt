@@ -1,6 +1,7 @@
 // The operation clip (document 01, module 3; `clip_mesh_to_aabb` of aabb_clipping.rs). `bbox_eps` of that file stands in the crate tolerance;
 // `facet_fully_inside_aabb` is left out, since no operation uses it.
 #![tactic(auto)]
+
 ghost use Rattle.std.specs.Prelude.{◌≡◌, true, false, [], ◌/◌, ◌≤◌, length};
 ghost use Rattle.input_tests.specs.Front.{limits, bad_index};
 ghost use Rattle.refusals.specs.Refusals.{documented_reply, first_refusal};

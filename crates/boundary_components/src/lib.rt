@@ -1,5 +1,6 @@
 // Open boundaries listed (document 02, E13): open edges by components, rings among these, and edges that no closed surface has.
 #![tactic(auto)]
+
 ghost use Rattle.std.specs.Prelude.{◌≡◌, [], ◌+◌, ◌≤◌, length};
 ghost use Rattle.geometry.specs.Triangles.{threes};
 ghost use Rattle.refusals.specs.Refusals.{documented_reply, first_refusal};

@@ -2,6 +2,7 @@
 // it is a ring. Item i is open edge i, its labels are its two ends, so that `components` joins what shares a vertex; a component's number is its
 // smallest edge, and records (number, edge), sorted, are the groups in order.
 #![tactic(auto)]
+
 ghost use Rattle.std.specs.Prelude.{◌≡◌, ℕ, ◌+◌, ◌*◌, ◌-◌, ◌≤◌, ◌<◌, length, get_or};
 ghost use Rattle.lists.specs.Lists.{every};
 ghost use Rattle.records.specs.Buffer.{records_at};

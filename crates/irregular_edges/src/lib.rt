@@ -1,6 +1,7 @@
 // Edges that no closed surface has (document 02, E13): borne by three or more sides, or by two that run the same way. They are found in the edge
 // table, whose runs are the edges.
 #![tactic(auto)]
+
 ghost use Rattle.std.specs.Prelude.{◌≡◌, ◌+◌, ◌*◌, ◌-◌, ◌%◌, ◌≤◌, ◌<◌, length, take};
 ghost use Rattle.records.specs.Buffer.{records_at};
 ghost use Rattle.records.specs.Records.{records};

@@ -1,5 +1,6 @@
 // The operation clean (document 01, module 4; `clean_mesh` of mesh_cleanup.rs).
 #![tactic(auto)]
+
 ghost use Rattle.std.specs.Prelude.{◌≡◌, [], map, ℕ, ◌+◌, ◌*◌, ◌/◌, ◌≤◌, ◌<◌, length, get_or};
 ghost use Rattle.lists.specs.Regions.{view};
 ghost use Rattle.words.specs.Overlay.{overlay};

@@ -9,8 +9,7 @@ pub returns-in-At : goal.returns-in-At
 returns-in-At c =
     let s = c in
     let a = s.args in
-    let t' = c.t-1 in
-    fraction_one a.at a.place.0 a.t t'.given.0.0 c.order_key.result a.w.now t'.given.1 c.order_key.ensures s.requires.0
+    fraction_one a.at a.place.0 a.t c.in-At.t c.order_key.result a.w.now c.in-At.is c.order_key.ensures s.requires.0
 
 pub returns-in-Nothing : goal.returns-in-Nothing
 returns-in-Nothing c =

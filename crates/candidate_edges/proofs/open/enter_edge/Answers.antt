@@ -50,14 +50,14 @@ enter_vertex-a-requires c =
     let t = c.edge_table_at in
     side_low a.facets.now a.w.now (edge_table_at a.n (length a.facets.now / 3)) t.result (length (open_edges (threes a.facets.now))) a.i s.requires.edges_entering.table
     t.ensures s.requires.i_in_bounds in
-    let entering : (c.edge_from.result < length (c c).args.vertices.now / 3) × (c.edge_to.result < length (c c).args.vertices.now / 3)
-    × (c.side_mask-mask.result < 64) = let s = c c in
+    let entering : (c.edge_from.result < length c.args.vertices.now / 3) × (c.edge_to.result < length c.args.vertices.now / 3)
+    × (c.side_mask-mask.result < 64) = let s = c in
     let a = s.args in
     let f = s.requires.edges_entering.fits in
-    let j = side c in
+    let j = side in
     let e = get_or (sides (threes a.facets.now)) j (0, 0) in (
-      omega (arith, c.edge_from.ensures, from_low a.facets.now (length a.vertices.now / 3) j f.threes f.numbers (named c)),
-      omega (arith, c.edge_to.ensures, to_low a.facets.now (length a.vertices.now / 3) j f.threes f.numbers (named c)),
+      omega (arith, c.edge_from.ensures, from_low a.facets.now (length a.vertices.now / 3) j f.threes f.numbers named),
+      omega (arith, c.edge_to.ensures, to_low a.facets.now (length a.vertices.now / 3) j f.threes f.numbers named),
       subst (λ (x : ℕ). x < 64) (sym c.side_mask-mask.ensures)
           (mask_small a.extents a.eps (vertex (points_of a.vertices.now) e.0) (vertex (points_of a.vertices.now) e.1)),
     ) in
@@ -71,14 +71,14 @@ enter_vertex-b-requires c =
     let t = c.edge_table_at in
     side_low a.facets.now a.w.now (edge_table_at a.n (length a.facets.now / 3)) t.result (length (open_edges (threes a.facets.now))) a.i s.requires.edges_entering.table
     t.ensures s.requires.i_in_bounds in
-    let entering : (c.edge_from.result < length (c c).args.vertices.now / 3) × (c.edge_to.result < length (c c).args.vertices.now / 3)
-    × (c.side_mask-mask.result < 64) = let s = c c in
+    let entering : (c.edge_from.result < length c.args.vertices.now / 3) × (c.edge_to.result < length c.args.vertices.now / 3)
+    × (c.side_mask-mask.result < 64) = let s = c in
     let a = s.args in
     let f = s.requires.edges_entering.fits in
-    let j = side c in
+    let j = side in
     let e = get_or (sides (threes a.facets.now)) j (0, 0) in (
-      omega (arith, c.edge_from.ensures, from_low a.facets.now (length a.vertices.now / 3) j f.threes f.numbers (named c)),
-      omega (arith, c.edge_to.ensures, to_low a.facets.now (length a.vertices.now / 3) j f.threes f.numbers (named c)),
+      omega (arith, c.edge_from.ensures, from_low a.facets.now (length a.vertices.now / 3) j f.threes f.numbers named),
+      omega (arith, c.edge_to.ensures, to_low a.facets.now (length a.vertices.now / 3) j f.threes f.numbers named),
       subst (λ (x : ℕ). x < 64) (sym c.side_mask-mask.ensures)
           (mask_small a.extents a.eps (vertex (points_of a.vertices.now) e.0) (vertex (points_of a.vertices.now) e.1)),
     ) in

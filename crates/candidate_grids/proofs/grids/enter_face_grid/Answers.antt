@@ -20,58 +20,6 @@ use Rattle.candidate_grids.proofs.grids.enter_face_grid.Goals as goal
 across : (f : ℕ) → f < 6 → axis f < 3
 across f h = omega arith
 
--- ---- what is known before the loop
-abbrev Known : Type 0
-Known = goal.After-segments_at
-
-abbrev start : Known → goal.Start
-start c = c
-
-abbrev last : Known → ℕ
-last c = c.segments_of-last.result
-
-abbrev last-v : Known → ℕ
-last-v c = c.segments_of-last_v.result
-
-abbrev segs : Known → ℕ → ℕ
-segs c a = segments (start c).args.extents (start c).args.eps (by_axis (start c).args.resolution) a
-
-last_is : (c : Known) → last c ≡ segs c (u_axis (start c).args.face)
-last_is c =
-    parts_is _ _ (start c).args.resolution _ _ c.u_axis-axis.ensures.0 (start c).requires.coarse
-    c.segments_of-last.ensures
-    ∙ ap (segs c) c.u_axis-axis.ensures.1
-
-last-v-is : (c : Known) → last-v c ≡ segs c (v_axis (start c).args.face)
-last-v-is c =
-    parts_is _ _ (start c).args.resolution _ _ c.v_axis.ensures.0 (start c).requires.coarse
-    c.segments_of-last_v.ensures
-    ∙ ap (segs c) c.v_axis.ensures.1
-
-last-in : (c : Known) → (1 ≤ last c) × (last c ≤ 256)
-last-in c =
-    parts_in _ _ (start c).args.resolution _ _ c.u_axis-axis.ensures.0 (start c).requires.coarse
-    c.segments_of-last.ensures
-
-last-v-in : (c : Known) → (1 ≤ last-v c) × (last-v c ≤ 256)
-last-v-in c =
-    parts_in _ _ (start c).args.resolution _ _ c.v_axis.ensures.0 (start c).requires.coarse
-    c.segments_of-last_v.ensures
-
-at_in : (c : Known) → Within (2 ^ 48) c.face_line-at.result
-at_in c =
-    let few = parts_in _ _ (start c).args.resolution _ _ (across _ (start c).requires.face_in) (start c).requires.coarse
-    c.segments_of.ensures in
-    subst (λ (x : Float). Within (2 ^ 48) x) (sym c.face_line-at.ensures)
-    (face_line_in _ _ _ (start c).requires.box_in (start c).requires.face_in few.0 few.1)
-
-room : (c : Known) → count_at c.gather_segments-count.new.w + (last c + 1) * (last-v c + 1) ≤ (start c).args.n
-room c =
-    face_room _ _ (start c).args.resolution (start c).args.n (start c).args.face (last c) (last-v c) (start c).args.w.now
-    c.gather_segments-count.new.w
-    (last_is c) (last-v-is c)
-    (gathered_count _ _ _ _ _ _ _ _ (start c).requires.holds _ c.gather_segments-count.ensures) (start c).requires.few
-
 -- ---- the needs
 pub u_axis-axis-requires : goal.u_axis-axis-requires
 u_axis-axis-requires c = tt
@@ -109,12 +57,16 @@ pub segments_at-requires : goal.segments_at-requires
 segments_at-requires c = let p = c.requires in (p.holds.table.small, p.small)
 
 pub loop-i-init : goal.loop-i-init
-loop-i-init c = (omega arith, entered_none _ _ _ _ _ (gathered_holds _ _ _ _ _ _ _ _ (start c).requires.holds _ c.gather_segments-count.ensures))
+loop-i-init c =
+    (omega arith, entered_none _ _ _ _ _ (gathered_holds _ _ _ _ _ _ _ _ c.requires.holds _ c.gather_segments-count.ensures))
 
 pub grid_line-requires : goal.grid_line-requires
 grid_line-requires c =
+    let last : ℕ = c.segments_of-last.result in
+    let last-in : (1 ≤ last) × (last ≤ 256) = parts_in _ _ c.args.resolution _ _ c.u_axis-axis.ensures.0 c.requires.coarse
+    c.segments_of-last.ensures in
     let k = c in
-    let b = last-in k in
+    let b = last-in in
     let l = c.loop-i-test.true in
     (k.u_axis-axis.ensures.0, (omega arith, b.1))
 
@@ -123,22 +75,46 @@ is_interior-requires c = tt
 
 pub enter_grid_row-requires : goal.enter_grid_row-requires
 enter_grid_row-requires c =
+    let last : ℕ = c.segments_of-last.result in
+    let last-v : ℕ = c.segments_of-last_v.result in
+    let segs : ℕ → ℕ = λ a. segments c.args.extents c.args.eps (by_axis c.args.resolution) a in
+    let last_is : last ≡ segs (u_axis c.args.face) = parts_is _ _ c.args.resolution _ _ c.u_axis-axis.ensures.0 c.requires.coarse
+    c.segments_of-last.ensures
+    ∙ ap segs c.u_axis-axis.ensures.1 in
+    let last-v-is : last-v ≡ segs (v_axis c.args.face) = parts_is _ _ c.args.resolution _ _ c.v_axis.ensures.0 c.requires.coarse
+    c.segments_of-last_v.ensures
+    ∙ ap segs c.v_axis.ensures.1 in
+    let last-in : (1 ≤ last) × (last ≤ 256) = parts_in _ _ c.args.resolution _ _ c.u_axis-axis.ensures.0 c.requires.coarse
+    c.segments_of-last.ensures in
+    let last-v-in : (1 ≤ last-v) × (last-v ≤ 256) = parts_in _ _ c.args.resolution _ _ c.v_axis.ensures.0 c.requires.coarse
+    c.segments_of-last_v.ensures in
+    let at_in : Within (2 ^ 48) c.face_line-at.result = let few = parts_in _ _ c.args.resolution _ _ (across _ c.requires.face_in) c.requires.coarse
+    c.segments_of.ensures in
+    subst (λ (x : Float). Within (2 ^ 48) x) (sym c.face_line-at.ensures)
+    (face_line_in _ _ _ c.requires.box_in c.requires.face_in few.0 few.1) in
+    let room : count_at c.gather_segments-count.new.w + (last + 1) * (last-v + 1) ≤ c.args.n = face_room _ _ c.args.resolution c.args.n c.args.face last last-v c.args.w.now
+    c.gather_segments-count.new.w
+    last_is last-v-is
+    (gathered_count _ _ _ _ _ _ _ _ c.requires.holds _ c.gather_segments-count.ensures) c.requires.few in
     let along-u : c.grid_line.result
-    ≡ line_at (lowest (start c).args.extents (u_axis (start c).args.face))
-    (highest (start c).args.extents (u_axis (start c).args.face)) (last c)
+    ≡ line_at (lowest c.args.extents (u_axis c.args.face))
+    (highest c.args.extents (u_axis c.args.face)) last
     c.loop-i.i = let k = c in
-    c.grid_line.ensures ∙ ap (λ (a : ℕ). line_at (lowest (start k).args.extents a) (highest (start k).args.extents a) (last k) c.loop-i.i)
+    c.grid_line.ensures ∙ ap (λ (a : ℕ). line_at (lowest c.args.extents a) (highest c.args.extents a) last c.loop-i.i)
     k.u_axis-axis.ensures.1 in
     let k = c in
-    let p = (start k).requires in
+    let p = c.requires in
     row_ready _ _ _ _ _ _ _ _ _ _ (near_ready _ _ _ _ _ _ _ _ _ _ k.gather_segments-count.ensures k.segments_at.ensures p.edges p.size) _
     c.loop-i.invariant.1 _ _
-    p.face_in p.box_in c.loop-i-test.true (last-in k).1 (last-in k).0 (last-v-in k).1 (last-v-in k).0 (room k) (at_in k)
+    p.face_in p.box_in c.loop-i-test.true last-in.1 last-in.0 last-v-in.1 last-v-in.0 room at_in
     along-u
 
 pub overflow_add-i : goal.overflow_add-i
 overflow_add-i c =
-    let b = (last-in c).1 in
+    let last : ℕ = c.segments_of-last.result in
+    let last-in : (1 ≤ last) × (last ≤ 256) = parts_in _ _ c.args.resolution _ _ c.u_axis-axis.ensures.0 c.requires.coarse
+    c.segments_of-last.ensures in
+    let b = last-in.1 in
     let l = c.loop-i-test.true in
     omega arith
 
@@ -147,14 +123,15 @@ loop-i-smaller c = let l = c.loop-i-test.true in omega arith
 
 pub loop-i-preserved : goal.loop-i-preserved
 loop-i-preserved c =
+    let last : ℕ = c.segments_of-last.result in
     let along-u : c.grid_line.result
-    ≡ line_at (lowest (start c).args.extents (u_axis (start c).args.face))
-    (highest (start c).args.extents (u_axis (start c).args.face)) (last c)
+    ≡ line_at (lowest c.args.extents (u_axis c.args.face))
+    (highest c.args.extents (u_axis c.args.face)) last
     c.loop-i.i = let k = c in
-    c.grid_line.ensures ∙ ap (λ (a : ℕ). line_at (lowest (start k).args.extents a) (highest (start k).args.extents a) (last k) c.loop-i.i)
+    c.grid_line.ensures ∙ ap (λ (a : ℕ). line_at (lowest c.args.extents a) (highest c.args.extents a) last c.loop-i.i)
     k.u_axis-axis.ensures.1 in
     let k = c in
-    let p = (start k).requires in
+    let p = c.requires in
     let i = c.loop-i.invariant in
     let l = c.loop-i-test.true in (
       omega arith,
@@ -170,10 +147,19 @@ shape_of-w c = c.loop-i.invariant.1.long ∙ c.gather_segments-count.ensures.lon
 
 pub returns : goal.returns
 returns c =
+    let last : ℕ = c.segments_of-last.result in
+    let last-v : ℕ = c.segments_of-last_v.result in
+    let segs : ℕ → ℕ = λ a. segments c.args.extents c.args.eps (by_axis c.args.resolution) a in
+    let last_is : last ≡ segs (u_axis c.args.face) = parts_is _ _ c.args.resolution _ _ c.u_axis-axis.ensures.0 c.requires.coarse
+    c.segments_of-last.ensures
+    ∙ ap segs c.u_axis-axis.ensures.1 in
+    let last-v-is : last-v ≡ segs (v_axis c.args.face) = parts_is _ _ c.args.resolution _ _ c.v_axis.ensures.0 c.requires.coarse
+    c.segments_of-last_v.ensures
+    ∙ ap segs c.v_axis.ensures.1 in
     let k = c in
-    let p = (start k).requires in
+    let p = c.requires in
     let a = c.loop-i.invariant.0 in
     let b = c.loop-i-test.false in
-    face_end _ _ _ _ _ _ _ _ _ _ _ p _ k.gather_segments-count.ensures _ _ _ _ _ c.loop-i.i k.segments_at.ensures (last_is k) (last-v-is k)
-    (parts_is _ _ (start k).args.resolution _ _ (across _ p.face_in) p.coarse k.segments_of.ensures)
+    face_end _ _ _ _ _ _ _ _ _ _ _ p _ k.gather_segments-count.ensures _ _ _ _ _ c.loop-i.i k.segments_at.ensures last_is last-v-is
+    (parts_is _ _ c.args.resolution _ _ (across _ p.face_in) p.coarse k.segments_of.ensures)
     k.face_line-at.ensures (omega arith) c.loop-i.invariant.1

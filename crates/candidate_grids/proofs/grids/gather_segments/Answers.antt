@@ -6,6 +6,7 @@ use lib.ListN.{get_or}
 use Rattle.box_faces.specs.Faces.{has_bit}
 use Rattle.candidate_grids.proofs.Gathering.{Gathering, gather_start, gather_pass, gather_one, gather_end, edge_ready}
 use Rattle.candidate_pool.specs.Offsets.{open_edges_at}
+use Rattle.candidate_grids.proofs.grids.gather_segments.Goals.{then-has_face, else-has_face}
 use Rattle.candidate_grids.proofs.grids.gather_segments.Goals as goal
 
 pub open_edges_at-edges-requires : goal.open_edges_at-edges-requires
@@ -73,12 +74,13 @@ loop-i-preserved c =
     c.has_face.ensures ∙ ap (λ (x : ℕ). has_bit (get_or l.w (x + 3 * l.i + 2) 0) c.args.face) c.open_edges_at-edges.ensures in
     let t = c in
     let l = t.loop-i in
-    ⊎_elim
-    (λ q. rw (q.5, q.6)
-    (gather_one _ _ _ _ _ _ c.requires l.w l.count l.i l.invariant t.loop-i-test.true _ bit q.0.taken _
-    (rw (t.segments_at-segments.ensures, t.open_edges_at-edges.ensures) at q.2.ensures)))
-    (λ q. rw (q.1, q.2) (gather_pass _ _ _ _ _ _ c.requires l.w l.count l.i l.invariant t.loop-i-test.true _ bit q.0.left))
-    c.if-has_face.branch
+    elim c.if-has_face.branch [
+      | then-has_face w ↦ rw (w.w-is, w.count-is)
+          (gather_one _ _ _ _ _ _ c.requires l.w l.count l.i l.invariant t.loop-i-test.true _ bit w.if-has_face.true _
+          (rw (t.segments_at-segments.ensures, t.open_edges_at-edges.ensures) at w.gather_segment.ensures))
+      | else-has_face w ↦ rw (w.w-is, w.count-is)
+          (gather_pass _ _ _ _ _ _ c.requires l.w l.count l.i l.invariant t.loop-i-test.true _ bit w.if-has_face.false)
+    ]
 
 pub shape_of-w : goal.shape_of-w
 shape_of-w c = c.loop-i.invariant.long

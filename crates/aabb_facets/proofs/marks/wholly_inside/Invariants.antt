@@ -1,0 +1,19 @@
+use borrow.Author.Rules.{rules}
+use Rattle.aabb_facets.specs.Clipped.{inside_box}
+use Rattle.geometry.proofs.Meshes.{length_points_of}
+use Rattle.geometry.specs.Meshes.{points_of}
+use Rattle.geometry.specs.Points.{origin}
+use Rattle.lists.proofs.Every.{every_stop, every_more, every_end}
+use Rattle.lists.specs.Lists.{every}
+use lib.ListN.{drop}
+use borrow.Author.Tests.{not-true, not-false}
+use mathlib.Core.Path.{◌≡◌, refl, sym, ap, ◌∙◌}
+use native.Mathlib.Omega.{arith}
+use Prim.Native.Nat.{◌≤◌, ◌-◌}
+use Rattle.aabb_facets.proofs.marks.wholly_inside.Given as goal
+
+abbrev pub invariant-loop-k : goal.invariant-loop-k
+invariant-loop-k l = (l.k ≤ l.n) × (every (inside_box l.extents l.eps) (points_of l.vertices) ≡ every (inside_box l.extents l.eps) (drop l.k (points_of l.vertices)))
+
+abbrev pub decreases-loop-k : goal.decreases-loop-k
+decreases-loop-k l = l.n - l.k

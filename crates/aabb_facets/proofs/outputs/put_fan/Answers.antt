@@ -1,0 +1,31 @@
+use Rattle.aabb_facets.proofs.OutputLists.{fan_from, fan_start, fan_more, fan_end}
+use Rattle.aabb_facets.specs.Clipped.{fan}
+use Rattle.geometry.specs.Triangles.{flat}
+use lib.Seq.{sets}
+use lib.ListN.{length}
+use Prim.Native.Nat.{◌+◌, ◌*◌, ◌-◌, ◌≤◌}
+use native.Mathlib.Omega.{arith}
+use borrow.Author.Rules.{rules}
+use mathlib.Core.Path.{◌≡◌, refl, sym, ◌∙◌}
+use Rattle.aabb_facets.proofs.outputs.put_fan.Goals as goal
+
+pub loop-j-init : goal.loop-j-init
+loop-j-init c = (search rules, (refl, fan_start _ _ _ _))
+
+pub loop-j-preserved : goal.loop-j-preserved
+loop-j-preserved c =
+    let put-number3 = c.put_number-in-loop-j-2 in
+    let put-number2 = c.put_number-in-loop-j in
+    let put-number = c.put_number in
+    let loop = c.loop-j in
+    let loop-test = c.loop-j-test in (
+      search rules,
+      (
+        put-number3.auto.out ∙ put-number2.auto.out ∙ put-number.auto.out ∙ loop.invariant.1.0,
+        fan_more _ _ _ _ _ _ _ _ loop-test.true put-number.ensures
+            put-number2.ensures put-number3.ensures ∙ loop.invariant.1.1,
+      ),
+    )
+
+pub returns : goal.returns
+returns c = sym (fan_end _ _ _ _ _ (omega arith)) ∙ c.loop-j.invariant.1.1

@@ -1,0 +1,20 @@
+use Rattle.aabb_facets.specs.Rooms.{Room, mark_words}
+use Rattle.aabb_facets.specs.Clipped.{clipped}
+use borrow.Author.Rules.{rules}
+use mathlib.Core.List.{[]}
+use mathlib.Core.Path.{ap, ◌∙◌}
+use Prim.Native.Nat.{ℕ}
+use Rattle.aabb_facets.proofs.passes.run_pass.Goals as goal
+
+pub clip_pass-requires : goal.clip_pass-requires
+clip_pass-requires c =
+    let s = c in
+    let a = s.args in record { vertices_len_bound = s.requires.vertices_len_bound; facets_value = s.requires.facets_value; ids_value = c.mark_all.ensures ∙ ap (λ (k : ℕ). mark_words a.vertices.now a.extents a.eps k []) s.requires.ids_len }
+
+pub returns : goal.returns
+unfolding clipped
+returns c =
+    let e = c.clip_pass.ensures.out_facets_after in record {
+      ran = record { count = ap (λ (x : Room). x.nv) e; numbers = ap (λ (x : Room). x.nf) e; vertices = ap (λ (x : Room). x.vs) e; facets = ap (λ (x : Room). x.fs) e };
+      vertices_bound = c.clip_pass.ensures.vertices_bound;
+    }

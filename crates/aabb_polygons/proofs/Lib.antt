@@ -1,0 +1,3 @@
+pub mod CornerLists
+pub mod Planes
+pub mod Walks

@@ -1,0 +1,14 @@
+use Rattle.aabb_polygons.proofs.CornerLists.{copy_none, copy_more}
+use Rattle.aabb_polygons.specs.Steps.{corners}
+use lib.ListN.{length}
+use Prim.Native.Nat.{◌≤◌, ◌-◌}
+use native.Mathlib.Omega.{arith}
+use borrow.Author.Rules.{rules}
+use mathlib.Core.Path.{◌≡◌, refl, sym, ap, ◌∙◌}
+use Rattle.aabb_polygons.proofs.corners.copy_corners.Given as goal
+
+abbrev pub invariant-loop-i : goal.invariant-loop-i
+invariant-loop-i l = (l.i ≤ l.n) × ((length l.to ≡ length l.initial.to) × (corners l.to l.i ≡ corners l.from l.i))
+
+abbrev pub decreases-loop-i : goal.decreases-loop-i
+decreases-loop-i l = l.n - l.i

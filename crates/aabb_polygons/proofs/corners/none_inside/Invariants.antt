@@ -1,0 +1,20 @@
+use Rattle.aabb_polygons.proofs.CornerLists.{points_length, at}
+use Rattle.aabb_polygons.specs.Steps.{corners}
+use Rattle.aabb_planes.specs.Planes.{face_of, inside}
+use Rattle.lists.proofs.Every.{every_stop, every_more, every_end}
+use Rattle.lists.specs.Lists.{every}
+use Rattle.geometry.specs.declared.point.Point.{Point}
+use lib.ListN.{drop}
+use mathlib.Core.Bool.{not}
+use Prim.Native.Nat.{◌≤◌, ◌-◌}
+use native.Mathlib.Omega.{arith}
+use borrow.Author.Rules.{rules}
+use mathlib.Core.Path.{◌≡◌, refl, sym, ap, ◌∙◌}
+use Rattle.aabb_polygons.proofs.corners.none_inside.Given as goal
+
+abbrev pub invariant-loop-i : goal.invariant-loop-i
+invariant-loop-i l = (l.i ≤ l.n) × (every (λ p. not (inside l.extents l.eps (face_of l.plane) p)) (corners l.polygon l.n) ≡ every (λ p. not (inside l.extents l.eps (face_of l.plane) p)) (drop l.i (corners
+    l.polygon l.n)))
+
+abbrev pub decreases-loop-i : goal.decreases-loop-i
+decreases-loop-i l = l.n - l.i

@@ -1,0 +1,16 @@
+use Rattle.aabb_polygons.proofs.CornerLists.{snap_none, snap_more}
+use Rattle.aabb_polygons.specs.Steps.{corners}
+use Rattle.aabb_planes.specs.Planes.{snapped}
+use lib.ListN.{length}
+use mathlib.Core.List.{map}
+use Prim.Native.Nat.{ℕ, ◌≤◌, ◌-◌}
+use native.Mathlib.Omega.{arith}
+use borrow.Author.Rules.{rules}
+use mathlib.Core.Path.{◌≡◌, refl, sym, ap, ◌∙◌}
+use Rattle.aabb_polygons.proofs.corners.snap_corners.Given as goal
+
+abbrev pub invariant-loop-i : goal.invariant-loop-i
+invariant-loop-i l = (l.i ≤ l.n) × ((length l.to ≡ length l.initial.to) × (corners l.to l.i ≡ map (snapped l.extents l.eps) (corners l.from l.i)))
+
+abbrev pub decreases-loop-i : goal.decreases-loop-i
+decreases-loop-i l = l.n - l.i

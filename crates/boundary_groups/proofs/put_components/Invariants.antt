@@ -1,0 +1,13 @@
+use Prim.Native.Nat.{◌+◌, ◌*◌, ◌-◌}
+use lib.ListN.{length-set}
+use mathlib.Core.Path.{refl}
+use native.Mathlib.Omega.{arith}
+use Rattle.boundary_groups.proofs.Walks.{Putting, TurnBounds, putting_start, putting_ready, putting_turn, putting_end, flag}
+use Rattle.boundary_groups.proofs.put_components.Given as goal
+
+-- `put_components`. The loop's invariant: the words of the runs before record i stand from `to` on. The measure is what is left. Assumes nothing.
+abbrev pub invariant-loop-i : goal.invariant-loop-i
+invariant-loop-i l = Putting l.initial.w l.k l.ends l.degrees l.to l.w l.c l.i
+
+abbrev pub decreases-loop-i : goal.decreases-loop-i
+decreases-loop-i l = l.k - l.i

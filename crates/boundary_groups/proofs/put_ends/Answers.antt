@@ -1,0 +1,82 @@
+use Prim.Native.Nat.{◌+◌, ◌*◌, ◌-◌, ◌≤◌}
+use lib.ListN.{length-set}
+use mathlib.Core.Path.{refl, ap, ◌∙◌}
+use native.Mathlib.Omega.{arith}
+use Rattle.boundary_groups.proofs.Walks.{ends_end}
+use Rattle.words.specs.Packed.{pair_first, pair_second}
+use Rattle.boundary_groups.specs.Staged.{edge_in}
+use Rattle.boundary_groups.proofs.Stores.{PairsPut, pairs_none, pairs_more}
+use Rattle.boundary_groups.proofs.put_ends.Goals as goal
+
+pub loop-i-preserved : goal.loop-i-preserved
+loop-i-preserved c =
+    let l = c.loop-i in
+    let s = c.args in
+    let key = l.invariant.1.rest (2 * l.i) (λ j h e. omega arith) in (
+      omega arith,
+      pairs_more _ _ _ _ _ _ _ _ _ _ l.invariant.1 (omega (arith, l.invariant.1.long)) refl refl
+          (c.pair_first.ensures ∙ ap pair_first key) (c.pair_second.ensures ∙ ap pair_second key),
+    )
+
+pub returns : goal.returns
+returns c =
+    let l = c.loop-i in
+    let s = c.args in
+    ends_end _ _ _ _ _ (omega arith) l.invariant.1
+
+pub loop-i-init : goal.loop-i-init
+loop-i-init c = (omega arith, pairs_none _ _ _ _)
+
+pub overflow_mul-key : goal.overflow_mul-key
+overflow_mul-key c = omega arith
+
+pub offset_bounds-w-i : goal.offset_bounds-w-i
+offset_bounds-w-i c = omega arith
+
+pub bounds-w-i : goal.bounds-w-i
+bounds-w-i c = omega arith
+
+pub pair_first-requires : goal.pair_first-requires
+pair_first-requires c = omega arith
+
+pub overflow_mul-w : goal.overflow_mul-w
+overflow_mul-w c = omega arith
+
+pub overflow_add-w : goal.overflow_add-w
+overflow_add-w c = omega arith
+
+pub offset_bounds-w-to : goal.offset_bounds-w-to
+offset_bounds-w-to c = omega arith
+
+pub bounds-w-to : goal.bounds-w-to
+bounds-w-to c = omega arith
+
+pub pair_second-requires : goal.pair_second-requires
+pair_second-requires c = omega arith
+
+pub overflow_mul-w-in-loop-i : goal.overflow_mul-w-in-loop-i
+overflow_mul-w-in-loop-i c = omega arith
+
+pub overflow_add-w-in-loop-i : goal.overflow_add-w-in-loop-i
+overflow_add-w-in-loop-i c = omega arith
+
+pub overflow_add-w-in-loop-i-2 : goal.overflow_add-w-in-loop-i-2
+overflow_add-w-in-loop-i-2 c = omega arith
+
+pub offset_bounds-w-to-in-loop-i : goal.offset_bounds-w-to-in-loop-i
+offset_bounds-w-to-in-loop-i c = omega arith
+
+pub bounds-w-to-in-loop-i : goal.bounds-w-to-in-loop-i
+bounds-w-to-in-loop-i c =
+    let l = c.loop-i in
+    let s = c.args in
+    omega (arith, l.invariant.1.long, length-set l.w (s.to + 2 * l.i) c.pair_first.result)
+
+pub overflow_add-i : goal.overflow_add-i
+overflow_add-i c = omega arith
+
+pub loop-i-smaller : goal.loop-i-smaller
+loop-i-smaller c = omega arith
+
+pub shape_of-w : goal.shape_of-w
+shape_of-w c = omega arith

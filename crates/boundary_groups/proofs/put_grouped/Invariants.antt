@@ -1,0 +1,14 @@
+use Prim.Native.Nat.{ℕ, ◌+◌, ◌*◌, ◌-◌, ◌≤◌}
+use lib.ListN.{get_or, length-set}
+use mathlib.Core.Path.{refl, ap, ◌∙◌}
+use native.Mathlib.Omega.{arith}
+use Rattle.boundary_groups.proofs.Walks.{edges_end}
+use Rattle.boundary_groups.proofs.Stores.{PairsPut, pairs_none, pairs_more}
+use Rattle.boundary_groups.proofs.put_grouped.Given as goal
+
+-- `put_grouped`. The loop's invariant: the ends of the edges of the records before j stand from `to` on. The measure is what is left. Assumes nothing.
+abbrev pub invariant-loop-j : goal.invariant-loop-j
+invariant-loop-j l = (l.j ≤ l.k) × PairsPut (λ j. get_or l.initial.w (l.ends + 2 * get_or l.initial.w (2 * j + 1) 0) 0) (λ j. get_or l.initial.w (l.ends + 2 * get_or l.initial.w (2 * j + 1) 0 + 1) 0) l.initial.w l.w l.to l.j
+
+abbrev pub decreases-loop-j : goal.decreases-loop-j
+decreases-loop-j l = l.k - l.j

@@ -1,0 +1,53 @@
+use Rattle.cap_pairs.proofs.Walking.{FaceWalk, walk_start, walk_skip, walk_pass, walk_stop, walk_end}
+use Rattle.cap_pairs.specs.Steps.{missing_face}
+use native.Mathlib.Omega.{arith}
+use mathlib.Core.Logic.{⊎_elim}
+use mathlib.Core.Path.{sym, subst, ◌∙◌}
+use Prim.Native.Nat.{ℕ, ◌+◌, ◌-◌}
+use Rattle.cap_pairs.proofs.missing.held_before.Goals as goal
+
+pub loop-face-init : goal.loop-face-init
+loop-face-init c = walk_start (missing_face c.args.w.now c.args.held) c.args.mask
+
+pub has_face-requires : goal.has_face-requires
+has_face-requires c = omega arith
+
+pub is_missing-requires : goal.is_missing-requires
+is_missing-requires c = omega arith
+
+pub returns-then-is_missing : goal.returns-then-is_missing
+returns-then-is_missing c =
+    let a = c.args in
+    let l = c.loop-face in
+    let has-face' = c.has_face in
+    let branch = c.if-has_face in
+    let is-missing' = c.is_missing in
+    let if2' = c.if-is_missing in
+    walk_stop (missing_face a.w.now a.held) a.mask l.count l.face l.invariant (omega arith) (sym has-face'.ensures ∙ branch.true)
+    (sym is-missing'.ensures ∙ if2'.true)
+
+pub overflow_add-count : goal.overflow_add-count
+overflow_add-count c = omega arith
+
+pub overflow_add-face : goal.overflow_add-face
+overflow_add-face c = omega arith
+
+pub loop-face-smaller : goal.loop-face-smaller
+loop-face-smaller c = omega arith
+
+pub loop-face-preserved : goal.loop-face-preserved
+loop-face-preserved c =
+    let a = c.args in
+    let l = c.loop-face in
+    let has-face' = c.has_face in
+    let branch = c.if-has_face in
+    ⊎_elim (λ t. subst (λ (x : ℕ). FaceWalk (missing_face a.w.now a.held) a.mask x (l.face + 1)) (sym t.3)
+    (walk_pass (missing_face a.w.now a.held) a.mask l.count l.face l.invariant (omega arith) (sym has-face'.ensures ∙ t.0.taken)
+    (sym t.1.ensures ∙ t.2.left))) (λ t. subst (λ (x : ℕ). FaceWalk (missing_face a.w.now a.held) a.mask x (l.face + 1)) (sym t.1)
+    (walk_skip (missing_face a.w.now a.held) a.mask l.count l.face l.invariant (omega arith) (sym has-face'.ensures ∙ t.0.left))) branch.branch
+
+pub returns : goal.returns
+returns c =
+    let a = c.args in
+    let l = c.loop-face in
+    walk_end (missing_face a.w.now a.held) a.mask l.count l.face l.invariant (omega arith)

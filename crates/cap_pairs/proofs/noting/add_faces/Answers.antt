@@ -1,0 +1,48 @@
+use mathlib.Core.Path.{sym, subst, ◌∙◌}
+use mathlib.Core.List.{List}
+use Prim.Native.Nat.{ℕ, ◌+◌, ◌-◌, ◌≤◌}
+use Rattle.cap_pairs.proofs.Adding.{Below, adding_start, adding_skip, adding_turn, adding_end}
+use Rattle.cap_pairs.specs.Steps.{Added}
+use native.Mathlib.Omega.{arith}
+use mathlib.Core.Logic.{⊎_elim}
+use Rattle.cap_pairs.proofs.noting.add_faces.Goals as goal
+
+pub loop-face-init : goal.loop-face-init
+loop-face-init c = (adding_start c.args.w.now c.args.at c.args.mask c.requires.1, omega arith)
+
+pub has_face-requires : goal.has_face-requires
+has_face-requires c = omega arith
+
+pub add_face-requires : goal.add_face-requires
+add_face-requires c =
+    let s = c in
+    let l = c.loop-face in
+    (omega (arith, l.invariant.0.long, s.requires.0), l.invariant.0.small, omega arith)
+
+pub overflow_add-face : goal.overflow_add-face
+overflow_add-face c = omega arith
+
+pub loop-face-smaller : goal.loop-face-smaller
+loop-face-smaller c = omega arith
+
+pub loop-face-preserved : goal.loop-face-preserved
+loop-face-preserved c =
+    let a = c.args in
+    let l = c.loop-face in
+    let has-face' = c.has_face in
+    let branch = c.if-has_face in (
+      ⊎_elim (λ t. subst (λ (u : List ℕ). Added a.w.now u a.at (Below a.mask (l.face + 1))) (sym t.5)
+          (adding_turn a.w.now a.at a.mask l.w l.face l.invariant.0 t.2.last.0 (sym has-face'.ensures ∙ t.0.taken) t.2.ensures))
+          (λ t. subst (λ (u : List ℕ). Added a.w.now u a.at (Below a.mask (l.face + 1))) (sym t.1)
+          (adding_skip a.w.now a.at a.mask l.w l.face l.invariant.0 (sym has-face'.ensures ∙ t.0.left))) branch.branch,
+      omega arith,
+    )
+
+pub shape_of-w : goal.shape_of-w
+shape_of-w c = c.loop-face.invariant.0.long
+
+pub returns : goal.returns
+returns c =
+    let a = c.args in
+    let l = c.loop-face in
+    adding_end a.w.now a.at a.mask l.w l.face l.invariant.0 (omega arith)

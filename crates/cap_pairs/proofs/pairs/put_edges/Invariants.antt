@@ -1,0 +1,15 @@
+use Rattle.cap_pairs.proofs.Writing.{edge_asks, edge_turn, edge_end}
+use Rattle.cap_pairs.proofs.Recording.{recording_start}
+use Rattle.cap_pairs.specs.Steps.{Recorded}
+use Rattle.cap_pairs.specs.Pairs.{edge_pair}
+use native.Mathlib.Omega.{arith}
+use lib.ListN.{length-set}
+use Prim.Native.Nat.{◌-◌, ◌+◌, ◌*◌, ◌≤◌}
+use Rattle.cap_pairs.proofs.pairs.put_edges.Given as goal
+
+-- `put_edges` meets its contract: after some turns the records of as many open edges are written. Assumes nothing.
+abbrev pub invariant-loop-i : goal.invariant-loop-i
+invariant-loop-i l = Recorded (λ j. edge_pair l.initial.w (l.edges + 3 * j)) l.initial.w l.w l.records 0 l.i × (l.i ≤ l.k)
+
+abbrev pub decreases-loop-i : goal.decreases-loop-i
+decreases-loop-i l = l.k - l.i

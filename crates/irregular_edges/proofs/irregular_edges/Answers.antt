@@ -1,0 +1,98 @@
+use Rattle.irregular_edges.proofs.Walking.{Writing, walk_start, walk_room, walk_yes, walk_no, walk_end, table_kept}
+use lib.ListN.{length, length-set}
+use Prim.Native.Nat.{◌-◌}
+use borrow.Author.Rules.{rules}
+use native.Mathlib.Omega.{arith}
+use Rattle.irregular_edges.proofs.irregular_edges.Goals as goal
+
+pub returns : goal.returns
+returns c =
+    let s = c in
+    let l = c.loop-i in
+    walk_end s.args.facets.now s.args.w.now s.args.at s.requires.facets_len.1 s.requires.facets_len.2 l.w l.q l.i l.invariant (omega arith) s.requires.facets_len.0
+    (λ j. omega (arith, c.type_inv.facets j)) s.requires.w_value
+
+pub loop-i-preserved-then-is_irregular : goal.loop-i-preserved-then-is_irregular
+loop-i-preserved-then-is_irregular c =
+    let s = c in
+    let l = c.loop-i in
+    let run = c.run_end-e in
+    let asked = c.is_irregular in
+    walk_yes s.args.facets.now s.args.w.now s.args.at s.requires.facets_len.1 s.requires.facets_len.2 l.w l.q l.i l.invariant run.result run.ensures
+    asked.result asked.ensures c.if-is_irregular.true
+    c.pair_first.result c.pair_second.result c.pair_first.ensures c.pair_second.ensures
+
+pub loop-i-preserved : goal.loop-i-preserved
+loop-i-preserved c =
+    let s = c in
+    let l = c.loop-i in
+    let run = c.run_end-e in
+    walk_no s.args.facets.now s.args.w.now s.args.at s.requires.facets_len.1 s.requires.facets_len.2 l.w l.q l.i l.invariant run.result run.ensures
+    c.is_irregular.result c.is_irregular.ensures c.if-is_irregular.false
+
+pub loop-i-init : goal.loop-i-init
+loop-i-init c = let s = c in walk_start s.args.facets.now s.args.w.now s.args.at
+
+pub run_end-e-requires : goal.run_end-e-requires
+run_end-e-requires c = let s = c in let l = c.loop-i in (omega arith, omega (arith, l.invariant.above.long))
+
+pub is_irregular-requires : goal.is_irregular-requires
+is_irregular-requires c =
+    let s = c in
+    let l = c.loop-i in record { facets_len = (s.requires.facets_len.0, c.run_end-e.ensures.more, c.run_end-e.ensures.within, omega (arith, l.invariant.above.long)); w_value = table_kept s.args.facets.now s.args.w.now l.w s.args.at s.requires.facets_len.1 (omega arith) l.invariant.above s.requires.w_value }
+
+pub overflow_mul-key : goal.overflow_mul-key
+overflow_mul-key c = omega arith
+
+pub offset_bounds-w-i : goal.offset_bounds-w-i
+offset_bounds-w-i c = omega arith
+
+pub bounds-w-i : goal.bounds-w-i
+bounds-w-i c = omega arith
+
+pub overflow_mul-w : goal.overflow_mul-w
+overflow_mul-w c = omega arith
+
+pub overflow_add-w : goal.overflow_add-w
+overflow_add-w c = omega arith
+
+pub offset_bounds-w-at : goal.offset_bounds-w-at
+offset_bounds-w-at c = omega arith
+
+pub bounds-w-at : goal.bounds-w-at
+bounds-w-at c = omega arith
+
+pub overflow_mul-w-then-is_irregular : goal.overflow_mul-w-then-is_irregular
+overflow_mul-w-then-is_irregular c = omega arith
+
+pub overflow_add-w-then-is_irregular : goal.overflow_add-w-then-is_irregular
+overflow_add-w-then-is_irregular c = omega arith
+
+pub overflow_add-w-then-is_irregular-2 : goal.overflow_add-w-then-is_irregular-2
+overflow_add-w-then-is_irregular-2 c = omega arith
+
+pub offset_bounds-w-at-then-is_irregular : goal.offset_bounds-w-at-then-is_irregular
+offset_bounds-w-at-then-is_irregular c = omega arith
+
+pub bounds-w-at-then-is_irregular : goal.bounds-w-at-then-is_irregular
+bounds-w-at-then-is_irregular c =
+    let s = c in
+    let l = c.loop-i in
+    let run = c.run_end-e in
+    let asked = c.is_irregular in
+    let room =
+    walk_room s.args.facets.now s.args.w.now s.args.at s.requires.facets_len.1 s.requires.facets_len.2 l.w l.q l.i l.invariant run.result run.ensures
+    asked.result asked.ensures c.if-is_irregular.true in
+    simp length-set (omega (arith, room, run.ensures.within, l.invariant.above.long))
+
+pub overflow_add-q : goal.overflow_add-q
+overflow_add-q c = omega arith
+
+pub loop-i-smaller-then-is_irregular : goal.loop-i-smaller-then-is_irregular
+loop-i-smaller-then-is_irregular c = let run = c.run_end-e in omega (arith, run.ensures.more, run.ensures.within)
+
+pub loop-i-smaller : goal.loop-i-smaller
+loop-i-smaller c = let run = c.run_end-e in omega (arith, run.ensures.more, run.ensures.within)
+
+pub shape_of-w : goal.shape_of-w
+shape_of-w c = c.loop-i.invariant.above.long

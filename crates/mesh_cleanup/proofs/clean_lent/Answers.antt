@@ -1,0 +1,29 @@
+use lib.ListN.{length}
+use Rattle.mesh_cleanup.proofs.Delivery.{ready}
+use Rattle.refusals.proofs.Answers.{refused, behind}
+use Rattle.refusals.specs.Answers.{mesh_outputs}
+use Rattle.input_tests.specs.Front.{limits}
+use Rattle.mesh_cleanup.specs.Clean.{clean_asked, clean_tests, clean_result}
+use mathlib.Core.Path.{refl, sym, ◌∙◌}
+use borrow.Author.Rules.{rules}
+use Rattle.mesh_cleanup.proofs.clean_lent.Goals as goal
+
+pub clean_checked-requires : goal.clean_checked-requires
+clean_checked-requires c =
+    let s = c in
+    let a = s.args in
+    ready a.vertices.now a.facets.now (clean_asked a.eps) (limits a.ceiling (length a.work.now))
+    (sym c.check.ensures ∙ c.in-Passed.is)
+
+pub returns-in-Passed : goal.returns-in-Passed
+returns-in-Passed c =
+    let a = c.args in
+    behind (clean_tests a.vertices.now a.facets.now (clean_asked a.eps) (limits a.ceiling (length a.work.now))) _ _
+    (sym c.check.ensures ∙ c.in-Passed.is) c.clean_checked.ensures
+
+pub returns-in-Refused : goal.returns-in-Refused
+returns-in-Refused c =
+    let a = c.args in
+    refused (clean_tests a.vertices.now a.facets.now (clean_asked a.eps) (limits a.ceiling (length a.work.now)))
+    (mesh_outputs (clean_result a.vertices.now a.facets.now (clean_asked a.eps)) a.out_vertices.now a.out_vertices.now a.out_facets.now a.out_facets.now) _
+    (sym c.check.ensures ∙ c.in-Refused.is) (refl, (refl, tt))

@@ -1,0 +1,13 @@
+use mathlib.Core.List.{[]}
+use Rattle.mesh_cleanup.proofs.Outputs.{numbers_start, number_room, numbers_turn, numbers_end}
+use Rattle.words.proofs.Overlay.{Writing}
+use Rattle.lists.specs.Regions.{view}
+use native.Mathlib.Omega.{arith}
+use Prim.Native.Nat.{◌-◌}
+use Rattle.mesh_cleanup.proofs.write_numbers.Given as goal
+
+abbrev pub invariant-loop-i : goal.invariant-loop-i
+invariant-loop-i l = Writing (view l.m l.at l.n) l.initial.out l.out l.i
+
+abbrev pub decreases-loop-i : goal.decreases-loop-i
+decreases-loop-i l = l.n - l.i
