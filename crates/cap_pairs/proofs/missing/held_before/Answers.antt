@@ -4,6 +4,7 @@ use native.Mathlib.Omega.{arith}
 use mathlib.Core.Logic.{⊎_elim}
 use mathlib.Core.Path.{sym, subst, ◌∙◌}
 use Prim.Native.Nat.{ℕ, ◌+◌, ◌-◌}
+use Rattle.cap_pairs.proofs.missing.held_before.Goals.{then-has_face+else-is_missing, else-has_face}
 use Rattle.cap_pairs.proofs.missing.held_before.Goals as goal
 
 pub loop-face-init : goal.loop-face-init
@@ -41,10 +42,13 @@ loop-face-preserved c =
     let l = c.loop-face in
     let has-face' = c.has_face in
     let branch = c.if-has_face in
-    ⊎_elim (λ t. subst (λ (x : ℕ). FaceWalk (missing_face a.w.now a.held) a.mask x (l.face + 1)) (sym t.3)
-    (walk_pass (missing_face a.w.now a.held) a.mask l.count l.face l.invariant (omega arith) (sym has-face'.ensures ∙ t.0.taken)
-    (sym t.1.ensures ∙ t.2.left))) (λ t. subst (λ (x : ℕ). FaceWalk (missing_face a.w.now a.held) a.mask x (l.face + 1)) (sym t.1)
-    (walk_skip (missing_face a.w.now a.held) a.mask l.count l.face l.invariant (omega arith) (sym has-face'.ensures ∙ t.0.left))) branch.branch
+    elim branch.branch [
+      | then-has_face+else-is_missing w ↦ subst (λ (x : ℕ). FaceWalk (missing_face a.w.now a.held) a.mask x (l.face + 1)) (sym w.count-is)
+          (walk_pass (missing_face a.w.now a.held) a.mask l.count l.face l.invariant (omega arith) (sym has-face'.ensures ∙ w.if-has_face.true)
+          (sym w.is_missing.ensures ∙ w.if-is_missing.false))
+      | else-has_face w ↦ subst (λ (x : ℕ). FaceWalk (missing_face a.w.now a.held) a.mask x (l.face + 1)) (sym w.count-is)
+          (walk_skip (missing_face a.w.now a.held) a.mask l.count l.face l.invariant (omega arith) (sym has-face'.ensures ∙ w.if-has_face.false))
+    ]
 
 pub returns : goal.returns
 returns c =

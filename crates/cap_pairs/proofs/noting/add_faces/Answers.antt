@@ -5,6 +5,7 @@ use Rattle.cap_pairs.proofs.Adding.{Below, adding_start, adding_skip, adding_tur
 use Rattle.cap_pairs.specs.Steps.{Added}
 use native.Mathlib.Omega.{arith}
 use mathlib.Core.Logic.{⊎_elim}
+use Rattle.cap_pairs.proofs.noting.add_faces.Goals.{then-has_face, else-has_face}
 use Rattle.cap_pairs.proofs.noting.add_faces.Goals as goal
 
 pub loop-face-init : goal.loop-face-init
@@ -31,10 +32,12 @@ loop-face-preserved c =
     let l = c.loop-face in
     let has-face' = c.has_face in
     let branch = c.if-has_face in (
-      ⊎_elim (λ t. subst (λ (u : List ℕ). Added a.w.now u a.at (Below a.mask (l.face + 1))) (sym t.5)
-          (adding_turn a.w.now a.at a.mask l.w l.face l.invariant.0 t.2.last.0 (sym has-face'.ensures ∙ t.0.taken) t.2.ensures))
-          (λ t. subst (λ (u : List ℕ). Added a.w.now u a.at (Below a.mask (l.face + 1))) (sym t.1)
-          (adding_skip a.w.now a.at a.mask l.w l.face l.invariant.0 (sym has-face'.ensures ∙ t.0.left))) branch.branch,
+      elim branch.branch [
+        | then-has_face w ↦ subst (λ (u : List ℕ). Added a.w.now u a.at (Below a.mask (l.face + 1))) (sym w.w-is)
+            (adding_turn a.w.now a.at a.mask l.w l.face l.invariant.0 w.add_face.new.w (sym has-face'.ensures ∙ w.if-has_face.true) w.add_face.ensures)
+        | else-has_face w ↦ subst (λ (u : List ℕ). Added a.w.now u a.at (Below a.mask (l.face + 1))) (sym w.w-is)
+            (adding_skip a.w.now a.at a.mask l.w l.face l.invariant.0 (sym has-face'.ensures ∙ w.if-has_face.false))
+      ],
       omega arith,
     )
 

@@ -24,14 +24,8 @@ put_sides-requires c =
           a.w.now put-edges'.new.w s.requires put-edges'.ensures;
     }
 
-records-at-requires : goal.UNKNOWN-records-at-requires
-records-at-requires c κs = search rules
-
-part-sort-records-start : goal.UNKNOWN-slice-bounds-sort-records-start
-part-sort-records-start c = search rules
-
-part-sort-records-end : goal.UNKNOWN-slice-bounds-sort-records-end
-part-sort-records-end c =
+pub slice_bounds-sort_records-end : goal.slice_bounds-sort_records-end
+slice_bounds-sort_records-end c =
     let s = c in
     let a = s.args in
     let put-edges' = c.put_edges in

@@ -10,8 +10,8 @@ use Rattle.cap_pairs.proofs.pairs.put_edges.Goals as goal
 pub open_edges_at-edges-requires : goal.open_edges_at-edges-requires
 open_edges_at-edges-requires c = omega arith
 
-records-at-requires : goal.UNKNOWN-records-at-requires
-records-at-requires c κs = omega arith
+pub records_at-records-requires : goal.records_at-records-requires
+records_at-records-requires c = omega arith
 
 pub loop-i-init : goal.loop-i-init
 loop-i-init c =

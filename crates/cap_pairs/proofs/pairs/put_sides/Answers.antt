@@ -10,8 +10,8 @@ use Rattle.cap_pairs.proofs.pairs.put_sides.Goals as goal
 pub turned_at-turned-requires : goal.turned_at-turned-requires
 turned_at-turned-requires c = omega arith
 
-records-at-requires : goal.UNKNOWN-records-at-requires
-records-at-requires c κs = omega arith
+pub records_at-requires : goal.records_at-requires
+records_at-requires c = omega arith
 
 pub overflow_mul-records : goal.overflow_mul-records
 overflow_mul-records c = omega arith

@@ -1,0 +1,87 @@
+use mathlib.Core.Path.{◌∙◌}
+use native.Mathlib.Omega.{arith}
+use Rattle.candidate_surface.specs.Asked.{asked}
+use Rattle.boundary_closure.proofs.Listing.{no_ends_left, ends_left, Made, made_of}
+use Rattle.boundary_closure.proofs.Delivery.{no_ends, some_ends}
+use Rattle.candidate_surface.proofs.Fitting.{vertices_in, most_small}
+use Rattle.candidate_surface.proofs.Completing.{fits_same}
+use borrow.Author.Rules.{rules}
+use Rattle.boundary_closure.proofs.front.list_candidates.Goals as goal
+
+pub enter_surface-listed-requires : goal.enter_surface-listed-requires
+enter_surface-listed-requires c =
+    let a = c.args in record {
+      mesh_fits = c.requires.mesh_fits.0;
+      tabled = c.requires.tabled;
+      vertices_in = vertices_in a.vertices.now a.facets.now (asked a.extents a.eps a.resolution)
+          c.requires.sound;
+    }
+
+pub returns-then-listed-eq0 : goal.returns-then-listed-eq0
+returns-then-listed-eq0 c =
+    let a = c.args in
+    no_ends a.vertices.now a.facets.now (asked a.extents a.eps a.resolution) a.candidates.now a.face_lists.now a.constraints.now a.open_edges.now
+    (no_ends_left a.vertices.now a.facets.now (asked a.extents a.eps a.resolution) c.enter_surface-listed.result
+    c.enter_surface-listed.ensures.1 c.if-listed-eq0.true)
+
+pub complete-requires : goal.complete-requires
+complete-requires c =
+    let a = c.args in record {
+      sound = c.requires.sound;
+      mesh_fits = (
+        (fits_same a.vertices.now a.facets.now a.n a.w.now c.enter_surface-listed.new.w
+            c.enter_surface-listed.auto.w
+            c.requires.mesh_fits.0),
+        c.requires.mesh_fits.1,
+        c.requires.tabled.table.within,
+      );
+      c = c.enter_surface-listed.ensures.0;
+    }
+
+pub all_constraints-total-requires : goal.all_constraints-total-requires
+all_constraints-total-requires c =
+    let c = c in
+    let s = c in
+    let a = s.args in
+    let M = s.requires.mesh_fits.0 in
+    let m = most_small a.vertices.now a.facets.now (asked a.extents a.eps a.resolution) s.requires.sound in record {
+      holds = c.complete.ensures.holds;
+      edges_held = c.complete.ensures.held;
+      n_bound = (
+        omega (arith, s.requires.mesh_fits.1, m),
+        M.few,
+        omega (arith, M.threes, s.requires.tabled.table.within),
+        omega (arith, M.size, c.enter_surface-listed.auto.w, c.complete.auto.w),
+      );
+    }
+
+pub deliver-requires : goal.deliver-requires
+deliver-requires c =
+    let made : Made c.args.vertices.now c.args.facets.now (asked c.args.extents c.args.eps c.args.resolution) c.args.n
+    c.args.k c.enter_surface-listed.result c.all_constraints-total.result c.all_constraints-total.new.w = let completed = c in
+    let a = c.args in
+    let w = completed.complete.new.w in
+    made_of a.vertices.now a.facets.now (asked a.extents a.eps a.resolution) c.enter_surface-listed.result c.enter_surface-listed.ensures.1 a.n a.k
+    c.all_constraints-total.result w c.all_constraints-total.new.w
+    (fits_same a.vertices.now a.facets.now a.n a.w.now w
+    (completed.complete.auto.w ∙ c.enter_surface-listed.auto.w) c.requires.mesh_fits.0) c.requires.tabled.table.within
+    completed.complete.ensures c.all_constraints-total.ensures in
+    made.readable
+
+pub returns : goal.returns
+returns c =
+    let made : Made c.args.vertices.now c.args.facets.now (asked c.args.extents c.args.eps c.args.resolution) c.args.n
+    c.args.k c.enter_surface-listed.result c.all_constraints-total.result c.all_constraints-total.new.w = let completed = c in
+    let a = c.args in
+    let w = completed.complete.new.w in
+    made_of a.vertices.now a.facets.now (asked a.extents a.eps a.resolution) c.enter_surface-listed.result c.enter_surface-listed.ensures.1 a.n a.k
+    c.all_constraints-total.result w c.all_constraints-total.new.w
+    (fits_same a.vertices.now a.facets.now a.n a.w.now w
+    (completed.complete.auto.w ∙ c.enter_surface-listed.auto.w) c.requires.mesh_fits.0) c.requires.tabled.table.within
+    completed.complete.ensures c.all_constraints-total.ensures in
+    let m = c in
+    let a = c.args in
+    let q = asked a.extents a.eps a.resolution in
+    some_ends a.vertices.now a.facets.now q a.candidates.now _ a.face_lists.now _ a.constraints.now _ a.open_edges.now _
+    (ends_left a.vertices.now a.facets.now q c.enter_surface-listed.result c.enter_surface-listed.ensures.1
+    m.if-listed-eq0.false) _ made.standing _ c.deliver.ensures

@@ -1,0 +1,77 @@
+use borrow.Author.Rules.{rules}
+use lib.Seq.{sets}
+use Prim.Native.Nat.{◌≤◌, ◌-◌}
+use mathlib.Core.List.{[], ◌∷◌}
+use mathlib.Core.Path.{refl, ◌∙◌}
+use native.Mathlib.Omega.{arith}
+use Rattle.candidate_outputs.proofs.Blocks.{key_block, keys_are, keys_long}
+use Rattle.lists.proofs.Blocks.{BlocksStored, blocks_start, blocks_turn, blocks_room, blocks_long, blocks_end}
+use Rattle.candidate_outputs.proofs.outputs.write_constraints.Goals as goal
+
+pub loop-i-init : goal.loop-i-init
+loop-i-init c = let a = c.args in (omega arith, blocks_start (key_block a.w.now a.at) a.out.now 0 _ refl)
+
+pub overflow_add-key : goal.overflow_add-key
+overflow_add-key c = omega (arith, c.requires.0)
+
+pub offset_bounds-w-at : goal.offset_bounds-w-at
+offset_bounds-w-at c = omega (arith, c.requires.0)
+
+pub bounds-w-at : goal.bounds-w-at
+bounds-w-at c = omega (arith, c.requires.0)
+
+pub write_three-requires : goal.write_three-requires
+write_three-requires c =
+    let a = c.args in
+    let l = keys_long a.w.now a.at a.total c.requires.0 in
+    let r = blocks_room (key_block a.w.now a.at) a.out.now c.loop-i.out 0
+    c.loop-i.i c.loop-i.o
+    c.loop-i.invariant.1 a.total c.loop-i-test.true
+    (omega (arith, l, c.requires.1)) in
+    omega (arith, r)
+
+pub overflow_add-o : goal.overflow_add-o
+overflow_add-o c =
+    let a = c.args in
+    let l = keys_long a.w.now a.at a.total c.requires.0 in
+    let r = blocks_room (key_block a.w.now a.at) a.out.now c.loop-i.out 0
+    c.loop-i.i c.loop-i.o
+    c.loop-i.invariant.1 a.total
+    c.loop-i-test.true
+    (omega (arith, l, c.requires.1)) in
+    omega (
+      arith,
+      r,
+      blocks_long (key_block a.w.now a.at) a.out.now c.loop-i.out 0
+          c.loop-i.i c.loop-i.o
+          c.loop-i.invariant.1,
+    )
+
+pub overflow_add-i : goal.overflow_add-i
+overflow_add-i c = omega arith
+
+pub loop-i-smaller : goal.loop-i-smaller
+loop-i-smaller c = omega arith
+
+pub loop-i-preserved : goal.loop-i-preserved
+loop-i-preserved c =
+    let a = c.args in (
+      omega arith,
+      blocks_turn (key_block a.w.now a.at) a.out.now c.loop-i.out 0
+          c.loop-i.i c.loop-i.o
+          c.loop-i.invariant.1 _ _
+          (c.write_three.ensures ∙ (λ t. sets c.loop-i.out
+          c.loop-i.o
+          (c.triple_first.ensures t ∷ c.triple_second.ensures t ∷ c.triple_third.ensures t ∷ []))) refl,
+    )
+
+pub shape_of-out : goal.shape_of-out
+shape_of-out c =
+    let a = c.args in
+    blocks_long (key_block a.w.now a.at) a.out.now c.loop-i.out 0 c.loop-i.i c.loop-i.o c.loop-i.invariant.1
+
+pub returns : goal.returns
+returns c =
+    let a = c.args in
+    blocks_end (key_block a.w.now a.at) a.out.now c.loop-i.out 0 c.loop-i.i c.loop-i.o c.loop-i.invariant.1 a.total
+    c.loop-i.invariant.0 c.loop-i-test.false _ (keys_are a.w.now a.at a.total c.requires.0)

@@ -1,0 +1,14 @@
+use Prim.Native.Nat.{◌≤◌, ◌+◌, ◌-◌}
+use lib.ListN.{get_or}
+use mathlib.Core.Path.{refl}
+use native.Mathlib.Omega.{arith}
+use Rattle.candidate_outputs.specs.Written.{face_words}
+use Rattle.candidate_outputs.proofs.Blocks.{faces_are, faces_long}
+use Rattle.lists.proofs.Blocks.{BlocksStored, blocks_start, blocks_turn, blocks_room, blocks_long, blocks_end, blocks_place}
+use Rattle.candidate_outputs.proofs.outputs.write_edge.Given as goal
+
+abbrev pub invariant-loop-face : goal.invariant-loop-face
+invariant-loop-face l = (l.face ≤ 6) × BlocksStored (face_words l.mask (get_or l.w l.edge 0) (get_or l.w (l.edge + 1) 0)) l.initial.out l.out l.at l.face l.o
+
+abbrev pub decreases-loop-face : goal.decreases-loop-face
+decreases-loop-face l = 6 - l.face

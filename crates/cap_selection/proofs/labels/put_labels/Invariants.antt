@@ -1,0 +1,16 @@
+use Prim.Native.Nat.{ℕ, ◌+◌, ◌*◌, ◌-◌, ◌≤◌}
+use mathlib.Core.Path.{sym, subst, ◌∙◌}
+use native.Mathlib.Omega.{arith}
+use lib.ListN.{set}
+use Rattle.lists.proofs.Regions.{Filled, filled_none, filled_more}
+use Rattle.cap_selection.specs.Steps.{label_in}
+use Rattle.cap_selection.proofs.Same.{label_same, numbered_same}
+use Rattle.cap_selection.proofs.Tabling.{labels_above, labelled_end}
+use Rattle.cap_selection.proofs.labels.put_labels.Given as goal
+
+-- `labels::put_labels`. The loop's invariant: the labels of the sides before s are put. The measure is what is left. Assumes nothing.
+abbrev pub invariant-loop-s : goal.invariant-loop-s
+invariant-loop-s l = (l.s ≤ 3 * l.nc) × Filled (label_in l.n l.nf l.nc l.k l.initial.w) l.initial.w l.w l.labels l.s
+
+abbrev pub decreases-loop-s : goal.decreases-loop-s
+decreases-loop-s l = 3 * l.nc - l.s
