@@ -35,12 +35,11 @@ complete-requires c =
         c.requires.mesh_fits.1,
         c.requires.tabled.table.within,
       );
-      c = c.enter_surface-listed.ensures.0;
+      surfaced = c.enter_surface-listed.ensures.0;
     }
 
 pub all_constraints-total-requires : goal.all_constraints-total-requires
 all_constraints-total-requires c =
-    let c = c in
     let s = c in
     let a = s.args in
     let M = s.requires.mesh_fits.0 in

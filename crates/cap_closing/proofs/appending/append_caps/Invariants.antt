@@ -1,0 +1,14 @@
+use Prim.Native.Nat.{ℕ, ◌-◌, ◌≤◌}
+use mathlib.Core.Path.{◌≡◌, subst}
+use native.Mathlib.Omega.{arith}
+use Rattle.cap_triangles.specs.Room.{closing_at}
+use Rattle.cap_closing.specs.Steps.{Appending}
+use Rattle.cap_closing.proofs.Turns.{appending_none, appending_turn, taking_kept, shaped_kept}
+use Rattle.cap_closing.proofs.appending.append_caps.Given as goal
+
+-- `append_caps` meets its contract: one triangle more (`appending_turn`). Assumes nothing.
+abbrev pub invariant-loop-i : goal.invariant-loop-i
+invariant-loop-i l = Appending l.vertices (closing_at l.n l.nf l.nc) l.n l.nf l.nc l.positive l.i l.left l.initial.w l.w × (l.i ≤ l.nc)
+
+abbrev pub decreases-loop-i : goal.decreases-loop-i
+decreases-loop-i l = l.nc - l.i

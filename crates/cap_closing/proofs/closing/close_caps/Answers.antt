@@ -1,0 +1,81 @@
+use Prim.Native.Nat.{◌/◌}
+use native.Mathlib.Omega.{arith}
+use borrow.Author.Rules.{rules}
+use lib.ListN.{length}
+use Rattle.cap_triangles.specs.Room.{closing_at}
+use Rattle.cap_closing.proofs.Whole.{shaped_first, taking_first, closed}
+use Rattle.cap_closing.proofs.Turns.{shaped_kept, taking_kept}
+use Rattle.cap_closing.proofs.Beginning.{entering_first}
+use Rattle.cap_closing.proofs.closing.close_caps.Goals as goal
+
+-- `close_caps` meets its contract: the three steps together (`closed`). Assumes nothing.
+pub start_entering-requires : goal.start_entering-requires
+start_entering-requires c =
+    let s = c in
+    let a = s.args in
+    let D = s.requires.turned_ready in
+    let P = D.supplied in
+    let x = P.small in
+    let y = P.few in
+    let z = P.caps in
+    let q = P.size in
+    let k = P.pooled.few in
+    (omega arith, omega arith, omega arith, omega arith, omega arith)
+
+pub append_caps-left-requires : goal.append_caps-left-requires
+append_caps-left-requires c =
+    let s = c in
+    let a = s.args in
+    let nc = length a.cap_list.now / 4 in
+    let nv = length a.vertices.now / 3 in
+    let b = closing_at a.n a.nf nc in
+    let D = s.requires.turned_ready in
+    let P = D.supplied in
+    let x = P.small in
+    let y = P.few in
+    let z = P.caps in
+    let q = P.size in
+    let k = P.pooled.few in
+    let S = c.start_entering.ensures in
+    let w₁ = c.start_entering.new.w in
+    let E = entering_first b a.n nc nv a.w.now w₁ (omega arith) k (omega arith) x z s.requires.vertices_in.1 s.requires.vertices_in.2 S in record {
+      nf_bound = y;
+      names_entering = E;
+      shaped = shaped_kept a.n a.nf nc a.w.now w₁ S.above a.vertices.now k
+          (shaped_first a.n a.nf a.cap_list.now a.w.now D a.vertices.now s.requires.vertices_in.0);
+      taking = taking_kept a.n a.nf nc a.w.now w₁ S.above
+          (taking_first a.n a.nf a.cap_list.now a.w.now D s.requires.by_index);
+    }
+
+pub find_firsts-caps-requires : goal.find_firsts-caps-requires
+find_firsts-caps-requires c =
+    let s = c in
+    let a = s.args in
+    let D = s.requires.turned_ready in
+    let P = D.supplied in
+    let x = P.small in
+    let y = P.few in
+    let z = P.caps in
+    let q = P.size in
+    let k = P.pooled.few in
+    let A = c.append_caps-left.ensures in
+    let f = A.few in
+    let e = A.entering.size in record { n_bound = (omega arith, omega arith, omega arith, f, omega arith); by_index = A.facets.places }
+
+pub returns : goal.returns
+returns c =
+    let s = c in
+    let a = s.args in
+    let D = s.requires.turned_ready in
+    let P = D.supplied in
+    let x = P.small in
+    let y = P.few in
+    let z = P.caps in
+    let q = P.size in
+    let k = P.pooled.few in
+    closed a.n a.nf a.cap_list.now a.w.now D a.vertices.now s.requires.vertices_in.1 s.requires.vertices_in.2 s.requires.by_index a.positive
+    c.append_caps-left.result c.find_firsts-caps.result
+    c.start_entering.new.w
+    c.append_caps-left.new.w c.find_firsts-caps.new.w
+    c.start_entering.ensures
+    c.append_caps-left.ensures c.find_firsts-caps.ensures

@@ -1,0 +1,157 @@
+use Prim.Native.Nat.{◌+◌, ◌*◌, ◌-◌, ◌≤◌}
+use mathlib.Core.Path.{◌∙◌}
+use native.Mathlib.Omega.{arith}
+use Rattle.candidate_pool.specs.Offsets.{entry_at}
+use borrow.Author.Rules.{rules}
+use lib.ListN.{get_or, set, length-set}
+use Rattle.lists.proofs.Regions.{Filled}
+use Rattle.cap_triangles.specs.Room.{closing_at}
+use Rattle.cap_closing.proofs.Beginning.{copy_none, copy_more, started}
+use Rattle.cap_closing.proofs.entering.start_entering.Goals as goal
+
+pub loop-c-init : goal.loop-c-init
+loop-c-init c =
+    let s = c in
+    let a = s.args in
+    let b = closing_at a.n a.nf a.nc in
+    let R = s.requires in
+    (copy_none b a.n (set a.w.now c.vertices_at.result a.nv) (omega arith), omega arith)
+
+pub entry_at-requires : goal.entry_at-requires
+entry_at-requires c =
+    let s = c in
+    let a = s.args in
+    let R = s.requires in
+    let l = c.loop-c.invariant.0.long ∙ length-set a.w.now c.vertices_at.result a.nv in
+    let e = c.given_at-given.ensures in
+    let q = R.3 in
+    let z = R.4 in
+    omega arith
+
+pub overflow_add-w : goal.overflow_add-w
+overflow_add-w c =
+    let s = c in
+    let a = s.args in
+    let R = s.requires in
+    let l = c.loop-c.invariant.0.long ∙ length-set a.w.now c.vertices_at.result a.nv in
+    let e = c.given_at-given.ensures in
+    let q = R.3 in
+    let z = R.4 in
+    let x = c.entry_at.ensures in
+    omega arith
+
+pub offset_bounds-w-entry_at : goal.offset_bounds-w-entry_at
+offset_bounds-w-entry_at c =
+    let s = c in
+    let a = s.args in
+    let R = s.requires in
+    let l = c.loop-c.invariant.0.long ∙ length-set a.w.now c.vertices_at.result a.nv in
+    let e = c.given_at-given.ensures in
+    let q = R.3 in
+    let z = R.4 in
+    let x = c.entry_at.ensures in
+    omega arith
+
+pub bounds-w-entry_at : goal.bounds-w-entry_at
+bounds-w-entry_at c =
+    let s = c in
+    let a = s.args in
+    let R = s.requires in
+    let l = c.loop-c.invariant.0.long ∙ length-set a.w.now c.vertices_at.result a.nv in
+    let e = c.given_at-given.ensures in
+    let q = R.3 in
+    let z = R.4 in
+    let x = c.entry_at.ensures in
+    omega arith
+
+pub overflow_add-w-in-loop-c : goal.overflow_add-w-in-loop-c
+overflow_add-w-in-loop-c c =
+    let s = c in
+    let a = s.args in
+    let R = s.requires in
+    let l = c.loop-c.invariant.0.long ∙ length-set a.w.now c.vertices_at.result a.nv in
+    let e = c.given_at-given.ensures in
+    let q = R.3 in
+    let z = R.4 in
+    let x = c.entry_at.ensures in
+    omega arith
+
+pub offset_bounds-w-given : goal.offset_bounds-w-given
+offset_bounds-w-given c =
+    let s = c in
+    let a = s.args in
+    let R = s.requires in
+    let l = c.loop-c.invariant.0.long ∙ length-set a.w.now c.vertices_at.result a.nv in
+    let e = c.given_at-given.ensures in
+    let q = R.3 in
+    let z = R.4 in
+    let x = c.entry_at.ensures in
+    omega arith
+
+pub bounds-w-given : goal.bounds-w-given
+bounds-w-given c =
+    let s = c in
+    let a = s.args in
+    let R = s.requires in
+    let l = c.loop-c.invariant.0.long ∙ length-set a.w.now c.vertices_at.result a.nv in
+    let e = c.given_at-given.ensures in
+    let q = R.3 in
+    let z = R.4 in
+    let x = c.entry_at.ensures in
+    omega arith
+
+pub overflow_add-c : goal.overflow_add-c
+overflow_add-c c =
+    let s = c in
+    let a = s.args in
+    let R = s.requires in
+    let l = c.loop-c.invariant.0.long ∙ length-set a.w.now c.vertices_at.result a.nv in
+    let e = c.given_at-given.ensures in
+    let q = R.3 in
+    let z = R.4 in
+    let x = c.entry_at.ensures in
+    omega arith
+
+pub loop-c-smaller : goal.loop-c-smaller
+loop-c-smaller c =
+    let s = c in
+    let a = s.args in
+    let R = s.requires in
+    let l = c.loop-c.invariant.0.long ∙ length-set a.w.now c.vertices_at.result a.nv in
+    let e = c.given_at-given.ensures in
+    let q = R.3 in
+    let z = R.4 in
+    let x = c.entry_at.ensures in
+    omega arith
+
+pub loop-c-preserved : goal.loop-c-preserved
+loop-c-preserved c =
+    let s = c in
+    let a = s.args in
+    let b = closing_at a.n a.nf a.nc in
+    let R = s.requires in
+    let k = length-set a.w.now c.vertices_at.result a.nv in
+    let q = R.3 in
+    let z = R.4 in
+    rw c.entry_at.ensures (
+      copy_more b a.n (set a.w.now c.vertices_at.result a.nv) (omega arith) c.loop-c.w c.loop-c.c
+          (omega arith) (omega arith) c.loop-c.invariant.0 c.given_at-given.result
+          c.given_at-given.ensures,
+      omega arith,
+    )
+
+pub shape_of-w : goal.shape_of-w
+shape_of-w c =
+    let s = c in
+    let a = s.args in
+    let R = s.requires in
+    c.loop-c.invariant.0.long ∙ length-set a.w.now c.vertices_at.result a.nv
+
+pub returns : goal.returns
+returns c =
+    let s = c in
+    let a = s.args in
+    let b = closing_at a.n a.nf a.nc in
+    let R = s.requires in
+    started b a.n a.nc a.nv a.w.now (omega arith) R.3 R.4 c.vertices_at.result c.vertices_at.ensures c.loop-c.w
+    c.loop-c.c c.loop-c-test.false c.loop-c.invariant.1 c.loop-c.invariant.0

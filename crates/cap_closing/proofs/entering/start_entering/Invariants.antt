@@ -1,0 +1,17 @@
+use Prim.Native.Nat.{◌+◌, ◌*◌, ◌-◌, ◌≤◌}
+use mathlib.Core.Path.{◌∙◌}
+use native.Mathlib.Omega.{arith}
+use Rattle.candidate_pool.specs.Offsets.{entry_at}
+use borrow.Author.Rules.{rules}
+use lib.ListN.{get_or, set, length-set}
+use Rattle.lists.proofs.Regions.{Filled}
+use Rattle.cap_triangles.specs.Room.{closing_at}
+use Rattle.cap_closing.proofs.Beginning.{copy_none, copy_more, started}
+use Rattle.cap_closing.proofs.entering.start_entering.Given as goal
+
+-- `start_entering` meets its contract: the copy goes on from candidate to candidate (`copy_more`). Assumes nothing.
+abbrev pub invariant-loop-c : goal.invariant-loop-c
+invariant-loop-c l = Filled (λ j. get_or l.initial.w (entry_at j + 3) 0) l.initial.w l.w (closing_at l.n l.nf l.nc) l.c × (l.c ≤ l.count)
+
+abbrev pub decreases-loop-c : goal.decreases-loop-c
+decreases-loop-c l = l.count - l.c

@@ -1,0 +1,39 @@
+use Rattle.cap_outputs.proofs.Delivery.{short_vertices, short_facets, done, mesh_numbers, mesh_facets}
+use Rattle.geometry.specs.Meshes.{mesh_of}
+use Rattle.words.specs.Overlay.{overlay}
+use Prim.Native.Nat.{ℕ}
+use lib.Ieee.{Float}
+use lib.ListN.{length}
+use native.Mathlib.Omega.{arith}
+use mathlib.Core.List.{List}
+use mathlib.Core.Path.{ap, ◌∙◌}
+use borrow.Author.Rules.{rules}
+use Rattle.cap_outputs.proofs.outputs.deliver_mesh.Goals as goal
+
+pub returns-then-out_vertices-vertices : goal.returns-then-out_vertices-vertices
+returns-then-out_vertices-vertices c =
+    let a = c.args in
+    let x = mesh_numbers a.vertices.now a.facets.now c.requires.0 c.requires.1 in
+    let y = mesh_facets a.vertices.now a.facets.now c.requires.0 c.requires.1 in
+    short_vertices (mesh_of a.vertices.now a.facets.now) (length a.vertices.now) (length a.facets.now) (ap length x) (ap length y) a.out_vertices.now
+    a.out_facets.now c.if-out_vertices-vertices.true
+
+pub returns-then-out_facets-facets : goal.returns-then-out_facets-facets
+returns-then-out_facets-facets c =
+    let a = c.args in
+    let x = mesh_numbers a.vertices.now a.facets.now c.requires.0 c.requires.1
+    in
+    let y = mesh_facets a.vertices.now a.facets.now c.requires.0 c.requires.1
+    in
+    short_facets (mesh_of a.vertices.now a.facets.now) (length a.vertices.now) (length a.facets.now) (ap length x) (ap length y) a.out_vertices.now
+    a.out_facets.now c.if-out_vertices-vertices.false c.if-out_facets-facets.true
+
+pub returns : goal.returns
+returns c =
+    let a = c.args in
+    let x = mesh_numbers a.vertices.now a.facets.now c.requires.0 c.requires.1 in
+    let y = mesh_facets a.vertices.now a.facets.now c.requires.0 c.requires.1 in
+    done (mesh_of a.vertices.now a.facets.now) (length a.vertices.now) (length a.facets.now) (ap length x) (ap length y) a.out_vertices.now a.out_facets.now
+    c.if-out_vertices-vertices.false c.if-out_facets-facets.false _ _
+    (c.copy_doubles.ensures ∙ ap (λ (l : List Float). overlay l a.out_vertices.now) x)
+    (c.copy_numbers.ensures ∙ ap (λ (l : List ℕ). overlay l a.out_facets.now) y)

@@ -1,0 +1,15 @@
+use Rattle.lists.proofs.Blocks.{BlocksStored, blocks_start, blocks_turn, blocks_room, blocks_long, blocks_end}
+use Rattle.cap_outputs.proofs.Blocks.{three, fresh_block, fresh_are, fresh_long}
+use Rattle.geometry.specs.declared.point.Point.{Point}
+use lib.Seq.{sets}
+use lib.ListN.{length}
+use native.Mathlib.Omega.{arith}
+use mathlib.Core.Path.{ap, ◌∙◌}
+use Prim.Native.Nat.{◌+◌, ◌*◌, ◌-◌, ◌≤◌}
+use Rattle.cap_outputs.proofs.outputs.write_fresh.Given as goal
+
+abbrev pub invariant-loop-i : goal.invariant-loop-i
+invariant-loop-i l = (l.i ≤ l.count) × BlocksStored (fresh_block l.w l.fresh) l.initial.out l.out l.at l.i (l.at + 3 * l.i)
+
+abbrev pub decreases-loop-i : goal.decreases-loop-i
+decreases-loop-i l = l.count - l.i
