@@ -1,4 +1,4 @@
-//! Links libyongpham.a, which `rt staticlib yongpham` writes to target/staticlib/ of the repository. YONGPHAM_LIB names another
+//! Links libyongpham.a, which `tools/staticlib yongpham` writes to target/staticlib/ of the repository. YONGPHAM_LIB names another
 //! folder that holds it. With the feature `leaves` the library that exists for comparing and timing alone is linked too.
 
 use std::env;
@@ -22,7 +22,7 @@ fn main() {
     for name in names {
         let file = folder.join(format!("lib{name}.a"));
         if !file.is_file() {
-            eprintln!("{} is missing: `rt staticlib {name}` makes it, in the repository's folder; YONGPHAM_LIB may name another folder", file.display());
+            eprintln!("{} is missing: `tools/staticlib {name}` makes it, in the repository's folder; YONGPHAM_LIB may name another folder", file.display());
             std::process::exit(1);
         }
         println!("cargo:rerun-if-changed={}", file.display());

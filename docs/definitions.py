@@ -78,9 +78,9 @@ def path(name):
 
 
 def named(text):
-    """The files of definitions that a text uses; types declared in src/ are no such files."""
-    pairs = re.findall(r"use Rattle·(\w+)(?:·specs)?\.specs\.(\w+)", text)
-    return [f"{crate}/{file}" for crate, file in pairs if file != "declared"]
+    """The repository's files of definitions that a text uses; types declared in src/ are no such files, and Rattle's own library is none of ours."""
+    pairs = re.findall(r"use Rattle\.(\w+)\.specs\.(\w+)", text)
+    return [f"{crate}/{file}" for crate, file in pairs if file != "declared" and crate != "std"]
 
 
 def needed():

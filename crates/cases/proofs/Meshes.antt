@@ -2,9 +2,8 @@
 --   cleaned_to, cleaned_key   a test of what the operation answers is the same test of its definition
 use Prim.Native.Nat.{ℕ}
 use mathlib.Core.Path.{◌≡◌, ap, ap₂, ◌∙◌}
-use mathlib.Core.Bool.{Bool}
 use mathlib.Core.List.{List, [], ◌∷◌}
-use lib.ListN.{length, get_or, replicate}
+use lib.ListN.{length, replicate}
 use lib.Ieee.{Float}
 use Rattle.root.specs.Doubles.{zero_f}
 use Rattle.geometry.specs.Triangles.{flat}

@@ -2,20 +2,16 @@
 --   row_stop, row_more, row_end   `every` over the numbers below n: the first that fails, one more that passes, all passed
 --   number_itself                 only a NaN is not equal to itself
 --   first_none, first_more, first_all   a search: no number below 0, i, or n passes
-use Prim.Native.Nat.{ℕ, ◌+◌, ◌*◌, ◌≤◌, ◌<◌}
-use mathlib.Core.Path.{◌≡◌, refl, sym, ap, ap₂, ◌∙◌, subst}
-use mathlib.Core.Bool.{Bool, true, false, not, ◌&&◌, ◌||◌, beq}
-use mathlib.Core.List.{List}
+use Prim.Native.Nat.{ℕ, ◌+◌, ◌≤◌, ◌<◌}
+use mathlib.Core.Path.{◌≡◌, sym, ap, ◌∙◌, subst}
+use mathlib.Core.Bool.{Bool, true, false}
 use native.Mathlib.Omega.{arith}
 use native.Mathlib.Nat.{zero-add}
 use borrow.Author.Count.{below_none, below_more}
-use lib.Dec.{T, eqb}
-use lib.Ieee.{Float, nan, inf, fin, eq, is_nan}
-use lib.ListN.{length, get_or, drop}
-use Rattle.lists.specs.Lists.{every, up_to, up_from}
+use lib.ListN.{length, drop}
+use Rattle.lists.specs.Lists.{every, up_to}
 use Rattle.lists.proofs.Every.{every_stop, every_more, every_end}
 use Rattle.lists.proofs.Places.{length_up, at_up}
-use Rattle.root.proofs.Numbers.{number_itself}
 
 module _ (p : ℕ → Bool) (n i : ℕ) (e : every p (up_to n) ≡ every p (drop i (up_to n))) where
   long : i < n → i < length (up_to n)

@@ -1,5 +1,6 @@
 // The worked blocks of document 01 that are run: a line each, its name, a tab, and `ok` where every stated result came out, else `bad`. Reads nothing.
 #![tactic(auto)]
+
 mod bits;
 mod cleaning;
 mod closing;
@@ -9,22 +10,27 @@ mod listed;
 use cleaning::{c2, c8, c14};
 use closing::{c3b, c10, c13};
 use halves::c15;
+use page::Page;
+use std::io;
+use std::io::Write;
 
-fn print_line(name: &[u8], ok: bool) {
-    io::write_all(1, name);
+fn print_line<W: Write>(page: &mut Page<W>, name: &[u8], ok: bool) {
+    page.text(name);
     if ok {
-        io::write_all(1, b"\tok\n");
+        page.text(b"\tok\n");
     } else {
-        io::write_all(1, b"\tbad\n");
+        page.text(b"\tbad\n");
     }
 }
 
-fn main() {
-    print_line(b"C2", c2());
-    print_line(b"C3b", c3b());
-    print_line(b"C8", c8());
-    print_line(b"C10", c10());
-    print_line(b"C13", c13());
-    print_line(b"C14", c14());
-    print_line(b"C15", c15());
+fn main(rt: HostRuntime) -> io::Result<()> {
+    let mut page = Page::new(io::writer(&rt));
+    print_line(&mut page, b"C2", c2());
+    print_line(&mut page, b"C3b", c3b());
+    print_line(&mut page, b"C8", c8());
+    print_line(&mut page, b"C10", c10());
+    print_line(&mut page, b"C13", c13());
+    print_line(&mut page, b"C14", c14());
+    print_line(&mut page, b"C15", c15());
+    page.finish()
 }

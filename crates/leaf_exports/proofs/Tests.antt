@@ -48,6 +48,7 @@ passes x a b = tests x (subst (λ (z : Float). T (le z x)) zero_is (subst T (sym
 -- a number that has a root passes both
 or_left : (p q : Bool) → T p → T (p || q)
 or_left true q h = tt
+or_left false q h = elim h [ ]
 
 at_least : (x : Float) → T (rootable x) → T (le (fin false 0 (pos 0)) x)
 unfolding le lt eq

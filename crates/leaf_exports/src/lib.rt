@@ -1,6 +1,7 @@
 // For tests only, and no part of the product: leaves of the library under C names of their own, so that a program outside can compare and time them:
 // root, length, rounding and cell key on any bit pattern, the root of a whole number; clearing and sorting; components and chains. None has a `requires`: what a table asks is tested first.
 #![tactic(auto)]
+
 ghost use Rattle.std.specs.Prelude.{false, true, ◌≡◌, ℕ, ◌*◌, ◌+◌, ◌/◌, ◌<◌, ◌≤◌, eqb, get_or, length, replicate};
 ghost use Rattle.chains.specs.ByWord.{word_bucket};
 ghost use Rattle.chains.specs.Chains.{Linked};

@@ -4,13 +4,12 @@
 --   stops, ends           a row of tests: one that a fact needs fails; the last decides
 --   Passed                a loop: each number below i has the fact; start, more, end, stop
 use Prim.Native.Nat.{ℕ, ◌+◌, ◌≤◌, ◌<◌}
-use mathlib.Core.Path.{◌≡◌, refl, sym, subst}
+use mathlib.Core.Path.{◌≡◌}
 use mathlib.Core.Bool.{Bool, true, false, not}
 use native.Mathlib.Omega.{arith}
 use native.Mathlib.Nat.{lt_of_lt_of_le}
 use borrow.Author.Count.{below_none, below_more}
 use borrow.Author.Tests.{not-true, not-false}
-use lib.Dec.{T}
 use Rattle.lists.specs.Lists.{Decides}
 use Rattle.lists.proofs.Bools.{is_true, yes}
 use Rattle.replay.specs.Words.{Everywhere}

@@ -4,14 +4,14 @@
 --   front_length  the length of a front
 use Prim.Native.Nat.{ℕ, ◌+◌, ◌≤◌, ◌<◌}
 use mathlib.Core.Path.{◌≡◌, refl, sym, ap, ◌∙◌}
-use mathlib.Core.List.{List, map}
+use mathlib.Core.List.{List}
 use native.Mathlib.Omega.{arith}
 use native.Mathlib.Nat.{le_of_eq}
 use native.Mathlib.Numerals.{add-one}
 use lib.ListN.{length, get_or, set, take, length-map, length-set}
 use lib.Seq.{length-take-le}
 use lib.Ieee.{Float}
-use Rattle.lists.specs.Lists.{up_to, up_from}
+use Rattle.lists.specs.Lists.{up_to}
 use Rattle.lists.proofs.Places.{length_up, at_map_up}
 use Rattle.words.proofs.Overlay.{Writing, writing_start, writing_turn, writing_end, overlay_whole}
 use Rattle.root.specs.Doubles.{◌⊕◌, one_f}

@@ -4,3 +4,4 @@ pub mod Filling
 pub mod Agreeing
 pub mod Listing
 pub mod Tallying
+pub mod Loading

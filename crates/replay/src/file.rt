@@ -1,6 +1,6 @@
-// A file as a row of 64-bit words, the least byte first. No contract can say what is read from outside; what is said here is where it is put.
+// A file's bytes as a row of 64-bit words, the least byte first. No contract can say which bytes a file holds; what is said here is what becomes of them.
 ghost use Rattle.std.specs.Prelude.{◌≡◌, ◌+◌, ◌*◌, ◌≤◌, ◌<◌, length, take};
-ghost use Rattle.replay.specs.Words.{word_of};
+ghost use Rattle.replay.specs.Words.{word_of, FrontRead, Loaded};
 
 // Room for a file of 1 MB. The `ensures` gives the length, which lending the array as a slice needs.
 pub fn room() -> [u64; 131072]
@@ -33,27 +33,31 @@ enum Read {
     Part,
 }
 
-fn read_word(fd: i32) -> Read {
-    let mut bytes = [0u8; 8];
-    let n = io::read_full(fd, &mut bytes);
-    if n == 0 {
+// The word at the front of the bytes that are left.
+fn read_word(left: &[u8]) -> Read
+    ensures { FrontRead left.now result }
+{
+    if left.is_empty() {
         return Read::End;
     }
-    if n < 8 {
-        return Read::Part;
+    match left.first_chunk::<8>() {
+        Some(bytes) => Read::Word(word(bytes)),
+        None => Read::Part,
     }
-    Read::Word(word(&bytes))
 }
 
 // Puts the file's words at the front of `words`, as many as there is room for, and answers how many: none, if the file ends within a word.
-pub fn load(fd: i32, words: &mut [u64]) -> usize
-    ensures { (result ≤ length words.new) × (result ≡ length (take result words.new)) }
+pub fn load(file: &[u8], words: &mut [u64]) -> usize
+    ensures within { (result ≤ length words.new) × (result ≡ length (take result words.new)) }
+    ensures read { Loaded file.now words.new result }
 {
+    let mut left = file;
     let mut i = 0;
     while i < words.len() {
-        match read_word(fd) {
+        match read_word(left) {
             Read::Word(w) => {
                 words[i] = w;
+                left = &left[8..];
             }
             Read::End => {
                 return i;

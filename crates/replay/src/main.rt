@@ -1,6 +1,7 @@
 // Replays stored answers: requests with the answers that the oracle gave (README.md), each run again here. It writes a line an operation: its
 // name, how many requests the file has of it, and how many of these are answered as the oracle answered them.
 #![tactic(auto)]
+
 mod agreement;
 mod boundary;
 mod candidates;
@@ -16,37 +17,37 @@ mod requests;
 use counting::{Tally, count};
 use file::{load, room};
 use layout::are_answers;
+use page::Page;
+use std::io::Write;
+use std::{fs, io};
 
-fn print_line(name: &[u8], tally: Tally) {
-    io::write_all(1, name);
-    io::write_all(1, b"\t");
-    io::print_decimal(1, tally.requests);
-    io::write_all(1, b"\t");
-    io::print_decimal(1, tally.agreeing);
-    io::write_all(1, b"\n");
+fn print_line<W: Write>(page: &mut Page<W>, name: &[u8], tally: Tally) {
+    page.text(name);
+    page.text(b"\t");
+    page.number(tally.requests);
+    page.text(b"\t");
+    page.number(tally.agreeing);
+    page.text(b"\n");
 }
 
-fn replay(file: &[u64]) {
+fn replay<W: Write>(page: &mut Page<W>, file: &[u64]) {
     if !are_answers(file) {
-        io::write_all(1, b"malformed\n");
+        page.text(b"malformed\n");
         return;
     }
-    print_line(b"tolerance", count(file, 1));
-    print_line(b"clip", count(file, 2));
-    print_line(b"clean", count(file, 3));
-    print_line(b"candidates", count(file, 4));
-    print_line(b"caps", count(file, 5));
-    print_line(b"boundary_components", count(file, 6));
+    print_line(page, b"tolerance", count(file, 1));
+    print_line(page, b"clip", count(file, 2));
+    print_line(page, b"clean", count(file, 3));
+    print_line(page, b"candidates", count(file, 4));
+    print_line(page, b"caps", count(file, 5));
+    print_line(page, b"boundary_components", count(file, 6));
 }
 
-fn main() {
-    let fd = os::open_read(b"answers.bin");
-    if fd < 0 {
-        os::fail(b"answers.bin");
-        return;
-    }
+fn main(rt: HostRuntime) -> io::Result<()> {
+    let bytes = fs::read(&rt, "answers.bin")?;
     let mut words = room();
-    let n = load(fd, &mut words);
-    libc::close(fd);
-    replay(&words[..n]);
+    let n = load(bytes.as_slice(), &mut words);
+    let mut page = Page::new(io::writer(&rt));
+    replay(&mut page, &words[..n]);
+    page.finish()
 }

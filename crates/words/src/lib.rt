@@ -1,5 +1,6 @@
 // Leaves over lent words: clearing, copies to the front of an output, and several numbers packed into one word.
 #![tactic(auto)]
+
 mod clearing;
 mod copying;
 mod packing;

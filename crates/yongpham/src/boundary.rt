@@ -8,8 +8,7 @@ use boundary_components::boundary_components;
 use refusals::report::report_reply;
 
 // `boundary_components`: values[0] to values[2] get the lengths written.
-#[unsafe(no_mangle)]
-pub extern "C" fn yongpham_boundary_components(
+pub fn yongpham_boundary_components(
     vertex_count: u64,
     facets: &[u32],
     ceiling: u64,

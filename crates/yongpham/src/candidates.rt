@@ -11,8 +11,7 @@ use geometry::aabb::AABB;
 use refusals::report::report_reply;
 
 // `cap_candidates`: the four values get the lengths written.
-#[unsafe(no_mangle)]
-pub extern "C" fn yongpham_candidates(
+pub fn yongpham_candidates(
     vertices: &[f64],
     facets: &[u32],
     min_x: f64,

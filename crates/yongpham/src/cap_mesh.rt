@@ -43,8 +43,7 @@ fn refuse_mode(
 }
 
 // `cap_mesh_to_aabb`: values[0] and values[1] get the lengths written. Only numbers come from C, so that a mode is tested here.
-#[unsafe(no_mangle)]
-pub extern "C" fn yongpham_caps(
+pub fn yongpham_caps(
     vertices: &[f64],
     facets: &[u32],
     cap_list: &[u64],

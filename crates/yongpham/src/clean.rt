@@ -7,8 +7,7 @@ use mesh_cleanup::clean_mesh;
 use refusals::report::report_reply;
 
 // `clean_mesh`: values[0] and values[1] get the lengths written.
-#[unsafe(no_mangle)]
-pub extern "C" fn yongpham_clean(
+pub fn yongpham_clean(
     vertices: &[f64],
     facets: &[u32],
     eps: f64,

@@ -9,8 +9,7 @@ use geometry::aabb::AABB;
 use refusals::report::report_reply;
 
 // `clip_mesh_to_aabb`: values[0] and values[1] get the lengths written.
-#[unsafe(no_mangle)]
-pub extern "C" fn yongpham_clip(
+pub fn yongpham_clip(
     vertices: &[f64],
     facets: &[u32],
     min_x: f64,

@@ -1,6 +1,7 @@
-// The library for C: include/yongpham.h says in plain words what each function takes and answers. A function's contract is the operation's own,
-// through the documented number and values.
+// The library as C calls it, through yongpham_c: include/yongpham.h says in plain words what each function takes and answers. A function's contract is
+// the operation's own, through the documented number and values.
 #![tactic(auto)]
+
 mod boundary;
 mod candidates;
 mod cap_mesh;

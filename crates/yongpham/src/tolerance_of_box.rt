@@ -7,8 +7,7 @@ use refusals::report::{report_done, report_refusal};
 use tolerance::{Tolerance, bbox_eps};
 
 // `bbox_eps` of the box with these two corners: values[0] gets the bits of the tolerance.
-#[unsafe(no_mangle)]
-pub extern "C" fn yongpham_tolerance(
+pub fn yongpham_tolerance(
     min_x: f64,
     min_y: f64,
     min_z: f64,

@@ -1,0 +1,43 @@
+use mathlib.Core.Path.{refl}
+use native.Mathlib.Omega.{arith}
+use lib.ListN.{length-set}
+use native.Mathlib.Nat.{not-suc-le-zero}
+use Rattle.leaf_exports.proofs.Answering.{answers_more}
+use Rattle.leaf_exports.proofs.answer.Goals as goal
+
+pub loop-i-init : goal.loop-i-init
+loop-i-init c = (omega arith, refl, λ j h. absurd (not-suc-le-zero h))
+
+pub offset_bounds-asked-i : goal.offset_bounds-asked-i
+offset_bounds-asked-i c = omega arith
+
+pub bounds-asked-i : goal.bounds-asked-i
+bounds-asked-i c = omega arith
+
+pub find_word-requires : goal.find_word-requires
+find_word-requires c = record { nb_nonzero = c.requires.nb_nonzero; nb_bound = c.requires.nb_bound; linked = c.requires.linked }
+
+pub offset_bounds-found-i : goal.offset_bounds-found-i
+offset_bounds-found-i c = omega arith
+
+pub bounds-found-i : goal.bounds-found-i
+bounds-found-i c = omega arith
+
+pub overflow_add-i : goal.overflow_add-i
+overflow_add-i c = omega arith
+
+pub loop-i-smaller : goal.loop-i-smaller
+loop-i-smaller c = omega arith
+
+pub loop-i-preserved : goal.loop-i-preserved
+loop-i-preserved c =
+    let l = c.loop-i in
+    let s = c.args in
+    let e = l.invariant.1 in
+    (omega arith, simp length-set (omega arith), answers_more s.keys.now s.asked.now l.found l.i _ (omega arith) l.invariant.2 c.find_word.ensures)
+
+pub shape_of-found : goal.shape_of-found
+shape_of-found c = omega arith
+
+pub returns : goal.returns
+returns c = λ j h. c.loop-i.invariant.2 j (omega arith)

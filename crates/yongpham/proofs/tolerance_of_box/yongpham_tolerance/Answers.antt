@@ -1,0 +1,12 @@
+use Rattle.yongpham.proofs.Reports.{tolerance_done, tolerance_refused}
+use Rattle.input_tests.proofs.Ranges.{eps_is_number}
+use Rattle.yongpham.proofs.tolerance_of_box.yongpham_tolerance.Goals as goal
+
+pub float_to_bits-eps : goal.float_to_bits-eps
+float_to_bits-eps c = eps_is_number _ (c.bbox_eps.ensures.admitted _ c.in-Of.is)
+
+pub returns-in-Of : goal.returns-in-Of
+returns-in-Of c = tolerance_done _ _ _ _ _ c.bbox_eps.ensures c.in-Of.is c.report_done.ensures
+
+pub returns-in-Refused : goal.returns-in-Refused
+returns-in-Refused c = tolerance_refused _ _ _ _ _ c.bbox_eps.ensures c.in-Refused.is c.report_refusal.ensures
