@@ -210,9 +210,9 @@ abbrev pub All : List Row → Type 0
 All [] = Unit {0}
 All (r ∷ l) = (r.given ≡ r.stated) × All l
 
-of_all : {l : List Row} → All l → {r : Row} → Memᴰ r l → r.given ≡ r.stated
-of_all a {r} (Memᴰ.head {x} {xs} e) = subst⁻¹ (λ (q : Row). q.given ≡ q.stated) e a.0
-of_all a {r} (Memᴰ.tail {x} {xs} m) = of_all a.1 m
+of_all : {r : Row} {l : List Row} → All l → Memᴰ r l → r.given ≡ r.stated
+of_all a (Memᴰ.head {x} {xs} e) = subst⁻¹ (λ (q : Row). q.given ≡ q.stated) e a.0
+of_all a (Memᴰ.tail {x} {xs} m) = of_all a.1 m
 
 computed : All starred
 unfolding every some distinct_from up_from threes magnitude within inside snap_to snapped crossing interpolated on_plane crossed side_clipped walk clip_to_plane clip_polygon along

@@ -1,0 +1,7 @@
+use Rattle.refusals.proofs.Answers.{called}
+use borrow.Author.Rules.{rules}
+use Rattle.yongpham.proofs.candidates.yongpham_candidates.Goals as goal
+
+pub returns : goal.returns
+returns c =
+    called _ _ _ _ _ _ _ c.cap_candidates-reply.ensures c.report_reply.ensures
