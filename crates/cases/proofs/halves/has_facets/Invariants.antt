@@ -1,0 +1,16 @@
+use Prim.Native.Nat.{ℕ, ◌-◌, ◌≤◌}
+use native.Mathlib.Omega.{arith}
+use borrow.Author.Rules.{rules}
+use borrow.Author.Tests.{not-true, not-false}
+use mathlib.Core.Path.{◌≡◌, refl, sym, ap, ◌∙◌}
+use lib.ListN.{get_or, drop}
+use Rattle.lists.specs.Lists.{every, up_to}
+use Rattle.cases.specs.Halves.{is_point, has_facets}
+use Rattle.cases.proofs.Turned.{corner_start, corner_stop, corner_more, corner_end}
+use Rattle.cases.proofs.halves.has_facets.Given as goal
+
+abbrev pub invariant-loop-i : goal.invariant-loop-i
+invariant-loop-i l = (l.i ≤ 36) × (has_facets l.vertices l.facets l.stated ≡ every (λ (k : ℕ). is_point l.vertices (get_or l.facets k 0) (get_or l.stated k 0)) (drop l.i (up_to 36)))
+
+abbrev pub decreases-loop-i : goal.decreases-loop-i
+decreases-loop-i l = 36 - l.i
