@@ -1,3 +1,4 @@
+use native.Mathlib.Omega.{arith}
 use mathlib.Core.Path.{◌≡◌, sym, ap}
 use Rattle.cases.specs.Halves.{half_point}
 use Rattle.cases.proofs.Turned.{last_point}
@@ -49,6 +50,4 @@ returns-in-10 c = ap half_point (sym c.in-10.is)
 
 pub returns-in_default : goal.returns-in_default
 returns-in_default c =
-    last_point _ c.in_default.rest.0.0.0.0.0.0.0.0.0.0.1 c.in_default.rest.0.0.0.0.0.0.0.0.0.1 c.in_default.rest.0.0.0.0.0.0.0.0.1
-    c.in_default.rest.0.0.0.0.0.0.0.1 c.in_default.rest.0.0.0.0.0.0.1 c.in_default.rest.0.0.0.0.0.1 c.in_default.rest.0.0.0.0.1 c.in_default.rest.0.0.0.1
-    c.in_default.rest.0.0.1 c.in_default.rest.0.1 c.in_default.rest.1
+    last_point _ (λ e. omega arith) (λ e. omega arith) (λ e. omega arith) (λ e. omega arith) (λ e. omega arith) (λ e. omega arith) (λ e. omega arith) (λ e. omega arith) (λ e. omega arith) (λ e. omega arith) (λ e. omega arith)
