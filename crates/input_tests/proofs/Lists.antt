@@ -49,7 +49,8 @@ module _ (ceiling : ℕ) (vs : List Float) (fs : List ℕ) (caps : ℕ) where
         whole_vertices = eqb-true (length vs % 3) 0 (not-false (eqb (length vs % 3) 0) (or_none_left (ragged (length vs) 3) (ragged (length fs) 3 || ragged caps 4) r1));
         whole_facets = eqb-true (length fs % 3) 0 (not-false (eqb (length fs % 3) 0) (or_none_left (ragged (length fs) 3) (ragged caps 4) s1));
         few_vertices =
-            let h = ltb-false (admitted ceiling) (length vs / 3) (or_none_left (too_many (admitted ceiling) (length vs) 3) (too_many (admitted ceiling) (length fs) 3 || too_many cap_ceiling caps 4) r2) in
+            let h = ltb-false (admitted ceiling) (length vs / 3) (or_none_left (too_many (admitted ceiling) (length vs) 3) (too_many (admitted ceiling) (length fs)
+            3 || too_many cap_ceiling caps 4) r2) in
             omega (arith, h, admitted_most ceiling);
         few_facets =
             let h = ltb-false (admitted ceiling) (length fs / 3) (or_none_left (too_many (admitted ceiling) (length fs) 3) (too_many cap_ceiling caps 4) s2) in

@@ -32,7 +32,11 @@ clip_checked-requires c =
     let s = c in
     let a = s.args in
     let q = clip_asked a.extents a.eps in
-    let k = ready a.vertices.now a.facets.now q (limits a.ceiling (length a.work.now)) (sym s.requires ∙ c.in-Passed.is) in record { vertices_len_bound = k.few; facets_value = k.below; ids_len = length-take-le (length a.vertices.now / 3) a.work.now k.room }
+    let k = ready a.vertices.now a.facets.now q (limits a.ceiling (length a.work.now)) (sym s.requires ∙ c.in-Passed.is) in record {
+      vertices_len_bound = k.few;
+      facets_value = k.below;
+      ids_len = length-take-le (length a.vertices.now / 3) a.work.now k.room;
+    }
 
 pub returns-in-Passed : goal.returns-in-Passed
 returns-in-Passed c =

@@ -11,7 +11,10 @@ keep_open-edges-requires c =
     let s = c in
     let fs = s.args.facets.now in
     let w = s.args.work.now in
-    let again = table_again s.args.vertices fs w table.new.w found.new.w found.result s.requires (λ i. omega (arith, c.type_inv.facets i)) table.ensures found.ensures in record { n_in_bounds = omega (arith, again.same); ascending = ascends fs found.new.w found.new.w again }
+    let again = table_again s.args.vertices fs w table.new.w found.new.w found.result s.requires (λ i. omega (
+      arith,
+      c.type_inv.facets i,
+    )) table.ensures found.ensures in record { n_in_bounds = omega (arith, again.same); ascending = ascends fs found.new.w found.new.w again }
 
 pub group_edges-components-requires : goal.group_edges-components-requires
 group_edges-components-requires c =

@@ -6,67 +6,80 @@ use Rattle.boundary_groups.proofs.turns_once.Goals as goal
 
 pub overflow_mul-i : goal.overflow_mul-i
 overflow_mul-i c =
-    let bounds : EdgeBounds c.args.w.now c.args.k c.args.m c.args.ends c.args.degrees c.args.j = edge_bounds c.args.w.now c.args.k c.args.m c.args.ends c.args.degrees c.args.j c.requires.ends_ready c.requires.j_lt_k in
+    let bounds : EdgeBounds c.args.w.now c.args.k c.args.m c.args.ends c.args.degrees c.args.j = edge_bounds c.args.w.now c.args.k c.args.m c.args.ends
+    c.args.degrees c.args.j c.requires.ends_ready c.requires.j_lt_k in
     let b = bounds in omega arith
 
 pub overflow_add-i : goal.overflow_add-i
 overflow_add-i c =
-    let bounds : EdgeBounds c.args.w.now c.args.k c.args.m c.args.ends c.args.degrees c.args.j = edge_bounds c.args.w.now c.args.k c.args.m c.args.ends c.args.degrees c.args.j c.requires.ends_ready c.requires.j_lt_k in
+    let bounds : EdgeBounds c.args.w.now c.args.k c.args.m c.args.ends c.args.degrees c.args.j = edge_bounds c.args.w.now c.args.k c.args.m c.args.ends
+    c.args.degrees c.args.j c.requires.ends_ready c.requires.j_lt_k in
     let b = bounds in omega arith
 
 pub offset_bounds-w-j : goal.offset_bounds-w-j
 offset_bounds-w-j c =
-    let bounds : EdgeBounds c.args.w.now c.args.k c.args.m c.args.ends c.args.degrees c.args.j = edge_bounds c.args.w.now c.args.k c.args.m c.args.ends c.args.degrees c.args.j c.requires.ends_ready c.requires.j_lt_k in
+    let bounds : EdgeBounds c.args.w.now c.args.k c.args.m c.args.ends c.args.degrees c.args.j = edge_bounds c.args.w.now c.args.k c.args.m c.args.ends
+    c.args.degrees c.args.j c.requires.ends_ready c.requires.j_lt_k in
     let b = bounds in omega arith
 
 pub bounds-w-j : goal.bounds-w-j
 bounds-w-j c =
-    let bounds : EdgeBounds c.args.w.now c.args.k c.args.m c.args.ends c.args.degrees c.args.j = edge_bounds c.args.w.now c.args.k c.args.m c.args.ends c.args.degrees c.args.j c.requires.ends_ready c.requires.j_lt_k in
+    let bounds : EdgeBounds c.args.w.now c.args.k c.args.m c.args.ends c.args.degrees c.args.j = edge_bounds c.args.w.now c.args.k c.args.m c.args.ends
+    c.args.degrees c.args.j c.requires.ends_ready c.requires.j_lt_k in
     let b = bounds in omega arith
 
 pub overflow_mul-a : goal.overflow_mul-a
 overflow_mul-a c =
-    let bounds : EdgeBounds c.args.w.now c.args.k c.args.m c.args.ends c.args.degrees c.args.j = edge_bounds c.args.w.now c.args.k c.args.m c.args.ends c.args.degrees c.args.j c.requires.ends_ready c.requires.j_lt_k in
+    let bounds : EdgeBounds c.args.w.now c.args.k c.args.m c.args.ends c.args.degrees c.args.j = edge_bounds c.args.w.now c.args.k c.args.m c.args.ends
+    c.args.degrees c.args.j c.requires.ends_ready c.requires.j_lt_k in
     let b = bounds in omega arith
 
 pub overflow_add-a : goal.overflow_add-a
 overflow_add-a c =
-    let bounds : EdgeBounds c.args.w.now c.args.k c.args.m c.args.ends c.args.degrees c.args.j = edge_bounds c.args.w.now c.args.k c.args.m c.args.ends c.args.degrees c.args.j c.requires.ends_ready c.requires.j_lt_k in
+    let bounds : EdgeBounds c.args.w.now c.args.k c.args.m c.args.ends c.args.degrees c.args.j = edge_bounds c.args.w.now c.args.k c.args.m c.args.ends
+    c.args.degrees c.args.j c.requires.ends_ready c.requires.j_lt_k in
     let b = bounds in omega arith
 
 pub offset_bounds-w-ends : goal.offset_bounds-w-ends
 offset_bounds-w-ends c =
-    let bounds : EdgeBounds c.args.w.now c.args.k c.args.m c.args.ends c.args.degrees c.args.j = edge_bounds c.args.w.now c.args.k c.args.m c.args.ends c.args.degrees c.args.j c.requires.ends_ready c.requires.j_lt_k in
+    let bounds : EdgeBounds c.args.w.now c.args.k c.args.m c.args.ends c.args.degrees c.args.j = edge_bounds c.args.w.now c.args.k c.args.m c.args.ends
+    c.args.degrees c.args.j c.requires.ends_ready c.requires.j_lt_k in
     let b = bounds in omega arith
 
 pub bounds-w-ends : goal.bounds-w-ends
 bounds-w-ends c =
-    let bounds : EdgeBounds c.args.w.now c.args.k c.args.m c.args.ends c.args.degrees c.args.j = edge_bounds c.args.w.now c.args.k c.args.m c.args.ends c.args.degrees c.args.j c.requires.ends_ready c.requires.j_lt_k in
+    let bounds : EdgeBounds c.args.w.now c.args.k c.args.m c.args.ends c.args.degrees c.args.j = edge_bounds c.args.w.now c.args.k c.args.m c.args.ends
+    c.args.degrees c.args.j c.requires.ends_ready c.requires.j_lt_k in
     let b = bounds in omega arith
 
 pub overflow_mul-b : goal.overflow_mul-b
 overflow_mul-b c =
-    let bounds : EdgeBounds c.args.w.now c.args.k c.args.m c.args.ends c.args.degrees c.args.j = edge_bounds c.args.w.now c.args.k c.args.m c.args.ends c.args.degrees c.args.j c.requires.ends_ready c.requires.j_lt_k in
+    let bounds : EdgeBounds c.args.w.now c.args.k c.args.m c.args.ends c.args.degrees c.args.j = edge_bounds c.args.w.now c.args.k c.args.m c.args.ends
+    c.args.degrees c.args.j c.requires.ends_ready c.requires.j_lt_k in
     let b = bounds in omega arith
 
 pub overflow_add-b : goal.overflow_add-b
 overflow_add-b c =
-    let bounds : EdgeBounds c.args.w.now c.args.k c.args.m c.args.ends c.args.degrees c.args.j = edge_bounds c.args.w.now c.args.k c.args.m c.args.ends c.args.degrees c.args.j c.requires.ends_ready c.requires.j_lt_k in
+    let bounds : EdgeBounds c.args.w.now c.args.k c.args.m c.args.ends c.args.degrees c.args.j = edge_bounds c.args.w.now c.args.k c.args.m c.args.ends
+    c.args.degrees c.args.j c.requires.ends_ready c.requires.j_lt_k in
     let b = bounds in omega arith
 
 pub overflow_add-b-2 : goal.overflow_add-b-2
 overflow_add-b-2 c =
-    let bounds : EdgeBounds c.args.w.now c.args.k c.args.m c.args.ends c.args.degrees c.args.j = edge_bounds c.args.w.now c.args.k c.args.m c.args.ends c.args.degrees c.args.j c.requires.ends_ready c.requires.j_lt_k in
+    let bounds : EdgeBounds c.args.w.now c.args.k c.args.m c.args.ends c.args.degrees c.args.j = edge_bounds c.args.w.now c.args.k c.args.m c.args.ends
+    c.args.degrees c.args.j c.requires.ends_ready c.requires.j_lt_k in
     let b = bounds in omega arith
 
 pub offset_bounds-w-ends-2 : goal.offset_bounds-w-ends-2
 offset_bounds-w-ends-2 c =
-    let bounds : EdgeBounds c.args.w.now c.args.k c.args.m c.args.ends c.args.degrees c.args.j = edge_bounds c.args.w.now c.args.k c.args.m c.args.ends c.args.degrees c.args.j c.requires.ends_ready c.requires.j_lt_k in
+    let bounds : EdgeBounds c.args.w.now c.args.k c.args.m c.args.ends c.args.degrees c.args.j = edge_bounds c.args.w.now c.args.k c.args.m c.args.ends
+    c.args.degrees c.args.j c.requires.ends_ready c.requires.j_lt_k in
     let b = bounds in omega arith
 
 pub bounds-w-ends-2 : goal.bounds-w-ends-2
 bounds-w-ends-2 c =
-    let bounds : EdgeBounds c.args.w.now c.args.k c.args.m c.args.ends c.args.degrees c.args.j = edge_bounds c.args.w.now c.args.k c.args.m c.args.ends c.args.degrees c.args.j c.requires.ends_ready c.requires.j_lt_k in
+    let bounds : EdgeBounds c.args.w.now c.args.k c.args.m c.args.ends c.args.degrees c.args.j = edge_bounds c.args.w.now c.args.k c.args.m c.args.ends
+    c.args.degrees c.args.j c.requires.ends_ready c.requires.j_lt_k in
     let b = bounds in omega arith
 
 pub returns-then-a-b : goal.returns-then-a-b
@@ -76,17 +89,20 @@ returns-then-a-b c =
 
 pub overflow_add-degrees : goal.overflow_add-degrees
 overflow_add-degrees c =
-    let bounds : EdgeBounds c.args.w.now c.args.k c.args.m c.args.ends c.args.degrees c.args.j = edge_bounds c.args.w.now c.args.k c.args.m c.args.ends c.args.degrees c.args.j c.requires.ends_ready c.requires.j_lt_k in
+    let bounds : EdgeBounds c.args.w.now c.args.k c.args.m c.args.ends c.args.degrees c.args.j = edge_bounds c.args.w.now c.args.k c.args.m c.args.ends
+    c.args.degrees c.args.j c.requires.ends_ready c.requires.j_lt_k in
     let b = bounds in omega arith
 
 pub offset_bounds-w-degrees : goal.offset_bounds-w-degrees
 offset_bounds-w-degrees c =
-    let bounds : EdgeBounds c.args.w.now c.args.k c.args.m c.args.ends c.args.degrees c.args.j = edge_bounds c.args.w.now c.args.k c.args.m c.args.ends c.args.degrees c.args.j c.requires.ends_ready c.requires.j_lt_k in
+    let bounds : EdgeBounds c.args.w.now c.args.k c.args.m c.args.ends c.args.degrees c.args.j = edge_bounds c.args.w.now c.args.k c.args.m c.args.ends
+    c.args.degrees c.args.j c.requires.ends_ready c.requires.j_lt_k in
     let b = bounds in omega arith
 
 pub bounds-w-degrees : goal.bounds-w-degrees
 bounds-w-degrees c =
-    let bounds : EdgeBounds c.args.w.now c.args.k c.args.m c.args.ends c.args.degrees c.args.j = edge_bounds c.args.w.now c.args.k c.args.m c.args.ends c.args.degrees c.args.j c.requires.ends_ready c.requires.j_lt_k in
+    let bounds : EdgeBounds c.args.w.now c.args.k c.args.m c.args.ends c.args.degrees c.args.j = edge_bounds c.args.w.now c.args.k c.args.m c.args.ends
+    c.args.degrees c.args.j c.requires.ends_ready c.requires.j_lt_k in
     let b = bounds in omega arith
 
 pub returns-then-w-degrees-ne2 : goal.returns-then-w-degrees-ne2
@@ -96,17 +112,20 @@ returns-then-w-degrees-ne2 c =
 
 pub overflow_add-result : goal.overflow_add-result
 overflow_add-result c =
-    let bounds : EdgeBounds c.args.w.now c.args.k c.args.m c.args.ends c.args.degrees c.args.j = edge_bounds c.args.w.now c.args.k c.args.m c.args.ends c.args.degrees c.args.j c.requires.ends_ready c.requires.j_lt_k in
+    let bounds : EdgeBounds c.args.w.now c.args.k c.args.m c.args.ends c.args.degrees c.args.j = edge_bounds c.args.w.now c.args.k c.args.m c.args.ends
+    c.args.degrees c.args.j c.requires.ends_ready c.requires.j_lt_k in
     let b = bounds in omega arith
 
 pub offset_bounds-w-degrees-2 : goal.offset_bounds-w-degrees-2
 offset_bounds-w-degrees-2 c =
-    let bounds : EdgeBounds c.args.w.now c.args.k c.args.m c.args.ends c.args.degrees c.args.j = edge_bounds c.args.w.now c.args.k c.args.m c.args.ends c.args.degrees c.args.j c.requires.ends_ready c.requires.j_lt_k in
+    let bounds : EdgeBounds c.args.w.now c.args.k c.args.m c.args.ends c.args.degrees c.args.j = edge_bounds c.args.w.now c.args.k c.args.m c.args.ends
+    c.args.degrees c.args.j c.requires.ends_ready c.requires.j_lt_k in
     let b = bounds in omega arith
 
 pub bounds-w-degrees-2 : goal.bounds-w-degrees-2
 bounds-w-degrees-2 c =
-    let bounds : EdgeBounds c.args.w.now c.args.k c.args.m c.args.ends c.args.degrees c.args.j = edge_bounds c.args.w.now c.args.k c.args.m c.args.ends c.args.degrees c.args.j c.requires.ends_ready c.requires.j_lt_k in
+    let bounds : EdgeBounds c.args.w.now c.args.k c.args.m c.args.ends c.args.degrees c.args.j = edge_bounds c.args.w.now c.args.k c.args.m c.args.ends
+    c.args.degrees c.args.j c.requires.ends_ready c.requires.j_lt_k in
     let b = bounds in omega arith
 
 pub returns : goal.returns

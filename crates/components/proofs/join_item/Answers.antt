@@ -110,7 +110,14 @@ enter-r-requires c =
     let u = c.requires.label_room in
     let seen = swept_seen (view found.new.w s.labels (s.n * s.k)) s.n s.k s.m s.at l.invariant.0.some
     (read_length found.new.w s.labels s.n s.k s.m s.at l.invariant.0) l.invariant.0.below found.new.w l.w s.i l.j
-    l.invariant.0.room l.invariant.2 (omega arith) (omega arith) in record { n_bound = omega arith; s_in_bounds = omega arith; i_lt_n = omega arith; by_index = rw q seen; forest = l.invariant.2.going.forest; root_of = l.invariant.3 }
+    l.invariant.0.room l.invariant.2 (omega arith) (omega arith) in record {
+      n_bound = omega arith;
+      s_in_bounds = omega arith;
+      i_lt_n = omega arith;
+      by_index = rw q seen;
+      forest = l.invariant.2.going.forest;
+      root_of = l.invariant.3;
+    }
 
 pub overflow_add-j : goal.overflow_add-j
 overflow_add-j c = omega arith

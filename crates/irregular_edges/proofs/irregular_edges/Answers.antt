@@ -39,7 +39,18 @@ run_end-e-requires c = let s = c in let l = c.loop-i in (omega arith, omega (ari
 pub is_irregular-requires : goal.is_irregular-requires
 is_irregular-requires c =
     let s = c in
-    let l = c.loop-i in record { facets_len = (s.requires.facets_len.0, c.run_end-e.ensures.more, c.run_end-e.ensures.within, omega (arith, l.invariant.above.long)); w_value = table_kept s.args.facets.now s.args.w.now l.w s.args.at s.requires.facets_len.1 (omega arith) l.invariant.above s.requires.w_value }
+    let l = c.loop-i in record {
+      facets_len = (
+        s.requires.facets_len.0,
+        c.run_end-e.ensures.more,
+        c.run_end-e.ensures.within,
+        omega (
+          arith,
+          l.invariant.above.long,
+        ),
+      );
+      w_value = table_kept s.args.facets.now s.args.w.now l.w s.args.at s.requires.facets_len.1 (omega arith) l.invariant.above s.requires.w_value;
+    }
 
 pub overflow_mul-key : goal.overflow_mul-key
 overflow_mul-key c = omega arith

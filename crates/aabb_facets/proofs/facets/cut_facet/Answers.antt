@@ -13,7 +13,19 @@ use Rattle.aabb_facets.proofs.facets.cut_facet.Goals as goal
 pub put_fanned-requires : goal.put_fanned-requires
 put_fanned-requires c =
     let clip-polygon = c.clip_polygon-n in
-    let s = c in record { in_bounds = omega (arith, s.requires.in_bounds, clip-polygon.auto); n_bound = (clip-polygon.ensures.upper_bound, (omega (arith, s.requires.vertices_bound), omega (arith, s.requires.vertices_bound))) }
+    let s = c in record {
+      in_bounds = omega (arith, s.requires.in_bounds, clip-polygon.auto);
+      n_bound = (
+        clip-polygon.ensures.upper_bound,
+        (
+          omega (
+            arith,
+            s.requires.vertices_bound,
+          ),
+          omega (arith, s.requires.vertices_bound),
+        ),
+      );
+    }
 
 pub returns : goal.returns
 returns c =

@@ -90,5 +90,13 @@ returns c =
             loop.invariant.0,
             c.loop-i-test.false,
           ));
-      vertices_bound = (omega (arith, loop.invariant.1.1.1.nv, loop.invariant.0, s.requires.vertices_len_bound), omega (arith, loop.invariant.1.1.1.nf, loop.invariant.0, s.requires.vertices_len_bound));
+      vertices_bound = (
+        omega (arith, loop.invariant.1.1.1.nv, loop.invariant.0, s.requires.vertices_len_bound),
+        omega (
+          arith,
+          loop.invariant.1.1.1.nf,
+          loop.invariant.0,
+          s.requires.vertices_len_bound,
+        ),
+      );
     }

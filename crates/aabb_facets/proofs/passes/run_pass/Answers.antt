@@ -9,7 +9,11 @@ use Rattle.aabb_facets.proofs.passes.run_pass.Goals as goal
 pub clip_pass-requires : goal.clip_pass-requires
 clip_pass-requires c =
     let s = c in
-    let a = s.args in record { vertices_len_bound = s.requires.vertices_len_bound; facets_value = s.requires.facets_value; ids_value = c.mark_all.ensures ∙ ap (λ (k : ℕ). mark_words a.vertices.now a.extents a.eps k []) s.requires.ids_len }
+    let a = s.args in record {
+      vertices_len_bound = s.requires.vertices_len_bound;
+      facets_value = s.requires.facets_value;
+      ids_value = c.mark_all.ensures ∙ ap (λ (k : ℕ). mark_words a.vertices.now a.extents a.eps k []) s.requires.ids_len;
+    }
 
 pub returns : goal.returns
 unfolding clipped

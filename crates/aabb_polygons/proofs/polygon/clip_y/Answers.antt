@@ -31,7 +31,8 @@ clip_z-requires c =
     let p = c.clip_polygon_to_plane-j in
     let q = c.clip_polygon_to_plane-k in
     let small = next s.args.polygon.now p.new.polygon s.args.n p.result 2 s.args.extents s.args.eps 6 9 p.ensures s.requires.n_nonzero.1 (omega arith)
-    c.if-j-lt3.false in let asked = next p.new.polygon q.new.polygon p.result q.result 3 s.args.extents s.args.eps 9 13 q.ensures small.0.1 (omega arith) c.if-k-lt3.false in record { in_bounds = (omega (arith, s.requires.in_bounds, p.auto, q.auto), omega (arith, s.requires.in_bounds, p.auto, q.auto)); n_nonzero = asked.0; n_value = asked.1 }
+    c.if-j-lt3.false in let asked = next p.new.polygon q.new.polygon p.result q.result 3 s.args.extents s.args.eps 9 13 q.ensures small.0.1 (omega arith)
+    c.if-k-lt3.false in record { in_bounds = (omega (arith, s.requires.in_bounds, p.auto, q.auto), omega (arith, s.requires.in_bounds, p.auto, q.auto)); n_nonzero = asked.0; n_value = asked.1 }
 
 pub returns : goal.returns
 returns c =

@@ -12,7 +12,10 @@ enter_vertex-requires c =
     let a = s.args in
     let p = c.vertex_at-p in
     let m = c.aabb_face_mask-mask in
-    let small = subst (λ (x : ℕ). x < 64) (sym m.ensures) (mask_small a.extents a.eps p.result p.result) in record { sources_ready = s.requires.sources_ready; v_in_bounds = (s.requires.v_in_bounds, small) }
+    let small = subst (λ (x : ℕ). x < 64) (sym m.ensures) (mask_small a.extents a.eps p.result p.result) in record {
+      sources_ready = s.requires.sources_ready;
+      v_in_bounds = (s.requires.v_in_bounds, small);
+    }
 
 pub returns-then-count_faces-ge2 : goal.returns-then-count_faces-ge2
 returns-then-count_faces-ge2 c =

@@ -21,27 +21,62 @@ loop-i-init c = (omega arith, omega arith)
 
 pub overflow_mul-side : goal.overflow_mul-side
 overflow_mul-side c =
-    let turn_in : c.edge_table_at-table.result + 2 * c.loop-i.i + 1 < length c.args.w.now = let s = c in omega (arith, s.requires.mesh_fits.size, s.requires.mesh_fits.threes, s.requires.table_at.within, c.loop-i-test.true, c.edge_table_at-table.ensures) in
+    let turn_in : c.edge_table_at-table.result + 2 * c.loop-i.i + 1 < length c.args.w.now = let s = c in omega (
+      arith,
+      s.requires.mesh_fits.size,
+      s.requires.mesh_fits.threes,
+      s.requires.table_at.within,
+      c.loop-i-test.true,
+      c.edge_table_at-table.ensures,
+    ) in
     omega (arith, turn_in)
 
 pub overflow_add-side : goal.overflow_add-side
 overflow_add-side c =
-    let turn_in : c.edge_table_at-table.result + 2 * c.loop-i.i + 1 < length c.args.w.now = let s = c in omega (arith, s.requires.mesh_fits.size, s.requires.mesh_fits.threes, s.requires.table_at.within, c.loop-i-test.true, c.edge_table_at-table.ensures) in
+    let turn_in : c.edge_table_at-table.result + 2 * c.loop-i.i + 1 < length c.args.w.now = let s = c in omega (
+      arith,
+      s.requires.mesh_fits.size,
+      s.requires.mesh_fits.threes,
+      s.requires.table_at.within,
+      c.loop-i-test.true,
+      c.edge_table_at-table.ensures,
+    ) in
     omega (arith, turn_in)
 
 pub overflow_add-side-in-loop-i : goal.overflow_add-side-in-loop-i
 overflow_add-side-in-loop-i c =
-    let turn_in : c.edge_table_at-table.result + 2 * c.loop-i.i + 1 < length c.args.w.now = let s = c in omega (arith, s.requires.mesh_fits.size, s.requires.mesh_fits.threes, s.requires.table_at.within, c.loop-i-test.true, c.edge_table_at-table.ensures) in
+    let turn_in : c.edge_table_at-table.result + 2 * c.loop-i.i + 1 < length c.args.w.now = let s = c in omega (
+      arith,
+      s.requires.mesh_fits.size,
+      s.requires.mesh_fits.threes,
+      s.requires.table_at.within,
+      c.loop-i-test.true,
+      c.edge_table_at-table.ensures,
+    ) in
     omega (arith, turn_in)
 
 pub offset_bounds-w-table : goal.offset_bounds-w-table
 offset_bounds-w-table c =
-    let turn_in : c.edge_table_at-table.result + 2 * c.loop-i.i + 1 < length c.args.w.now = let s = c in omega (arith, s.requires.mesh_fits.size, s.requires.mesh_fits.threes, s.requires.table_at.within, c.loop-i-test.true, c.edge_table_at-table.ensures) in
+    let turn_in : c.edge_table_at-table.result + 2 * c.loop-i.i + 1 < length c.args.w.now = let s = c in omega (
+      arith,
+      s.requires.mesh_fits.size,
+      s.requires.mesh_fits.threes,
+      s.requires.table_at.within,
+      c.loop-i-test.true,
+      c.edge_table_at-table.ensures,
+    ) in
     omega (arith, turn_in)
 
 pub bounds-w-table : goal.bounds-w-table
 bounds-w-table c =
-    let turn_in : c.edge_table_at-table.result + 2 * c.loop-i.i + 1 < length c.args.w.now = let s = c in omega (arith, s.requires.mesh_fits.size, s.requires.mesh_fits.threes, s.requires.table_at.within, c.loop-i-test.true, c.edge_table_at-table.ensures) in
+    let turn_in : c.edge_table_at-table.result + 2 * c.loop-i.i + 1 < length c.args.w.now = let s = c in omega (
+      arith,
+      s.requires.mesh_fits.size,
+      s.requires.mesh_fits.threes,
+      s.requires.table_at.within,
+      c.loop-i-test.true,
+      c.edge_table_at-table.ensures,
+    ) in
     omega (arith, turn_in)
 
 pub side_mask-requires : goal.side_mask-requires
@@ -80,7 +115,14 @@ returns-then-side_mask-eq0 c =
 
 pub overflow_add-i : goal.overflow_add-i
 overflow_add-i c =
-    let turn_in : c.edge_table_at-table.result + 2 * c.loop-i.i + 1 < length c.args.w.now = let s = c in omega (arith, s.requires.mesh_fits.size, s.requires.mesh_fits.threes, s.requires.table_at.within, c.loop-i-test.true, c.edge_table_at-table.ensures) in
+    let turn_in : c.edge_table_at-table.result + 2 * c.loop-i.i + 1 < length c.args.w.now = let s = c in omega (
+      arith,
+      s.requires.mesh_fits.size,
+      s.requires.mesh_fits.threes,
+      s.requires.table_at.within,
+      c.loop-i-test.true,
+      c.edge_table_at-table.ensures,
+    ) in
     omega (arith, turn_in)
 
 pub loop-i-smaller : goal.loop-i-smaller

@@ -71,7 +71,11 @@ enter-requires c =
     let asked = enter_asks s.args.w.now s.args.n (get_or s.args.w.now 6 0) s.args.p s.args.mesh.0 s.args.key s.requires.key_table.1 s.requires.point_in.1
     put-point'.new.w put-point'.new.w entry-at'.result keys-at'.result chain-at'.result s.args.b
     put-point'.ensures.0 entry-at'.ensures keys-at'.ensures chain-at'.ensures
-    (λ i. key_bucket s.args.n (cell_at s.args.w.now (keys_at s.args.n + 3 * i))) s.requires.point_in.2 s.requires.key_table.0.linked in record { b_lt_nb = asked.0; id_in_bounds = asked.1.0; b_bound = asked.1.1 }
+    (λ i. key_bucket s.args.n (cell_at s.args.w.now (keys_at s.args.n + 3 * i))) s.requires.point_in.2 s.requires.key_table.0.linked in record {
+      b_lt_nb = asked.0;
+      id_in_bounds = asked.1.0;
+      b_bound = asked.1.1;
+    }
 
 pub shape_of-w : goal.shape_of-w
 shape_of-w c =

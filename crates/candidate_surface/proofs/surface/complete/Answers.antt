@@ -9,7 +9,11 @@ use Rattle.candidate_surface.proofs.surface.complete.Goals as goal
 
 pub enter_corners-requires : goal.enter_corners-requires
 enter_corners-requires c =
-    let a = c.args in record { holds = ((c.requires.surfaced.holds, c.requires.mesh_fits.0.vertices)); vertices_in = vertices_in a.vertices.now a.facets.now (asked a.extents a.eps a.resolution) c.requires.sound; sourced = c.requires.surfaced.sourced }
+    let a = c.args in record {
+      holds = ((c.requires.surfaced.holds, c.requires.mesh_fits.0.vertices));
+      vertices_in = vertices_in a.vertices.now a.facets.now (asked a.extents a.eps a.resolution) c.requires.sound;
+      sourced = c.requires.surfaced.sourced;
+    }
 
 pub enter_grids-requires : goal.enter_grids-requires
 unfolding of_bits

@@ -47,7 +47,11 @@ is_large-requires c =
     let N = c.materialize_triangle-ids.ensures.1 in
     let t = candidates_of c.turned_cap-t.result in
     let r = mesh_vertices_of c.materialize_triangle-ids.result in
-    let w₁ = c.materialize_triangle-ids.new.w in record { nf_bound = (R.0, append_below a.vertices.now b a.n a.nc a.left t r a.w.now w₁ R.2 low e N); names_entering = e.entering; shaped = shaped_kept a.n a.nf a.nc a.w.now w₁ (record { long = e.long; below = e.below }) a.vertices.now E.count H }
+    let w₁ = c.materialize_triangle-ids.new.w in record {
+      nf_bound = (R.0, append_below a.vertices.now b a.n a.nc a.left t r a.w.now w₁ R.2 low e N);
+      names_entering = e.entering;
+      shaped = shaped_kept a.n a.nf a.nc a.w.now w₁ (record { long = e.long; below = e.below }) a.vertices.now E.count H;
+    }
 
 pub put_left-requires : goal.put_left-requires
 put_left-requires c =

@@ -22,7 +22,10 @@ mark_firsts-requires c =
     let S = sorted_part a.w.now c.sort_records.new.m m a.left room c.sort_records.ensures in
     let w₁ = put_mid m (m + 4 * a.left - m) a.w.now c.sort_records.new.m in
     let whole = subst (λ (k : ℕ). (j : ℕ) → j < a.left → payload_in a.w.now k j ≡ j) (sym t) s.requires.by_index in
-    let f = c.firsts_at.ensures in record { left_bound = (let x = R.3 in omega arith, let x = R.3 in let y = R.4 in let l = S.same in omega arith); sorted_places = sorted_there a.w.now w₁ m a.left room S whole }
+    let f = c.firsts_at.ensures in record {
+      left_bound = (let x = R.3 in omega arith, let x = R.3 in let y = R.4 in let l = S.same in omega arith);
+      sorted_places = sorted_there a.w.now w₁ m a.left room S whole;
+    }
 
 pub returns : goal.returns
 returns c =

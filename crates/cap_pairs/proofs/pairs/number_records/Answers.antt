@@ -20,7 +20,10 @@ put_by_payload-requires c =
     let s = c in
     let a = s.args in
     let l = c.loop-i in
-    let r = c.run_end-end in record { i_le_e = (omega (arith, r.ensures.more), omega (arith, r.ensures.within, s.requires.p_bound)); by_index = which_room a.w.now a.records a.numbers a.p s.requires.sorted_places s.requires.p_bound.0 s.requires.p_bound.1 l.w l.i r.result l.invariant r.ensures }
+    let r = c.run_end-end in record {
+      i_le_e = (omega (arith, r.ensures.more), omega (arith, r.ensures.within, s.requires.p_bound));
+      by_index = which_room a.w.now a.records a.numbers a.p s.requires.sorted_places s.requires.p_bound.0 s.requires.p_bound.1 l.w l.i r.result l.invariant r.ensures;
+    }
 
 pub loop-i-smaller : goal.loop-i-smaller
 loop-i-smaller c = let r = c.run_end-end in omega (arith, r.ensures.more, r.ensures.within)

@@ -7,7 +7,8 @@ use mathlib.Core.Path.{◌≡◌}
 use Rattle.cases.proofs.bits.begins_with.Given as goal
 
 abbrev pub invariant-loop-i : goal.invariant-loop-i
-invariant-loop-i l = (l.i ≤ length l.front) × (every (λ (k : ℕ). same_bits (get_or l.list k nan) (get_or l.front k nan)) (up_to (length l.front)) ≡ every (λ (k : ℕ). same_bits (get_or l.list k nan) (get_or l.front k nan))
+invariant-loop-i l = (l.i ≤ length l.front) × (every (λ (k : ℕ). same_bits (get_or l.list k nan) (get_or l.front k nan)) (up_to (length l.front)) ≡ every (λ (k :
+    ℕ). same_bits (get_or l.list k nan) (get_or l.front k nan))
     (drop l.i (up_to (length l.front))))
 
 abbrev pub decreases-loop-i : goal.decreases-loop-i

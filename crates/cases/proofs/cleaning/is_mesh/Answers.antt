@@ -28,11 +28,13 @@ pub returns-then-not-begins_with : goal.returns-then-not-begins_with
 unfolding is_mesh
 returns-then-not-begins_with c =
     sym (and_next _ _ _ (eq-eqb _ _ (sym c.report_reply.ensures.number ∙ c.if-report_reply-ne0.false))
-    (and_next _ _ _ (eq-eqb _ _ (sym (ap (λ (l : List ℕ). get_or l 0 0) c.report_reply.ensures.words) ∙ c.if-values-stated_vertices.false)) (and_next _ _ _ (eq-eqb _ _ (sym (ap (λ (l : List ℕ). get_or l 1 0) c.report_reply.ensures.words) ∙ c.if-values-stated_facets.false)) (and_stop _ _ (sym c.begins_with.ensures ∙ c.if-not-begins_with.true)))))
+    (and_next _ _ _ (eq-eqb _ _ (sym (ap (λ (l : List ℕ). get_or l 0 0) c.report_reply.ensures.words) ∙ c.if-values-stated_vertices.false)) (and_next _ _ _ (eq-eqb
+    _ _ (sym (ap (λ (l : List ℕ). get_or l 1 0) c.report_reply.ensures.words) ∙ c.if-values-stated_facets.false)) (and_stop _ _ (sym c.begins_with.ensures ∙ c.if-not-begins_with.true)))))
 
 pub returns : goal.returns
 unfolding is_mesh
 returns c =
     sym (and_next _ _ _ (eq-eqb _ _ (sym c.report_reply.ensures.number ∙ c.if-report_reply-ne0.false))
-    (and_next _ _ _ (eq-eqb _ _ (sym (ap (λ (l : List ℕ). get_or l 0 0) c.report_reply.ensures.words) ∙ c.if-values-stated_vertices.false)) (and_next _ _ _ (eq-eqb _ _ (sym (ap (λ (l : List ℕ). get_or l 1 0) c.report_reply.ensures.words) ∙ c.if-values-stated_facets.false)) (and_next _ _ _ (sym c.begins_with.ensures ∙ c.if-not-begins_with.false)
+    (and_next _ _ _ (eq-eqb _ _ (sym (ap (λ (l : List ℕ). get_or l 0 0) c.report_reply.ensures.words) ∙ c.if-values-stated_vertices.false)) (and_next _ _ _ (eq-eqb
+    _ _ (sym (ap (λ (l : List ℕ). get_or l 1 0) c.report_reply.ensures.words) ∙ c.if-values-stated_facets.false)) (and_next _ _ _ (sym c.begins_with.ensures ∙ c.if-not-begins_with.false)
     (sym c.begins_with_numbers.ensures)))))

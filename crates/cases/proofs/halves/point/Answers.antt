@@ -50,4 +50,5 @@ returns-in-10 c = ap half_point (sym c.in-10.is)
 
 pub returns-in_default : goal.returns-in_default
 returns-in_default c =
-    last_point _ (λ e. omega arith) (λ e. omega arith) (λ e. omega arith) (λ e. omega arith) (λ e. omega arith) (λ e. omega arith) (λ e. omega arith) (λ e. omega arith) (λ e. omega arith) (λ e. omega arith) (λ e. omega arith)
+    last_point _ (λ e. omega arith) (λ e. omega arith) (λ e. omega arith) (λ e. omega arith) (λ e. omega arith) (λ e. omega arith) (λ e. omega arith) (λ e. omega
+    arith) (λ e. omega arith) (λ e. omega arith) (λ e. omega arith)

@@ -11,7 +11,14 @@ pub number_corner-w1-requires : goal.number_corner-w1-requires
 number_corner-w1-requires c =
     let s = c in
     let h = s.requires.facet_bound in
-    let e = c.facet_in-t.ensures in record { v_lt_n = (omega (arith, h, ap (λ (u : Triangle ℕ). u.a) e), s.requires.n_bound.0); k_in_bounds = omega (arith, s.requires.k_in_bounds); corners_bound = (omega (arith, s.requires.corners_bound), s.requires.corners_bound.1) }
+    let e = c.facet_in-t.ensures in record {
+      v_lt_n = (omega (arith, h, ap (λ (u : Triangle ℕ). u.a) e), s.requires.n_bound.0);
+      k_in_bounds = omega (
+        arith,
+        s.requires.k_in_bounds,
+      );
+      corners_bound = (omega (arith, s.requires.corners_bound), s.requires.corners_bound.1);
+    }
 
 pub number_corner-w2-requires : goal.number_corner-w2-requires
 number_corner-w2-requires c =

@@ -6,7 +6,10 @@ use borrow.Author.Rules.{rules}
 use Rattle.mesh_compact.proofs.renumber.number_if_kept.Goals as goal
 
 pub is_large-requires : goal.is_large-requires
-is_large-requires c = let s = c in let a = s.args in let R = s.requires.renumber_room in record { i_lt_k = (s.requires.i_lt_k, omega (arith, R.parts_in, R.all_in)); i_bound = R.part a.i s.requires.i_lt_k }
+is_large-requires c = let s = c in let a = s.args in let R = s.requires.renumber_room in record {
+  i_lt_k = (s.requires.i_lt_k, omega (arith, R.parts_in, R.all_in));
+  i_bound = R.part a.i s.requires.i_lt_k;
+}
 
 pub returns-then-not-is_large : goal.returns-then-not-is_large
 returns-then-not-is_large c =

@@ -23,7 +23,10 @@ corners_of-t-requires c =
     let N = s.requires.corners_numbered in
     let G = s.requires.filtered_so_far in
     let P = points_in_room a.welded a.vertices.now a.m.now in
-    let F = facets_in_room a.welded a.vertices.now a.facets.now a.m.now in record { f_in_bounds = omega (arith, s.requires.f_lt_n, N.facets); by_index = λ j h. omega (arith, N.corner j h, N.numbers_in, N.room) }
+    let F = facets_in_room a.welded a.vertices.now a.facets.now a.m.now in record {
+      f_in_bounds = omega (arith, s.requires.f_lt_n, N.facets);
+      by_index = λ j h. omega (arith, N.corner j h, N.numbers_in, N.room);
+    }
 
 pub returns-then-has_repeated_corner : goal.returns-then-has_repeated_corner
 returns-then-has_repeated_corner c =

@@ -20,5 +20,7 @@ returns c =
     let double7 = c.double-7 in
     let yongpham-clip = c.yongpham_clip-number in
     answer_decides s.args.stored.now _ _ _ _ _ _ s.args.work.now _ s.args.out_vertices.now _ s.args.out_facets.now _ s.requires.fresh (mesh_called _ _ _ _ _ _ _
-    _ _ _ yongpham-clip.ensures) (clip_reply_lem s.args.stored.now s.args.work.now s.args.out_vertices.now s.args.out_facets.now s.requires.fresh s.args.vertices.now s.args.facets.now (same_box s.args.stored.now double.ensures double2.ensures double3.ensures double4.ensures double5.ensures double6.ensures) double7.ensures) (clip_result_lem s.args.stored.now s.args.vertices.now s.args.facets.now (same_box s.args.stored.now double.ensures
+    _ _ _ yongpham-clip.ensures) (clip_reply_lem s.args.stored.now s.args.work.now s.args.out_vertices.now s.args.out_facets.now s.requires.fresh
+    s.args.vertices.now s.args.facets.now (same_box s.args.stored.now double.ensures double2.ensures double3.ensures double4.ensures double5.ensures
+    double6.ensures) double7.ensures) (clip_result_lem s.args.stored.now s.args.vertices.now s.args.facets.now (same_box s.args.stored.now double.ensures
     double2.ensures double3.ensures double4.ensures double5.ensures double6.ensures) double7.ensures) yongpham-clip.auto.out_vertices _ c.same_answer.ensures
