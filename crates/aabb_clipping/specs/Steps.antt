@@ -4,6 +4,6 @@ use Rattle.std.specs.Prelude.{ℕ, ◌*◌, ◌≤◌, length}
 use Rattle.geometry.specs.Triangles.{flat}
 use Rattle.geometry.specs.Meshes.{Mesh}
 
-pub record Fits (m : Mesh) (vertexRoom facet_room : ℕ) : Type 0 where
-  pub vertices : 3 * length m.points ≤ vertexRoom
+pub record Fits (m : Mesh) (vertex_room facet_room : ℕ) : Type 0 where
+  pub vertices : 3 * length m.points ≤ vertex_room
   pub facets : length (flat m.facets) ≤ facet_room

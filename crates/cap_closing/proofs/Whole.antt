@@ -43,9 +43,9 @@ use Rattle.cap_closing.proofs.Places.{distinct_places}
 use Rattle.cap_closing.proofs.Beginning.{named_first, point_of_is}
 use Rattle.records.specs.Buffer.{key_in}
 
-module _ (n nf : ℕ) (capList : List ℕ) (w : List ℕ) (T : TurnedReady n nf capList w) where
+module _ (n nf : ℕ) (cap_list : List ℕ) (w : List ℕ) (T : TurnedReady n nf cap_list w) where
   abbrev nc : ℕ
-  nc = length capList / 4
+  nc = length cap_list / 4
 
   abbrev b : ℕ
   b = closing_at n nf nc
@@ -54,16 +54,16 @@ module _ (n nf : ℕ) (capList : List ℕ) (w : List ℕ) (T : TurnedReady n nf 
   pool = pool_at n w
 
   abbrev caps : List Cap
-  caps = outward_caps pool (caps_of capList)
+  caps = outward_caps pool (caps_of cap_list)
 
   long : length caps ≡ nc
-  long = length-map (caps_of capList) (outward pool) ∙ caps_length capList
+  long = length-map (caps_of cap_list) (outward pool) ∙ caps_length cap_list
 
-  pub taken_is : (positive : Bool) → taken_at n nf nc positive w nc ≡ taken_in n nf capList positive w
+  pub taken_is : (positive : Bool) → taken_at n nf nc positive w nc ≡ taken_in n nf cap_list positive w
   unfolding taken
   taken_is positive =
       map_keep_up (cap_at_room n nf nc w) (λ i. (cap_at caps i).corners) (is_taken n nf nc positive w) (λ i. beq (get_or (chosen_in n nf nc w) i false) positive) nc
-      (λ i h. turned_corners n nf capList w T i h ∙ ap (λ (t : Cap). t.corners) (sym (outward_at pool (caps_of capList) i (let e = caps_length capList in omega arith))))
+      (λ i h. turned_corners n nf cap_list w T i h ∙ ap (λ (t : Cap). t.corners) (sym (outward_at pool (caps_of cap_list) i (let e = caps_length cap_list in omega arith))))
       (λ i h. ap (λ (x : Bool). beq x positive) (sym (at_place (λ i. eqb (get_or w (seeded_at n nf nc + get_or w (components_at n nf nc + i) 0) 0) 1) false nc i h)))
       ∙ ap (λ (k : ℕ). map (λ i. (cap_at caps i).corners) (keep (λ i. beq (get_or (chosen_in n nf nc w) i false) positive) (up_to k))) (sym long)
 
@@ -71,7 +71,7 @@ module _ (n nf : ℕ) (capList : List ℕ) (w : List ℕ) (T : TurnedReady n nf 
   shaped_first vs h = record { vertices = h; stored = T.supplied.pooled.stored }
 
   pub taking_first : ((i : ℕ) → i < nc → get_or w (components_at n nf nc + i) 0 < nc) → Taking n nf nc w
-  taking_first parts = record { corners = λ i h. let l = turned_low n nf capList w T i h in record { a = l.0; b = l.1; c = l.2 }; parts = parts }
+  taking_first parts = record { corners = λ i h. let l = turned_low n nf cap_list w T i h in record { a = l.0; b = l.1; c = l.2 }; parts = parts }
 
   module _ (vs : List Float) (few : length vs / 3 < 1048576) (words : MeshWords (length vs / 3) w)
       (parts : (i : ℕ) → i < nc → get_or w (components_at n nf nc + i) 0 < nc) (positive : Bool) (left found : ℕ) (w₁ w₂ w₃ : List ℕ)
@@ -81,7 +81,7 @@ module _ (n nf : ℕ) (capList : List ℕ) (w : List ℕ) (T : TurnedReady n nf 
     nv = length vs / 3
 
     abbrev ts : List (Triangle ℕ)
-    ts = taken_in n nf capList positive w
+    ts = taken_in n nf cap_list positive w
 
     -- ---- the numbers given out
 
@@ -161,7 +161,7 @@ module _ (n nf : ℕ) (capList : List ℕ) (w : List ℕ) (T : TurnedReady n nf 
     marked true = refl
     marked false = refl
 
-    firsts_are : map (left_facet b n w₂) (keep (is_first key) (up_to left)) ≡ facets_for n nf capList positive vs w
+    firsts_are : map (left_facet b n w₂) (keep (is_first key) (up_to left)) ≡ facets_for n nf cap_list positive vs w
     unfolding cap_facets
     firsts_are =
         sym (distinct_places same_corners (left_facet b n w₂) key left alike)
@@ -169,13 +169,13 @@ module _ (n nf : ℕ) (capList : List ℕ) (w : List ℕ) (T : TurnedReady n nf 
         (P.facets.facets ∙ (λ t. keep (is_large (named₂ t).points) (map (mapped (new_number (named₂ t))) (same_taken t)))
         ∙ (λ t. keep (is_large (points_are pool (points_of vs) ts ts_in t)) (corners_are pool (points_of vs) ts ts_in t)))
 
-    written : firsts_in n nf nc w₃ left ≡ facets_for n nf capList positive vs w
+    written : firsts_in n nf nc w₃ left ≡ facets_for n nf cap_list positive vs w
     written =
         map_keep_up (left_facet b n w₃) (left_facet b n w₂) (λ i. eqb (get_or w₃ (b + 2 * n + 7 * nc + i) 0) 1) (is_first key) left facet₃
         (λ i h. ap (λ (x : ℕ). eqb x 1) (F.marks i h) ∙ marked (is_first key i))
         ∙ firsts_are
 
-    counted : found ≡ length (facets_for n nf capList positive vs w)
+    counted : found ≡ length (facets_for n nf cap_list positive vs w)
     counted = F.counted ∙ sym (length-map (keep (is_first key) (up_to left)) (left_facet b n w₂)) ∙ ap (length {A = Triangle ℕ}) firsts_are
 
     word_low : (q r j : ℕ) → j ≡ 3 * q + r → q < left → r < 3 → Dec (r ≡ 0) → Dec (r ≡ 1) → get_or w₃ (b + 2 * n + j) 0 < 2097152
@@ -200,7 +200,7 @@ module _ (n nf : ℕ) (capList : List ℕ) (w : List ℕ) (T : TurnedReady n nf 
         let y = (facet_low q h).c in
         omega arith
 
-    pub closed : Closed vs n nf capList positive left found w w₃
+    pub closed : Closed vs n nf cap_list positive left found w w₃
     closed =
         let E = entering₃ in
         let k : count_at w₃ ≤ n = E.count in

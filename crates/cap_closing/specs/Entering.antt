@@ -51,26 +51,26 @@ module _ (n nf nc : ℕ) where
   firsts_in w left = map (facet_in w) (keep (λ i. eqb (get_or w (firsts_at + i) 0) 1) (up_to left))
 
 abbrev pub taken_in : ℕ → ℕ → List ℕ → Bool → List ℕ → List (Triangle ℕ)
-taken_in n nf capList positive w = taken positive (chosen_in n nf (length capList / 4) w) (outward_caps (pool_at n w) (caps_of capList))
+taken_in n nf cap_list positive w = taken positive (chosen_in n nf (length cap_list / 4) w) (outward_caps (pool_at n w) (caps_of cap_list))
 
 abbrev pub points_for : ℕ → ℕ → List ℕ → Bool → List Float → List ℕ → List Point
-points_for n nf capList positive vs w = closed_points (pool_at n w) (points_of vs) (taken_in n nf capList positive w)
+points_for n nf cap_list positive vs w = closed_points (pool_at n w) (points_of vs) (taken_in n nf cap_list positive w)
 
 abbrev pub facets_for : ℕ → ℕ → List ℕ → Bool → List Float → List ℕ → List (Triangle ℕ)
-facets_for n nf capList positive vs w =
-    cap_facets (points_for n nf capList positive vs w) (cap_corners (pool_at n w) (length (points_of vs)) (taken_in n nf capList positive w))
+facets_for n nf cap_list positive vs w =
+    cap_facets (points_for n nf cap_list positive vs w) (cap_corners (pool_at n w) (length (points_of vs)) (taken_in n nf cap_list positive w))
 
 -- a candidate's word names one of nv mesh vertices, or none
 abbrev pub MeshWords : ℕ → List ℕ → Type 0
 MeshWords nv w = (c : ℕ) → c < standing.count_at w → get_or w (entry_at c + 3) 0 ≤ nv
 
-pub record Closed (vs : List Float) (n nf : ℕ) (capList : List ℕ) (positive : Bool) (left caps : ℕ) (w w' : List ℕ) : Type 0 where
-  pub above : Above (closing_at n nf (length capList / 4)) w w'
-  pub own : length vs / 3 ≤ get_or w' (vertices_at n nf (length capList / 4)) 0
-  pub most : get_or w' (vertices_at n nf (length capList / 4)) 0 ≤ length vs / 3 + n
-  pub fresh : (i : ℕ) → i < get_or w' (vertices_at n nf (length capList / 4)) 0 - length vs / 3 → get_or w' (fresh_at n nf (length capList / 4) + i) 0 < standing.count_at w'
-  pub points : points_for n nf capList positive vs w ≡ points_of vs ++ map (λ c. point_at w' (entry_at c)) (fresh_in n nf (length capList / 4) w' (length vs / 3))
-  pub few : left ≤ length capList / 4
-  pub low : (j : ℕ) → j < 3 * left → get_or w' (left_at n nf (length capList / 4) + j) 0 < 2097152
-  pub facets : firsts_in n nf (length capList / 4) w' left ≡ facets_for n nf capList positive vs w
-  pub count : caps ≡ length (facets_for n nf capList positive vs w)
+pub record Closed (vs : List Float) (n nf : ℕ) (cap_list : List ℕ) (positive : Bool) (left caps : ℕ) (w w' : List ℕ) : Type 0 where
+  pub above : Above (closing_at n nf (length cap_list / 4)) w w'
+  pub own : length vs / 3 ≤ get_or w' (vertices_at n nf (length cap_list / 4)) 0
+  pub most : get_or w' (vertices_at n nf (length cap_list / 4)) 0 ≤ length vs / 3 + n
+  pub fresh : (i : ℕ) → i < get_or w' (vertices_at n nf (length cap_list / 4)) 0 - length vs / 3 → get_or w' (fresh_at n nf (length cap_list / 4) + i) 0 < standing.count_at w'
+  pub points : points_for n nf cap_list positive vs w ≡ points_of vs ++ map (λ c. point_at w' (entry_at c)) (fresh_in n nf (length cap_list / 4) w' (length vs / 3))
+  pub few : left ≤ length cap_list / 4
+  pub low : (j : ℕ) → j < 3 * left → get_or w' (left_at n nf (length cap_list / 4) + j) 0 < 2097152
+  pub facets : firsts_in n nf (length cap_list / 4) w' left ≡ facets_for n nf cap_list positive vs w
+  pub count : caps ≡ length (facets_for n nf cap_list positive vs w)

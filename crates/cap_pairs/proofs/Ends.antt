@@ -39,9 +39,9 @@ use Rattle.cap_pairs.specs.Steps.{SmallEdge, side_words, TablesFor}
 pub three : (n : ℕ) → 3 * n % 3 ≡ 0
 three n = omega arith
 
-module _ (n nf k : ℕ) (capList w : List ℕ) where
+module _ (n nf k : ℕ) (cap_list w : List ℕ) where
   abbrev nc : ℕ
-  nc = length capList / 4
+  nc = length cap_list / 4
 
   abbrev low : ℕ
   low = turned_at n nf
@@ -52,15 +52,15 @@ module _ (n nf k : ℕ) (capList w : List ℕ) where
   abbrev row : ℕ → ℕ
   row q = open_edges_at n nf + 3 * q
 
-  pub pair_edge : (q : ℕ) → q < k → pair_at n nf k capList w q ≡ edge_pair w (row q)
+  pub pair_edge : (q : ℕ) → q < k → pair_at n nf k cap_list w q ≡ edge_pair w (row q)
   unfolding pair_at
   pair_edge q h = ap (λ (b : Bool). cond b (edge_pair w (row q)) (get_or (sides (turned_in n nf nc w)) (q - k) (0, 0))) (lt-ltb q k h)
 
-  pub pair_listed : (q : ℕ) → q < k → (get_or w (row q + 2) 0 ≡ 0 → ⊥) → pair_at n nf k capList w q ≡ (get_or w (row q) 0, get_or w (row q + 1) 0)
+  pub pair_listed : (q : ℕ) → q < k → (get_or w (row q + 2) 0 ≡ 0 → ⊥) → pair_at n nf k cap_list w q ≡ (get_or w (row q) 0, get_or w (row q + 1) 0)
   pair_listed q h m =
       pair_edge q h ∙ ap (λ (b : Bool). cond b (0, 0) (get_or w (row q) 0, get_or w (row q + 1) 0)) (ne_eqb (get_or w (row q + 2) 0) 0 m)
 
-  pub pair_side : low + 3 * nc ≤ length w → (s : ℕ) → s < 3 * nc → pair_at n nf k capList w (k + s) ≡ side_words w low s
+  pub pair_side : low + 3 * nc ≤ length w → (s : ℕ) → s < 3 * nc → pair_at n nf k cap_list w (k + s) ≡ side_words w low s
   unfolding pair_at
   pair_side size s h =
       let long : length part ≡ 3 * nc = view_length w low (3 * nc) size in
@@ -75,7 +75,7 @@ module _ (n nf k : ℕ) (capList w : List ℕ) where
       back : (k s : ℕ) → k + s - k ≡ s
       back k s = omega arith
 
-  pub pair_kept : (b : ℕ) (w' : List ℕ) → Above b w w' → pair_records_at n nf nc ≤ b → k ≤ 3 * nf → (q : ℕ) → pair_at n nf k capList w' q ≡ pair_at n nf k capList w q
+  pub pair_kept : (b : ℕ) (w' : List ℕ) → Above b w w' → pair_records_at n nf nc ≤ b → k ≤ 3 * nf → (q : ℕ) → pair_at n nf k cap_list w' q ≡ pair_at n nf k cap_list w q
   unfolding pair_at
   pair_kept b w' above end few q =
       ⊎_elim
@@ -107,8 +107,8 @@ pub some_face : (mask : ℕ) → mask < 64 → (mask ≡ 0 → ⊥) → SomeFace
 some_face mask h n = let r = word_bit mask h n in record { face = r.0; is = r.1; on = r.2 }
 
 -- ---- sizes
-module _ (n nf k : ℕ) (capList w : List ℕ) (r : CapReady n nf k capList w) where
-  pub tables_for : TablesFor n nf (length capList / 4) w k
+module _ (n nf k : ℕ) (cap_list w : List ℕ) (r : CapReady n nf k cap_list w) where
+  pub tables_for : TablesFor n nf (length cap_list / 4) w k
   tables_for =
       let s = r.ready.supplied in
       record { small = omega (arith, s.small); few = s.few; caps = omega (arith, s.caps); edges = r.edges; size = s.size }
@@ -116,8 +116,8 @@ module _ (n nf k : ℕ) (capList w : List ℕ) (r : CapReady n nf k capList w) w
   low_end : (c : ℕ) → c < count_at w → c < 4294967296
   low_end c h = omega (arith, r.ready.supplied.small, r.ready.supplied.pooled.few)
 
-  pub word_low : (x : ℕ) → x < 3 * (length capList / 4) → get_or w (turned_at n nf + x) 0 < count_at w
-  word_low x h = go (x % 3) refl (turned_low n nf capList w r.ready (x / 3) (omega arith))
+  pub word_low : (x : ℕ) → x < 3 * (length cap_list / 4) → get_or w (turned_at n nf + x) 0 < count_at w
+  word_low x h = go (x % 3) refl (turned_low n nf cap_list w r.ready (x / 3) (omega arith))
     where
       moved : (a b : ℕ) → a ≡ b → get_or w a 0 < count_at w → get_or w b 0 < count_at w
       moved a b e l = subst (λ (y : ℕ). get_or w y 0 < count_at w) e l
@@ -131,7 +131,7 @@ module _ (n nf k : ℕ) (capList w : List ℕ) (r : CapReady n nf k capList w) w
       go (suc (suc zero)) e l = moved (turned_at n nf + 3 * (x / 3) + 2) (turned_at n nf + x) (omega arith) l.2
       go (suc (suc (suc m))) e l = absurd (omega arith)
 
-  pub word_small : (x : ℕ) → x < 3 * (length capList / 4) → get_or w (turned_at n nf + x) 0 < 4294967296
+  pub word_small : (x : ℕ) → x < 3 * (length cap_list / 4) → get_or w (turned_at n nf + x) 0 < 4294967296
   word_small x h = low_end (get_or w (turned_at n nf + x) 0) (word_low x h)
 
   pub edge_ends : (i : ℕ) → i < k → SmallEdge w (open_edges_at n nf + 3 * i)
@@ -150,15 +150,15 @@ module _ (n nf k : ℕ) (capList w : List ℕ) (r : CapReady n nf k capList w) w
       go true e = (omega arith, omega arith)
       go false e = edge_ends i h (eqb-false (get_or w (open_edges_at n nf + 3 * i + 2) 0) 0 e)
 
-  pub pair_small : (q : ℕ) → q < pair_count n nf k capList → Small (pair_at n nf k capList w q)
+  pub pair_small : (q : ℕ) → q < pair_count n nf k cap_list → Small (pair_at n nf k cap_list w q)
   pair_small q h =
       ⊎_elim
-      (λ (l : ltb q k ≡ true). let m = ltb-true q k l in subst Small (sym (pair_edge n nf k capList w q m)) (edge_pair_small q m))
+      (λ (l : ltb q k ≡ true). let m = ltb-true q k l in subst Small (sym (pair_edge n nf k cap_list w q m)) (edge_pair_small q m))
       (λ (l : ltb q k ≡ false).
       let m = ltb-false q k l in
-      let s : q - k < 3 * (length capList / 4) = omega arith in
-      subst Small (sym (ap (pair_at n nf k capList w) (whole q k m) ∙ pair_side n nf k capList w (omega (arith, r.ready.supplied.size)) (q - k) s))
-      (word_small (q - k) s, word_small (next_side (q - k)) (next_in (3 * (length capList / 4)) (q - k) (three (length capList / 4)) s)))
+      let s : q - k < 3 * (length cap_list / 4) = omega arith in
+      subst Small (sym (ap (pair_at n nf k cap_list w) (whole q k m) ∙ pair_side n nf k cap_list w (omega (arith, r.ready.supplied.size)) (q - k) s))
+      (word_small (q - k) s, word_small (next_side (q - k)) (next_in (3 * (length cap_list / 4)) (q - k) (three (length cap_list / 4)) s)))
       (cases (ltb q k))
     where
       whole : (q k : ℕ) → k ≤ q → q ≡ k + (q - k)

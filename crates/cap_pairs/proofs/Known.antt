@@ -45,18 +45,18 @@ use Rattle.cap_pairs.proofs.Sums.{some_map, some_threes, some_places}
 use Rattle.cap_pairs.proofs.Ends.{pair_listed, pair_side, pair_kept}
 
 -- ---- the numbers
-pub numbers_kept : (n nf k : ℕ) (capList w w' : List ℕ) (b : ℕ) → Above b w w' → up_at n nf (length capList / 4) ≤ b → k ≤ 3 * nf → PairNumbers n nf k capList w → PairNumbers n nf k
-    capList w'
-numbers_kept n nf k capList w w' b above end few N =
+pub numbers_kept : (n nf k : ℕ) (cap_list w w' : List ℕ) (b : ℕ) → Above b w w' → up_at n nf (length cap_list / 4) ≤ b → k ≤ 3 * nf → PairNumbers n nf k cap_list w → PairNumbers n nf k
+    cap_list w'
+numbers_kept n nf k cap_list w w' b above end few N =
     record {
       low = λ q h. let e = number q h in let l = N.low q h in omega arith;
       same = λ q r hq hr.
           (λ t. eqb (number q hq t) (number r hr t)) ∙ N.same q r hq hr
-          ∙ (λ t. same_pair (sym (pair_kept n nf k capList w b w' above (omega arith) few q) t) (sym (pair_kept n nf k capList w b w' above (omega arith) few r) t));
+          ∙ (λ t. same_pair (sym (pair_kept n nf k cap_list w b w' above (omega arith) few q) t) (sym (pair_kept n nf k cap_list w b w' above (omega arith) few r) t));
     }
   where
-    number : (q : ℕ) → q < k + 3 * (length capList / 4) → number_in n nf k capList w' q ≡ number_in n nf k capList w q
-    number q h = above.below (numbers_at n nf (length capList / 4) + q) (omega arith)
+    number : (q : ℕ) → q < k + 3 * (length cap_list / 4) → number_in n nf k cap_list w' q ≡ number_in n nf k cap_list w q
+    number q h = above.below (numbers_at n nf (length cap_list / 4) + q) (omega arith)
 
 -- ---- truth values
 eqb_shift : (u x y : ℕ) → eqb (u + x) (u + y) ≡ eqb x y
@@ -168,15 +168,15 @@ turned_edges pool t s = go (beq (lt zero_f (signed_area pool t)) (ccw_is_outward
         let z = same_pair_right s (c.b, c.a) (c.a, c.b) (inr (refl, refl)) in
         (λ i. x i || (y i || (z i || false))) ∙ order (same_pair s (c.a, c.b)) (same_pair s (c.b, c.c)) (same_pair s (c.c, c.a))
 
-module _ (n nf k : ℕ) (capList w : List ℕ) (ready : CapReady n nf k capList w) (N : PairNumbers n nf k capList w) (q f : ℕ) (hq : q < pair_count n nf k capList) (hf : f < 6) where
+module _ (n nf k : ℕ) (cap_list w : List ℕ) (ready : CapReady n nf k cap_list w) (N : PairNumbers n nf k cap_list w) (q f : ℕ) (hq : q < pair_count n nf k cap_list) (hf : f < 6) where
   abbrev nc : ℕ
-  nc = length capList / 4
+  nc = length cap_list / 4
 
   abbrev num : ℕ → ℕ
-  num r = number_in n nf k capList w r
+  num r = number_in n nf k cap_list w r
 
   abbrev Q : ℕ × ℕ
-  Q = pair_at n nf k capList w q
+  Q = pair_at n nf k cap_list w q
 
   abbrev row : ℕ → ℕ
   row j = open_edges_at n nf + 3 * j
@@ -190,11 +190,11 @@ module _ (n nf k : ℕ) (capList w : List ℕ) (ready : CapReady n nf k capList 
   abbrev mask : ℕ → ℕ
   mask j = get_or w (row j + 2) 0
 
-  pub listed : (j : ℕ) → j < k → has_bit (mask j) f ≡ true → pair_at n nf k capList w j ≡ (from j, to j)
-  listed j h on = pair_listed n nf k capList w j h (λ e. never (has_bit (mask j) f) on (ap (λ (m : ℕ). has_bit m f) e ∙ no_bit f hf))
+  pub listed : (j : ℕ) → j < k → has_bit (mask j) f ≡ true → pair_at n nf k cap_list w j ≡ (from j, to j)
+  listed j h on = pair_listed n nf k cap_list w j h (λ e. never (has_bit (mask j) f) on (ap (λ (m : ℕ). has_bit m f) e ∙ no_bit f hf))
 
   same_number : (j : ℕ) → j < k → has_bit (mask j) f ≡ true → eqb (num j) (num q) ≡ same_pair Q (from j, to j)
-  same_number j h on = N.same j q (omega arith) hq ∙ same_pair_sym (pair_at n nf k capList w j) Q ∙ ap (same_pair Q) (listed j h on)
+  same_number j h on = N.same j q (omega arith) hq ∙ same_pair_sym (pair_at n nf k cap_list w j) Q ∙ ap (same_pair Q) (listed j h on)
 
   pub edges_some : (W : ℕ → ℕ → Bool)
       → some (λ j. (W (from j) (to j) && eqb (num j) (num q)) && has_bit (mask j) f) (up_to k)
@@ -232,15 +232,15 @@ module _ (n nf k : ℕ) (capList w : List ℕ) (ready : CapReady n nf k capList 
   low = turned_at n nf
 
   abbrev held_test : ℕ → Bool
-  held_test s = eqb (side_target n nf nc w k s) (held_at n nf nc + num q) && eqb (side_face capList s) f
+  held_test s = eqb (side_target n nf nc w k s) (held_at n nf nc + num q) && eqb (side_face cap_list s) f
 
-  side_test : (s : ℕ) → s < 3 * nc → (x y face : ℕ) → side_words w low s ≡ (x, y) → side_face capList s ≡ face → held_test s ≡ (same_pair Q (x, y) && eqb face f)
+  side_test : (s : ℕ) → s < 3 * nc → (x y face : ℕ) → side_words w low s ≡ (x, y) → side_face cap_list s ≡ face → held_test s ≡ (same_pair Q (x, y) && eqb face f)
   side_test s h x y face e g =
       let m : eqb (side_target n nf nc w k s) (held_at n nf nc + num q) ≡ same_pair Q (x, y) =
       eqb_shift (held_at n nf nc) (get_or w (numbers_at n nf nc + k + s) 0) (num q)
       ∙ ap (λ (z : ℕ). eqb (get_or w z 0) (num q)) (assoc (numbers_at n nf nc) k s)
-      ∙ N.same (k + s) q (omega arith) hq ∙ same_pair_sym (pair_at n nf k capList w (k + s)) Q
-      ∙ ap (same_pair Q) (pair_side n nf k capList w (omega (arith, ready.ready.supplied.size)) s h ∙ e) in
+      ∙ N.same (k + s) q (omega arith) hq ∙ same_pair_sym (pair_at n nf k cap_list w (k + s)) Q
+      ∙ ap (same_pair Q) (pair_side n nf k cap_list w (omega (arith, ready.ready.supplied.size)) s h ∙ e) in
       λ t. m t && eqb (g t) f
     where
       assoc : (a k s : ℕ) → a + k + s ≡ a + (k + s)
@@ -248,26 +248,26 @@ module _ (n nf k : ℕ) (capList w : List ℕ) (ready : CapReady n nf k capList 
 
   module _ (i : ℕ) (h : i < nc) where
     abbrev T0 : Cap
-    T0 = outward (pool_at n w) (cap_at (caps_of capList) i)
+    T0 = outward (pool_at n w) (cap_at (caps_of cap_list) i)
 
-    there : i < length (caps_of capList)
-    there = let e = caps_length capList in omega arith
+    there : i < length (caps_of cap_list)
+    there = let e = caps_length cap_list in omega arith
 
-    face_is : get_or capList (4 * i) 0 ≡ T0.face
+    face_is : get_or cap_list (4 * i) 0 ≡ T0.face
     unfolding outward
-    face_is = ap (λ (t : Cap). t.face) (sym (cap_at_lem capList i h))
+    face_is = ap (λ (t : Cap). t.face) (sym (cap_at_lem cap_list i h))
 
     corner_a : get_or w (low + 3 * i) 0 ≡ T0.corners.a
-    corner_a = ap (λ (t : Triangle ℕ). t.a) (turned_corners n nf capList w ready.ready i h)
+    corner_a = ap (λ (t : Triangle ℕ). t.a) (turned_corners n nf cap_list w ready.ready i h)
 
     corner_b : get_or w (low + (3 * i + 1)) 0 ≡ T0.corners.b
-    corner_b = ap (λ (x : ℕ). get_or w x 0) (one low i) ∙ ap (λ (t : Triangle ℕ). t.b) (turned_corners n nf capList w ready.ready i h)
+    corner_b = ap (λ (x : ℕ). get_or w x 0) (one low i) ∙ ap (λ (t : Triangle ℕ). t.b) (turned_corners n nf cap_list w ready.ready i h)
       where
         one : (a i : ℕ) → a + (3 * i + 1) ≡ a + 3 * i + 1
         one a i = omega arith
 
     corner_c : get_or w (low + (3 * i + 2)) 0 ≡ T0.corners.c
-    corner_c = ap (λ (x : ℕ). get_or w x 0) (two low i) ∙ ap (λ (t : Triangle ℕ). t.c) (turned_corners n nf capList w ready.ready i h)
+    corner_c = ap (λ (x : ℕ). get_or w x 0) (two low i) ∙ ap (λ (t : Triangle ℕ). t.c) (turned_corners n nf cap_list w ready.ready i h)
       where
         two : (a i : ℕ) → a + (3 * i + 2) ≡ a + 3 * i + 2
         two a i = omega arith
@@ -287,26 +287,26 @@ module _ (n nf k : ℕ) (capList w : List ℕ) (ready : CapReady n nf k capList 
         let x =
         side_test (3 * i) (omega arith) T0.corners.a T0.corners.b T0.face
         (λ t. (corner_a t, (ap (λ (z : ℕ). get_or w (low + z) 0) next_0 ∙ corner_b) t))
-        (ap (λ (z : ℕ). get_or capList z 0) (omega arith) ∙ face_is) in
+        (ap (λ (z : ℕ). get_or cap_list z 0) (omega arith) ∙ face_is) in
         let y =
         side_test (3 * i + 1) (omega arith) T0.corners.b T0.corners.c T0.face
         (λ t. (corner_b t, (ap (λ (z : ℕ). get_or w (low + z) 0) next_1 ∙ corner_c) t))
-        (ap (λ (z : ℕ). get_or capList z 0) (omega arith) ∙ face_is) in
+        (ap (λ (z : ℕ). get_or cap_list z 0) (omega arith) ∙ face_is) in
         let z =
         side_test (3 * i + 2) (omega arith) T0.corners.c T0.corners.a T0.face
         (λ t. (corner_c t, (ap (λ (z : ℕ). get_or w (low + z) 0) next_2 ∙ corner_a) t))
-        (ap (λ (z : ℕ). get_or capList z 0) (omega arith) ∙ face_is) in
+        (ap (λ (z : ℕ). get_or cap_list z 0) (omega arith) ∙ face_is) in
         (λ t. x t || (y t || z t))
         ∙ three_ways (same_pair Q (T0.corners.a, T0.corners.b)) (same_pair Q (T0.corners.b, T0.corners.c)) (same_pair Q (T0.corners.c, T0.corners.a)) (eqb T0.face f)
 
-  pub sides_some : some held_test (up_to (3 * nc)) ≡ some (λ t. eqb t.face f && some (same_pair Q) (edges t.corners)) (outward_caps (pool_at n w) (caps_of capList))
+  pub sides_some : some held_test (up_to (3 * nc)) ≡ some (λ t. eqb t.face f && some (same_pair Q) (edges t.corners)) (outward_caps (pool_at n w) (caps_of cap_list))
   sides_some =
       some_threes held_test nc
-      ∙ some_below (λ i. held_test (3 * i) || (held_test (3 * i + 1) || held_test (3 * i + 2))) (λ i. holds (cap_at (outward_caps (pool_at n w) (caps_of capList)) i)) nc (λ i h.
-      triangle_test i h ∙ ap holds (sym (outward_at (pool_at n w) (caps_of capList) i (there i h))))
-      ∙ ap (λ (m : ℕ). some (λ i. holds (cap_at (outward_caps (pool_at n w) (caps_of capList)) i)) (up_to m))
-      (sym (length-map (caps_of capList) (outward (pool_at n w)) ∙ caps_length capList))
-      ∙ sym (some_places holds (cap 0 (tri 0 0 0)) (outward_caps (pool_at n w) (caps_of capList)))
+      ∙ some_below (λ i. held_test (3 * i) || (held_test (3 * i + 1) || held_test (3 * i + 2))) (λ i. holds (cap_at (outward_caps (pool_at n w) (caps_of cap_list)) i)) nc (λ i h.
+      triangle_test i h ∙ ap holds (sym (outward_at (pool_at n w) (caps_of cap_list) i (there i h))))
+      ∙ ap (λ (m : ℕ). some (λ i. holds (cap_at (outward_caps (pool_at n w) (caps_of cap_list)) i)) (up_to m))
+      (sym (length-map (caps_of cap_list) (outward (pool_at n w)) ∙ caps_length cap_list))
+      ∙ sym (some_places holds (cap 0 (tri 0 0 0)) (outward_caps (pool_at n w) (caps_of cap_list)))
     where
       holds : Cap → Bool
       holds t = eqb t.face f && some (same_pair Q) (edges t.corners)

@@ -29,10 +29,10 @@ use Rattle.candidate_pool.specs.Offsets.{open_edges_at}
 use Rattle.sorting.specs.Sorting.{SortedPlaces}
 use Rattle.sorting.proofs.Places.{sorted_places}
 
-module _ (n nf k : ℕ) (capList w w1 : List ℕ) (r : CapReady n nf k capList w)
-    (r1 : Recorded (λ i. edge_pair w (open_edges_at n nf + 3 * i)) w w1 (pair_records_at n nf (length capList / 4)) 0 k) where
+module _ (n nf k : ℕ) (cap_list w w1 : List ℕ) (r : CapReady n nf k cap_list w)
+    (r1 : Recorded (λ i. edge_pair w (open_edges_at n nf + 3 * i)) w w1 (pair_records_at n nf (length cap_list / 4)) 0 k) where
   abbrev nc : ℕ
-  nc = length capList / 4
+  nc = length cap_list / 4
 
   abbrev at : ℕ
   at = pair_records_at n nf nc
@@ -41,7 +41,7 @@ module _ (n nf k : ℕ) (capList w w1 : List ℕ) (r : CapReady n nf k capList w
   p = k + 3 * nc
 
   abbrev P : ℕ → ℕ × ℕ
-  P = pair_at n nf k capList w
+  P = pair_at n nf k cap_list w
 
   abbrev K : ℕ → ℕ
   K q = edge_key (P q)
@@ -52,7 +52,7 @@ module _ (n nf k : ℕ) (capList w w1 : List ℕ) (r : CapReady n nf k capList w
       record { small = omega (arith, s.small); few = s.few; caps = omega (arith, s.caps); edges = r.edges; size = omega (arith, s.size, r1.above.long) }
 
   pub words_then : (x : ℕ) → x < 3 * nc → get_or w1 (turned_at n nf + x) 0 < 4294967296
-  words_then x h = let a = r1.above.below (turned_at n nf + x) (omega arith) in let b = word_small n nf k capList w r x h in omega arith
+  words_then x h = let a = r1.above.below (turned_at n nf + x) (omega arith) in let b = word_small n nf k cap_list w r x h in omega arith
 
   module _ (w2 : List ℕ) (r2 : Recorded (side_words w1 (turned_at n nf)) w1 w2 (at + 2 * k) k (3 * nc)) where
     above2 : Above at w w2
@@ -63,13 +63,13 @@ module _ (n nf k : ℕ) (capList w w1 : List ℕ) (r : CapReady n nf k capList w
         let l = next_in (3 * nc) s (three nc) h in
         let x = r1.above.below (turned_at n nf + s) (omega arith) in
         let y = r1.above.below (turned_at n nf + next_side s) (omega arith) in
-        (λ t. (x t, y t)) ∙ sym (pair_side n nf k capList w (omega (arith, r.ready.supplied.size)) s h)
+        (λ t. (x t, y t)) ∙ sym (pair_side n nf k cap_list w (omega (arith, r.ready.supplied.size)) s h)
 
     of_edge : (q : ℕ) → q < k → record_of w2 (at + 2 * q) ≡ (K q, q)
     of_edge q h =
         let x = r2.above.below (at + 2 * q) (omega arith) in
         let y = r2.above.below (at + 2 * q + 1) (omega arith) in
-        (λ t. (x t, y t)) ∙ r1.done q h ∙ (λ t. (edge_key (sym (pair_edge n nf k capList w q h) t), start q t))
+        (λ t. (x t, y t)) ∙ r1.done q h ∙ (λ t. (edge_key (sym (pair_edge n nf k cap_list w q h) t), start q t))
       where
         start : (q : ℕ) → 0 + q ≡ q
         start q = omega arith
@@ -119,13 +119,13 @@ module _ (n nf k : ℕ) (capList w w1 : List ℕ) (r : CapReady n nf k capList w
           above4 =
               above_more at w w3 w4 (above_more at w w2 w3 above2 above3) (above_less at numbers w3 w4 (omega arith) f.above)
 
-          kept : (q : ℕ) → pair_at n nf k capList w4 q ≡ P q
-          kept = pair_kept n nf k capList w at w4 above4 (omega arith) r.edges
+          kept : (q : ℕ) → pair_at n nf k cap_list w4 q ≡ P q
+          kept = pair_kept n nf k cap_list w at w4 above4 (omega arith) r.edges
 
           number_is : (q : ℕ) → get_or w4 (numbers_at n nf nc + q) 0 ≡ get_or w4 (numbers + q) 0
           number_is q = ap (λ (x : ℕ). get_or w4 (x + q) 0) (sym en)
 
-          pub numbered : Numbered n nf k capList w w4
+          pub numbered : Numbered n nf k cap_list w w4
           numbered =
               record {
                 above = above4;
@@ -133,7 +133,7 @@ module _ (n nf k : ℕ) (capList w w1 : List ℕ) (r : CapReady n nf k capList w
                   low = λ q h. let e = number_is q in let l = ordering.number_low K w2 w3 a p sort_room records_there s w4 numbers f q h in omega arith;
                   same = λ q t hq ht.
                       (λ i. eqb (number_is q i) (number_is t i)) ∙ ordering.number_same K w2 w3 a p sort_room records_there s w4 numbers f q t hq ht
-                      ∙ sym (same_pair_key (P q) (P t) (pair_small n nf k capList w r q hq) (pair_small n nf k capList w r t ht))
+                      ∙ sym (same_pair_key (P q) (P t) (pair_small n nf k cap_list w r q hq) (pair_small n nf k cap_list w r t ht))
                       ∙ (λ i. same_pair (sym (kept q) i) (sym (kept t) i));
                 };
               }

@@ -49,21 +49,21 @@ face_kept : (pool : Pool) (t : Cap) → (outward pool t).face ≡ t.face
 unfolding outward
 face_kept pool t = refl
 
-pub record RowWalk (n nf k : ℕ) (capList w : List ℕ) (found i : ℕ) : Type 0 where
+pub record RowWalk (n nf k : ℕ) (cap_list w : List ℕ) (found i : ℕ) : Type 0 where
   pub within : i ≤ k
   pub few : found ≤ 6 * i
-  pub so : missing_place (pool_at n w) (caps_of capList) (edges_at w (open_edges_at n nf) k)
-      ≡ found + place (missing_edge (pool_at n w) (caps_of capList)) (flat_map (λ j. edge_at w (open_edges_at n nf + 3 * j)) (up_from i (k - i)))
+  pub so : missing_place (pool_at n w) (caps_of cap_list) (edges_at w (open_edges_at n nf) k)
+      ≡ found + place (missing_edge (pool_at n w) (caps_of cap_list)) (flat_map (λ j. edge_at w (open_edges_at n nf + 3 * j)) (up_from i (k - i)))
 
-module _ (n nf k : ℕ) (capList w : List ℕ) (ready : CapReady n nf k capList w) (K : PairsKnown n nf k capList w) where
+module _ (n nf k : ℕ) (cap_list w : List ℕ) (ready : CapReady n nf k cap_list w) (K : PairsKnown n nf k cap_list w) where
   abbrev nc : ℕ
-  nc = length capList / 4
+  nc = length cap_list / 4
 
   abbrev pool : Pool
   pool = pool_at n w
 
   abbrev caps : List Cap
-  caps = caps_of capList
+  caps = caps_of cap_list
 
   abbrev at : ℕ
   at = open_edges_at n nf
@@ -78,7 +78,7 @@ module _ (n nf k : ℕ) (capList w : List ℕ) (ready : CapReady n nf k capList 
   mask i = get_or w (at + 3 * i + 2) 0
 
   abbrev held : ℕ → ℕ
-  held i = get_or w (held_at n nf nc + number_in n nf k capList w i) 0
+  held i = get_or w (held_at n nf nc + number_in n nf k cap_list w i) 0
 
   -- ---- one row
   module _ (i : ℕ) (h : i < k) where
@@ -91,10 +91,10 @@ module _ (n nf k : ℕ) (capList w : List ℕ) (ready : CapReady n nf k capList 
     held_is : (f : ℕ) → f < 6 → has_bit (mask i) f ≡ true → some (λ t. eqb t.face f && some (same_pair (A, B)) (edges t.corners)) caps ≡ has_bit (held i) f
     held_is f l on =
         sym (K.held i f (omega arith) l
-        ∙ some_map (λ t. eqb t.face f && some (same_pair (pair_at n nf k capList w i)) (edges t.corners)) (outward pool) caps
-        ∙ some_same (λ t. eqb (outward pool t).face f && some (same_pair (pair_at n nf k capList w i)) (edges (outward pool t).corners))
+        ∙ some_map (λ t. eqb t.face f && some (same_pair (pair_at n nf k cap_list w i)) (edges t.corners)) (outward pool) caps
+        ∙ some_same (λ t. eqb (outward pool t).face f && some (same_pair (pair_at n nf k cap_list w i)) (edges (outward pool t).corners))
         (λ t. eqb t.face f && some (same_pair (A, B)) (edges t.corners)) caps (λ t m.
-        (λ j. eqb (face_kept pool t j) f && some (same_pair (listed n nf k capList w ready K.numbers i f (omega arith) l i h on j)) (edges (outward pool t).corners))
+        (λ j. eqb (face_kept pool t j) f && some (same_pair (listed n nf k cap_list w ready K.numbers i f (omega arith) l i h on j)) (edges (outward pool t).corners))
         ∙ ap (λ (b : Bool). eqb t.face f && b) (turned_edges pool t (A, B))))
 
     test_is : (f : ℕ) → f < 6 → has_bit (mask i) f ≡ true → Q (open_edge f A B) ≡ missing_face w (held i) f
@@ -128,14 +128,14 @@ module _ (n nf k : ℕ) (capList w : List ℕ) (ready : CapReady n nf k capList 
       let s = ready.ready.supplied in
       omega (arith, ready.edges, s.small, s.few, s.caps)
 
-  pub row_start : RowWalk n nf k capList w 0 0
+  pub row_start : RowWalk n nf k cap_list w 0 0
   unfolding missing_place edges_at
   row_start = record { within = omega arith; few = omega arith; so = ap (λ (l : List ℕ). place Q (flat_map part l)) (ap (up_from 0) (less k)) ∙ omega arith }
     where
       less : (k : ℕ) → k ≡ k - 0
       less k = omega arith
 
-  module _ (found i : ℕ) (s : RowWalk n nf k capList w found i) where
+  module _ (found i : ℕ) (s : RowWalk n nf k cap_list w found i) where
     module _ (h : i < k) (edges numbers helds : ℕ) (ee : edges ≡ at) (en : numbers ≡ numbers_at n nf nc) (eh : helds ≡ held_at n nf nc) (before count : ℕ)
         (found_before : before ≡ place (missing_face w (get_or w (helds + get_or w (numbers + i) 0) 0)) (faces_in (get_or w (edges + 3 * i + 2) 0)))
         (counted : count ≡ bit_count (get_or w (edges + 3 * i + 2) 0)) where
@@ -183,7 +183,7 @@ module _ (n nf k : ℕ) (capList w : List ℕ) (ready : CapReady n nf k capList 
           let f = ap (place Q) more in
           omega (arith, s.so)
 
-      pub row_more : count ≤ before → RowWalk n nf k capList w (found + before) (i + 1)
+      pub row_more : count ≤ before → RowWalk n nf k cap_list w (found + before) (i + 1)
       row_more l =
           record {
             within = omega arith;

@@ -43,24 +43,24 @@ module _ (n nf nc k : ℕ) (w u : List ℕ) (above : Above (up_at n nf nc) w u) 
   target_same : edge_target n nf nc u j ≡ edge_target n nf nc w j
   target_same = let m = above.below (numbers_at n nf nc + j) (omega arith) in λ t. cond (ltb (from_same t) (to_same t)) (up_at n nf nc) (down_at n nf nc) + m t
 
-module _ (n nf k : ℕ) (capList w : List ℕ) (ready : CapReady n nf k capList w) (z : List ℕ) (long : length z ≡ length w) (at : ℕ) where
+module _ (n nf k : ℕ) (cap_list w : List ℕ) (ready : CapReady n nf k cap_list w) (z : List ℕ) (long : length z ≡ length w) (at : ℕ) where
   abbrev pairs : ℕ
-  pairs = k + 3 * (length capList / 4)
+  pairs = k + 3 * (length cap_list / 4)
 
-  pub up_room : at ≡ up_at n nf (length capList / 4) → at + pairs ≤ length z
+  pub up_room : at ≡ up_at n nf (length cap_list / 4) → at + pairs ≤ length z
   up_room e = omega (arith, ready.ready.supplied.size, ready.edges)
 
-  pub down_room : at ≡ down_at n nf (length capList / 4) → at + pairs ≤ length z
+  pub down_room : at ≡ down_at n nf (length cap_list / 4) → at + pairs ≤ length z
   down_room e = omega (arith, ready.ready.supplied.size, ready.edges)
 
-  pub held_room : at ≡ held_at n nf (length capList / 4) → at + pairs ≤ length z
+  pub held_room : at ≡ held_at n nf (length cap_list / 4) → at + pairs ≤ length z
   held_room e = omega (arith, ready.ready.supplied.size, ready.edges)
 
-module _ (n nf k : ℕ) (capList w : List ℕ) (ready : CapReady n nf k capList w) (N : PairNumbers n nf k capList w)
-    (z1 z2 z : List ℕ) (up down held : ℕ) (eu : up ≡ up_at n nf (length capList / 4)) (ed : down ≡ down_at n nf (length capList / 4)) (eh : held ≡ held_at n nf (length capList / 4))
-    (Z1 : PartZeroed w z1 up (k + 3 * (length capList / 4))) (Z2 : PartZeroed z1 z2 down (k + 3 * (length capList / 4))) (Z3 : PartZeroed z2 z held (k + 3 * (length capList / 4))) where
+module _ (n nf k : ℕ) (cap_list w : List ℕ) (ready : CapReady n nf k cap_list w) (N : PairNumbers n nf k cap_list w)
+    (z1 z2 z : List ℕ) (up down held : ℕ) (eu : up ≡ up_at n nf (length cap_list / 4)) (ed : down ≡ down_at n nf (length cap_list / 4)) (eh : held ≡ held_at n nf (length cap_list / 4))
+    (Z1 : PartZeroed w z1 up (k + 3 * (length cap_list / 4))) (Z2 : PartZeroed z1 z2 down (k + 3 * (length cap_list / 4))) (Z3 : PartZeroed z2 z held (k + 3 * (length cap_list / 4))) where
   abbrev nc : ℕ
-  nc = length capList / 4
+  nc = length cap_list / 4
 
   few : k ≤ 3 * nf
   few = ready.edges
@@ -123,22 +123,22 @@ module _ (n nf k : ℕ) (capList w : List ℕ) (ready : CapReady n nf k capList 
     zeros_noted r h =
         E.rest (held_at n nf nc + r) (λ j l e. let t = target_low n nf nc k z tables_cleared numbers_cleared zeros_cleared j l in omega arith) ∙ held_zero r h
 
-    pub sides_faces : (s : ℕ) → s < 3 * nc → side_face capList s < 6
+    pub sides_faces : (s : ℕ) → s < 3 * nc → side_face cap_list s < 6
     sides_faces s h =
         let i : s / 3 < nc = omega arith in
-        let c = caps_length capList in
-        let g = good_cap n w ready.ready.supplied.pooled (caps_of capList) ready.ready.good (s / 3) (omega arith) in
-        let e = ap (λ (t : Cap). t.face) (cap_at_lem capList (s / 3) i) in
-        let d = ap (λ (x : ℕ). get_or capList x 0) (four (s / 3)) in
+        let c = caps_length cap_list in
+        let g = good_cap n w ready.ready.supplied.pooled (caps_of cap_list) ready.ready.good (s / 3) (omega arith) in
+        let e = ap (λ (t : Cap). t.face) (cap_at_lem cap_list (s / 3) i) in
+        let d = ap (λ (x : ℕ). get_or cap_list x 0) (four (s / 3)) in
         omega (arith, g.face, e, d)
       where
         four : (i : ℕ) → i * 4 ≡ 4 * i
         four i = omega arith
 
     -- ---- sides noted
-    module _ (u : List ℕ) (S : Noted (side_target n nf nc v k) (λ s. eqb (side_face capList s)) v u (3 * nc)) where
+    module _ (u : List ℕ) (S : Noted (side_target n nf nc v k) (λ s. eqb (side_face cap_list s)) v u (3 * nc)) where
       below_held : (x : ℕ) → x < held_at n nf nc → get_or u x 0 ≡ get_or v x 0
-      below_held = sides_below n nf k capList v tables_noted numbers_noted zeros_noted u (3 * nc) S
+      below_held = sides_below n nf k cap_list v tables_noted numbers_noted zeros_noted u (3 * nc) S
 
       above_sides : Above (up_at n nf nc) v u
       above_sides = record { long = S.long; below = λ x h. below_held x (omega arith) }
@@ -149,11 +149,11 @@ module _ (n nf k : ℕ) (capList w : List ℕ) (ready : CapReady n nf k capList 
       pub above_all : Above (up_at n nf nc) w u
       above_all = above_more (up_at n nf nc) w z u above_cleared above_z_u
 
-      R : CapReady n nf k capList u
-      R = ready_kept (up_at n nf nc) w u above_all n nf capList k (omega arith) ready
+      R : CapReady n nf k cap_list u
+      R = ready_kept (up_at n nf nc) w u above_all n nf cap_list k (omega arith) ready
 
-      M : PairNumbers n nf k capList u
-      M = numbers_kept n nf k capList w u (up_at n nf nc) above_all (omega arith) few N
+      M : PairNumbers n nf k cap_list u
+      M = numbers_kept n nf k cap_list w u (up_at n nf nc) above_all (omega arith) few N
 
       -- a word of an edges' table
       edges_at : (x f : ℕ) → f < 6 → x < held_at n nf nc → get_or z x 0 ≡ 0 → has_bit (get_or u x 0) f ≡ some (λ j. eqb (edge_target n nf nc u j) x && has_bit (edge_mask n nf nc u j) f)
@@ -168,37 +168,37 @@ module _ (n nf k : ℕ) (capList w : List ℕ) (ready : CapReady n nf k capList 
       edges_small : (x : ℕ) → x < held_at n nf nc → get_or z x 0 ≡ 0 → get_or u x 0 < 64
       edges_small x l e = let a = below_held x l in let b = E.small x e in omega arith
 
-      module _ (q : ℕ) (hq : q < pair_count n nf k capList) where
-        low : number_in n nf k capList u q < k + 3 * nc
+      module _ (q : ℕ) (hq : q < pair_count n nf k cap_list) where
+        low : number_in n nf k cap_list u q < k + 3 * nc
         low = M.low q hq
 
-        up_in : up_at n nf nc + number_in n nf k capList u q < held_at n nf nc
+        up_in : up_at n nf nc + number_in n nf k cap_list u q < held_at n nf nc
         up_in = let a = low in let f = few in omega arith
 
-        down_in : down_at n nf nc + number_in n nf k capList u q < held_at n nf nc
+        down_in : down_at n nf nc + number_in n nf k cap_list u q < held_at n nf nc
         down_in = let a = low in let f = few in omega arith
 
         sides_at : (f : ℕ) → f < 6
-            → has_bit (get_or u (held_at n nf nc + number_in n nf k capList u q) 0) f
-            ≡ some (λ s. eqb (side_target n nf nc u k s) (held_at n nf nc + number_in n nf k capList u q) && eqb (side_face capList s) f) (up_to (3 * nc))
+            → has_bit (get_or u (held_at n nf nc + number_in n nf k cap_list u q) 0) f
+            ≡ some (λ s. eqb (side_target n nf nc u k s) (held_at n nf nc + number_in n nf k cap_list u q) && eqb (side_face cap_list s) f) (up_to (3 * nc))
         sides_at f h =
-            S.at (held_at n nf nc + number_in n nf k capList u q) f h (zeros_noted (number_in n nf k capList u q) low)
-            ∙ some_below (λ s. eqb (side_target n nf nc v k s) (held_at n nf nc + number_in n nf k capList u q) && eqb (side_face capList s) f)
-            (λ s. eqb (side_target n nf nc u k s) (held_at n nf nc + number_in n nf k capList u q) && eqb (side_face capList s) f) (3 * nc) (λ s i.
+            S.at (held_at n nf nc + number_in n nf k cap_list u q) f h (zeros_noted (number_in n nf k cap_list u q) low)
+            ∙ some_below (λ s. eqb (side_target n nf nc v k s) (held_at n nf nc + number_in n nf k cap_list u q) && eqb (side_face cap_list s) f)
+            (λ s. eqb (side_target n nf nc u k s) (held_at n nf nc + number_in n nf k cap_list u q) && eqb (side_face cap_list s) f) (3 * nc) (λ s i.
             let a = above_sides.below (numbers_at n nf nc + k + s) (let f = few in omega arith) in
-            λ t. eqb (held_at n nf nc + sym a t) (held_at n nf nc + number_in n nf k capList u q) && eqb (side_face capList s) f)
+            λ t. eqb (held_at n nf nc + sym a t) (held_at n nf nc + number_in n nf k cap_list u q) && eqb (side_face cap_list s) f)
 
-      pub known : PairsKnown n nf k capList u
+      pub known : PairsKnown n nf k cap_list u
       known =
           record {
             numbers = M;
             up =
-                λ q f hq hf. edges_at (up_at n nf nc + number_in n nf k capList u q) f hf (up_in q hq) (up_zero (number_in n nf k capList u q) (low q hq)) ∙ up_some n nf k capList u R
+                λ q f hq hf. edges_at (up_at n nf nc + number_in n nf k cap_list u q) f hf (up_in q hq) (up_zero (number_in n nf k cap_list u q) (low q hq)) ∙ up_some n nf k cap_list u R
                 M q f hq hf;
             down =
-                λ q f hq hf. edges_at (down_at n nf nc + number_in n nf k capList u q) f hf (down_in q hq) (down_zero (number_in n nf k capList u q) (low q hq)) ∙ down_some n nf k
-                capList u R M q f hq hf;
-            held = λ q f hq hf. sides_at q hq f hf ∙ sides_some n nf k capList u R M q f hq hf;
-            up_small = λ q hq. edges_small (up_at n nf nc + number_in n nf k capList u q) (up_in q hq) (up_zero (number_in n nf k capList u q) (low q hq));
-            down_small = λ q hq. edges_small (down_at n nf nc + number_in n nf k capList u q) (down_in q hq) (down_zero (number_in n nf k capList u q) (low q hq));
+                λ q f hq hf. edges_at (down_at n nf nc + number_in n nf k cap_list u q) f hf (down_in q hq) (down_zero (number_in n nf k cap_list u q) (low q hq)) ∙ down_some n nf k
+                cap_list u R M q f hq hf;
+            held = λ q f hq hf. sides_at q hq f hf ∙ sides_some n nf k cap_list u R M q f hq hf;
+            up_small = λ q hq. edges_small (up_at n nf nc + number_in n nf k cap_list u q) (up_in q hq) (up_zero (number_in n nf k cap_list u q) (low q hq));
+            down_small = λ q hq. edges_small (down_at n nf nc + number_in n nf k cap_list u q) (down_in q hq) (down_zero (number_in n nf k cap_list u q) (low q hq));
           }

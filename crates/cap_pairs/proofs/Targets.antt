@@ -112,13 +112,13 @@ module _ (n nf nc k : ℕ) (w₀ : List ℕ) (tables : TablesFor n nf nc w₀ k)
           (subst (λ (x : ℕ). Added w v (table + pair) (has_bit x)) (q ∙ (λ s. cond (eqb (from_is s) (to_is s)) 0 (mask_is s))) a))
 
 -- ---- sides
-module _ (n nf k : ℕ) (capList w₀ : List ℕ) (tables : TablesFor n nf (length capList / 4) w₀ k)
-    (low : (s : ℕ) → s < 3 * (length capList / 4) → get_or w₀ (numbers_at n nf (length capList / 4) + k + s) 0 < k + 3 * (length capList / 4))
-    (zeros : (r : ℕ) → r < k + 3 * (length capList / 4) → get_or w₀ (held_at n nf (length capList / 4) + r) 0 ≡ 0) where
+module _ (n nf k : ℕ) (cap_list w₀ : List ℕ) (tables : TablesFor n nf (length cap_list / 4) w₀ k)
+    (low : (s : ℕ) → s < 3 * (length cap_list / 4) → get_or w₀ (numbers_at n nf (length cap_list / 4) + k + s) 0 < k + 3 * (length cap_list / 4))
+    (zeros : (r : ℕ) → r < k + 3 * (length cap_list / 4) → get_or w₀ (held_at n nf (length cap_list / 4) + r) 0 ≡ 0) where
   abbrev nc : ℕ
-  nc = length capList / 4
+  nc = length cap_list / 4
 
-  module _ (w : List ℕ) (s : ℕ) (inv : Noted (side_target n nf nc w₀ k) (λ s. eqb (side_face capList s)) w₀ w s) where
+  module _ (w : List ℕ) (s : ℕ) (inv : Noted (side_target n nf nc w₀ k) (λ s. eqb (side_face cap_list s)) w₀ w s) where
     pub sides_below : (x : ℕ) → x < held_at n nf nc → get_or w x 0 ≡ get_or w₀ x 0
     sides_below x h = inv.rest x (λ j l e. omega arith)
 
@@ -135,10 +135,10 @@ module _ (n nf k : ℕ) (capList w₀ : List ℕ) (tables : TablesFor n nf (leng
       zero_there : get_or w₀ (side_target n nf nc w₀ k s) 0 ≡ 0
       zero_there = zeros (get_or w₀ (numbers_at n nf nc + k + s) 0) (low s h)
 
-      pub note_side_asks : ((s : ℕ) → s < 3 * nc → side_face capList s < 6) → (held + pair < length w) × (get_or w (held + pair) 0 < 64) × (side_face capList s < 6)
+      pub note_side_asks : ((s : ℕ) → s < 3 * nc → side_face cap_list s < 6) → (held + pair < length w) × (get_or w (held + pair) 0 < 64) × (side_face cap_list s < 6)
       note_side_asks f = (note_side_low, subst (λ (x : ℕ). get_or w x 0 < 64) (sym side_target_lem) (inv.small (side_target n nf nc w₀ k s) zero_there), f s h)
 
-      pub note_side_turn : (v : List ℕ) → Added w v (held + pair) (eqb (side_face capList s)) → Noted (side_target n nf nc w₀ k) (λ s. eqb (side_face capList s)) w₀ v (s + 1)
+      pub note_side_turn : (v : List ℕ) → Added w v (held + pair) (eqb (side_face cap_list s)) → Noted (side_target n nf nc w₀ k) (λ s. eqb (side_face cap_list s)) w₀ v (s + 1)
       note_side_turn v a =
-          noted_turn (side_target n nf nc w₀ k) (λ s. eqb (side_face capList s)) w₀ w s inv v zero_there
-          (subst (λ (x : ℕ). Added w v x (eqb (side_face capList s))) side_target_lem a)
+          noted_turn (side_target n nf nc w₀ k) (λ s. eqb (side_face cap_list s)) w₀ w s inv v zero_there
+          (subst (λ (x : ℕ). Added w v x (eqb (side_face cap_list s))) side_target_lem a)

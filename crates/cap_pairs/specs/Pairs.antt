@@ -18,35 +18,35 @@ use Rattle.cap_triangles.specs.Room.{pair_records_at, numbers_at, up_at, down_at
 abbrev pub edge_pair : List ℕ → ℕ → ℕ × ℕ
 edge_pair w at = cond (eqb (get_or w (at + 2) 0) 0) (0, 0) (get_or w at 0, get_or w (at + 1) 0)
 
-module _ (n nf k : ℕ) (capList : List ℕ) where
+module _ (n nf k : ℕ) (cap_list : List ℕ) where
   abbrev pub pair_count : ℕ
-  pair_count = k + 3 * (length capList / 4)
+  pair_count = k + 3 * (length cap_list / 4)
 
   unfoldable pub pair_at : List ℕ → ℕ → ℕ × ℕ
-  pair_at w q = cond (ltb q k) (edge_pair w (open_edges_at n nf + 3 * q)) (get_or (sides (turned_in n nf (length capList / 4) w)) (q - k) (0, 0))
+  pair_at w q = cond (ltb q k) (edge_pair w (open_edges_at n nf + 3 * q)) (get_or (sides (turned_in n nf (length cap_list / 4) w)) (q - k) (0, 0))
 
   abbrev pub number_in : List ℕ → ℕ → ℕ
-  number_in w q = get_or w (numbers_at n nf (length capList / 4) + q) 0
+  number_in w q = get_or w (numbers_at n nf (length cap_list / 4) + q) 0
 
   pub record PairNumbers (w : List ℕ) : Type 0 where
     pub low : (q : ℕ) → q < pair_count → number_in w q < pair_count
     pub same : (q r : ℕ) → q < pair_count → r < pair_count → eqb (number_in w q) (number_in w r) ≡ same_pair (pair_at w q) (pair_at w r)
 
   pub record Numbered (w w' : List ℕ) : Type 0 where
-    pub above : Above (pair_records_at n nf (length capList / 4)) w w'
+    pub above : Above (pair_records_at n nf (length cap_list / 4)) w w'
     pub numbers : PairNumbers w'
 
   -- open edges as face and two candidates, triangles turned
   pub record PairsKnown (w : List ℕ) : Type 0 where
     pub numbers : PairNumbers w
     pub up : (q f : ℕ) → q < pair_count → f < 6
-        → has_bit (get_or w (up_at n nf (length capList / 4) + number_in w q) 0) f ≡ some (λ e. eqb e.face f && (same_pair (pair_at w q) (e.from, e.to) && ltb e.from e.to))
+        → has_bit (get_or w (up_at n nf (length cap_list / 4) + number_in w q) 0) f ≡ some (λ e. eqb e.face f && (same_pair (pair_at w q) (e.from, e.to) && ltb e.from e.to))
         (edges_at w (open_edges_at n nf) k)
     pub down : (q f : ℕ) → q < pair_count → f < 6
-        → has_bit (get_or w (down_at n nf (length capList / 4) + number_in w q) 0) f ≡ some (λ e. eqb e.face f && (same_pair (pair_at w q) (e.from, e.to) && ltb e.to e.from))
+        → has_bit (get_or w (down_at n nf (length cap_list / 4) + number_in w q) 0) f ≡ some (λ e. eqb e.face f && (same_pair (pair_at w q) (e.from, e.to) && ltb e.to e.from))
         (edges_at w (open_edges_at n nf) k)
     pub held : (q f : ℕ) → q < pair_count → f < 6
-        → has_bit (get_or w (held_at n nf (length capList / 4) + number_in w q) 0) f ≡ some (λ t. eqb t.face f && some (same_pair (pair_at w q)) (edges t.corners))
-        (outward_caps (pool_at n w) (caps_of capList))
-    pub up_small : (q : ℕ) → q < pair_count → get_or w (up_at n nf (length capList / 4) + number_in w q) 0 < 64
-    pub down_small : (q : ℕ) → q < pair_count → get_or w (down_at n nf (length capList / 4) + number_in w q) 0 < 64
+        → has_bit (get_or w (held_at n nf (length cap_list / 4) + number_in w q) 0) f ≡ some (λ t. eqb t.face f && some (same_pair (pair_at w q)) (edges t.corners))
+        (outward_caps (pool_at n w) (caps_of cap_list))
+    pub up_small : (q : ℕ) → q < pair_count → get_or w (up_at n nf (length cap_list / 4) + number_in w q) 0 < 64
+    pub down_small : (q : ℕ) → q < pair_count → get_or w (down_at n nf (length cap_list / 4) + number_in w q) 0 < 64

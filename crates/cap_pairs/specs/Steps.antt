@@ -67,7 +67,7 @@ module _ (n nf nc : ℕ) (w : List ℕ) where
     pub size : caps_end n nf nc ≤ length w
 
 abbrev pub side_face : List ℕ → ℕ → ℕ
-side_face capList s = get_or capList (s / 3 * 4) 0
+side_face cap_list s = get_or cap_list (s / 3 * 4) 0
 
 abbrev pub missing_face : List ℕ → ℕ → ℕ → Bool
 missing_face w held f = leb 3 (get_or w f 0) && not (has_bit held f)

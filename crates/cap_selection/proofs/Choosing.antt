@@ -37,16 +37,16 @@ bit_is true = refl
 bit_is false = refl
 
 -- w as the pairs were known, u with the components, v with no mark, z with the marks
-module _ (n nf k : ℕ) (capList w u v : List ℕ) (ready : CapReady n nf k capList w) (known : PairsKnown n nf k capList w)
-    (joined : JoinedCaps n nf (length capList / 4) k w u) (zeroed : PartZeroed u v (seeded_at n nf (length capList / 4)) (length capList / 4)) where
+module _ (n nf k : ℕ) (cap_list w u v : List ℕ) (ready : CapReady n nf k cap_list w) (known : PairsKnown n nf k cap_list w)
+    (joined : JoinedCaps n nf (length cap_list / 4) k w u) (zeroed : PartZeroed u v (seeded_at n nf (length cap_list / 4)) (length cap_list / 4)) where
   abbrev nc : ℕ
-  nc = length capList / 4
+  nc = length cap_list / 4
 
   abbrev boundary : List OpenEdge
   boundary = edges_at w (open_edges_at n nf) k
 
   abbrev caps : List Cap
-  caps = turned_caps n nf k capList w ready known
+  caps = turned_caps n nf k cap_list w ready known
 
   cleared : Above (seeded_at n nf nc) u v
   cleared = record { long = zeroed.long; below = λ x h. zeroed.rest x (λ i l e. omega arith) }
@@ -66,11 +66,11 @@ module _ (n nf k : ℕ) (capList w u v : List ℕ) (ready : CapReady n nf k capL
       let l = number_in (map (label_in n nf nc k w) (up_to (3 * nc))) nc 3 numbers joined.numbers i h in
       omega arith
 
-  pub markable : Markable n nf nc k capList v
+  pub markable : Markable n nf nc k cap_list v
   markable =
       record {
-        sides = numbered_same n nf nc k w (sides_numbered n nf k capList w ready known) v labels_above;
-        faces = faces_low n nf k capList w ready known;
+        sides = numbered_same n nf nc k w (sides_numbered n nf k cap_list w ready known) v labels_above;
+        faces = faces_low n nf k cap_list w ready known;
         components = component_low;
         unmarked = zeroed.zero;
       }
@@ -79,10 +79,10 @@ module _ (n nf k : ℕ) (capList w u v : List ℕ) (ready : CapReady n nf k capL
   unfolding label_in
   labelling =
       record {
-        count = count_caps n nf k capList w ready known;
-        low = (sides_numbered n nf k capList w ready known).low;
-        same = numbers_same n nf k capList w ready known;
-        on_open = open_known n nf k capList w ready known;
+        count = count_caps n nf k cap_list w ready known;
+        low = (sides_numbered n nf k cap_list w ready known).low;
+        same = numbers_same n nf k cap_list w ready known;
+        on_open = open_known n nf k cap_list w ready known;
         put = λ s h. refl;
       }
 
@@ -116,32 +116,32 @@ module _ (n nf k : ℕ) (capList w u v : List ℕ) (ready : CapReady n nf k capL
           (subst (λ (x : ℕ). ComponentNumbers (map (label_in n nf nc k w) (up_to (3 * nc))) x 3 numbers) (sym long) joined.numbers)
           (is_seed boundary caps) i (let e = long in omega arith)
 
-  seed_is : (j : ℕ) → j < nc → seed_in n nf nc k v j (get_or capList (4 * j) 0) ≡ is_seed boundary caps j
+  seed_is : (j : ℕ) → j < nc → seed_in n nf nc k v j (get_or cap_list (4 * j) 0) ≡ is_seed boundary caps j
   seed_is j h =
-      seed_same n nf nc k w (sides_numbered n nf k capList w ready known) v labels_above j (get_or capList (4 * j) 0) h
-      ∙ seed_known n nf k capList w ready known j h
+      seed_same n nf nc k w (sides_numbered n nf k cap_list w ready known) v labels_above j (get_or cap_list (4 * j) 0) h
+      ∙ seed_known n nf k cap_list w ready known j h
 
   -- the marks'
-  marked : (i : ℕ) → i < nc → Decides (HoldsSeed i) (seeded_by n nf nc k capList v nc (get_or numbers i 0))
+  marked : (i : ℕ) → i < nc → Decides (HoldsSeed i) (seeded_by n nf nc k cap_list v nc (get_or numbers i 0))
   unfolding seeded_by
   marked i h = record {
     sound = λ t.
         let r = of_some marks (up_to nc) t in
         let b = (of_up 0 nc r.1).1 in
         let l : r.0 < nc = omega arith in
-        let q = and_parts (seed_in n nf nc k v r.0 (get_or capList (4 * r.0) 0)) (eqb (get_or v (components_at n nf nc + r.0) 0) (get_or numbers i 0)) r.2 in
+        let q = and_parts (seed_in n nf nc k v r.0 (get_or cap_list (4 * r.0) 0)) (eqb (get_or v (components_at n nf nc + r.0) 0) (get_or numbers i 0)) r.2 in
         (r.0, l, subst T (seed_is r.0 l) q.0, sym (sym (component_is r.0 l) ∙ eqb→eq (get_or v (components_at n nf nc + r.0) 0) (get_or numbers i 0) q.1));
     complete = λ r.
         let l = r.1 in
         some_of marks (up_of 0 nc (omega arith) (omega arith))
-        (and_of (seed_in n nf nc k v r.0 (get_or capList (4 * r.0) 0)) (eqb (get_or v (components_at n nf nc + r.0) 0) (get_or numbers i 0)) (subst T (sym (seed_is r.0 l)) r.2)
+        (and_of (seed_in n nf nc k v r.0 (get_or cap_list (4 * r.0) 0)) (eqb (get_or v (components_at n nf nc + r.0) 0) (get_or numbers i 0)) (subst T (sym (seed_is r.0 l)) r.2)
         ((decides_eqb (get_or v (components_at n nf nc + r.0) 0) (get_or numbers i 0)).complete (component_is r.0 l ∙ sym r.3)));
   }
     where
       marks : ℕ → Bool
-      marks j = seed_in n nf nc k v j (get_or capList (4 * j) 0) && eqb (get_or v (components_at n nf nc + j) 0) (get_or numbers i 0)
+      marks j = seed_in n nf nc k v j (get_or cap_list (4 * j) 0) && eqb (get_or v (components_at n nf nc + j) 0) (get_or numbers i 0)
 
-  module _ (z : List ℕ) (done : SeedsMarked n nf nc k capList v z) where
+  module _ (z : List ℕ) (done : SeedsMarked n nf nc k cap_list v z) where
     all_above : Above (labels_at n nf nc) w z
     all_above = above_more (labels_at n nf nc) w v z labels_above (above_less (labels_at n nf nc) (seeded_at n nf nc) v z (omega arith) done.above)
 
@@ -156,8 +156,8 @@ module _ (n nf k : ℕ) (capList w u v : List ℕ) (ready : CapReady n nf k capL
         let l = component_low i h in
         ap (λ (x : ℕ). eqb (get_or z (seeded_at n nf nc + x) 0) 1) e
         ∙ ap (λ (x : ℕ). eqb x 1) (done.seeded (get_or numbers i 0) (omega arith))
-        ∙ bit_is (seeded_by n nf nc k capList v nc (get_or numbers i 0))
-        ∙ decides_same (seeded_by n nf nc k capList v nc (get_or numbers i 0)) (some (is_seed boundary caps) (component_of (components link (up_to nc)) i)) (marked i h) (defined i h)
+        ∙ bit_is (seeded_by n nf nc k cap_list v nc (get_or numbers i 0))
+        ∙ decides_same (seeded_by n nf nc k cap_list v nc (get_or numbers i 0)) (some (is_seed boundary caps) (component_of (components link (up_to nc)) i)) (marked i h) (defined i h)
         (λ x. x) (λ x. x)
 
     all_chosen : chosen_in n nf nc z ≡ map (λ i. some (is_seed boundary caps) (component_of (components link (up_to nc)) i)) (up_to nc)
@@ -176,7 +176,7 @@ module _ (n nf k : ℕ) (capList w u v : List ℕ) (ready : CapReady n nf k capL
 
     selected_is : map (λ i. some (is_seed boundary caps) (component_of (components link (up_to nc)) i)) (up_to nc) ≡ selected boundary caps
     unfolding selected
-    selected_is = ap (λ (x : ℕ). map (λ i. some (is_seed boundary caps) (component_of (components link (up_to x)) i)) (up_to x)) (sym (count_caps n nf k capList w ready known))
+    selected_is = ap (λ (x : ℕ). map (λ i. some (is_seed boundary caps) (component_of (components link (up_to x)) i)) (up_to x)) (sym (count_caps n nf k cap_list w ready known))
 
     pool_end_lem : pool_at n z ≡ pool_at n w
     pool_end_lem = pool_kept (labels_at n nf nc) w z all_above n ready.ready.supplied.pooled (omega arith)
@@ -184,12 +184,12 @@ module _ (n nf k : ℕ) (capList w u v : List ℕ) (ready : CapReady n nf k capL
     edges_end : edges_at z (open_edges_at n nf) k ≡ boundary
     edges_end = let e = ready.edges in edges_kept (labels_at n nf nc) w z all_above (open_edges_at n nf) k (omega arith)
 
-    pub chosen : Chosen n nf k capList w z
+    pub chosen : Chosen n nf k cap_list w z
     chosen =
         let p = pool_end_lem in
         let e = edges_end in
         record {
           above = all_above;
           low = λ i h. let q = component_end i h in let c = component_is i h in let l = component_low i h in omega arith;
-          chosen = all_chosen ∙ selected_is ∙ (λ t. selected (sym e t) (outward_caps (sym p t) (caps_of capList)));
+          chosen = all_chosen ∙ selected_is ∙ (λ t. selected (sym e t) (outward_caps (sym p t) (caps_of cap_list)));
         }

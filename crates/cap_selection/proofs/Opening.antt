@@ -51,20 +51,20 @@ entry_face w at k m =
     let e = ap (λ (t : OpenEdge). t.face) q.2 in
     omega arith
 
-module _ (n nf k : ℕ) (capList w : List ℕ) (ready : CapReady n nf k capList w) (known : PairsKnown n nf k capList w) where
+module _ (n nf k : ℕ) (cap_list w : List ℕ) (ready : CapReady n nf k cap_list w) (known : PairsKnown n nf k cap_list w) where
   abbrev nc : ℕ
-  nc = length capList / 4
+  nc = length cap_list / 4
 
   abbrev boundary : List OpenEdge
   boundary = edges_at w (open_edges_at n nf) k
 
   abbrev pub turned_caps : List Cap
-  turned_caps = outward_caps (pool_at n w) (caps_of capList)
+  turned_caps = outward_caps (pool_at n w) (caps_of cap_list)
 
   abbrev pub side : ℕ → ℕ × ℕ
   side s = side_of turned_caps s
 
-  number_is : (s : ℕ) → number_in n nf k capList w (k + s) ≡ side_number n nf nc k w s
+  number_is : (s : ℕ) → number_in n nf k cap_list w (k + s) ≡ side_number n nf nc k w s
   number_is s = let e : numbers_at n nf nc + (k + s) ≡ numbers_at n nf nc + k + s = omega arith in ap (λ (x : ℕ). get_or w x 0) e
 
   pub sides_numbered : SidesNumbered n nf nc k w
@@ -81,7 +81,7 @@ module _ (n nf k : ℕ) (capList w : List ℕ) (ready : CapReady n nf k capList 
       }
 
   pub count_caps : length turned_caps ≡ nc
-  count_caps = length-map (caps_of capList) (outward (pool_at n w)) ∙ caps_length capList
+  count_caps = length-map (caps_of cap_list) (outward (pool_at n w)) ∙ caps_length cap_list
 
   -- ---- the sides as they stand
 
@@ -98,7 +98,7 @@ module _ (n nf k : ℕ) (capList w : List ℕ) (ready : CapReady n nf k capList 
       ∙ side_at_lem (view w (turned_at n nf) (3 * nc)) s (omega arith) (omega arith)
       ∙ (λ t. (x t, y t))
 
-  pair_is : (s : ℕ) → pair_at n nf k capList w (k + s) ≡ side s
+  pair_is : (s : ℕ) → pair_at n nf k cap_list w (k + s) ≡ side s
   unfolding pair_at
   pair_is s =
       let e : k + s - k ≡ s = omega arith in
@@ -118,8 +118,8 @@ module _ (n nf k : ℕ) (capList w : List ℕ) (ready : CapReady n nf k capList 
 
   good : (i : ℕ) → i < nc → GoodCap (count_at w) (pool_at n w) (cap_at turned_caps i)
   good i h =
-      subst (GoodCap (count_at w) (pool_at n w)) (sym (outward_at (pool_at n w) (caps_of capList) i (let e = caps_length capList in omega arith)))
-      (good_turned n nf capList w ready.ready i h)
+      subst (GoodCap (count_at w) (pool_at n w)) (sym (outward_at (pool_at n w) (caps_of cap_list) i (let e = caps_length cap_list in omega arith)))
+      (good_turned n nf cap_list w ready.ready i h)
 
   pub side_of_lem : (i a : ℕ) → i < nc → a < 3 → side (i * 3 + a) ≡ get_or (edges (cap_at turned_caps i).corners) a (0, 0)
   side_of_lem i a h g = let e = count_caps in sides_at turned_caps i a (omega arith) g
@@ -160,10 +160,10 @@ module _ (n nf k : ℕ) (capList w : List ℕ) (ready : CapReady n nf k capList 
     abbrev y : ℕ
     y = get_or w (turned_at n nf + next_side s) 0
 
-    up_is : get_or w (up_at n nf nc + number_in n nf k capList w (k + s)) 0 ≡ up
+    up_is : get_or w (up_at n nf nc + number_in n nf k cap_list w (k + s)) 0 ≡ up
     up_is = ap (λ (x : ℕ). get_or w (up_at n nf nc + x) 0) (number_is s)
 
-    down_is : get_or w (down_at n nf nc + number_in n nf k capList w (k + s)) 0 ≡ down
+    down_is : get_or w (down_at n nf nc + number_in n nf k cap_list w (k + s)) 0 ≡ down
     down_is = ap (λ (x : ℕ). get_or w (down_at n nf nc + x) 0) (number_is s)
 
     up_known : (f : ℕ) → f < 6 → has_bit up f ≡ some (runs_up (side s) f) boundary
@@ -275,22 +275,22 @@ module _ (n nf k : ℕ) (capList w : List ℕ) (ready : CapReady n nf k capList 
 
   -- ---- seeds
 
-  pub face_is : (i : ℕ) → i < nc → (cap_at turned_caps i).face ≡ get_or capList (4 * i) 0
+  pub face_is : (i : ℕ) → i < nc → (cap_at turned_caps i).face ≡ get_or cap_list (4 * i) 0
   unfolding outward
   face_is i h =
-      ap (λ (t : Cap). t.face) (outward_at (pool_at n w) (caps_of capList) i (let e = caps_length capList in omega arith)) ∙ ap (λ (t : Cap). t.face) (cap_at_lem capList i h)
+      ap (λ (t : Cap). t.face) (outward_at (pool_at n w) (caps_of cap_list) i (let e = caps_length cap_list in omega arith)) ∙ ap (λ (t : Cap). t.face) (cap_at_lem cap_list i h)
 
-  pub faces_low : (i : ℕ) → i < nc → get_or capList (4 * i) 0 < 6
+  pub faces_low : (i : ℕ) → i < nc → get_or cap_list (4 * i) 0 < 6
   faces_low i h = let e = face_is i h in let g = (good i h).face in omega arith
 
   against_side : (i a s : ℕ) → i < nc → a < 3 → s ≡ i * 3 + a
-      → against_in n nf nc k w s (get_or capList (4 * i) 0) ≡ some (against (cap_at turned_caps i).face (get_or (edges (cap_at turned_caps i).corners) a (0, 0))) boundary
+      → against_in n nf nc k w s (get_or cap_list (4 * i) 0) ≡ some (against (cap_at turned_caps i).face (get_or (edges (cap_at turned_caps i).corners) a (0, 0))) boundary
   against_side i a s h g e =
       let p = ap (λ (x : ℕ). side x) e ∙ side_of_lem i a h g in
       let f = face_is i h in
-      against_known s (omega arith) (get_or capList (4 * i) 0) (faces_low i h) ∙ (λ t. some (against (sym f t) (p t)) boundary)
+      against_known s (omega arith) (get_or cap_list (4 * i) 0) (faces_low i h) ∙ (λ t. some (against (sym f t) (p t)) boundary)
 
-  pub seed_known : (i : ℕ) → i < nc → seed_in n nf nc k w i (get_or capList (4 * i) 0) ≡ is_seed boundary turned_caps i
+  pub seed_known : (i : ℕ) → i < nc → seed_in n nf nc k w i (get_or cap_list (4 * i) 0) ≡ is_seed boundary turned_caps i
   unfolding seed_in is_seed
   seed_known i h =
       let a = against_side i 0 (3 * i) h (omega arith) (omega arith) in

@@ -12,7 +12,7 @@ use Rattle.cap_triangles.specs.Room.{labels_at, components_at, seeded_at}
 abbrev pub chosen_in : ℕ → ℕ → ℕ → List ℕ → List Bool
 chosen_in n nf nc w = map (λ i. eqb (get_or w (seeded_at n nf nc + get_or w (components_at n nf nc + i) 0) 0) 1) (up_to nc)
 
-pub record Chosen (n nf k : ℕ) (capList w w' : List ℕ) : Type 0 where
-  pub above : Above (labels_at n nf (length capList / 4)) w w'
-  pub low : (i : ℕ) → i < length capList / 4 → get_or w' (components_at n nf (length capList / 4) + i) 0 < length capList / 4
-  pub chosen : chosen_in n nf (length capList / 4) w' ≡ selected (edges_at w' (open_edges_at n nf) k) (outward_caps (pool_at n w') (caps_of capList))
+pub record Chosen (n nf k : ℕ) (cap_list w w' : List ℕ) : Type 0 where
+  pub above : Above (labels_at n nf (length cap_list / 4)) w w'
+  pub low : (i : ℕ) → i < length cap_list / 4 → get_or w' (components_at n nf (length cap_list / 4) + i) 0 < length cap_list / 4
+  pub chosen : chosen_in n nf (length cap_list / 4) w' ≡ selected (edges_at w' (open_edges_at n nf) k) (outward_caps (pool_at n w') (caps_of cap_list))

@@ -38,7 +38,7 @@ module _ (n nf nc : ℕ) where
     seed_in w i f = against_in w (3 * i) f || (against_in w (3 * i + 1) f || against_in w (3 * i + 2) f)
 
     unfoldable pub seeded_by : List ℕ → List ℕ → ℕ → ℕ → Bool
-    seeded_by capList w i r = some (λ j. seed_in w j (get_or capList (4 * j) 0) && eqb (get_or w (components_at n nf nc + j) 0) r) (up_to i)
+    seeded_by cap_list w i r = some (λ j. seed_in w j (get_or cap_list (4 * j) 0) && eqb (get_or w (components_at n nf nc + j) 0) r) (up_to i)
 
     abbrev pub marked_seed : List ℕ → ℕ → ℕ → List ℕ
     marked_seed w i f = cond (seed_in w i f) (set w (seeded_at n nf nc + get_or w (components_at n nf nc + i) 0) 1) w
@@ -52,9 +52,9 @@ module _ (n nf nc : ℕ) where
       pub low : (s : ℕ) → s < 3 * nc → side_number w s < k + 3 * nc
 
     -- with no component marked
-    pub record Markable (capList w : List ℕ) : Type 0 where
+    pub record Markable (cap_list w : List ℕ) : Type 0 where
       pub sides : SidesNumbered w
-      pub faces : (i : ℕ) → i < nc → get_or capList (4 * i) 0 < 6
+      pub faces : (i : ℕ) → i < nc → get_or cap_list (4 * i) 0 < 6
       pub components : (i : ℕ) → i < nc → get_or w (components_at n nf nc + i) 0 < nc
       pub unmarked : (r : ℕ) → r < nc → get_or w (seeded_at n nf nc + r) 0 ≡ 0
 
@@ -66,6 +66,6 @@ module _ (n nf nc : ℕ) where
       pub above : Above (labels_at n nf nc) w w'
       pub numbers : ComponentNumbers (map (label_in w) (up_to (3 * nc))) nc 3 (view w' (components_at n nf nc) nc)
 
-    pub record SeedsMarked (capList w w' : List ℕ) : Type 0 where
+    pub record SeedsMarked (cap_list w w' : List ℕ) : Type 0 where
       pub above : Above (seeded_at n nf nc) w w'
-      pub seeded : (r : ℕ) → r < nc → get_or w' (seeded_at n nf nc + r) 0 ≡ cond (seeded_by capList w nc r) 1 0
+      pub seeded : (r : ℕ) → r < nc → get_or w' (seeded_at n nf nc + r) 0 ≡ cond (seeded_by cap_list w nc r) 1 0

@@ -148,9 +148,9 @@ good_outward count pool t g = go (beq (lt zero_f (signed_area pool t)) (ccw_is_o
           on_c = g.on_b;
         }
 
-module _ (n nf : ℕ) (capList w : List ℕ) (r : TurnedReady n nf capList w) (i : ℕ) (h : i < length capList / 4) where
+module _ (n nf : ℕ) (cap_list w : List ℕ) (r : TurnedReady n nf cap_list w) (i : ℕ) (h : i < length cap_list / 4) where
   abbrev nc : ℕ
-  nc = length capList / 4
+  nc = length cap_list / 4
 
   abbrev low : ℕ
   low = turned_at n nf
@@ -158,18 +158,18 @@ module _ (n nf : ℕ) (capList w : List ℕ) (r : TurnedReady n nf capList w) (i
   abbrev part : List ℕ
   part = view w low (3 * nc)
 
-  supplied_one : i < length (caps_of capList)
-  supplied_one = let e = caps_length capList in omega arith
+  supplied_one : i < length (caps_of cap_list)
+  supplied_one = let e = caps_length cap_list in omega arith
 
-  pub good_turned : GoodCap (count_at w) (pool_at n w) (outward (pool_at n w) (cap_at (caps_of capList) i))
+  pub good_turned : GoodCap (count_at w) (pool_at n w) (outward (pool_at n w) (cap_at (caps_of cap_list) i))
   good_turned =
-      good_outward (count_at w) (pool_at n w) (cap_at (caps_of capList) i)
-      (good_cap n w r.supplied.pooled (caps_of capList) r.good i supplied_one)
+      good_outward (count_at w) (pool_at n w) (cap_at (caps_of cap_list) i)
+      (good_cap n w r.supplied.pooled (caps_of cap_list) r.good i supplied_one)
 
   word_at : (j : ℕ) → j < 3 * nc → get_or part j 0 ≡ get_or w (low + j) 0
   word_at j l = view_at w low (3 * nc) j l
 
-  pub turned_corners : tri (get_or w (low + 3 * i) 0) (get_or w (low + 3 * i + 1) 0) (get_or w (low + 3 * i + 2) 0) ≡ (outward (pool_at n w) (cap_at (caps_of capList) i)).corners
+  pub turned_corners : tri (get_or w (low + 3 * i) 0) (get_or w (low + 3 * i + 1) 0) (get_or w (low + 3 * i + 2) 0) ≡ (outward (pool_at n w) (cap_at (caps_of cap_list) i)).corners
   turned_corners =
       let s = r.supplied.size in
       let long : length part ≡ 3 * nc = view_length w low (3 * nc) (omega arith) in
@@ -179,9 +179,9 @@ module _ (n nf : ℕ) (capList w : List ℕ) (r : TurnedReady n nf capList w) (i
       (λ t. tri (sym x t) (sym y t) (sym z t))
       ∙ sym (threes_at_lem part i (tri 0 0 0) 0 (omega arith))
       ∙ ap (λ (l : List (Triangle ℕ)). get_or l i (tri 0 0 0)) r.turned
-      ∙ at_map (λ (t : Cap). t.corners) (outward_caps (pool_at n w) (caps_of capList)) i (cap 0 (tri 0 0 0)) (tri 0 0 0)
-      (let e = length-map (caps_of capList) (outward (pool_at n w)) in let s = supplied_one in omega arith)
-      ∙ ap (λ (t : Cap). t.corners) (outward_at (pool_at n w) (caps_of capList) i supplied_one)
+      ∙ at_map (λ (t : Cap). t.corners) (outward_caps (pool_at n w) (caps_of cap_list)) i (cap 0 (tri 0 0 0)) (tri 0 0 0)
+      (let e = length-map (caps_of cap_list) (outward (pool_at n w)) in let s = supplied_one in omega arith)
+      ∙ ap (λ (t : Cap). t.corners) (outward_at (pool_at n w) (caps_of cap_list) i supplied_one)
 
   pub turned_low : (get_or w (low + 3 * i) 0 < count_at w) × (get_or w (low + 3 * i + 1) 0 < count_at w) × (get_or w (low + 3 * i + 2) 0 < count_at w)
   turned_low =

@@ -59,8 +59,8 @@ module _ (b : ℕ) (w w' : List ℕ) (above : Above b w w') where
       few : length (view w (turned_at n nf) (3 * nc)) ≤ 3 * nc
       few = let c = length-take (3 * nc) (drop (turned_at n nf) w) in omega arith
 
-  module _ (n nf : ℕ) (capList : List ℕ) where
-    pub supplied_kept : pool_end n ≤ b → Supplied n nf capList w → Supplied n nf capList w'
+  module _ (n nf : ℕ) (cap_list : List ℕ) where
+    pub supplied_kept : pool_end n ≤ b → Supplied n nf cap_list w → Supplied n nf cap_list w'
     supplied_kept end s =
         record {
           pooled = pooled_kept n s.pooled end;
@@ -71,16 +71,16 @@ module _ (b : ℕ) (w w' : List ℕ) (above : Above b w w') where
           size = let g = above.long in let z = s.size in omega arith;
         }
 
-    pub turned_kept : pair_records_at n nf (length capList / 4) ≤ b → TurnedReady n nf capList w → TurnedReady n nf capList w'
+    pub turned_kept : pair_records_at n nf (length cap_list / 4) ≤ b → TurnedReady n nf cap_list w → TurnedReady n nf cap_list w'
     turned_kept end r =
         let e : pool_at n w' ≡ pool_at n w = pool_kept n r.supplied.pooled (omega arith) in
         record {
           supplied = supplied_kept (omega arith) r.supplied;
-          good = ap (λ (p : Pool). bad_cap_place p (caps_of capList)) e ∙ r.good;
-          turned = turned_in_kept n nf (length capList / 4) end ∙ r.turned ∙ ap (λ (p : Pool). map (λ t. t.corners) (outward_caps p (caps_of capList))) (sym e);
+          good = ap (λ (p : Pool). bad_cap_place p (caps_of cap_list)) e ∙ r.good;
+          turned = turned_in_kept n nf (length cap_list / 4) end ∙ r.turned ∙ ap (λ (p : Pool). map (λ t. t.corners) (outward_caps p (caps_of cap_list))) (sym e);
         }
 
-    pub ready_kept : (k : ℕ) → pair_records_at n nf (length capList / 4) ≤ b → CapReady n nf k capList w → CapReady n nf k capList w'
+    pub ready_kept : (k : ℕ) → pair_records_at n nf (length cap_list / 4) ≤ b → CapReady n nf k cap_list w → CapReady n nf k cap_list w'
     ready_kept k end r =
         let e : pool_at n w' ≡ pool_at n w = pool_kept n r.ready.supplied.pooled (omega arith) in
         let l = r.edges in

@@ -89,26 +89,26 @@ module _ (n : ℕ) (w : List ℕ) (pooled : Pooled n w) where
       ∙ (λ t. ltb f last || ((eqb a b || (eqb b c || eqb c a)) || (not (x t) || (not (y t) || (not (z t) || false)))))
       ∙ ap (λ (s : Bool). ltb f last || ((eqb a b || (eqb b c || eqb c a)) || s)) m)
 
-pub record Passed (n : ℕ) (w capList : List ℕ) (i last : ℕ) : Type 0 where
-  pub low : i ≤ length capList / 4
-  pub none : (j : ℕ) → j < i → bad_cap (pool_at n w) (caps_of capList) j ≡ false
+pub record Passed (n : ℕ) (w cap_list : List ℕ) (i last : ℕ) : Type 0 where
+  pub low : i ≤ length cap_list / 4
+  pub none : (j : ℕ) → j < i → bad_cap (pool_at n w) (caps_of cap_list) j ≡ false
   pub first : i ≡ 0 → last ≡ 0
-  pub before : (j : ℕ) → i ≡ j + 1 → last ≡ get_or capList (4 * j) 0
+  pub before : (j : ℕ) → i ≡ j + 1 → last ≡ get_or cap_list (4 * j) 0
 
-module _ (n : ℕ) (w capList : List ℕ) where
+module _ (n : ℕ) (w cap_list : List ℕ) where
   abbrev caps : List Cap
-  caps = caps_of capList
+  caps = caps_of cap_list
 
   abbrev word : ℕ → ℕ
-  word j = get_or capList j 0
+  word j = get_or cap_list j 0
 
-  pub passed_start : Passed n w capList 0 0
+  pub passed_start : Passed n w cap_list 0 0
   passed_start = record { low = omega arith; none = λ j h. absurd (omega arith); first = λ e. refl; before = λ j e. absurd (omega arith) }
 
-  face_is : (i : ℕ) → i < length capList / 4 → (cap_at caps i).face ≡ word (4 * i)
-  face_is i h = ap (λ (t : Cap). t.face) (cap_at_lem capList i h)
+  face_is : (i : ℕ) → i < length cap_list / 4 → (cap_at caps i).face ≡ word (4 * i)
+  face_is i h = ap (λ (t : Cap). t.face) (cap_at_lem cap_list i h)
 
-  module _ (i last : ℕ) (s : Passed n w capList i last) (h : i < length capList / 4) where
+  module _ (i last : ℕ) (s : Passed n w cap_list i last) (h : i < length cap_list / 4) where
     -- no face is before the first triangle, and none is less than 0
     descends_is : ltb (word (4 * i)) (cap_at caps (i - 1)).face ≡ ltb (word (4 * i)) last
     descends_is = go (ℕ_discrete i 0)
@@ -124,7 +124,7 @@ module _ (n : ℕ) (w capList : List ℕ) where
     pub bad_is : Pooled n w → bad_cap (pool_at n w) caps i ≡ bad_words w last (word (4 * i)) (word (4 * i + 1)) (word (4 * i + 2)) (word (4 * i + 3))
     unfolding bad_cap bad_after
     bad_is pooled =
-        ap (bad_after (pool_at n w) (cap_at caps (i - 1)).face) (cap_at_lem capList i h)
+        ap (bad_after (pool_at n w) (cap_at caps (i - 1)).face) (cap_at_lem cap_list i h)
         ∙ ap (λ (b : Bool). ltb 5 (word (4 * i)) || (b || (some (λ s. eqb s.0 s.1) (edges (tri (word (4 * i + 1)) (word (4 * i + 2)) (word (4 * i + 3))))
         || some (λ c. not (has (face_list (pool_at n w) (word (4 * i))) c)) (vertices (tri (word (4 * i + 1)) (word (4 * i + 2)) (word (4 * i + 3))))))) descends_is
         ∙ words_are n w pooled last (word (4 * i)) (word (4 * i + 1)) (word (4 * i + 2)) (word (4 * i + 3))
@@ -135,11 +135,11 @@ module _ (n : ℕ) (w capList : List ℕ) where
     pub passed_stop : Pooled n w → bad_words w last (word (4 * i)) (word (4 * i + 1)) (word (4 * i + 2)) (word (4 * i + 3)) ≡ true → i ≡ bad_cap_place (pool_at n w) caps
     unfolding bad_cap_place
     passed_stop pooled e =
-        let l = caps_length capList in
+        let l = caps_length cap_list in
         let u = length_up 0 (length caps) in
         sym (place_is (bad_cap (pool_at n w) caps) 0 (up_to (length caps)) i (omega arith) (λ j k. up_is j (omega arith) ∙ s.none j k) (up_is i (omega arith) ∙ bad_is pooled ∙ e))
 
-    pub passed_more : Pooled n w → bad_words w last (word (4 * i)) (word (4 * i + 1)) (word (4 * i + 2)) (word (4 * i + 3)) ≡ false → Passed n w capList (i + 1) (word (4 * i))
+    pub passed_more : Pooled n w → bad_words w last (word (4 * i)) (word (4 * i + 1)) (word (4 * i + 2)) (word (4 * i + 3)) ≡ false → Passed n w cap_list (i + 1) (word (4 * i))
     passed_more pooled e =
         record {
           low = omega arith;
@@ -152,10 +152,10 @@ module _ (n : ℕ) (w capList : List ℕ) where
         go j k (yes q) = ap (bad_cap (pool_at n w) caps) q ∙ bad_is pooled ∙ e
         go j k (no d) = s.none j (omega arith)
 
-  pub passed_end : (i last : ℕ) → Passed n w capList i last → length capList / 4 ≤ i → length capList / 4 ≡ bad_cap_place (pool_at n w) caps
+  pub passed_end : (i last : ℕ) → Passed n w cap_list i last → length cap_list / 4 ≤ i → length cap_list / 4 ≡ bad_cap_place (pool_at n w) caps
   unfolding bad_cap_place
   passed_end i last s h =
-      let l = caps_length capList in
+      let l = caps_length cap_list in
       let u = length_up 0 (length caps) in
       sym (place_all (bad_cap (pool_at n w) caps) 0 (up_to (length caps))
       (λ j k. ap (bad_cap (pool_at n w) caps) (at_up 0 (length caps) j (omega arith) ∙ omega arith) ∙ s.none j (omega arith)) ∙ u ∙ l)

@@ -107,38 +107,38 @@ module _ (v : List ℕ) (o : ℕ) (t : Triangle ℕ) (low : o + 2 < length v) wh
 
 -- ---- the loop
 
-pub record Turning (n nf : ℕ) (capList w v : List ℕ) (i : ℕ) : Type 0 where
-  pub low : i ≤ length capList / 4
+pub record Turning (n nf : ℕ) (cap_list w v : List ℕ) (i : ℕ) : Type 0 where
+  pub low : i ≤ length cap_list / 4
   pub above : Above (turned_at n nf) w v
   pub done : (j : ℕ) → j < i → tri (get_or v (turned_at n nf + 3 * j) 0) (get_or v (turned_at n nf + 3 * j + 1) 0) (get_or v (turned_at n nf + 3 * j + 2) 0) ≡ (outward (pool_at n w)
-      (cap_at (caps_of capList) j)).corners
+      (cap_at (caps_of cap_list) j)).corners
 
-module _ (n nf : ℕ) (capList w : List ℕ) (supplied : Supplied n nf capList w) (good : bad_cap_place (pool_at n w) (caps_of capList) ≡ length (caps_of capList)) where
+module _ (n nf : ℕ) (cap_list w : List ℕ) (supplied : Supplied n nf cap_list w) (good : bad_cap_place (pool_at n w) (caps_of cap_list) ≡ length (caps_of cap_list)) where
   abbrev o : ℕ
   o = turned_at n nf
 
   abbrev word : ℕ → ℕ
-  word j = get_or capList j 0
+  word j = get_or cap_list j 0
 
-  pub turning_start : Turning n nf capList w w 0
+  pub turning_start : Turning n nf cap_list w w 0
   turning_start = record { low = omega arith; above = above_none o w; done = λ j h. absurd (omega arith) }
 
-  module _ (v : List ℕ) (i : ℕ) (s : Turning n nf capList w v i) where
-    kept : Supplied n nf capList v
-    kept = supplied_kept o w v s.above n nf capList (omega arith) supplied
+  module _ (v : List ℕ) (i : ℕ) (s : Turning n nf cap_list w v i) where
+    kept : Supplied n nf cap_list v
+    kept = supplied_kept o w v s.above n nf cap_list (omega arith) supplied
 
     pool_is : pool_at n v ≡ pool_at n w
     pool_is = pool_kept o w v s.above n supplied.pooled (omega arith)
 
-    module _ (h : i < length capList / 4) (t : Triangle ℕ) (is : t ≡ tri (word (4 * i + 1)) (word (4 * i + 2)) (word (4 * i + 3))) where
-      given : cap_at (caps_of capList) i ≡ cap (word (4 * i)) t
-      given = cap_at_lem capList i h ∙ ap (cap (word (4 * i))) (sym is)
+    module _ (h : i < length cap_list / 4) (t : Triangle ℕ) (is : t ≡ tri (word (4 * i + 1)) (word (4 * i + 2)) (word (4 * i + 3))) where
+      given : cap_at (caps_of cap_list) i ≡ cap (word (4 * i)) t
+      given = cap_at_lem cap_list i h ∙ ap (cap (word (4 * i))) (sym is)
 
       fair : GoodCap (count_at v) (pool_at n v) (cap (word (4 * i)) t)
       fair =
           subst (GoodCap (count_at v) (pool_at n v)) given
-          (good_cap n v kept.pooled (caps_of capList) (subst (λ p. bad_cap_place p (caps_of capList) ≡ length (caps_of capList)) (sym pool_is) good) i
-          (let e = caps_length capList in omega arith))
+          (good_cap n v kept.pooled (caps_of cap_list) (subst (λ p. bad_cap_place p (caps_of cap_list) ≡ length (caps_of cap_list)) (sym pool_is) good) i
+          (let e = caps_length cap_list in omega arith))
 
       pub turning_asks : Standing v t
       turning_asks =
@@ -157,15 +157,15 @@ module _ (n nf : ℕ) (capList w : List ℕ) (supplied : Supplied n nf capList w
             c_low = omega arith;
           }
 
-      outward_is : (r : Triangle ℕ) → r ≡ turned_by v (word (4 * i)) t → r ≡ (outward (pool_at n w) (cap_at (caps_of capList) i)).corners
+      outward_is : (r : Triangle ℕ) → r ≡ turned_by v (word (4 * i)) t → r ≡ (outward (pool_at n w) (cap_at (caps_of cap_list) i)).corners
       outward_is r e =
           let g = fair in
           e ∙ sym (outward_words n v (cap (word (4 * i)) t) g.a g.b g.c)
           ∙ (λ k. (outward (pool_is k) (sym given k)).corners)
 
       pub turning_more : (at : ℕ) → at ≡ o → (r : Triangle ℕ) → r ≡ turned_by v (word (4 * i)) t
-          → Turning n nf capList w (set (set (set v (at + 3 * i) r.a) (at + 3 * i + 1) r.b) (at + 3 * i + 2) r.c) (i + 1)
-      turning_more at e r re = subst (λ (k : ℕ). Turning n nf capList w (stored_at v (k + 3 * i) r) (i + 1)) (sym e) next
+          → Turning n nf cap_list w (set (set (set v (at + 3 * i) r.a) (at + 3 * i + 1) r.b) (at + 3 * i + 2) r.c) (i + 1)
+      turning_more at e r re = subst (λ (k : ℕ). Turning n nf cap_list w (stored_at v (k + 3 * i) r) (i + 1)) (sym e) next
         where
           fits : o + 3 * i + 2 < length v
           fits = let z = kept.size in omega arith
@@ -175,11 +175,11 @@ module _ (n nf : ℕ) (capList w : List ℕ) (supplied : Supplied n nf capList w
 
           at_j : (j : ℕ) → j < i + 1 → Dec (j ≡ i)
               → tri (get_or (stored_at v (o + 3 * i) r) (o + 3 * j) 0) (get_or (stored_at v (o + 3 * i) r) (o + 3 * j + 1) 0) (get_or (stored_at v (o + 3 * i) r) (o + 3 * j + 2) 0)
-              ≡ (outward (pool_at n w) (cap_at (caps_of capList) j)).corners
+              ≡ (outward (pool_at n w) (cap_at (caps_of cap_list) j)).corners
           at_j j l (yes q) =
               subst (λ (k : ℕ). tri (get_or (stored_at v (o + 3 * i) r) (o + 3 * k) 0) (get_or (stored_at v (o + 3 * i) r) (o + 3 * k + 1) 0)
               (get_or (stored_at v (o + 3 * i) r) (o + 3 * k + 2) 0)
-              ≡ (outward (pool_at n w) (cap_at (caps_of capList) k)).corners) (sym q)
+              ≡ (outward (pool_at n w) (cap_at (caps_of cap_list) k)).corners) (sym q)
               (stored_here v (o + 3 * i) r fits ∙ outward_is r re)
           at_j j l (no d) =
               let a = other (o + 3 * j) (omega arith) in
@@ -187,7 +187,7 @@ module _ (n nf : ℕ) (capList w : List ℕ) (supplied : Supplied n nf capList w
               let c = other (o + 3 * j + 2) (omega arith) in
               (λ k. tri (a k) (b k) (c k)) ∙ s.done j (omega arith)
 
-          next : Turning n nf capList w (stored_at v (o + 3 * i) r) (i + 1)
+          next : Turning n nf cap_list w (stored_at v (o + 3 * i) r) (i + 1)
           next =
               record {
                 low = omega arith;
@@ -199,20 +199,20 @@ module _ (n nf : ℕ) (capList w : List ℕ) (supplied : Supplied n nf capList w
               }
 
     abbrev nc : ℕ
-    nc = length capList / 4
+    nc = length cap_list / 4
 
     abbrev part : List ℕ
     part = view v o (3 * nc)
 
     abbrev wanted : List (Triangle ℕ)
-    wanted = map (λ t. t.corners) (outward_caps (pool_at n w) (caps_of capList))
+    wanted = map (λ t. t.corners) (outward_caps (pool_at n w) (caps_of cap_list))
 
-    pub turning_end : length capList / 4 ≤ i → TurnedReady n nf capList v
+    pub turning_end : length cap_list / 4 ≤ i → TurnedReady n nf cap_list v
     turning_end h =
         record {
           supplied = kept;
-          good = subst (λ p. bad_cap_place p (caps_of capList) ≡ length (caps_of capList)) (sym pool_is) good;
-          turned = all ∙ ap (λ p. map (λ t. t.corners) (outward_caps p (caps_of capList))) (sym pool_is);
+          good = subst (λ p. bad_cap_place p (caps_of cap_list) ≡ length (caps_of cap_list)) (sym pool_is) good;
+          turned = all ∙ ap (λ p. map (λ t. t.corners) (outward_caps p (caps_of cap_list))) (sym pool_is);
         }
       where
         part_long : length part ≡ 3 * nc
@@ -227,19 +227,19 @@ module _ (n nf : ℕ) (capList w : List ℕ) (supplied : Supplied n nf capList w
         at_j : (j : ℕ) → j < nc → get_or (turned_in n nf nc v) j (tri 0 0 0) ≡ get_or wanted j (tri 0 0 0)
         at_j j l =
             let e = part_long in
-            let k : j < length (caps_of capList) = (let e = caps_length capList in omega arith) in
+            let k : j < length (caps_of cap_list) = (let e = caps_length cap_list in omega arith) in
             let x : get_or part (3 * j) 0 ≡ get_or v (o + 3 * j) 0 = word_is (3 * j) (omega arith) in
             let y : get_or part (3 * j + 1) 0 ≡ get_or v (o + 3 * j + 1) 0 = word_is (3 * j + 1) (omega arith) ∙ ap (λ (k : ℕ). get_or v k 0) (omega arith) in
             let z : get_or part (3 * j + 2) 0 ≡ get_or v (o + 3 * j + 2) 0 = word_is (3 * j + 2) (omega arith) ∙ ap (λ (k : ℕ). get_or v k 0) (omega arith) in
             threes_at_lem part j (tri 0 0 0) 0 (omega arith)
             ∙ (λ t. tri (x t) (y t) (z t))
             ∙ s.done j (omega arith)
-            ∙ sym (ap (λ (t : Cap). t.corners) (outward_at (pool_at n w) (caps_of capList) j k))
-            ∙ sym (at_map (λ (t : Cap). t.corners) (outward_caps (pool_at n w) (caps_of capList)) j (cap 0 (tri 0 0 0)) (tri 0 0 0)
-            (let m = length-map (caps_of capList) (outward (pool_at n w)) in omega arith))
+            ∙ sym (ap (λ (t : Cap). t.corners) (outward_at (pool_at n w) (caps_of cap_list) j k))
+            ∙ sym (at_map (λ (t : Cap). t.corners) (outward_caps (pool_at n w) (caps_of cap_list)) j (cap 0 (tri 0 0 0)) (tri 0 0 0)
+            (let m = length-map (caps_of cap_list) (outward (pool_at n w)) in omega arith))
 
         all : turned_in n nf nc v ≡ wanted
         all =
-            let m : length wanted ≡ nc = length-map (outward_caps (pool_at n w) (caps_of capList)) (λ t. t.corners) ∙ length-map (caps_of capList) (outward (pool_at n w)) ∙ caps_length
-            capList in
+            let m : length wanted ≡ nc = length-map (outward_caps (pool_at n w) (caps_of cap_list)) (λ t. t.corners) ∙ length-map (caps_of cap_list) (outward (pool_at n w)) ∙ caps_length
+            cap_list in
             ext_get_or (tri 0 0 0) (turned_in n nf nc v) wanted (long ∙ sym m) (λ j l. at_j j (let e = long in omega arith))

@@ -54,23 +54,23 @@ pub record Pooled (n : ℕ) (w : List ℕ) : Type 0 where
   pub masks : (c : ℕ) → c < count_at w → get_or w (entry_at c + 4) 0 < 64
   pub tidy : Tidy (pool_at n w)
 
-pub record Supplied (n nf : ℕ) (capList w : List ℕ) : Type 0 where
+pub record Supplied (n nf : ℕ) (cap_list w : List ℕ) : Type 0 where
   pub pooled : Pooled n w
   pub small : n < 1048576
   pub few : nf < 268435456
-  pub fours : length capList % 4 ≡ 0
-  pub caps : length capList / 4 ≤ 1048576
-  pub size : caps_end n nf (length capList / 4) ≤ length w
+  pub fours : length cap_list % 4 ≡ 0
+  pub caps : length cap_list / 4 ≤ 1048576
+  pub size : caps_end n nf (length cap_list / 4) ≤ length w
 
 abbrev pub turned_in : ℕ → ℕ → ℕ → List ℕ → List (Triangle ℕ)
 turned_in n nf nc w = threes (view w (turned_at n nf) (3 * nc))
 
-pub record TurnedReady (n nf : ℕ) (capList w : List ℕ) : Type 0 where
-  pub supplied : Supplied n nf capList w
-  pub good : bad_cap_place (pool_at n w) (caps_of capList) ≡ length (caps_of capList)
-  pub turned : turned_in n nf (length capList / 4) w ≡ map (λ t. t.corners) (outward_caps (pool_at n w) (caps_of capList))
+pub record TurnedReady (n nf : ℕ) (cap_list w : List ℕ) : Type 0 where
+  pub supplied : Supplied n nf cap_list w
+  pub good : bad_cap_place (pool_at n w) (caps_of cap_list) ≡ length (caps_of cap_list)
+  pub turned : turned_in n nf (length cap_list / 4) w ≡ map (λ t. t.corners) (outward_caps (pool_at n w) (caps_of cap_list))
 
-pub record CapReady (n nf k : ℕ) (capList w : List ℕ) : Type 0 where
-  pub ready : TurnedReady n nf capList w
+pub record CapReady (n nf k : ℕ) (cap_list w : List ℕ) : Type 0 where
+  pub ready : TurnedReady n nf cap_list w
   pub held : EdgesHeld (pool_at n w) w (open_edges_at n nf) k
   pub edges : k ≤ 3 * nf

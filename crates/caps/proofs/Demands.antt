@@ -46,26 +46,26 @@ module _ (pool : Pool) (boundary : List OpenEdge) (caps : List Cap) (positive : 
           → out ≡ closed pool caps positive mesh chosen
       same_mesh out chosen p q = λ i. record { points = p i; facets = q i }
 
-module _ (vs : List Float) (fs capList : List ℕ) (q : Asked) (mode : BoundaryClosure) where
+module _ (vs : List Float) (fs cap_list : List ℕ) (q : Asked) (mode : BoundaryClosure) where
   abbrev result : Mesh
-  result = caps_result vs fs capList q mode
+  result = caps_result vs fs cap_list q mode
 
   abbrev Demand : Mesh → Type 0
   Demand out =
-      DemandThree (pool vs fs q) (surface vs fs q).edges (caps_of capList) (is_positive mode) (mesh_of vs fs) out
+      DemandThree (pool vs fs q) (surface vs fs q).edges (caps_of cap_list) (is_positive mode) (mesh_of vs fs) out
 
-  pub result_meets : unchanged vs fs capList q mode ≡ false → Demand result
+  pub result_meets : unchanged vs fs cap_list q mode ≡ false → Demand result
   unfolding caps_result
   result_meets e =
       let p = pool vs fs q in
       let s = (surface vs fs q).edges in
-      let c = caps_of capList in
+      let c = caps_of cap_list in
       subst (λ (b : Bool). Demand (cond b (mesh_of vs fs) (closed p c (is_positive mode) (mesh_of vs fs) (selected s (outward_caps p c))))) (sym e)
       (closed_meets p s c (is_positive mode) (mesh_of vs fs) (selected s (outward_caps p c)) (selected_selects s (outward_caps p c)))
 
   -- what a call that is not turned down tells and leaves in its outputs is what demand 3 says
   pub closes : (ts : List Test) (reply : List ℕ) (v v' : List Float) (f f' : List ℕ) → Answer ts (mesh_outputs result v v' f f') reply → get_or reply 0 0 ≡ 0
-      → unchanged vs fs capList q mode ≡ false → Closes vs fs capList q mode reply v v' f f'
+      → unchanged vs fs cap_list q mode ≡ false → Closes vs fs cap_list q mode reply v v' f f'
   closes ts reply v v' f f' a h e =
       let d = answer_done ts (mesh_outputs result v v' f f') reply a h in
       record { out = result; demand = result_meets e; lengths = d.0; vertices = d.1.0; facets = d.1.1.0 }

@@ -25,23 +25,23 @@ use Rattle.cap_triangles.specs.Room.{turned_at}
 use Rattle.caps.specs.Steps.{CapsChecked, Listable, Closable}
 use Rattle.caps.proofs.Numbering.{full_low, words_low, words_kept}
 
-pub listable : (vs : List Float) (fs capList : List ℕ) (q : Asked) (ceiling : ℕ) (w : List ℕ) → Passes (closure_tests vs fs q (length capList) (limits ceiling (length w)))
-    → Listable vs fs capList (most_candidates vs q) w
-listable vs fs capList q ceiling w e =
+pub listable : (vs : List Float) (fs cap_list : List ℕ) (q : Asked) (ceiling : ℕ) (w : List ℕ) → Passes (closure_tests vs fs q (length cap_list) (limits ceiling (length w)))
+    → Listable vs fs cap_list (most_candidates vs q) w
+listable vs fs cap_list q ceiling w e =
     let l = limits ceiling (length w) in
-    let r = room_passed vs fs q (length capList) l e in
-    record { list = cap_listed ceiling vs fs (length capList) (lists_passed vs fs q (length capList) l e); size = omega (arith, r) }
+    let r = room_passed vs fs q (length cap_list) l e in
+    record { list = cap_listed ceiling vs fs (length cap_list) (lists_passed vs fs q (length cap_list) l e); size = omega (arith, r) }
 
-pub listable_same : (vs : List Float) (fs capList : List ℕ) (n m : ℕ) (w w' : List ℕ) → m ≡ n → length w' ≡ length w → Listable vs fs capList n w → Listable vs fs capList m w'
-listable_same vs fs capList n m w w' e l L = record { list = L.list; size = let s = L.size in omega (arith, e, l, s) }
+pub listable_same : (vs : List Float) (fs cap_list : List ℕ) (n m : ℕ) (w w' : List ℕ) → m ≡ n → length w' ≡ length w → Listable vs fs cap_list n w → Listable vs fs cap_list m w'
+listable_same vs fs cap_list n m w w' e l L = record { list = L.list; size = let s = L.size in omega (arith, e, l, s) }
 
-pub tabled_room : (vs : List Float) (fs capList : List ℕ) (n : ℕ) (w : List ℕ) → Listable vs fs capList n w → room_end n (length fs / 3) ≤ length w
-tabled_room vs fs capList n w L = let s = L.size in omega (arith, s)
+pub tabled_room : (vs : List Float) (fs cap_list : List ℕ) (n : ℕ) (w : List ℕ) → Listable vs fs cap_list n w → room_end n (length fs / 3) ≤ length w
+tabled_room vs fs cap_list n w L = let s = L.size in omega (arith, s)
 
 -- w₁ as the open edges left it, w as corner vertices and grids did, w' as the tests did
-pub closable : (vs : List Float) (fs capList : List ℕ) (q : Asked) (n k : ℕ) (w₁ w w' : List ℕ) (r : Checked) → Sound vs fs q
-    → Surfaced vs fs q.box q.eps n k w₁ → Completed vs fs q n k w → CapsChecked n (length fs / 3) k capList r w w' → r ≡ Passed → Closable vs fs capList n k w'
-closable vs fs capList q n k w₁ w w' r S F D C e =
+pub closable : (vs : List Float) (fs cap_list : List ℕ) (q : Asked) (n k : ℕ) (w₁ w w' : List ℕ) (r : Checked) → Sound vs fs q
+    → Surfaced vs fs q.box q.eps n k w₁ → Completed vs fs q n k w → CapsChecked n (length fs / 3) k cap_list r w w' → r ≡ Passed → Closable vs fs cap_list n k w'
+closable vs fs cap_list q n k w₁ w w' r S F D C e =
     let low = full_low vs fs q (subst (λ (p : Pool). (c : ℕ) → c < length p.all → (get_or p.all c no_candidate).mesh ≤ length (points_of vs)) F.pool F.sourced.low) in
     record {
       lists = S.lists;

@@ -38,10 +38,10 @@ use Rattle.caps.specs.Steps.{edges_in, CapsChecked, Listable}
 pub pooled : (eps : Float) (n : ℕ) (w : List ℕ) → Holds eps n w → Pooled n w
 pooled eps n w H = record { size = H.size; few = H.table.few; stored = H.stored; masks = H.masks; tidy = H.tidy }
 
-pub supplied : (eps : Float) (vs : List Float) (fs capList : List ℕ) (n : ℕ) (w w' : List ℕ) → n ≤ 464920 → length fs / 3 ≤ 65536 → Listable vs fs capList n w → length w' ≡ length
+pub supplied : (eps : Float) (vs : List Float) (fs cap_list : List ℕ) (n : ℕ) (w w' : List ℕ) → n ≤ 464920 → length fs / 3 ≤ 65536 → Listable vs fs cap_list n w → length w' ≡ length
     w → Holds eps n w'
-    → Supplied n (length fs / 3) capList w'
-supplied eps vs fs capList n w w' small few L e H =
+    → Supplied n (length fs / 3) cap_list w'
+supplied eps vs fs cap_list n w w' small few L e H =
     record {
       pooled = pooled eps n w' H;
       small = omega arith;
@@ -55,22 +55,22 @@ supplied eps vs fs capList n w w' small few L e H =
 refusal_passes : {A : Type 0} (r : Refusal) → Refused r ≡ Passed → A
 refusal_passes r e = absurd (let z : ◌≡◌ {A = ℕ} 0 1 = cc in omega arith)
 
-turned_off : (n nf k : ℕ) (capList : List ℕ) (r : Refusal) (w w' : List ℕ) → Refused r ≡ first_refusal (supplied_tests (pool_at n w) (caps_of capList) (edges_in n nf k w))
-    → CapsChecked n nf k capList (Refused r) w w'
-turned_off n nf k capList r w w' e = record { found = e; above = refusal_passes r; ready = refusal_passes r; known = refusal_passes r }
+turned_off : (n nf k : ℕ) (cap_list : List ℕ) (r : Refusal) (w w' : List ℕ) → Refused r ≡ first_refusal (supplied_tests (pool_at n w) (caps_of cap_list) (edges_in n nf k w))
+    → CapsChecked n nf k cap_list (Refused r) w w'
+turned_off n nf k cap_list r w w' e = record { found = e; above = refusal_passes r; ready = refusal_passes r; known = refusal_passes r }
 
 -- what test 11 answers, by the place of the first edge that is missing, once the list passed 10
-pub record EdgesAnswered (n nf k : ℕ) (capList w w' : List ℕ) (listed missing : ℕ) : Type 0 where
-  pub refused : missing < listed → CapsChecked n nf k capList (Refused (MissingEdge missing)) w w'
-  pub passed : listed ≤ missing → PairsKnown n nf k capList w' → CapsChecked n nf k capList Passed w w'
+pub record EdgesAnswered (n nf k : ℕ) (cap_list w w' : List ℕ) (listed missing : ℕ) : Type 0 where
+  pub refused : missing < listed → CapsChecked n nf k cap_list (Refused (MissingEdge missing)) w w'
+  pub passed : listed ≤ missing → PairsKnown n nf k cap_list w' → CapsChecked n nf k cap_list Passed w w'
 
-module _ (n nf k : ℕ) (capList w : List ℕ) (S : Supplied n nf capList w) (H : EdgesHeld (pool_at n w) w (open_edges_at n nf) k) (few : k ≤ 3 * nf)
-    (listed : ℕ) (el : listed ≡ length (edges_in n nf k w)) (bad : ℕ) (eb : bad ≡ bad_cap_place (pool_at n w) (caps_of capList)) where
+module _ (n nf k : ℕ) (cap_list w : List ℕ) (S : Supplied n nf cap_list w) (H : EdgesHeld (pool_at n w) w (open_edges_at n nf) k) (few : k ≤ 3 * nf)
+    (listed : ℕ) (el : listed ≡ length (edges_in n nf k w)) (bad : ℕ) (eb : bad ≡ bad_cap_place (pool_at n w) (caps_of cap_list)) where
   abbrev p : Pool
   p = pool_at n w
 
   abbrev l : List Cap
-  l = caps_of capList
+  l = caps_of cap_list
 
   abbrev es : List OpenEdge
   es = edges_in n nf k w
@@ -78,20 +78,20 @@ module _ (n nf k : ℕ) (capList w : List ℕ) (S : Supplied n nf capList w) (H 
   abbrev second : List Test
   second = (ltb (missing_place p l es) (length es), MissingEdge (missing_place p l es)) ∷ []
 
-  pub bad_refused : bad < length capList / 4 → CapsChecked n nf k capList (Refused (BadCap bad)) w w
+  pub bad_refused : bad < length cap_list / 4 → CapsChecked n nf k cap_list (Refused (BadCap bad)) w w
   bad_refused h =
-      let c = caps_length capList in
-      turned_off n nf k capList (BadCap bad) w w
+      let c = caps_length cap_list in
+      turned_off n nf k cap_list (BadCap bad) w w
       (ap (λ (b : ℕ). Refused (BadCap b)) eb
       ∙ sym (holds (ltb (bad_cap_place p l) (length l)) (BadCap (bad_cap_place p l)) second (lt-ltb (bad_cap_place p l) (length l) (omega (arith, eb, h, c)))))
 
-  module _ (g : length capList / 4 ≤ bad) where
+  module _ (g : length cap_list / 4 ≤ bad) where
     pub good_list : bad_cap_place p l ≡ length l
     unfolding bad_cap_place
     good_list =
         let a = place_le (bad_cap p l) (up_to (length l)) in
         let b = length_up 0 (length l) in
-        let c = caps_length capList in
+        let c = caps_length cap_list in
         omega (arith, a, b, c, eb, g)
 
     after_first : first_refusal (supplied_tests p l es) ≡ first_refusal second
@@ -99,11 +99,11 @@ module _ (n nf k : ℕ) (capList w : List ℕ) (S : Supplied n nf capList w) (H 
         passes (ltb (bad_cap_place p l) (length l)) (BadCap (bad_cap_place p l)) second
         (le-ltb (bad_cap_place p l) (length l) (let e = good_list in omega (arith, e)))
 
-    module _ (w₁ : List ℕ) (A₁ : Above (turned_at n nf) w w₁) (T₁ : TurnedReady n nf capList w₁) where
+    module _ (w₁ : List ℕ) (A₁ : Above (turned_at n nf) w w₁) (T₁ : TurnedReady n nf cap_list w₁) where
       pool_at_lem : (w' : List ℕ) → Above (turned_at n nf) w w' → pool_at n w' ≡ p
       pool_at_lem w' A = pool_kept (turned_at n nf) w w' A n S.pooled (omega arith)
 
-      pub turned_ready : CapReady n nf k capList w₁
+      pub turned_ready : CapReady n nf k cap_list w₁
       turned_ready =
           record {
             ready = T₁;
@@ -112,19 +112,19 @@ module _ (n nf k : ℕ) (capList w : List ℕ) (S : Supplied n nf capList w) (H 
             edges = few;
           }
 
-      module _ (w₂ : List ℕ) (N : Numbered n nf k capList w₁ w₂) where
-        pub numbered_ready : CapReady n nf k capList w₂
-        numbered_ready = ready_kept (pair_records_at n nf (length capList / 4)) w₁ w₂ N.above n nf capList k (omega arith) turned_ready
+      module _ (w₂ : List ℕ) (N : Numbered n nf k cap_list w₁ w₂) where
+        pub numbered_ready : CapReady n nf k cap_list w₂
+        numbered_ready = ready_kept (pair_records_at n nf (length cap_list / 4)) w₁ w₂ N.above n nf cap_list k (omega arith) turned_ready
 
-        module _ (w₃ : List ℕ) (A₃ : Above (up_at n nf (length capList / 4)) w₂ w₃) where
-          pub noted_ready : CapReady n nf k capList w₃
-          noted_ready = ready_kept (up_at n nf (length capList / 4)) w₂ w₃ A₃ n nf capList k (omega arith) numbered_ready
+        module _ (w₃ : List ℕ) (A₃ : Above (up_at n nf (length cap_list / 4)) w₂ w₃) where
+          pub noted_ready : CapReady n nf k cap_list w₃
+          noted_ready = ready_kept (up_at n nf (length cap_list / 4)) w₂ w₃ A₃ n nf cap_list k (omega arith) numbered_ready
 
           above_all : Above (turned_at n nf) w w₃
           above_all =
               above_more (turned_at n nf) w w₂ w₃
-              (above_more (turned_at n nf) w w₁ w₂ A₁ (above_less (turned_at n nf) (pair_records_at n nf (length capList / 4)) w₁ w₂ (omega arith) N.above))
-              (above_less (turned_at n nf) (up_at n nf (length capList / 4)) w₂ w₃ (omega arith) A₃)
+              (above_more (turned_at n nf) w w₁ w₂ A₁ (above_less (turned_at n nf) (pair_records_at n nf (length cap_list / 4)) w₁ w₂ (omega arith) N.above))
+              (above_less (turned_at n nf) (up_at n nf (length cap_list / 4)) w₂ w₃ (omega arith) A₃)
 
           module _ (missing : ℕ) (em : missing ≡ missing_place (pool_at n w₃) l (edges_in n nf k w₃)) where
             missing_is : missing ≡ missing_place p l es
@@ -132,16 +132,16 @@ module _ (n nf k : ℕ) (capList w : List ℕ) (S : Supplied n nf capList w) (H 
                 em
                 ∙ (λ t. missing_place (pool_at_lem w₃ above_all t) l (edges_kept (turned_at n nf) w w₃ above_all (open_edges_at n nf) k (omega (arith, few)) t))
 
-            missing_refused : missing < listed → CapsChecked n nf k capList (Refused (MissingEdge missing)) w w₃
+            missing_refused : missing < listed → CapsChecked n nf k cap_list (Refused (MissingEdge missing)) w w₃
             missing_refused h =
                 let e = missing_is in
-                turned_off n nf k capList (MissingEdge missing) w w₃
+                turned_off n nf k cap_list (MissingEdge missing) w w₃
                 (ap (λ (b : ℕ). Refused (MissingEdge b)) e
                 ∙ sym
                 (after_first
                 ∙ holds (ltb (missing_place p l es) (length es)) (MissingEdge (missing_place p l es)) [] (lt-ltb (missing_place p l es) (length es) (omega (arith, e, h, el)))))
 
-            all_passed_lem : listed ≤ missing → PairsKnown n nf k capList w₃ → CapsChecked n nf k capList Passed w w₃
+            all_passed_lem : listed ≤ missing → PairsKnown n nf k cap_list w₃ → CapsChecked n nf k cap_list Passed w w₃
             all_passed_lem h known =
                 let e = missing_is in
                 record {
@@ -154,5 +154,5 @@ module _ (n nf k : ℕ) (capList w : List ℕ) (S : Supplied n nf capList w) (H 
                   known = λ z. known;
                 }
 
-            pub edges_answered : EdgesAnswered n nf k capList w w₃ listed missing
+            pub edges_answered : EdgesAnswered n nf k cap_list w w₃ listed missing
             edges_answered = record { refused = missing_refused; passed = all_passed_lem }

@@ -23,16 +23,16 @@ use Rattle.cap_outputs.specs.Written.{closed_mesh_in, Deliverable}
 use Rattle.caps.specs.Steps.{edges_in, closed_of, closed_mesh, Closable}
 use Rattle.caps.proofs.Numbering.{words_kept}
 
-module _ (vs : List Float) (fs capList : List ℕ) (n k : ℕ) (positive : Bool) (w : List ℕ) (D : Closable vs fs capList n k w) (w₁ : List ℕ)
-    (C : Chosen n (length fs / 3) k capList w w₁) where
+module _ (vs : List Float) (fs cap_list : List ℕ) (n k : ℕ) (positive : Bool) (w : List ℕ) (D : Closable vs fs cap_list n k w) (w₁ : List ℕ)
+    (C : Chosen n (length fs / 3) k cap_list w w₁) where
   abbrev nf : ℕ
   nf = length fs / 3
 
   abbrev nc : ℕ
-  nc = length capList / 4
+  nc = length cap_list / 4
 
-  pub chosen_ready : TurnedReady n nf capList w₁
-  chosen_ready = turned_kept (labels_at n nf nc) w w₁ C.above n nf capList (omega arith) D.ready.ready
+  pub chosen_ready : TurnedReady n nf cap_list w₁
+  chosen_ready = turned_kept (labels_at n nf nc) w w₁ C.above n nf cap_list (omega arith) D.ready.ready
 
   pub chosen_words : MeshWords (length vs / 3) w₁
   chosen_words = words_kept (labels_at n nf nc) n (length vs / 3) w w₁ C.above (omega arith) D.ready.ready.supplied.pooled.few D.words
@@ -43,10 +43,10 @@ module _ (vs : List Float) (fs capList : List ℕ) (n k : ℕ) (positive : Bool)
   edges_is : edges_in n nf k w₁ ≡ edges_in n nf k w
   edges_is = let f = D.ready.edges in edges_kept (labels_at n nf nc) w w₁ C.above (open_edges_at n nf) k (omega (arith, f))
 
-  chosen_is : chosen_in n nf nc w₁ ≡ selected (edges_in n nf k w) (outward_caps (pool_at n w) (caps_of capList))
-  chosen_is = C.chosen ∙ (λ t. selected (edges_is t) (outward_caps (pool_is t) (caps_of capList)))
+  chosen_is : chosen_in n nf nc w₁ ≡ selected (edges_in n nf k w) (outward_caps (pool_at n w) (caps_of cap_list))
+  chosen_is = C.chosen ∙ (λ t. selected (edges_is t) (outward_caps (pool_is t) (caps_of cap_list)))
 
-  module _ (left caps : ℕ) (w₂ : List ℕ) (K : Closed vs n nf capList positive left caps w₁ w₂) where
+  module _ (left caps : ℕ) (w₂ : List ℕ) (K : Closed vs n nf cap_list positive left caps w₁ w₂) where
     pooled_last : Pooled n w₂
     pooled_last = pooled_kept (closing_at n nf nc) w₁ w₂ K.above n chosen_ready.supplied.pooled (omega arith)
 
@@ -68,12 +68,12 @@ module _ (vs : List Float) (fs capList : List ℕ) (n k : ℕ) (positive : Bool)
           count = K.count ∙ sym (ap length K.facets);
         }
 
-    pub standing_is : closed_mesh_in vs fs n nc positive left w₂ ≡ closed_mesh vs fs capList n k positive w
+    pub standing_is : closed_mesh_in vs fs n nc positive left w₂ ≡ closed_mesh vs fs cap_list n k positive w
     unfolding closed
     standing_is =
         (λ t. record { points = sym K.points t; facets = own_facets positive (threes fs) ++ K.facets t })
-        ∙ (λ t. closed (pool_is t) (caps_of capList) positive (mesh_of vs fs) (chosen_is t))
+        ∙ (λ t. closed (pool_is t) (caps_of cap_list) positive (mesh_of vs fs) (chosen_is t))
 
     pub answered : (v v' : List Float) (f f' : List ℕ) (reply : List ℕ) → Answer [] (mesh_outputs (closed_mesh_in vs fs n nc positive left w₂) v v' f f') reply
-        → Answer [] (mesh_outputs (closed_mesh vs fs capList n k positive w) v v' f f') reply
+        → Answer [] (mesh_outputs (closed_mesh vs fs cap_list n k positive w) v v' f f') reply
     answered v v' f f' reply = subst (λ (m : Mesh). Answer [] (mesh_outputs m v v' f f') reply) standing_is

@@ -43,7 +43,7 @@ use Rattle.caps.specs.Operation.{leaves_open, is_positive, supplied_tests, surfa
 use Rattle.caps.specs.Steps.{edges_in, closed_of, closed_mesh, surface_mesh}
 use Rattle.caps.proofs.Demands.{closes}
 
-module _ (vs : List Float) (fs capList : List ℕ) (q : Asked) (mode : BoundaryClosure) where
+module _ (vs : List Float) (fs cap_list : List ℕ) (q : Asked) (mode : BoundaryClosure) where
   abbrev mesh : Mesh
   mesh = mesh_of vs fs
 
@@ -51,20 +51,20 @@ module _ (vs : List Float) (fs capList : List ℕ) (q : Asked) (mode : BoundaryC
   none = no_two_ends vs fs q
 
   abbrev tests : List Test
-  tests = cap_tests vs fs q capList
+  tests = cap_tests vs fs q cap_list
 
   abbrev closing : Mesh
   closing =
-      closed_of (pool vs fs q) (caps_of capList) (surface vs fs q).edges (is_positive mode) mesh
+      closed_of (pool vs fs q) (caps_of cap_list) (surface vs fs q).edges (is_positive mode) mesh
 
   abbrev made : Mesh
-  made = surface_mesh vs fs capList q mode
+  made = surface_mesh vs fs cap_list q mode
 
   abbrev result : Mesh
-  result = caps_result vs fs capList q mode
+  result = caps_result vs fs cap_list q mode
 
   abbrev over : Bool
-  over = passed_over vs fs capList q mode
+  over = passed_over vs fs cap_list q mode
 
   -- ---- what stands in the room
 
@@ -78,18 +78,18 @@ module _ (vs : List Float) (fs capList : List ℕ) (q : Asked) (mode : BoundaryC
     ends_left g = ne_eqb (length (edge_surface q.box q.eps (by_key q.eps) mesh).edges) 0 (λ e. g (el ∙ e))
 
   module _ (n k : ℕ) (w : List ℕ) (D : Completed vs fs q n k w) where
-    pub tests_are : supplied_tests (pool_at n w) (caps_of capList) (edges_in n (length fs / 3) k w) ≡ tests
+    pub tests_are : supplied_tests (pool_at n w) (caps_of cap_list) (edges_in n (length fs / 3) k w) ≡ tests
     unfolding cap_tests surface candidates
-    tests_are = λ t. supplied_tests (D.pool t) (caps_of capList) (D.edges t)
+    tests_are = λ t. supplied_tests (D.pool t) (caps_of cap_list) (D.edges t)
 
     -- once the tests have passed
     module _ (w' : List ℕ) (P : Pooled n w) (few : k ≤ 3 * (length fs / 3)) (A : Above (turned_at n (length fs / 3)) w w') where
-      pub closed_is : (positive : Bool) → positive ≡ is_positive mode → closed_mesh vs fs capList n k positive w' ≡ closing
+      pub closed_is : (positive : Bool) → positive ≡ is_positive mode → closed_mesh vs fs cap_list n k positive w' ≡ closing
       unfolding surface candidates
       closed_is positive e =
           let p = pool_kept (turned_at n (length fs / 3)) w w' A n P (omega arith) ∙ D.pool in
           let g = edges_kept (turned_at n (length fs / 3)) w w' A (open_edges_at n (length fs / 3)) k (omega (arith, few)) ∙ D.edges in
-          λ t. closed_of (p t) (caps_of capList) (g t) (e t) mesh
+          λ t. closed_of (p t) (caps_of cap_list) (g t) (e t) mesh
 
   abbrev behind_nine : List Test
   behind_nine = unless none tests
@@ -173,11 +173,11 @@ module _ (vs : List Float) (fs capList : List ℕ) (q : Asked) (mode : BoundaryC
   -- ---- the work room cleared
 
   pub capped : (ceiling : ℕ) (x : Reply) (w u w' : List ℕ) (v v' : List Float) (f f' : List ℕ)
-      → Answer (caps_tests vs fs capList q mode (limits ceiling (length w))) (mesh_outputs result v v' f f') (documented_reply x)
-      → length u ≡ length w → w' ≡ replicate (length u) 0 → Capped vs fs capList q mode ceiling x w w' v v' f f'
+      → Answer (caps_tests vs fs cap_list q mode (limits ceiling (length w))) (mesh_outputs result v v' f f') (documented_reply x)
+      → length u ≡ length w → w' ≡ replicate (length u) 0 → Capped vs fs cap_list q mode ceiling x w w' v v' f f'
   capped ceiling x w u w' v v' f f' d h z =
-      let ts = caps_tests vs fs capList q mode (limits ceiling (length w)) in
+      let ts = caps_tests vs fs cap_list q mode (limits ceiling (length w)) in
       record {
         answered = answered ts (mesh_outputs result v v' f f') w u w' (documented_reply x) d h z;
-        rule = λ t. closes vs fs capList q mode ts (documented_reply x) v v' f f' d (reply_zero x t);
+        rule = λ t. closes vs fs cap_list q mode ts (documented_reply x) v v' f f' d (reply_zero x t);
       }

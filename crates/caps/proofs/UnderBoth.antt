@@ -15,11 +15,11 @@ use Rattle.closure_tests.proofs.UnderBoth.{same_tests}
 use Rattle.caps.specs.declared.mode.BoundaryClosure.{BoundaryClosure}
 use Rattle.caps.specs.Operation.{caps_tests, caps_result, Capped}
 
-module _ (vs : List Float) (fs capList : List ℕ) (q : Asked) (mode : BoundaryClosure) (c d : ℕ) (hc : Admits c vs fs) (hd : Admits d vs fs) where
+module _ (vs : List Float) (fs cap_list : List ℕ) (q : Asked) (mode : BoundaryClosure) (c d : ℕ) (hc : Admits c vs fs) (hd : Admits d vs fs) where
   pub caps_under_both : (r₁ r₂ : Reply) (w w₁ w₂ : List ℕ) (v v₁ v₂ : List Float) (f f₁ f₂ : List ℕ)
-      → Capped vs fs capList q mode c r₁ w w₁ v v₁ f f₁ → Capped vs fs capList q mode d r₂ w w₂ v v₂ f f₂
+      → Capped vs fs cap_list q mode c r₁ w w₁ v v₁ f f₁ → Capped vs fs cap_list q mode d r₂ w w₂ v v₂ f f₂
       → MeshesAlike (documented_reply r₁) (documented_reply r₂) w₁ w₂ v₁ v₂ f₁ f₂
   caps_under_both r₁ r₂ w w₁ w₂ v v₁ v₂ f f₁ f₂ a b =
-      meshes_alike (caps_tests vs fs capList q mode (limits c (length w))) (caps_tests vs fs capList q mode (limits d (length w)))
-      (caps_result vs fs capList q mode) w w₁ w₂ _ _ v v₁ v₂ f f₁ f₂
-      (same_tests vs fs q c d hc hd (length capList) (length w) _) a.answered b.answered
+      meshes_alike (caps_tests vs fs cap_list q mode (limits c (length w))) (caps_tests vs fs cap_list q mode (limits d (length w)))
+      (caps_result vs fs cap_list q mode) w w₁ w₂ _ _ v v₁ v₂ f f₁ f₂
+      (same_tests vs fs q c d hc hd (length cap_list) (length w) _) a.answered b.answered

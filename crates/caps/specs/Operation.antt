@@ -51,9 +51,9 @@ module _ (vs : List Float) (fs : List ℕ) (q : Asked) where
   pool = record { all = surface.all; lists = surface.lists }
 
   unfoldable pub cap_tests : List ℕ → List Test
-  cap_tests capList = supplied_tests pool (caps_of capList) surface.edges
+  cap_tests cap_list = supplied_tests pool (caps_of cap_list) surface.edges
 
-module _ (vs : List Float) (fs capList : List ℕ) (q : Asked) (mode : BoundaryClosure) where
+module _ (vs : List Float) (fs cap_list : List ℕ) (q : Asked) (mode : BoundaryClosure) where
   abbrev pub passed_over : Bool
   passed_over = leaves_open mode || no_facet fs
 
@@ -63,19 +63,19 @@ module _ (vs : List Float) (fs capList : List ℕ) (q : Asked) (mode : BoundaryC
 
   abbrev pub caps_tests : Limits → List Test
   caps_tests l =
-      closure_tests vs fs q (length capList) l
-      ++ unless passed_over (edge_tests vs fs q ++ unless (no_two_ends vs fs q) (cap_tests vs fs q capList))
+      closure_tests vs fs q (length cap_list) l
+      ++ unless passed_over (edge_tests vs fs q ++ unless (no_two_ends vs fs q) (cap_tests vs fs q cap_list))
 
   unfoldable pub caps_result : Mesh
   caps_result =
       let p = pool vs fs q in
       cond unchanged (mesh_of vs fs)
-      (closed p (caps_of capList) (is_positive mode) (mesh_of vs fs) (selected (surface vs fs q).edges (outward_caps p (caps_of capList))))
+      (closed p (caps_of cap_list) (is_positive mode) (mesh_of vs fs) (selected (surface vs fs q).edges (outward_caps p (caps_of cap_list))))
 
   -- from outputs v and f to v' and f', with the reply as numbers: whatever list is supplied
   pub record Closes (reply : List ℕ) (v v' : List Float) (f f' : List ℕ) : Type 0 where
     pub out : Mesh
-    pub demand : DemandThree (pool vs fs q) (surface vs fs q).edges (caps_of capList) (is_positive mode) (mesh_of vs fs) out
+    pub demand : DemandThree (pool vs fs q) (surface vs fs q).edges (caps_of cap_list) (is_positive mode) (mesh_of vs fs) out
     pub lengths : reply ≡ 0 ∷ length (coordinates out.points) ∷ length (flat out.facets) ∷ []
     pub vertices : v' ≡ overlay (coordinates out.points) v
     pub facets : f' ≡ overlay (flat out.facets) f

@@ -31,30 +31,30 @@ abbrev pub edges_in : ℕ → ℕ → ℕ → List ℕ → List OpenEdge
 edges_in n nf k w = edges_at w (open_edges_at n nf) k
 
 -- from work room w to w', with the answer r
-pub record CapsChecked (n nf k : ℕ) (capList : List ℕ) (r : Checked) (w w' : List ℕ) : Type 0 where
-  pub found : r ≡ first_refusal (supplied_tests (pool_at n w) (caps_of capList) (edges_in n nf k w))
+pub record CapsChecked (n nf k : ℕ) (cap_list : List ℕ) (r : Checked) (w w' : List ℕ) : Type 0 where
+  pub found : r ≡ first_refusal (supplied_tests (pool_at n w) (caps_of cap_list) (edges_in n nf k w))
   pub above : r ≡ Passed → Above (turned_at n nf) w w'
-  pub ready : r ≡ Passed → CapReady n nf k capList w'
-  pub known : r ≡ Passed → PairsKnown n nf k capList w'
+  pub ready : r ≡ Passed → CapReady n nf k cap_list w'
+  pub known : r ≡ Passed → PairsKnown n nf k cap_list w'
 
 abbrev pub closed_of : Pool → List Cap → List OpenEdge → Bool → Mesh → Mesh
 closed_of p l es positive mesh = closed p l positive mesh (selected es (outward_caps p l))
 
 abbrev pub closed_mesh : List Float → List ℕ → List ℕ → ℕ → ℕ → Bool → List ℕ → Mesh
-closed_mesh vs fs capList n k positive w = closed_of (pool_at n w) (caps_of capList) (edges_in n (length fs / 3) k w) positive (mesh_of vs fs)
+closed_mesh vs fs cap_list n k positive w = closed_of (pool_at n w) (caps_of cap_list) (edges_in n (length fs / 3) k w) positive (mesh_of vs fs)
 
-pub record Closable (vs : List Float) (fs capList : List ℕ) (n k : ℕ) (w : List ℕ) : Type 0 where
+pub record Closable (vs : List Float) (fs cap_list : List ℕ) (n k : ℕ) (w : List ℕ) : Type 0 where
   pub lists : ListsPass vs fs
   pub within : VerticesIn vs
   pub words : MeshWords (length vs / 3) w
-  pub ready : CapReady n (length fs / 3) k capList w
-  pub known : PairsKnown n (length fs / 3) k capList w
+  pub ready : CapReady n (length fs / 3) k cap_list w
+  pub known : PairsKnown n (length fs / 3) k cap_list w
 
 -- a cap list that passed tests 1 and 2, and the room for it
-pub record Listable (vs : List Float) (fs capList : List ℕ) (n : ℕ) (w : List ℕ) : Type 0 where
-  pub list : CapListPass (length capList)
-  pub size : caps_end n (length fs / 3) (length capList / 4) ≤ length w
+pub record Listable (vs : List Float) (fs cap_list : List ℕ) (n : ℕ) (w : List ℕ) : Type 0 where
+  pub list : CapListPass (length cap_list)
+  pub size : caps_end n (length fs / 3) (length cap_list / 4) ≤ length w
 
 abbrev pub surface_mesh : List Float → List ℕ → List ℕ → Asked → BoundaryClosure → Mesh
-surface_mesh vs fs capList q mode =
-    cond (no_two_ends vs fs q) (mesh_of vs fs) (closed_of (pool vs fs q) (caps_of capList) (surface vs fs q).edges (is_positive mode) (mesh_of vs fs))
+surface_mesh vs fs cap_list q mode =
+    cond (no_two_ends vs fs q) (mesh_of vs fs) (closed_of (pool vs fs q) (caps_of cap_list) (surface vs fs q).edges (is_positive mode) (mesh_of vs fs))

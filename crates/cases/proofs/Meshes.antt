@@ -19,17 +19,17 @@ module _ (vs : List Float) (fs : List ℕ) (q : CleanAsked) (reply : Reply) (w w
   answer : Cleaned vs fs q mesh_ceiling reply w w' (replicate 12 zero_f) v' (replicate 6 0) f' → documented_reply reply ≡ reply_in_room vs fs q
   answer h = h.answered.answer.replied ∙ ap (λ (n : ℕ). reply_in (clean_tests vs fs q (limits mesh_ceiling n)) (mesh_lengths (clean_result vs fs q)) (12 ∷ 6 ∷ [])) long
 
-  pub cleaned_to : Cleaned vs fs q mesh_ceiling reply w w' (replicate 12 zero_f) v' (replicate 6 0) f' → (statedVs : List Float) (statedFs : List ℕ)
-      → is_mesh (documented_reply reply) v' f' statedVs statedFs ≡ cleans_to vs fs q statedVs statedFs
+  pub cleaned_to : Cleaned vs fs q mesh_ceiling reply w w' (replicate 12 zero_f) v' (replicate 6 0) f' → (stated_vs : List Float) (stated_fs : List ℕ)
+      → is_mesh (documented_reply reply) v' f' stated_vs stated_fs ≡ cleans_to vs fs q stated_vs stated_fs
   unfolding cleans_to
-  cleaned_to h statedVs statedFs =
-      ap₂ (λ (a : List Float) (b : List ℕ). is_mesh (documented_reply reply) a b statedVs statedFs) h.answered.answer.settled.0 h.answered.answer.settled.1.0
+  cleaned_to h stated_vs stated_fs =
+      ap₂ (λ (a : List Float) (b : List ℕ). is_mesh (documented_reply reply) a b stated_vs stated_fs) h.answered.answer.settled.0 h.answered.answer.settled.1.0
       ∙ ap
       (λ (d : List ℕ).
       is_mesh d
       (settle d (coordinates (clean_result vs fs q).points) (replicate 12 zero_f))
       (settle d (flat (clean_result vs fs q).facets) (replicate 6 0))
-      statedVs statedFs)
+      stated_vs stated_fs)
       (answer h)
 
   pub cleaned_key : Cleaned vs fs q mesh_ceiling reply w w' (replicate 12 zero_f) v' (replicate 6 0) f' → is_key_range (documented_reply reply) ≡ has_far_key vs fs q

@@ -18,10 +18,10 @@ abbrev pub values_of : List ℕ → List ℕ
 values_of reply = take 4 (drop 1 reply ++ replicate 4 0)
 
 unfoldable pub is_mesh : List ℕ → List Float → List ℕ → List Float → List ℕ → Bool
-is_mesh reply vs fs statedVs statedFs =
+is_mesh reply vs fs stated_vs stated_fs =
     eqb (get_or reply 0 0) 0
-    && (eqb (get_or (values_of reply) 0 0) (length statedVs)
-    && (eqb (get_or (values_of reply) 1 0) (length statedFs) && (begins same_bits nan vs statedVs && begins eqb 0 fs statedFs)))
+    && (eqb (get_or (values_of reply) 0 0) (length stated_vs)
+    && (eqb (get_or (values_of reply) 1 0) (length stated_fs) && (begins same_bits nan vs stated_vs && begins eqb 0 fs stated_fs)))
 
 abbrev pub is_key_range : List ℕ → Bool
 is_key_range reply = eqb (get_or reply 0 0) 8
@@ -31,11 +31,11 @@ module _ (vs : List Float) (fs : List ℕ) (q : CleanAsked) where
   reply_in_room = reply_in (clean_tests vs fs q (limits mesh_ceiling 2048)) (mesh_lengths (clean_result vs fs q)) (12 ∷ 6 ∷ [])
 
   unfoldable pub cleans_to : List Float → List ℕ → Bool
-  cleans_to statedVs statedFs =
+  cleans_to stated_vs stated_fs =
       is_mesh reply_in_room
       (settle reply_in_room (coordinates (clean_result vs fs q).points) (replicate 12 zero_f))
       (settle reply_in_room (flat (clean_result vs fs q).facets) (replicate 6 0))
-      statedVs statedFs
+      stated_vs stated_fs
 
   unfoldable pub has_far_key : Bool
   has_far_key = is_key_range reply_in_room

@@ -71,14 +71,14 @@ is_half reply vs fs stated =
 abbrev pub square_at_half : List Float
 square_at_half = zero_f ∷ zero_f ∷ half ∷ one_f ∷ zero_f ∷ half ∷ one_f ∷ one_f ∷ half ∷ zero_f ∷ one_f ∷ half ∷ []
 
-module _ (mode : BoundaryClosure) (capList : List ℕ) where
+module _ (mode : BoundaryClosure) (cap_list : List ℕ) where
   abbrev pub capped : List ℕ
   capped =
-      reply_in (caps_tests square_at_half two_facets capList (asked (box_to one_f one_f one_f) 1e-10 one_f) mode (limits mesh_ceiling 8192))
-      (mesh_lengths (caps_result square_at_half two_facets capList (asked (box_to one_f one_f one_f) 1e-10 one_f) mode)) (24 ∷ 36 ∷ [])
+      reply_in (caps_tests square_at_half two_facets cap_list (asked (box_to one_f one_f one_f) 1e-10 one_f) mode (limits mesh_ceiling 8192))
+      (mesh_lengths (caps_result square_at_half two_facets cap_list (asked (box_to one_f one_f one_f) 1e-10 one_f) mode)) (24 ∷ 36 ∷ [])
 
   abbrev pub capped_mesh : Mesh
-  capped_mesh = caps_result square_at_half two_facets capList (asked (box_to one_f one_f one_f) 1e-10 one_f) mode
+  capped_mesh = caps_result square_at_half two_facets cap_list (asked (box_to one_f one_f one_f) 1e-10 one_f) mode
 
   unfoldable pub closes_to : List ℕ → Bool
   closes_to stated =

@@ -40,9 +40,9 @@ module _ (ceiling : ℕ) (vs : List Float) (fs : List ℕ) (caps : ℕ) where
   listed e =
       let r1 = head_passed (ragged (length vs) 3 || (ragged (length fs) 3 || ragged caps 4)) Ragged second e in
       let e2 = tail_passed (ragged (length vs) 3 || (ragged (length fs) 3 || ragged caps 4)) Ragged second e in
-      let anyMany = too_many (admitted ceiling) (length vs) 3 || (too_many (admitted ceiling) (length fs) 3 || too_many cap_ceiling caps 4) in
-      let r2 = head_passed anyMany TooMany ((bad_index (length vs / 3) fs, BadIndex) ∷ []) e2 in
-      let e3 = tail_passed anyMany TooMany ((bad_index (length vs / 3) fs, BadIndex) ∷ []) e2 in
+      let any_many = too_many (admitted ceiling) (length vs) 3 || (too_many (admitted ceiling) (length fs) 3 || too_many cap_ceiling caps 4) in
+      let r2 = head_passed any_many TooMany ((bad_index (length vs / 3) fs, BadIndex) ∷ []) e2 in
+      let e3 = tail_passed any_many TooMany ((bad_index (length vs / 3) fs, BadIndex) ∷ []) e2 in
       let s1 = or_none_right (ragged (length vs) 3) (ragged (length fs) 3 || ragged caps 4) r1 in
       let s2 = or_none_right (too_many (admitted ceiling) (length vs) 3) (too_many (admitted ceiling) (length fs) 3 || too_many cap_ceiling caps 4) r2 in
       record {
@@ -61,10 +61,10 @@ module _ (ceiling : ℕ) (vs : List Float) (fs : List ℕ) (caps : ℕ) where
   pub cap_listed : first_refusal (list_tests ceiling vs fs caps) ≡ Passed → CapListPass caps
   unfolding ragged too_many
   cap_listed e =
-      let anyRagged = ragged (length vs) 3 || (ragged (length fs) 3 || ragged caps 4) in
-      let anyMany = too_many (admitted ceiling) (length vs) 3 || (too_many (admitted ceiling) (length fs) 3 || too_many cap_ceiling caps 4) in
-      let r1 = head_passed anyRagged Ragged second e in
-      let r2 = head_passed anyMany TooMany ((bad_index (length vs / 3) fs, BadIndex) ∷ []) (tail_passed anyRagged Ragged second e) in
+      let any_ragged = ragged (length vs) 3 || (ragged (length fs) 3 || ragged caps 4) in
+      let any_many = too_many (admitted ceiling) (length vs) 3 || (too_many (admitted ceiling) (length fs) 3 || too_many cap_ceiling caps 4) in
+      let r1 = head_passed any_ragged Ragged second e in
+      let r2 = head_passed any_many TooMany ((bad_index (length vs / 3) fs, BadIndex) ∷ []) (tail_passed any_ragged Ragged second e) in
       let s1 = or_none_right (ragged (length vs) 3) (ragged (length fs) 3 || ragged caps 4) r1 in
       let s2 = or_none_right (too_many (admitted ceiling) (length vs) 3) (too_many (admitted ceiling) (length fs) 3 || too_many cap_ceiling caps 4) r2 in
       record {

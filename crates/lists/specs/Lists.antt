@@ -1,4 +1,4 @@
--- Lists: the few words about lists that the definitions use, beyond the library's (map, foldl, flatMap). A test is a function into Bool. Assumes nothing.
+-- Lists: the few words about lists that the definitions use, beyond the library's (map, foldl, flat_map). A test is a function into Bool. Assumes nothing.
 --   every, some   all pass; one passes                has       a number stands in the list
 --   keep          those that pass, in order           count     how many pass
 --   first         the first that passes, or none        is_none    it is none

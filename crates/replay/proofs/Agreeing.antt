@@ -186,9 +186,9 @@ module _ (stored w : List ℕ) (v : List Float) (f : List ℕ) (fresh : Fresh st
   clean_reply_lem vs fs e =
       (λ t. clean_reply vs fs (clean_asked (e t)) lent_under (length v ∷ length f ∷ [])) ∙ same_lengths (clean_reply vs fs (clean_asked_in stored))
 
-  pub caps_reply_lem : (vs : List Float) (fs : List ℕ) {capList : List ℕ} {box : AABB} {eps resolution : Float} {mode : ℕ}
-      → capList ≡ caps_in stored → box ≡ box_in stored → eps ≡ eps_in stored → resolution ≡ resolution_in stored → mode ≡ mode_in stored
-      → caps_reply vs fs capList (asked box eps resolution) mode lent_under (length v ∷ length f ∷ [])
+  pub caps_reply_lem : (vs : List Float) (fs : List ℕ) {cap_list : List ℕ} {box : AABB} {eps resolution : Float} {mode : ℕ}
+      → cap_list ≡ caps_in stored → box ≡ box_in stored → eps ≡ eps_in stored → resolution ≡ resolution_in stored → mode ≡ mode_in stored
+      → caps_reply vs fs cap_list (asked box eps resolution) mode lent_under (length v ∷ length f ∷ [])
       ≡ caps_reply vs fs (caps_in stored) (asked_in stored) (mode_in stored) (limits_in stored) (outputs_in stored)
   caps_reply_lem vs fs c b e r m =
       (λ t. caps_reply vs fs (c t) (asked (b t) (e t) (r t)) (m t) lent_under (length v ∷ length f ∷ []))
@@ -201,9 +201,9 @@ clip_result_lem stored vs fs b e = λ t. clip_result vs fs (clip_asked (b t) (e 
 pub clean_result_lem : (stored : List ℕ) (vs : List Float) (fs : List ℕ) {eps : Float} → eps ≡ eps_in stored → clean_result vs fs (clean_asked eps) ≡ clean_result vs fs (clean_asked_in stored)
 clean_result_lem stored vs fs e = λ t. clean_result vs fs (clean_asked (e t))
 
-pub caps_result_lem : (stored : List ℕ) (vs : List Float) (fs : List ℕ) {capList : List ℕ} {box : AABB} {eps resolution : Float} {mode : ℕ}
-    → capList ≡ caps_in stored → box ≡ box_in stored → eps ≡ eps_in stored → resolution ≡ resolution_in stored → mode ≡ mode_in stored
-    → caps_result vs fs capList (asked box eps resolution) (mode_of mode) ≡ caps_result vs fs (caps_in stored) (asked_in stored) (mode_of (mode_in stored))
+pub caps_result_lem : (stored : List ℕ) (vs : List Float) (fs : List ℕ) {cap_list : List ℕ} {box : AABB} {eps resolution : Float} {mode : ℕ}
+    → cap_list ≡ caps_in stored → box ≡ box_in stored → eps ≡ eps_in stored → resolution ≡ resolution_in stored → mode ≡ mode_in stored
+    → caps_result vs fs cap_list (asked box eps resolution) (mode_of mode) ≡ caps_result vs fs (caps_in stored) (asked_in stored) (mode_of (mode_in stored))
 caps_result_lem stored vs fs c b e r m = λ t. caps_result vs fs (c t) (asked (b t) (e t) (r t)) (mode_of (m t))
 
 -- the cap list, lent from behind the facet numbers to its end

@@ -153,7 +153,7 @@ abbrev pub clean_reply : List Float → List ℕ → CleanAsked → Limits → L
 clean_reply vs fs q l outs = reply_in (clean_tests vs fs q l) (mesh_lengths (clean_result vs fs q)) outs
 
 abbrev pub caps_reply : List Float → List ℕ → List ℕ → Asked → ℕ → Limits → List ℕ → List ℕ
-caps_reply vs fs capList q mode l outs = reply_in (caps_call_tests vs fs capList q mode l) (mesh_lengths (caps_result vs fs capList q (mode_of mode))) outs
+caps_reply vs fs cap_list q mode l outs = reply_in (caps_call_tests vs fs cap_list q mode l) (mesh_lengths (caps_result vs fs cap_list q (mode_of mode))) outs
 
 abbrev pub ClipStored : List ℕ → List Float → List ℕ → Type 0
 ClipStored stored vs fs =

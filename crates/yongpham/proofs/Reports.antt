@@ -87,12 +87,12 @@ module _ (ceiling : ℕ) (vs : List Float) (fs : List ℕ) (n : ℕ) where
       go checked.Passed e = (BadNumber, no_mode_passes e)
       go (checked.Refused q) e = (q, row_refused lists last q e)
 
-module _ (vs : List Float) (fs capList : List ℕ) (q : Asked) (mode ceiling : ℕ) (w w' : List ℕ) (v v' : List Float) (f f' : List ℕ) (r : ℕ) (ws : List ℕ) where
+module _ (vs : List Float) (fs cap_list : List ℕ) (q : Asked) (mode ceiling : ℕ) (w w' : List ℕ) (v v' : List Float) (f f' : List ℕ) (r : ℕ) (ws : List ℕ) where
   abbrev tests : List Test
-  tests = caps_call_tests vs fs capList q mode (limits ceiling (length w))
+  tests = caps_call_tests vs fs cap_list q mode (limits ceiling (length w))
 
   abbrev outs : List Output
-  outs = mesh_outputs (caps_result vs fs capList q (mode_of mode)) v v' f f'
+  outs = mesh_outputs (caps_result vs fs cap_list q (mode_of mode)) v v' f f'
 
   -- what was reported, as the reply that it is
   told : (reply : List ℕ) → Reported reply r ws → (a b : ℕ) → reply ≡ 0 ∷ a ∷ b ∷ [] → reply ≡ r ∷ get_or ws 0 0 ∷ get_or ws 1 0 ∷ []
@@ -101,28 +101,28 @@ module _ (vs : List Float) (fs capList : List ℕ) (q : Asked) (mode ceiling : �
       let y = g.words ∙ ap (λ (l : List ℕ). take 4 (drop 1 l ++ replicate 4 0)) e in
       e ∙ (λ t. sym x t ∷ get_or (sym y t) 0 0 ∷ get_or (sym y t) 1 0 ∷ [])
 
-  as_told : (reply : List ℕ) → Answer tests outs reply → Reported reply r ws → r ≡ 0 → unchanged vs fs capList q (mode_of mode) ≡ false
-      → Closes vs fs capList q (mode_of mode) (r ∷ get_or ws 0 0 ∷ get_or ws 1 0 ∷ []) v v' f f'
+  as_told : (reply : List ℕ) → Answer tests outs reply → Reported reply r ws → r ≡ 0 → unchanged vs fs cap_list q (mode_of mode) ≡ false
+      → Closes vs fs cap_list q (mode_of mode) (r ∷ get_or ws 0 0 ∷ get_or ws 1 0 ∷ []) v v' f f'
   as_told reply a g d u =
-      let c = closes vs fs capList q (mode_of mode) tests reply v v' f f' a (sym g.number ∙ d) u in
-      subst (λ (l : List ℕ). Closes vs fs capList q (mode_of mode) l v v' f f') (told reply g _ _ c.lengths) c
+      let c = closes vs fs cap_list q (mode_of mode) tests reply v v' f f' a (sym g.number ∙ d) u in
+      subst (λ (l : List ℕ). Closes vs fs cap_list q (mode_of mode) l v v' f f') (told reply g _ _ c.lengths) c
 
-  caps_called : (reply : List ℕ) → Answered tests outs w w' reply → Reported reply r ws → CapsCalled vs fs capList q mode ceiling r ws w w' v v' f f'
+  caps_called : (reply : List ℕ) → Answered tests outs w w' reply → Reported reply r ws → CapsCalled vs fs cap_list q mode ceiling r ws w w' v v' f f'
   caps_called reply a g = record { answered = called tests outs w w' reply r ws a g; rule = as_told reply a.answer g }
 
-  pub caps_none : 2 < mode → w' ≡ replicate (length w) 0 → v' ≡ v → f' ≡ f → Reported (reply_to (no_mode_tests vs fs capList q mode ceiling) []) r ws
-      → CapsCalled vs fs capList q mode ceiling r ws w w' v v' f f'
+  pub caps_none : 2 < mode → w' ≡ replicate (length w) 0 → v' ≡ v → f' ≡ f → Reported (reply_to (no_mode_tests vs fs cap_list q mode ceiling) []) r ws
+      → CapsCalled vs fs cap_list q mode ceiling r ws w w' v v' f f'
   unfolding documented_reply
   caps_none h z a b g =
-      let n = no_mode_is ceiling vs fs (length capList) in
-      let t : no_mode_tests vs fs capList q mode ceiling ≡ tests = sym (cond_true (ltb 2 mode) (no_mode_tests vs fs capList q mode ceiling) _ _ (lt-ltb 2 mode h) refl) in
+      let n = no_mode_is ceiling vs fs (length cap_list) in
+      let t : no_mode_tests vs fs cap_list q mode ceiling ≡ tests = sym (cond_true (ltb 2 mode) (no_mode_tests vs fs cap_list q mode ceiling) _ _ (lt-ltb 2 mode h) refl) in
       let e : first_refusal tests ≡ checked.Refused n.0 = ap first_refusal (sym t) ∙ n.1 in
       let x = answered tests outs w w w' (documented n.0) (refused tests outs n.0 e (a, (b, tt))) refl z in
       caps_called (documented n.0) x (same_reply _ (documented n.0) r ws (ap (λ (c : Checked). numbered c []) n.1) g)
 
-  pub caps_reported : (x : BoundaryClosure) (m : Reply) → mode ≤ 2 → x ≡ mode_of mode → Capped vs fs capList q x ceiling m w w' v v' f f' → Reported (documented_reply m) r ws
-      → CapsCalled vs fs capList q mode ceiling r ws w w' v v' f f'
+  pub caps_reported : (x : BoundaryClosure) (m : Reply) → mode ≤ 2 → x ≡ mode_of mode → Capped vs fs cap_list q x ceiling m w w' v v' f f' → Reported (documented_reply m) r ws
+      → CapsCalled vs fs cap_list q mode ceiling r ws w w' v v' f f'
   caps_reported x m h e c g =
-      let k = subst (λ (y : BoundaryClosure). Capped vs fs capList q y ceiling m w w' v v' f f') e c in
-      let t : caps_tests vs fs capList q (mode_of mode) (limits ceiling (length w)) ≡ tests = sym (cond_false (ltb 2 mode) (no_mode_tests vs fs capList q mode ceiling) _ _ (le-ltb 2 mode h) refl) in
+      let k = subst (λ (y : BoundaryClosure). Capped vs fs cap_list q y ceiling m w w' v v' f f') e c in
+      let t : caps_tests vs fs cap_list q (mode_of mode) (limits ceiling (length w)) ≡ tests = sym (cond_false (ltb 2 mode) (no_mode_tests vs fs cap_list q mode ceiling) _ _ (le-ltb 2 mode h) refl) in
       caps_called (documented_reply m) (subst (λ (ts : List Test). Answered ts outs w w' (documented_reply m)) t k.answered) g

@@ -15,23 +15,23 @@ use Rattle.caps.specs.declared.mode.BoundaryClosure.TheVariants.{None, ClosePosi
 use Rattle.caps.specs.Operation.{caps_tests, caps_result, unchanged, Closes}
 
 abbrev pub box_of : Float → Float → Float → Float → Float → Float → AABB
-box_of min-x min-y min-z max-x max-y max-z =
-    record { min_corner = min-x ∷ min-y ∷ min-z ∷ []; max_corner = max-x ∷ max-y ∷ max-z ∷ [] }
+box_of min_x min_y min_z max_x max_y max_z =
+    record { min_corner = min_x ∷ min_y ∷ min_z ∷ []; max_corner = max_x ∷ max_y ∷ max_z ∷ [] }
 
 -- 0, 1 and 2; any other number is no mode, and is turned down
 abbrev pub mode_of : ℕ → BoundaryClosure
 mode_of m = cond (eqb m 0) None (cond (eqb m 1) ClosePositive CloseNegative)
 
-module _ (vs : List Float) (fs capList : List ℕ) (q : Asked) (mode : ℕ) where
+module _ (vs : List Float) (fs cap_list : List ℕ) (q : Asked) (mode : ℕ) where
   -- of a number that is no mode: "part of 4, in its place"
   abbrev pub no_mode_tests : ℕ → List Test
-  no_mode_tests ceiling = list_tests ceiling vs fs (length capList) ++ (true, BadNumber) ∷ []
+  no_mode_tests ceiling = list_tests ceiling vs fs (length cap_list) ++ (true, BadNumber) ∷ []
 
   -- of any number
   abbrev pub caps_call_tests : Limits → List Test
-  caps_call_tests l = cond (ltb 2 mode) (no_mode_tests l.ceiling) (caps_tests vs fs capList q (mode_of mode) l)
+  caps_call_tests l = cond (ltb 2 mode) (no_mode_tests l.ceiling) (caps_tests vs fs cap_list q (mode_of mode) l)
 
   -- under a ceiling, from work room w and outputs v and f to w', v' and f', with the number r and the four words `values`
   pub record CapsCalled (ceiling r : ℕ) (values w w' : List ℕ) (v v' : List Float) (f f' : List ℕ) : Type 0 where
-    pub answered : Called (caps_call_tests (limits ceiling (length w))) (mesh_outputs (caps_result vs fs capList q (mode_of mode)) v v' f f') w w' r values
-    pub rule : r ≡ 0 → unchanged vs fs capList q (mode_of mode) ≡ false → Closes vs fs capList q (mode_of mode) (r ∷ get_or values 0 0 ∷ get_or values 1 0 ∷ []) v v' f f'
+    pub answered : Called (caps_call_tests (limits ceiling (length w))) (mesh_outputs (caps_result vs fs cap_list q (mode_of mode)) v v' f f') w w' r values
+    pub rule : r ≡ 0 → unchanged vs fs cap_list q (mode_of mode) ≡ false → Closes vs fs cap_list q (mode_of mode) (r ∷ get_or values 0 0 ∷ get_or values 1 0 ∷ []) v v' f f'
