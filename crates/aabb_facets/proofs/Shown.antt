@@ -15,7 +15,7 @@ use lib.Dec.{ltb}
 use lib.ListN.{get_or, take, length, length-append}
 use lib.Seq.{sets}
 use lib.Ieee.{Float}
-use Rattle.lists.specs.Lists.{every, up_from}
+use Rattle.lists.specs.Lists.{every}
 use Rattle.lists.proofs.Bools.{and_left, and_right}
 use Rattle.lists.proofs.Orders.{cases}
 use Rattle.lists.proofs.Sequences.{fold_more, fold_all}

@@ -5,7 +5,7 @@
 --   edge_in_lem           the extents of a projected edge are bounded
 --   bound_in, segment_in   its bound is finite, and so are all five numbers
 --   gathered          the edge is stored as the segment that its face's points are tested against
-use Prim.Native.Nat.{ℕ, zero, suc, ◌+◌, ◌*◌, ◌^◌, ◌≤◌}
+use Prim.Native.Nat.{ℕ, zero, suc, ◌+◌, ◌^◌, ◌≤◌}
 use native.Mathlib.Omega.{arith}
 use mathlib.Core.Path.{◌≡◌, sym, ap, subst, ◌∙◌}
 use mathlib.Core.List.{List}

@@ -4,7 +4,7 @@
 --   same_number        mesh vertex and faces do not bear on the number;   number_in   the number that an insertion gives is that of a candidate
 --   inserted_faces, inserted_face   an insertion with no face, and faces added, is an insertion with them
 --   vertex_inserted    and a mesh vertex, whose word is written
-use Prim.Native.Nat.{ℕ, ◌+◌, ◌*◌, ◌≤◌, ◌<◌}
+use Prim.Native.Nat.{ℕ, ◌+◌, ◌≤◌, ◌<◌}
 use native.Mathlib.Omega.{arith}
 use mathlib.Core.Path.{◌≡◌, refl, sym, ap, subst, ◌∙◌}
 use mathlib.Core.Bool.{Bool, true, false, cond}

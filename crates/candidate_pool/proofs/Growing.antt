@@ -8,7 +8,7 @@
 --   grows                      what stood in a face's list stands there then
 --   number_listed              the inserted one stands in the lists of its faces
 --   points_kept                one that is no mesh vertex moves no candidate
-use Prim.Native.Nat.{ℕ, zero, suc, ◌≤◌, ◌<◌}
+use Prim.Native.Nat.{ℕ, suc, ◌≤◌, ◌<◌}
 use native.Mathlib.Omega.{arith}
 use native.Mathlib.Decide.{ℕ_discrete}
 use mathlib.Core.Path.{◌≡◌, refl, ap, subst, ◌∙◌}

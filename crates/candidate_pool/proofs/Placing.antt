@@ -6,13 +6,13 @@
 --   put_inserted     a mesh vertex, found: "a later mesh vertex replaces number and point"
 --   kept_inserted    no mesh vertex, found
 --   placed-..        the same, by what the search answers;   number_miss, number_hit   the number that it gets
-use Prim.Native.Nat.{ℕ, suc, ◌+◌, ◌*◌, ◌-◌, ◌≤◌, ◌<◌}
+use Prim.Native.Nat.{ℕ, ◌+◌, ◌*◌, ◌-◌, ◌≤◌, ◌<◌}
 use native.Mathlib.Omega.{arith}
 use native.Mathlib.Decide.{ℕ_discrete}
 use mathlib.Core.Path.{◌≡◌, refl, sym, ap, subst, ◌∙◌}
 use mathlib.Core.Bool.{Bool, cond, ◌||◌, or-false}
 use mathlib.Core.List.{List, [], ◌∷◌, ◌++◌, map}
-use mathlib.Core.Option.{Option, none, some as just}
+use mathlib.Core.Option.{none, some as just}
 use lib.ListN.{get_or, set, length, length-append, length-set, get_or-append}
 use lib.Seq.{get_or-set_same, get_or-set_other, get_or-append_seam, set-get_or}
 use lib.Ieee.{Float, binary64, of_bits, to_bits}

@@ -10,7 +10,7 @@
 --   link_is                what the search by words finds is what the definition finds
 --   link_low, link_key     what is found is a candidate, and has the key
 --   some_room              there is room for a candidate at all
-use Prim.Native.Nat.{ℕ, zero, suc, ◌+◌, ◌*◌, ◌≤◌, ◌<◌}
+use Prim.Native.Nat.{ℕ, suc, ◌+◌, ◌*◌, ◌≤◌, ◌<◌}
 use native.Mathlib.Omega.{arith}
 use native.Mathlib.Nat.{mul-le-mul_right}
 use mathlib.Core.Path.{◌≡◌, refl, sym, ap, ◌∙◌}
@@ -24,7 +24,6 @@ use Rattle.lists.specs.Lists.{up_to}
 use Rattle.lists.specs.Regions.{view}
 use Rattle.lists.proofs.Places.{length_up, at_map_up}
 use Rattle.lists.proofs.Regions.{view_length, view_same, view_at}
-use Rattle.lists.proofs.Bools.{is_true}
 use Rattle.lists.proofs.Pigeonhole.{pigeonhole}
 use Rattle.geometry.specs.declared.point.Point.{Point}
 use Rattle.geometry.specs.Points.{pt, origin}

@@ -1,21 +1,17 @@
 -- "One key, one candidate" is a lawful joining rule: it is symmetric, what is found joins, and where nothing is found none joins. Assumes nothing.
 --   key_symmetric   two keys are one either way
 --   key_lawful      the rule's laws
-use Prim.Native.Nat.{ℕ}
-use mathlib.Core.Path.{◌≡◌, refl, sym, ap, subst, ◌∙◌}
+use mathlib.Core.Path.{◌≡◌, ap, ◌∙◌}
 use mathlib.Core.Bool.{◌&&◌}
-use lib.Dec.{T, T_not, eqb, eqb→eq, eqb_refl}
-use lib.IntN.{ℤ, pos, negsuc}
 use lib.ListN.{get_or}
 use lib.Ieee.{Float}
-use borrow.Author.Tests.{eq-eqb, ne_eqb}
-use Rattle.lists.proofs.Bools.{by_test, is_true, is_false}
+use Rattle.lists.proofs.Bools.{is_true, is_false}
 use Rattle.geometry.specs.declared.point.Point.{Point}
 use Rattle.geometry.specs.Points.{origin}
 use Rattle.chains.proofs.Firsts.{places_link, link_found, link_absent}
 use Rattle.chains.specs.Links.{link_of}
 use Rattle.mesh_weld.specs.Joining.{Lawful}
-use Rattle.mesh_weld.specs.Cells.{Key, key_of, same, same_key}
+use Rattle.mesh_weld.specs.Cells.{Key, key_of, same_key}
 use Rattle.mesh_weld.proofs.Rule.{same_sym}
 use Rattle.candidate_pool.specs.Pool.{by_key}
 

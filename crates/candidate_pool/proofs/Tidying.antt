@@ -2,7 +2,7 @@
 --   added_low, added_once   a list that a number was added to: its numbers are low, and no two are the same
 --   low_absent              a number above all of a list does not stand in it
 --   tidy_none, tidy_insert, tidy_faces   the pool of no candidate, an insertion, faces added
-use Prim.Native.Nat.{ℕ, zero, suc, ◌≤◌, ◌<◌}
+use Prim.Native.Nat.{ℕ, ◌≤◌, ◌<◌}
 use native.Mathlib.Omega.{arith}
 use native.Mathlib.Decide.{ℕ_discrete}
 use mathlib.Core.Path.{◌≡◌, refl, sym, ap, subst, ◌∙◌}

@@ -1,16 +1,14 @@
 -- One id more: what the three stores of `enter` do to the table.
-use Prim.Native.Nat.{ℕ, zero, suc, ◌+◌, ◌-◌, ◌≤◌, ◌<◌}
+use Prim.Native.Nat.{ℕ, suc, ◌+◌, ◌-◌, ◌≤◌, ◌<◌}
 use native.Mathlib.Omega.{arith}
 use native.Mathlib.Decide.{ℕ_discrete, dec_lt}
-use mathlib.Core.Path.{◌≡◌, refl, sym, ap, ◌∙◌, subst}
-use mathlib.Core.Bool.{Bool, true, false, cond}
-use mathlib.Core.List.{List, [], ◌∷◌}
-use lib.Dec.{eqb}
+use mathlib.Core.Path.{◌≡◌, refl, sym, ap, ◌∙◌}
+use mathlib.Core.List.{List}
 use lib.ListN.{get_or, set, length, length-set}
 use lib.Seq.{get_or-set_same, get_or-set_other}
 use borrow.Author.Tests.{eq-eqb, ne_eqb}
-use Rattle.lists.specs.Regions.{Outside, PartZeroed}
-use Rattle.chains.specs.Links.{Absent, FirstFound, First, Final, Last}
+use Rattle.lists.specs.Regions.{Outside}
+use Rattle.chains.specs.Links.{Absent, First, Final, Last}
 use Rattle.chains.specs.Chains.{Linked, link_place, linked_in}
 use Rattle.chains.proofs.Firsts.{first_other, first_kept, last_other, first_new, last_new, first_empty, last_empty, first_cong, last_cong}
 

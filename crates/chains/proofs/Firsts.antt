@@ -5,7 +5,6 @@ use native.Mathlib.Decide.{ℕ_discrete}
 use mathlib.Core.Path.{◌≡◌, refl, sym, ap, ◌∙◌, subst}
 use mathlib.Core.Bool.{Bool, true, false, cond}
 use mathlib.Core.List.{List, [], ◌∷◌, map}
-use mathlib.Core.Logic.{◌⊎◌, inl, inr, ⊎_elim}
 use mathlib.Core.Option.{Option, none, some}
 use lib.Dec.{T, eqb}
 use lib.ListN.{get_or, length, length-map}
@@ -14,7 +13,7 @@ use Rattle.lists.specs.Lists.{first, place, up_from, up_to}
 use Rattle.lists.proofs.Bools.{is_true}
 use Rattle.lists.proofs.Places.{at_up, length_up}
 use Rattle.lists.proofs.Members.{place_before, place_at, place_le}
-use Rattle.chains.specs.Links.{link_of, link_to, Absent, FirstFound, First, Final, Last}
+use Rattle.chains.specs.Links.{link_of, link_to, Absent, FirstFound, First, Last}
 
 -- ---- one number more
 

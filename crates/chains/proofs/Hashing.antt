@@ -2,7 +2,7 @@
 use Prim.Native.Nat.{ℕ, ◌+◌, ◌*◌, ◌/◌, ◌%◌, ◌^◌, ◌≤◌, ◌<◌}
 use native.Mathlib.Nat.{mul-le-mul, add-mul-mod_self_right, div-lt_iff_lt-mul}
 use native.Mathlib.Omega.{arith}
-use mathlib.Core.Path.{◌≡◌, refl, sym, ap, ◌∙◌}
+use mathlib.Core.Path.{◌≡◌, sym, ap, ◌∙◌}
 use Rattle.chains.specs.Hash.{prime, factor_a, factor_b, factor_c, mixed, bucket_at, Mixes, InBucket}
 
 pub mixes_mix : (a b c : ℕ) → Mixes a b c (a % 4294967291 * 561705629 + b % 4294967291 * 816622479 + c % 4294967291 * 167066315)

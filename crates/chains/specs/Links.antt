@@ -4,7 +4,7 @@
 --   Absent P i n      no number from i up to, not including, n has the property
 --   First P i n v     v is the link to the first number from i up to n with the property
 --   Last P n v        v is the link to the last number below n with the property
-use Rattle.std.specs.Prelude.{ℕ, zero, suc, ◌+◌, ◌≤◌, ◌<◌, ◌≡◌, Bool, cond, List, eqb, length}
+use Rattle.std.specs.Prelude.{ℕ, suc, ◌≤◌, ◌<◌, ◌≡◌, Bool, cond, List, eqb, length}
 use Rattle.std.proofs.Math.Option.{Option, none, some}
 use Rattle.lists.specs.Lists.{place}
 

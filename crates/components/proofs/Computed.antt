@@ -1,13 +1,12 @@
 -- `components` computes `Joined`: of items that each stand once, two are in one component exactly if a chain of links joins them.
-use Prim.Native.Nat.{ℕ, suc}
-use mathlib.Core.Path.{◌≡◌, refl, sym, ap, ◌∙◌, subst}
-use mathlib.Core.Bool.{Bool, true, false, cond, not, ◌&&◌, ◌||◌}
+use Prim.Native.Nat.{ℕ}
+use mathlib.Core.Path.{◌≡◌, refl, sym, ◌∙◌, subst}
+use mathlib.Core.Bool.{Bool, true, false, not}
 use mathlib.Core.List.Memᴰ
 use mathlib.Core.List.{List, [], ◌∷◌, flat_map, Memᴰ}
 use mathlib.Core.Logic.{◌⊎◌, inl, inr}
-use lib.Dec.{T, T_not, not_T, eqb, eqb→eq, eqb_refl}
-use lib.ListN.{get_or}
-use Rattle.lists.specs.Lists.{some, keep, has, place, Decides}
+use lib.Dec.{T, T_not}
+use Rattle.lists.specs.Lists.{some, keep, has, Decides}
 use Rattle.lists.proofs.Members.{some_of, of_some, keep_of, of_keep, flat_map_of, of_flat_map, has_of, of_has, place_some}
 use Rattle.components.specs.Joined.{Joined, one, same, back, via, Among, Once}
 use Rattle.components.specs.Components.{components, component_of}

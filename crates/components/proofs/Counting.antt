@@ -1,15 +1,14 @@
 -- What the loop that counts the items of each number keeps, as laws on lists.
-use Prim.Native.Nat.{ℕ, suc, ◌+◌, ◌≤◌, ◌<◌}
+use Prim.Native.Nat.{ℕ, ◌+◌, ◌≤◌, ◌<◌}
 use native.Mathlib.Numerals.{add-one}
-use native.Mathlib.Decide.{ℕ_discrete}
 use native.Mathlib.Omega.{arith}
 use mathlib.Core.Path.{◌≡◌, refl, sym, ap, ◌∙◌}
-use mathlib.Core.Bool.{Bool, true, false, cond}
-use mathlib.Core.List.{List, [], ◌∷◌, ◌++◌}
+use mathlib.Core.Bool.{cond}
+use mathlib.Core.List.{List, [], ◌∷◌}
 use mathlib.Core.Logic.{◌⊎◌, inl, inr}
 use lib.Dec.{eqb}
-use lib.ListN.{get_or, set, length, take, length-take, length-set}
-use lib.Seq.{get_or-set_same, get_or-set_other, take-suc, take_all, length-take-le}
+use lib.ListN.{get_or, set, length, take, length-set}
+use lib.Seq.{get_or-set_other, take-suc, take_all, length-take-le}
 use borrow.Author.Tests.{eq-eqb, ne_eqb}
 use Rattle.lists.specs.Regions.{view, Outside}
 use Rattle.lists.proofs.Regions.{at_set, view_length, view_at}

@@ -1,17 +1,17 @@
 -- Laws of the union-find's links (specs/Forest.antt): what a store to a link does to the trees.
-use Prim.Native.Nat.{ℕ, ◌+◌, ◌*◌, ◌≤◌, ◌<◌}
+use Prim.Native.Nat.{ℕ, ◌+◌, ◌≤◌, ◌<◌}
 use native.Mathlib.Nat.{eq-or-lt_of_le}
 use native.Mathlib.Decide.{ℕ_discrete}
 use native.Mathlib.Omega.{arith}
 use mathlib.Core.Path.{◌≡◌, refl, sym, ap, ◌∙◌}
 use mathlib.Core.List.{List}
-use mathlib.Core.Logic.{◌⊎◌, inl, inr, ⊎_elim}
+use mathlib.Core.Logic.{⊎_elim}
 use lib.ListN.{get_or, set, length, length-set}
 use lib.Seq.{get_or-set_same, get_or-set_other}
 use borrow.Author.Count.{below_more}
 use Rattle.lists.proofs.Regions.{at_set}
 use Rattle.components.specs.Joined.{Joined, one, same, back, via}
-use Rattle.components.specs.Forest.{Link, SameTree, Forest, TreesKept, RootFound, RootOf, AddedLink, old, new, United}
+use Rattle.components.specs.Forest.{SameTree, Forest, TreesKept, RootFound, RootOf, AddedLink, old, new, United}
 use Rattle.components.proofs.Joined.{joined_into, joined_ends}
 
 pub kept_refl : (w : List ℕ) (o n : ℕ) → Forest w o n → TreesKept w w o n

@@ -1,8 +1,7 @@
 -- Laws of `Joined`: how a chain over one relation becomes a chain over another, and of the least item joined.
-use Prim.Native.Nat.{ℕ, ◌+◌, ◌*◌, ◌≤◌, ◌<◌}
-use native.Mathlib.Omega.{arith}
+use Prim.Native.Nat.{ℕ, ◌≤◌}
 use native.Mathlib.Nat.{le_antisymm}
-use mathlib.Core.Path.{◌≡◌, refl, sym, ap, ◌∙◌, subst, subst₂}
+use mathlib.Core.Path.{◌≡◌, refl, sym, ◌∙◌, subst, subst₂}
 use Rattle.components.specs.Joined.{Joined, one, same, back, via, LeastJoined}
 
 -- a relation whose steps are chains of another has its chains there, also where the items have other names

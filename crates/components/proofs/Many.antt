@@ -1,13 +1,12 @@
 -- How many are joined to an item, by the component that is computed for it. Assumes nothing.
-use Prim.Native.Nat.{ℕ, ◌≤◌}
+use Prim.Native.Nat.{ℕ}
 use native.Mathlib.Omega.{arith}
 use mathlib.Core.Bool.{Bool}
 use mathlib.Core.List.{List, Memᴰ}
 use lib.Dec.{T, leb, leb→le, le→leb}
-use lib.ListN.{length}
 use Rattle.lists.specs.Lists.{has, keep, count, Decides}
 use Rattle.lists.proofs.Members.{keep_of, of_keep}
-use Rattle.components.specs.Joined.{Joined, Among, ManyJoined, Once}
+use Rattle.components.specs.Joined.{Among, ManyJoined, Once}
 use Rattle.components.specs.Components.{components, component_of}
 use Rattle.components.proofs.Joined.{joined_keeps}
 use Rattle.components.proofs.Once.{once_keep, once_shorter}

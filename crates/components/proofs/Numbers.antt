@@ -1,21 +1,21 @@
 -- Laws of the components' numbers and sizes as the finder leaves them, and the way from them to the definitions' computed components.
-use Prim.Native.Nat.{ℕ, ◌+◌, ◌*◌, ◌≤◌, ◌<◌}
+use Prim.Native.Nat.{ℕ, ◌<◌}
 use native.Mathlib.Omega.{arith}
 use native.Mathlib.Decide.{ℕ_discrete}
 use mathlib.Core.Path.{◌≡◌, refl, sym, ap, ◌∙◌, subst}
 use mathlib.Core.Bool.{Bool}
-use mathlib.Core.List.{List, Memᴰ}
+use mathlib.Core.List.{List}
 use lib.Dec.{T, leb, leb→le, le→leb, eqb, eqb→eq}
 use lib.ListN.{get_or, length}
 use lib.Seq.{ext_get_or}
 use Rattle.lists.specs.Lists.{some, keep, place, count, has, up_to, Decides}
-use Rattle.lists.proofs.Members.{some_of, of_some, keep_of, of_keep, has_of, of_has, get_d_mem, mem_get_d}
+use Rattle.lists.proofs.Members.{keep_of, of_keep, get_d_mem, mem_get_d}
 use Rattle.lists.proofs.Places.{of_up, up_of, at_up, length_up}
 use Rattle.lists.proofs.Counts.{count_places}
-use Rattle.components.specs.Joined.{Joined, one, same, back, via, Among, SharedLabel, LeastJoined, Once, ManyJoined}
+use Rattle.components.specs.Joined.{Joined, one, same, Among, SharedLabel, Once, ManyJoined}
 use Rattle.components.specs.Components.{components, component_of}
 use Rattle.components.specs.Table.{ComponentNumbers, size}
-use Rattle.components.proofs.Joined.{joined_into, joined_map, joined_keeps, joined_ends, least_le, least_unique, least_same, least_joined}
+use Rattle.components.proofs.Joined.{joined_map, joined_keeps, joined_ends, least_le, least_unique, least_same, least_joined}
 use Rattle.components.proofs.Once.{decides_same, decides_eqb, decides_as, once_keep, once_up, once_shorter, place_once}
 use Rattle.components.proofs.Computed.{component_decides, component_some}
 

@@ -1,5 +1,5 @@
 -- Lists in which each item stands once, and how many items two of them have; what a Bool decides.
-use Prim.Native.Nat.{ℕ, zero, suc, ◌+◌, ◌≤◌, ◌<◌}
+use Prim.Native.Nat.{ℕ, zero, suc, ◌≤◌, ◌<◌}
 use native.Mathlib.Omega.{arith}
 use native.Mathlib.Decide.{ℕ_discrete}
 use mathlib.Core.Path.{◌≡◌, refl, sym, ap, ◌∙◌, subst}
@@ -10,7 +10,7 @@ use mathlib.Core.Logic.{◌⊎◌, inl, inr}
 use lib.Dec.{T, eqb, eqb→eq, eqb_refl}
 use lib.ListN.{get_or, length}
 use borrow.Author.Tests.{eq-eqb, ne_eqb}
-use Rattle.lists.specs.Lists.{keep, place, up_from, up_to, Decides}
+use Rattle.lists.specs.Lists.{keep, place, up_from, Decides}
 use Rattle.lists.proofs.Members.{of_keep, get_d_mem}
 use Rattle.lists.proofs.Places.{of_up}
 use Rattle.components.specs.Joined.{Once}

@@ -11,11 +11,11 @@ use lib.ListN.{get_or, set, length, length-set}
 use lib.Seq.{get_or-set_same, get_or-set_other}
 use lib.Arith.{digits_lt, digits_div}
 use borrow.Author.Count.{below_more}
-use Rattle.lists.specs.Regions.{view, Outside, Apart, PartZeroed}
+use Rattle.lists.specs.Regions.{view, Outside, PartZeroed}
 use Rattle.lists.proofs.Regions.{at_set, view_length, view_at, view_same}
 use Rattle.components.specs.Joined.{Joined, one, same, back, via, SharedLabel, LeastJoined}
-use Rattle.components.specs.Table.{LabelsBelow, LabelRoom, Seen, FirstWith, ComponentNumbers, ComponentTable, size}
-use Rattle.components.specs.Forest.{Link, SameTree, Forest, TreesKept, AddedLink, old, new, United, Flattened, LabelEntered, Hung, LabelsEntered, Swept, Owned, SizesTallied}
+use Rattle.components.specs.Table.{LabelsBelow, LabelRoom, Seen, FirstWith, ComponentTable, size}
+use Rattle.components.specs.Forest.{SameTree, TreesKept, AddedLink, old, new, United, Flattened, LabelEntered, Hung, LabelsEntered, Swept, Owned, SizesTallied}
 use Rattle.components.proofs.Joined.{joined_into, joined_const, joined_keeps, joined_ends}
 use Rattle.components.proofs.Forest.{link}
 

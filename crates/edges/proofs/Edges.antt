@@ -4,30 +4,30 @@
 --   open_pair                                     a pair is that of an open edge exactly if exactly one side bears it
 --   open_small                                    corners below 2^32 make open edges with ends below 2^32
 --   open_distinct, open_ascending                 no two have the same pair; of two places the earlier has the lesser pair
-use Prim.Native.Nat.{ℕ, zero, suc, ◌+◌, ◌%◌, ◌≤◌, ◌<◌}
-use mathlib.Core.Bool.{Bool, true, false, cond}
+use Prim.Native.Nat.{ℕ, ◌%◌, ◌≤◌, ◌<◌}
+use mathlib.Core.Bool.{Bool, true, false}
 use mathlib.Core.List.{List, [], ◌∷◌, map, Memᴰ}
-use mathlib.Core.Logic.{◌⊎◌, inl, inr, ⊎_elim}
+use mathlib.Core.Logic.{⊎_elim}
 use mathlib.Core.Path.{◌≡◌, refl, sym, ap, subst, ◌∙◌}
 use native.Mathlib.Omega.{arith}
 use borrow.Author.Tests.{eqb-true, eq-eqb}
-use lib.Dec.{T, eqb}
+use lib.Dec.{T}
 use lib.ListN.{length, get_or, length-map, get_or-map}
 use Rattle.lists.specs.Lists.{some, keep, count, sort_by}
 use Rattle.lists.specs.Order.{AtMost}
 use Rattle.lists.proofs.Counts.{keep_same}
-use Rattle.lists.proofs.Mapped.{Each, Pairwise, Agree, each_of, pairwise_of, pairwise_at, pairwise_map, pairwise_keep, pairwise_sort_by, map_sort_by, mem_sort_by, sort_by_mem}
+use Rattle.lists.proofs.Mapped.{Pairwise, Agree, each_of, pairwise_of, pairwise_at, pairwise_map, pairwise_keep, pairwise_sort_by, map_sort_by, mem_sort_by, sort_by_mem}
 use Rattle.lists.proofs.Members.{keep_of, of_keep, some_of, of_some, get_d_mem, mem_get_d}
-use Rattle.lists.proofs.Multiplicity.{more, count_cons, some_sort_by}
+use Rattle.lists.proofs.Multiplicity.{more, count_cons}
 use Rattle.lists.proofs.Orders.{cases, never, ascending_before}
-use Rattle.lists.proofs.SortBy.{length_sort_by, ascending_sort_by}
+use Rattle.lists.proofs.SortBy.{ascending_sort_by}
 use Rattle.lists.proofs.Bools.{yes, both_ways}
 use Rattle.records.specs.Records.{record_before}
 use Rattle.records.proofs.Comparing.{Lex, record_cases, record_order, lex_before}
 use Rattle.geometry.specs.Triangles.{Triangle, threes}
 use Rattle.edges.specs.Edges.{sides, sorted_pair, same_pair, bearers, is_open, pair_before, open_edges}
 use Rattle.edges.proofs.Sides.{Small, sides_small}
-use Rattle.edges.proofs.Keys.{SameEnds, pair_same, same_pair_lem, same_ends_sorted, sorted_same_ends}
+use Rattle.edges.proofs.Keys.{pair_same, same_pair_lem, same_ends_sorted, sorted_same_ends}
 
 -- a test as a fact, and back
 yes_true : {b : Bool} → T b → b ≡ true

@@ -4,19 +4,18 @@
 --   pair_before_key        the order of sorted pairs is that of the keys
 --   key_first, key_second  the key's two numbers are the sorted pair
 --   same_ends_sorted, sorted_same_ends   the same two ends exactly if the same sorted pair, whatever the ends
-use Prim.Native.Nat.{ℕ, ◌≤◌, ◌<◌, min, max}
-use mathlib.Core.Bool.{Bool, true, false, cond, ◌&&◌, ◌||◌}
+use Prim.Native.Nat.{ℕ, ◌<◌, min, max}
+use mathlib.Core.Bool.{Bool, true, false, ◌&&◌, ◌||◌}
 use mathlib.Core.Logic.{◌⊎◌, inl, inr, ⊎_elim}
-use mathlib.Core.Path.{◌≡◌, refl, sym, ap, subst, ◌∙◌}
+use mathlib.Core.Path.{◌≡◌, refl, sym, ap, ◌∙◌}
 use native.Mathlib.Omega.{arith}
-use borrow.Author.Tests.{ltb-true, ltb-false, eqb-true, eqb-false, eq-eqb, ne_eqb, lt-ltb, le-ltb}
+use borrow.Author.Tests.{ltb-true, eqb-true, eqb-false, eq-eqb, lt-ltb}
 use lib.Dec.{eqb, ltb}
-use Rattle.lists.proofs.Bools.{and_left, and_right, and_stop, both_ways}
+use Rattle.lists.proofs.Bools.{and_left, and_right, both_ways}
 use Rattle.lists.proofs.Orders.{cases, never}
 use Rattle.words.specs.Packed.{pair_first, pair_second}
 use Rattle.words.proofs.Packed.{pair_first_lem, pair_second_lem, pair_lex, lex_pair, edge_exchange, edge_injective}
-use Rattle.records.specs.Records.{record_before}
-use Rattle.records.proofs.Comparing.{Lex, lex_before, not_lex}
+use Rattle.records.proofs.Comparing.{lex_before, not_lex}
 use Rattle.edges.specs.Edges.{sorted_pair, same_pair, pair_before}
 use Rattle.edges.specs.Table.{edge_key}
 use Rattle.edges.proofs.Sides.{Small}

@@ -1,7 +1,7 @@
 -- Records whose key stands once are the runs of one record. Assumes nothing.
 --   single run      a run of one record, else nothing
 --   runs_open       of a sorted list these are the records whose key stands once
-use Prim.Native.Nat.{ℕ, ◌+◌, ◌≤◌, ◌<◌}
+use Prim.Native.Nat.{ℕ, ◌+◌, ◌<◌}
 use mathlib.Core.Bool.{Bool, true, false, cond}
 use mathlib.Core.List.{List, [], ◌∷◌, ◌++◌, flat_map}
 use mathlib.Core.Path.{◌≡◌, refl, sym, ap, ◌∙◌}

@@ -7,24 +7,22 @@
 --   table_bearing                the records of one pair are those of the sides that bear it, in their order
 --   table_open                   the records whose key stands once are those of the open edges, in order
 use Prim.Native.Nat.{ℕ, zero, suc, ◌+◌, ◌≤◌, ◌<◌}
-use mathlib.Core.Bool.{Bool, true, false, ◌&&◌, ◌||◌, or-false}
-use mathlib.Core.List.{List, [], ◌∷◌, map, Memᴰ}
-use mathlib.Core.Logic.{◌⊎◌, inl, inr, ⊎_elim}
+use mathlib.Core.Bool.{Bool}
+use mathlib.Core.List.{List, [], ◌∷◌, map}
 use mathlib.Core.Path.{◌≡◌, refl, sym, ap, ◌∙◌}
 use native.Mathlib.Omega.{arith}
-use borrow.Author.Tests.{eqb-true, le-ltb}
+use borrow.Author.Tests.{le-ltb}
 use lib.Dec.{T, eqb, ltb, eqb→eq}
 use lib.ListN.{length, get_or, length-map}
-use Rattle.lists.specs.Lists.{keep, count, sort_by, up_from, up_to}
-use Rattle.lists.specs.Order.{AtMost, AtMostAll, Ascending}
+use Rattle.lists.specs.Lists.{keep, count, sort_by, up_from}
+use Rattle.lists.specs.Order.{AtMostAll, Ascending}
 use Rattle.lists.proofs.Counts.{keep_same}
-use Rattle.lists.proofs.Mapped.{Each, Pairwise, Agree, each_of, of_each, each_map, each_sort_by, each_keep, pairwise_keep, map_keep, map_sort_by}
+use Rattle.lists.proofs.Mapped.{Each, Pairwise, Agree, each_of, each_map, each_sort_by, each_keep, pairwise_keep, map_keep, map_sort_by}
 use Rattle.lists.proofs.Members.{of_keep}
 use Rattle.lists.proofs.Multiplicity.{count_sort_by, keep_sort_by}
-use Rattle.lists.proofs.Orders.{cases}
 use Rattle.lists.proofs.SortBy.{length_sort_by, ascending_sort_by, sort_by_ascending}
 use Rattle.lists.proofs.Bools.{last_false}
-use Rattle.records.specs.Records.{record_before, sorted}
+use Rattle.records.specs.Records.{record_before}
 use Rattle.records.proofs.Comparing.{record_order}
 use Rattle.edges.specs.Edges.{same_pair, is_open, pair_before}
 use Rattle.edges.specs.Table.{edge_key, records_from, side_records, edge_table, side_of, bearing, same_record_key, open_records}

@@ -1,7 +1,7 @@
 -- The two loops: what each keeps, as it starts, one turn, and its end. Assumes nothing.
 --   Listing, listing-..     `side_records`: the records of the first sides are written
 --   Keeping, keeping-..     `keep_open`: of the runs before i those of one record are at the front, and none from i on was stored over
-use Prim.Native.Nat.{ℕ, zero, suc, ◌+◌, ◌*◌, ◌-◌, ◌%◌, ◌≤◌, ◌<◌}
+use Prim.Native.Nat.{ℕ, ◌+◌, ◌*◌, ◌-◌, ◌%◌, ◌≤◌, ◌<◌}
 use mathlib.Core.Bool.{Bool, true, false, cond}
 use mathlib.Core.List.{List, [], ◌∷◌, ◌++◌, flat_map, append_assoc, append-nil}
 use mathlib.Core.Path.{◌≡◌, refl, sym, ap, ◌∙◌}

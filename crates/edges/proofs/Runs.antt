@@ -7,26 +7,26 @@
 --   run_sides, run_long      the run from i to e holds the numbers of all sides that bear the pair, ascending, and so e - i sides bear it
 use Prim.Native.Nat.{ℕ, zero, suc, ◌+◌, ◌*◌, ◌-◌, ◌%◌, ◌≤◌, ◌<◌}
 use mathlib.Core.Bool.{Bool, true, false}
-use mathlib.Core.List.{List, [], ◌∷◌, ◌++◌, map, append-nil}
+use mathlib.Core.List.{List, [], ◌++◌, map, append-nil}
 use mathlib.Core.Path.{◌≡◌, refl, sym, ap, subst, ◌∙◌}
 use native.Mathlib.Omega.{arith}
 use borrow.Author.Tests.{eq-eqb, ne_eqb}
 use lib.Dec.{eqb}
 use lib.ListN.{length, get_or, take, drop, length-take, length-drop, length-map, take-append-drop}
 use lib.Seq.{ext_get_or, get_or-take, get_or-drop, length-take-le}
-use Rattle.lists.specs.Lists.{keep, count, sort_by, up_to}
+use Rattle.lists.specs.Lists.{keep, sort_by, up_to}
 use Rattle.lists.specs.Order.{Ascending}
 use Rattle.lists.proofs.Counts.{keep_append, count_places}
 use Rattle.lists.proofs.Mapped.{Each, each_places, each_at, keep_all, keep_none}
 use Rattle.lists.proofs.Orders.{ascending_at}
 use Rattle.lists.proofs.Places.{length_up, at_up}
-use Rattle.records.specs.Buffer.{record_of, records_at}
+use Rattle.records.specs.Buffer.{records_at}
 use Rattle.records.specs.Records.{records, record_before}
 use Rattle.records.proofs.Comparing.{record_order, at_most_key}
-use Rattle.records.proofs.Records.{length_records_at, records_at_get, records_take, length_records, records_get}
+use Rattle.records.proofs.Records.{length_records_at, records_at_get, length_records, records_get}
 use Rattle.geometry.specs.Triangles.{threes}
 use Rattle.edges.specs.Edges.{sides, same_pair, bearers, pair_before}
-use Rattle.edges.specs.Table.{edge_key, side_of, edge_table, bearing, EdgeTable}
+use Rattle.edges.specs.Table.{edge_key, side_of, bearing, EdgeTable}
 use Rattle.edges.proofs.Sides.{Small, length_sides, sides_small}
 use Rattle.edges.proofs.Rows.{Row, table_rows, table_ascends, table_sides, table_bearing}
 

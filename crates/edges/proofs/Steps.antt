@@ -2,12 +2,12 @@
 --   sorts_sides       the records of the sides, and then their sort
 --   ascends           what `keep_open` asks
 --   opens             the edge table, those that stay, and the clearing behind them
-use Prim.Native.Nat.{ℕ, zero, suc, ◌+◌, ◌*◌, ◌-◌, ◌%◌, ◌≤◌, ◌<◌}
-use mathlib.Core.List.{List, [], ◌∷◌, map}
-use mathlib.Core.Logic.{◌⊎◌, inl, inr, ⊎_elim}
-use mathlib.Core.Path.{◌≡◌, refl, sym, ap, subst, ◌∙◌}
+use Prim.Native.Nat.{ℕ, ◌+◌, ◌*◌, ◌-◌, ◌%◌, ◌≤◌, ◌<◌}
+use mathlib.Core.List.{List, map}
+use mathlib.Core.Logic.{⊎_elim}
+use mathlib.Core.Path.{◌≡◌, sym, ap, subst, ◌∙◌}
 use native.Mathlib.Omega.{arith}
-use lib.ListN.{length, get_or, take, drop, replicate, length-drop, length-map, get_or-replicate, get_or-map}
+use lib.ListN.{length, get_or, take, drop, length-drop, length-map, get_or-replicate, get_or-map}
 use lib.Seq.{ext_get_or, get_or-take, get_or-drop}
 use Rattle.lists.specs.Order.{Ascending}
 use Rattle.lists.specs.Regions.{PartZeroed}

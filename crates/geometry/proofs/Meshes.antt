@@ -1,14 +1,11 @@
 -- Laws of meshes (specs/Meshes.antt): flat coordinates and points. Assumes nothing.
 --   length_points_of, vertex_at            how many vertices, and the coordinates of one
 --   length_coordinates, coordinates_append, coordinates_points_of   points as coordinates; to points and back, a list is itself
-use Prim.Native.Nat.{ℕ, zero, suc, ◌+◌, ◌*◌, ◌/◌, ◌%◌, ◌<◌}
-use mathlib.Core.Path.{◌≡◌, refl, sym, ap, ◌∙◌, subst}
-use mathlib.Core.Bool.{Bool, cond}
+use Prim.Native.Nat.{ℕ, ◌+◌, ◌*◌, ◌/◌, ◌%◌, ◌<◌}
+use mathlib.Core.Path.{◌≡◌, refl, ap, ◌∙◌}
 use mathlib.Core.List.{List, [], ◌∷◌, ◌++◌, flat_map}
 use native.Mathlib.Omega.{arith}
-use borrow.Author.Tests.{eq-eqb, ne_eqb}
-use lib.ListN.{get_or, set, length, length-map, length-set, get_or-map}
-use lib.Seq.{get_or-set_same, get_or-set_other}
+use lib.ListN.{get_or, length, length-map, get_or-map}
 use lib.Ieee.{Float}
 use Rattle.lists.proofs.Sequences.{flat_map_append}
 use Rattle.geometry.specs.declared.point.Point.{Point}

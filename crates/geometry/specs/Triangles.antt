@@ -7,7 +7,7 @@
 --   sorted_vertices       the three numbers, ascending: the same for the same three in any order
 --   threes, flat         a flat list taken three at a time, and back
 --   corners_at            the three numbers of a flat list from a place on
-use Rattle.std.specs.Prelude.{ℕ, ◌+◌, min, max, Bool, ◌&&◌, ◌||◌, eqb, ltb, get_or}
+use Rattle.std.specs.Prelude.{ℕ, ◌+◌, Bool, ◌&&◌, ◌||◌, eqb, ltb, get_or}
 use mathlib.Core.List.{List, [], ◌∷◌, flat_map}
 use Rattle.lists.specs.Lists.{sort_by}
 

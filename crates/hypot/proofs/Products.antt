@@ -1,28 +1,7 @@
 -- The square of a number of 54 digits in two words, its quotient by a power of four, and the sum of two squares. Nothing here but whole numbers. Assumes nothing.
 use mathlib.Core.Path.{◌≡◌, refl, sym, ap, ◌∙◌, subst}
 use Prim.Native.Nat.{ℕ, zero, suc, ◌+◌, ◌-◌, ◌*◌, ◌/◌, ◌%◌, ◌^◌, ◌≤◌, ◌<◌}
-use native.Mathlib.Nat.{
-  mul_comm,
-  mul_assoc,
-  mul_right_comm,
-  mul-mul-mul_comm,
-  add-mul,
-  mul-add,
-  one-mul,
-  pow-succ',
-  mul-le-mul,
-  mul-le-mul_right,
-  mul-div_cancel,
-  div-le_self,
-  div-add-mod',
-  mod-lt,
-  mod-eq_of_lt,
-  le_trans,
-  le_of_eq,
-  lt_of_le_of_lt,
-  lt_of_lt_of_le,
-  lt_of_mul-lt-mul_right,
-}
+use native.Mathlib.Nat.{mul_comm, mul_assoc, mul_right_comm, mul-mul-mul_comm, add-mul, mul-add, one-mul, pow-succ', mul-le-mul, mul-le-mul_right, mul-div_cancel, div-le_self, div-add-mod', mod-lt, mod-eq_of_lt, le_trans, le_of_eq, lt_of_lt_of_le, lt_of_mul-lt-mul_right}
 use native.Mathlib.Omega.{arith}
 use lib.Pow.{pow_pos, pow-add, pow_mono}
 use Rattle.hypot.specs.Placing.{Squared, Divided, Summed}

@@ -1,17 +1,10 @@
 -- Members of the lists that `some`, `keep` and the library's `flat_map` make.
-use Prim.Native.Nat.{ℕ, zero, suc, ◌+◌, ◌≤◌, ◌<◌}
+use Prim.Native.Nat.{ℕ, zero, suc, ◌≤◌, ◌<◌}
 use native.Mathlib.Omega.{arith}
 use mathlib.Core.Path.{◌≡◌, refl, sym, ap, ◌∙◌, subst}
-use mathlib.Core.Bool.{Bool, true, false, cond, not, ◌&&◌, ◌||◌}
+use mathlib.Core.Bool.{Bool, true, false, cond, ◌&&◌, ◌||◌}
 use mathlib.Core.List.Memᴰ
-use mathlib.Core.List.{
-  List,
-  [],
-  ◌∷◌,
-  ◌++◌,
-  flat_map,
-  Memᴰ,
-}
+use mathlib.Core.List.{List, [], ◌∷◌, flat_map, Memᴰ}
 use mathlib.Core.Logic.{◌⊎◌, inl, inr}
 use lib.Dec.{T, eqb, eqb→eq, eqb_refl}
 use lib.ListN.{get_or, length}

@@ -15,7 +15,7 @@ use mathlib.Core.Logic.{◌⊎◌, inl, inr}
 use lib.ListN.{get_or, set, length, take, drop, length-take, length-drop, length-set, length-map}
 use lib.Seq.{get_or-take, get_or-drop, get_or-set_same, get_or-set_other, ext_get_or, take-suc, take-suc-set, take-set-le, drop-set-add}
 use Rattle.lists.specs.Lists.{up_to}
-use Rattle.lists.specs.Regions.{view, Outside, Apart, Above}
+use Rattle.lists.specs.Regions.{view, Outside, Above}
 use Rattle.lists.proofs.Places.{length_up, at_map_up}
 
 pub view_length : (w : List ℕ) (o n : ℕ) → o + n ≤ length w → length (view w o n) ≡ n

@@ -1,8 +1,8 @@
 -- Laws of a run of stores (`sets` of lib.Seq), and of counting up. Assumes nothing.
 --   sets_append       a run in two parts          up_from_cons   numbers from k on
-use Prim.Native.Nat.{ℕ, zero, suc, ◌+◌}
+use Prim.Native.Nat.{ℕ, suc, ◌+◌}
 use native.Mathlib.Omega.{arith}
-use mathlib.Core.Path.{◌≡◌, refl, ap, ◌∙◌}
+use mathlib.Core.Path.{◌≡◌, ap, ◌∙◌}
 use mathlib.Core.List.{List, [], ◌∷◌, ◌++◌}
 use lib.ListN.{length, set}
 use lib.Seq.{sets}

@@ -11,7 +11,7 @@
 --   StagedMesh                     a mesh stands in the room, to be written
 --   Source, Lent                   what the last step is given, and asks
 --   MeshCompacted                  what it leaves
-use Rattle.std.specs.Prelude.{ℕ, ◌+◌, ◌*◌, ◌-◌, ◌≤◌, ◌<◌, ◌≡◌, Bool, cond, eqb, leb, length, get_or, set, replicate, Float}
+use Rattle.std.specs.Prelude.{ℕ, ◌+◌, ◌*◌, ◌≤◌, ◌<◌, ◌≡◌, Bool, cond, eqb, leb, length, get_or, set, replicate, Float}
 use mathlib.Core.List.{List, [], ◌∷◌, ◌++◌, map, foldl, Memᴰ}
 use Rattle.lists.specs.Lists.{keep, up_to}
 use Rattle.lists.specs.Regions.{view}

@@ -12,7 +12,7 @@ use Rattle.std.proofs.Math.Option.{Option, none, some, or_else}
 use Rattle.lists.specs.Lists.{some as any, is_none, has, keep, count, up_to, Decides}
 use Rattle.geometry.specs.declared.point.Point.{Point}
 use Rattle.geometry.specs.Triangles.{Triangle, vertices}
-use Rattle.components.specs.Joined.{Joined, Among, ManyJoined}
+use Rattle.components.specs.Joined.{Among, ManyJoined}
 use Rattle.components.specs.Components.{components, component_of}
 use Rattle.mesh_filter.specs.Filters.{Reason, alone, facet_at, filtered, passed}
 

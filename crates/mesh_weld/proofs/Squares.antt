@@ -1,7 +1,7 @@
 -- The squared distance is the same from either end, bit for bit: (p - q)² and (q - p)² are equal for all doubles, the infinities and NaN too.
 use mathlib.Core.Path.{◌≡◌, refl, ap, ◌∙◌}
 use mathlib.Core.Bool.{Bool, true, false, cond, not, ◌&&◌}
-use mathlib.Core.Logic.{◌⊎◌, inl, inr, ⊎_elim}
+use mathlib.Core.Logic.{⊎_elim}
 use Prim.Native.Nat.{ℕ, zero, suc, ◌+◌, ◌-◌, ◌*◌, ◌/◌, ◌%◌, ◌^◌, compare}
 use native.Mathlib.Nat.{add_comm, mul_comm}
 use native.Mathlib.Omega.{arith}

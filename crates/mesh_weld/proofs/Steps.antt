@@ -1,5 +1,5 @@
 -- One vertex more: it is taken for a kept one, or kept; the first vertex and the last. Assumes nothing.
-use Prim.Native.Nat.{ℕ, zero, suc, ◌+◌, ◌*◌, ◌-◌, ◌≤◌, ◌<◌}
+use Prim.Native.Nat.{ℕ, ◌+◌, ◌*◌, ◌-◌, ◌≤◌, ◌<◌}
 use native.Mathlib.Decide.{dec_lt}
 use native.Mathlib.Numerals.{add-one}
 use native.Mathlib.Omega.{arith}
@@ -9,7 +9,7 @@ use mathlib.Core.Option.{Option, none, some}
 use lib.ListN.{length, get_or, set, length-set}
 use lib.Seq.{get_or-set_same, get_or-set_other}
 use lib.Ieee.{Float}
-use Rattle.lists.specs.Regions.{view, PartZeroed}
+use Rattle.lists.specs.Regions.{PartZeroed}
 use Rattle.lists.proofs.Regions.{view_same, view_more}
 use Rattle.chains.specs.Chains.{Linked, linked_in}
 use Rattle.chains.specs.Links.{link_of}

@@ -7,7 +7,7 @@
 --   cells        the rule: two points join that are near and in neighbouring cells; of the kept vertices of the 27 cells, in order, the first that is near is found,
 --                which need be neither the nearest nor the lowest-numbered
 use Rattle.std.specs.Prelude.{ℕ, Bool, false, ◌&&◌, ◌||◌, eqb, ℤ, pos, negsuc, length, Float}
-use mathlib.Core.List.{List, [], ◌∷◌, ◌++◌, flat_map}
+use mathlib.Core.List.{List, [], ◌∷◌, flat_map}
 use Rattle.std.proofs.Math.IntN.{suc_ℤ, pred_ℤ}
 use Rattle.std.specs.Float.Ieee.{le}
 use Rattle.lists.specs.Lists.{first, keep, up_to}

@@ -21,7 +21,7 @@ use Rattle.lists.specs.Lists.{some, distinct, distinct_from}
 use Rattle.lists.specs.Order.{AtMostAll, Ascending}
 use Rattle.lists.proofs.Mapped.{Each, each_map, each_places}
 use Rattle.lists.proofs.Orders.{cases}
-use Rattle.records.specs.Buffer.{record_of, records_at, key_in, payload_in}
+use Rattle.records.specs.Buffer.{records_at, key_in, payload_in}
 use Rattle.records.specs.Runs.{join_run, runs, first_key, Run, FirstOf, PayloadsPut}
 use Rattle.records.specs.Records.{record_before}
 use Rattle.records.proofs.Comparing.{at_most_key}

@@ -6,9 +6,8 @@
 --   answered, called   the work room cleared at the end; a reply reported to C
 --   meshes_alike       the same tests, mesh, outputs and work room: two calls end alike
 use Prim.Native.Nat.{ℕ, ◌≤◌, ◌<◌}
-use mathlib.Core.Path.{◌≡◌, refl, sym, ap, ◌∙◌, subst}
-use mathlib.Core.Bool.{Bool, true, false, cond}
-use mathlib.Core.List.{List, [], ◌∷◌, ◌++◌, map, append_assoc}
+use mathlib.Core.Path.{◌≡◌, sym, ap, ◌∙◌, subst}
+use mathlib.Core.List.{List, [], ◌∷◌, ◌++◌, append_assoc}
 use native.Mathlib.Omega.{arith}
 use borrow.Author.Tests.{lt-ltb, le-ltb}
 use lib.Dec.{ltb}
@@ -20,13 +19,13 @@ use Rattle.geometry.specs.Meshes.{Mesh, coordinates}
 use Rattle.refusals.specs.declared.refusal.Refusal.{Refusal}
 use Rattle.refusals.specs.declared.refusal.Refusal.TheVariants.{NoRoom}
 use Rattle.refusals.specs.declared.refusal.Checked.{Checked}
-use Rattle.refusals.specs.declared.refusal.Checked.TheVariants.{Passed, Refused}
+use Rattle.refusals.specs.declared.refusal.Checked.TheVariants.{Refused}
 use Rattle.refusals.specs.declared.reply.Reply.TheVariants.{DoneTwo, DoneThree, DoneFour}
 use Rattle.refusals.specs.declared.reply.Reply.TheVariants as reply
-use Rattle.refusals.specs.Refusals.{documented, documented_reply, Test, first_refusal, Passes, numbered, reply_to, settle, Zeroed}
+use Rattle.refusals.specs.Refusals.{documented, documented_reply, Test, first_refusal, Passes, numbered, reply_to, settle}
 use Rattle.refusals.specs.Reports.{Reported}
 use Rattle.refusals.specs.Answers.{room_tests, Output, mesh_outputs, result_lengths, output_lengths, AllSettled, reply_with, Answer, Answered, Called, MeshesAlike}
-use Rattle.refusals.proofs.Refusals.{holds, passes, none_left, row_passed, row_refused, untouched, laid_over}
+use Rattle.refusals.proofs.Refusals.{holds, passes, none_left, untouched, laid_over}
 use Rattle.refusals.proofs.Replies.{reply_refused, reply_passed, reply_done}
 
 abbrev pub Same : List Output → Type 0

@@ -1,10 +1,10 @@
 -- Laws of the tests and of what an output ends as: "exactly when" and "in the order tested" are read off one list.
 use Prim.Native.Nat.{ℕ}
-use mathlib.Core.Path.{◌≡◌, refl, sym, ap, ◌∙◌}
-use mathlib.Core.Bool.{Bool, true, false, cond, not, ◌&&◌}
+use mathlib.Core.Path.{◌≡◌, refl}
+use mathlib.Core.Bool.{Bool, true, false, cond}
 use mathlib.Core.List.{List, [], ◌∷◌, ◌++◌}
 use Rattle.words.specs.Overlay.{overlay}
-use Rattle.lists.proofs.Bools.{cond_true, cond_false, by_test}
+use Rattle.lists.proofs.Bools.{cond_true, cond_false}
 use Rattle.refusals.specs.declared.refusal.Refusal.{Refusal}
 use Rattle.refusals.specs.declared.refusal.Refusal.TheVariants.{
   Ragged,
@@ -20,9 +20,8 @@ use Rattle.refusals.specs.declared.refusal.Refusal.TheVariants.{
   MissingEdge,
   NoRoom,
 }
-use Rattle.refusals.specs.declared.refusal.Checked.{Checked}
 use Rattle.refusals.specs.declared.refusal.Checked.TheVariants.{Passed, Refused}
-use Rattle.refusals.specs.Refusals.{documented, Test, first_refusal, numbered, reply_to, settle}
+use Rattle.refusals.specs.Refusals.{documented, Test, first_refusal, settle}
 
 -- ---- a test at the head of the list
 

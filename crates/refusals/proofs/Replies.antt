@@ -2,16 +2,12 @@
 --   reply_refused, reply_passed    a row of tests in front, that refused or passed
 --   not_done, reply_done           a reply whose number is 0 is no refusal
 --   head_passed, tail_passed, row_front, row_rest   what is known once a row of tests has passed
-use Prim.Native.Nat.{ℕ, ◌/◌, ◌%◌, ◌≤◌, ◌<◌}
+use Prim.Native.Nat.{ℕ}
 use mathlib.Core.Path.{◌≡◌, refl, ap, ◌∙◌}
-use mathlib.Core.Bool.{Bool, true, false, cond, ◌||◌}
+use mathlib.Core.Bool.{Bool, true, false, cond}
 use mathlib.Core.List.{List, [], ◌∷◌, ◌++◌}
-use borrow.Author.Tests.{lt-ltb, le-ltb, ltb-false, eqb-true, not-false}
-use lib.Dec.{ltb, eqb}
 use native.Mathlib.Omega.{arith}
-use lib.ListN.{length, get_or}
-use lib.Ieee.{Float}
-use Rattle.lists.proofs.Bools.{or_none_left, or_none_right}
+use lib.ListN.{get_or}
 use Rattle.refusals.specs.declared.refusal.Refusal.{Refusal}
 use Rattle.refusals.specs.declared.refusal.Refusal.TheVariants.{
   Ragged,
@@ -30,7 +26,7 @@ use Rattle.refusals.specs.declared.refusal.Refusal.TheVariants.{
 use Rattle.refusals.specs.declared.refusal.Checked.{Checked}
 use Rattle.refusals.specs.declared.refusal.Checked.TheVariants.{Passed, Refused}
 use Rattle.refusals.specs.Refusals.{documented, Test, first_refusal, numbered, reply_to}
-use Rattle.refusals.proofs.Refusals.{holds, passes, none_left, row_passed, row_refused}
+use Rattle.refusals.proofs.Refusals.{passes, none_left, row_passed, row_refused}
 
 module _ (ts us : List Test) (done : List ℕ) where
   pub reply_refused : (r : Refusal) → first_refusal ts ≡ Refused r → reply_to (ts ++ us) done ≡ documented r

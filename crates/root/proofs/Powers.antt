@@ -7,14 +7,13 @@ use native.Mathlib.Omega.{arith}
 use lib.IntN.{ℤ}
 use lib.Dec.{T, nltb→le, lit≤}
 use lib.Pow.{pow_pos, pow-add, pow_mono}
-use lib.Ieee.{Float, nan, inf, fin, binary64, up, down, fits, neg, lt, le, eq, of_bits, is_nan}
+use lib.Ieee.{Float, nan, inf, fin, binary64, up, down, neg, lt, le, eq, of_bits, is_nan}
 use lib.Ieee.Fits.{down_pos}
 use lib.Ieee.Positive.{first_pos}
 use Rattle.root.specs.Doubles.{◌⊕◌, ◌⊖◌, ◌⊗◌, ◌⊘◌, zero_f, one_f, 1e-12, 2^30, finite, negative, magnitude, larger, smaller, clamped}
 use Rattle.root.specs.Bounds.{Within, AtLeast}
-use Rattle.root.specs.Root.{rootable, root}
+use Rattle.root.specs.Root.{rootable}
 use Rattle.root.proofs.Bounds.{Held, held_pow, mul_within, add_within, sub_within, div_within, neg_within, within_mono, within_tests, ratio_bounds, square_plus, add_plus, plain_rootable}
-use Rattle.root.proofs.Computed.{computed_within}
 
 -- ---- the operations
 

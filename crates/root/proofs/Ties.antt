@@ -1,9 +1,9 @@
 -- Where two doubles are equally near, `round` gives the even one: the last binary digit of its pattern is 0. Assumes nothing.
 use mathlib.Core.Path.{◌≡◌, refl, sym, ap, ◌∙◌, subst}
-use mathlib.Core.Logic.{◌⊎◌, inl, inr}
+use mathlib.Core.Logic.{inl, inr}
 use mathlib.Core.Bool.{Bool}
 use Prim.Native.Nat.{ℕ, suc, ◌+◌, ◌-◌, ◌*◌, ◌/◌, ◌%◌, ◌^◌, ◌≤◌, ◌<◌, compare}
-use native.Mathlib.Nat.{le_trans, le_of_eq, lt_of_lt_of_le, eq-or-lt_of_le, mul_comm, mul_assoc, div-lt_iff_lt-mul, div-div-eq-div-mul}
+use native.Mathlib.Nat.{le_trans, le_of_eq, lt_of_lt_of_le, eq-or-lt_of_le, div-lt_iff_lt-mul, div-div-eq-div-mul}
 use native.Mathlib.Omega.{arith}
 use lib.Dec.{T}
 use lib.Pow.{pow_pos, pow-add, pow_mono}
@@ -12,7 +12,6 @@ use lib.Ieee.Digits.{size-lt}
 use lib.Ieee.Fits.{round-fits, nearest-le}
 use lib.Ieee.Order.{kept, drop}
 use Rattle.root.specs.Doubles.{finite, units_of}
-use Rattle.root.specs.Patterns.{pattern_units}
 use Rattle.root.proofs.Grid.{lt_or_ge}
 use Rattle.root.proofs.Patterns.{units_is, on_grid, placed}
 use Rattle.root.proofs.Order.{unsigned, finite_unsigned, pattern_same}

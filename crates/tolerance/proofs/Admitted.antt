@@ -1,16 +1,15 @@
 -- The tolerance of an accepted box is an eps that document 01 admits: "eps from 0 to 1".
-use mathlib.Core.Path.{◌≡◌, refl, sym, ap, ◌∙◌}
+use mathlib.Core.Path.{◌≡◌, refl, ap, ◌∙◌}
 use mathlib.Core.Bool.{Bool, true, false, cond}
 use mathlib.Core.List.{[], ◌∷◌}
 use native.Mathlib.Omega.{arith}
-use Prim.Native.Nat.{ℕ, ◌^◌, ◌*◌}
+use Prim.Native.Nat.{ℕ, ◌^◌}
 use lib.Dec.{T, lit≤, lit<}
 use lib.Ieee.{Float, binary64, fits, of_bits, to_bits, lt, le}
 use lib.Ieee.Fits.{add-fits}
 use Rattle.lists.proofs.Bools.{and_next}
-use Rattle.root.specs.Doubles.{◌⊗◌, zero_f, one_f, 1e-10, larger, negative}
+use Rattle.root.specs.Doubles.{zero_f, one_f, 1e-10, larger, negative}
 use Rattle.root.specs.Bounds.{Within}
-use Rattle.root.specs.Root.{root, rootable}
 use Rattle.root.proofs.Bounds.{held_pow, held_small, mul_below, mul_plus, plus_from_zero, plus_to_one}
 use Rattle.root.proofs.Computed.{root_meets, computed_within}
 use Rattle.geometry.specs.declared.aabb.AABB.{AABB}

@@ -1,23 +1,22 @@
 -- Laws of the tolerance: the sides of an accepted box have a finite diagonal, and the reply by cases.
-use mathlib.Core.Path.{◌≡◌, refl, sym, ap, ◌∙◌}
-use mathlib.Core.Bool.{Bool, true, false, not}
+use mathlib.Core.Path.{◌≡◌, sym, ap, ◌∙◌}
+use mathlib.Core.Bool.{true, false, not}
 use mathlib.Core.List.{List, [], ◌∷◌}
-use Prim.Native.Nat.{ℕ, ◌+◌, ◌≤◌}
+use Prim.Native.Nat.{ℕ}
 use lib.Dec.{T, lit≤}
-use lib.Ieee.{Float, binary64, to_bits}
+use lib.Ieee.{binary64, to_bits}
 use Rattle.root.specs.Root.{rootable}
 use Rattle.root.proofs.Powers.{sub_pow}
 use Rattle.geometry.specs.declared.aabb.AABB.{AABB}
 use Rattle.geometry.specs.Points.{norm2}
 use Rattle.geometry.proofs.Points.{PointWithin, norm2_rootable}
 use Rattle.refusals.specs.declared.refusal.Checked.{Checked}
-use Rattle.refusals.specs.declared.refusal.Checked.TheVariants.{Passed, Refused}
 use Rattle.refusals.specs.declared.refusal.Refusal.TheVariants.{BadNumber, BadBox}
 use Rattle.refusals.specs.Refusals.{documented, numbered}
 use Rattle.input_tests.specs.Front.{box_in_range, bad_box}
 use Rattle.refusals.proofs.Refusals.{holds, passes, none_left}
-use Rattle.input_tests.proofs.Ranges.{BoxWithin, box_within}
-use Rattle.tolerance.specs.Tolerance.{box_lengths, tolerance, tolerance_tests, tolerance_reply}
+use Rattle.input_tests.proofs.Ranges.{box_within}
+use Rattle.tolerance.specs.Tolerance.{box_lengths, tolerance, tolerance_reply}
 
 pub sides_within : (b : AABB) → box_in_range b ≡ true → PointWithin 31 (box_lengths b)
 sides_within b e =

@@ -9,11 +9,11 @@
 use Prim.Native.Nat.{ℕ, zero, suc, ◌+◌, ◌-◌, ◌≤◌, ◌<◌, zero-le}
 use mathlib.Core.List.{List, [], ◌∷◌, ◌++◌, append-nil}
 use mathlib.Core.Path.{◌≡◌, refl, sym, ap, ◌∙◌}
-use native.Mathlib.Nat.{not-suc-le-zero, le_of_suc-le-suc, le_of_eq}
+use native.Mathlib.Nat.{not-suc-le-zero, le_of_suc-le-suc}
 use native.Mathlib.Numerals.{add-one}
 use native.Mathlib.Omega.{arith}
 use borrow.Rule.Slice.PartMut.{put_mid, mid_len, Post-is}
-use lib.ListN.{length, take, drop, set, get_or, replicate, length-append, length-drop, length-set, length-replicate, get_or-replicate, drop_of_length-le, replicate-append-replicate, take-append-drop}
+use lib.ListN.{length, take, drop, set, get_or, replicate, length-append, length-drop, length-set, length-replicate, get_or-replicate, drop_of_length-le, replicate-append-replicate}
 use lib.Seq.{length-take-le, take-append_seam, drop-append_seam, drop_at, take_all, sets, sets-eq}
 use Rattle.words.specs.Overlay.{overlay}
 

@@ -5,9 +5,9 @@
 --   packed_high, packed_low     the digits come back;   packed_back   a word is the packing of its digits
 --   pair-.., edge-.., triple-..   these, of two numbers below 2^32, two ends in either order, three numbers below 2^21
 use Prim.Native.Nat.{ℕ, zero, suc, ◌+◌, ◌*◌, ◌/◌, ◌%◌, ◌≤◌, ◌<◌, min, max}
-use mathlib.Core.Path.{◌≡◌, refl, sym, ap, ◌∙◌}
+use mathlib.Core.Path.{◌≡◌, refl, ap, ◌∙◌}
 use mathlib.Core.Logic.{◌⊎◌, inl, inr, ⊎_elim}
-use native.Mathlib.Nat.{mul-le-mul_right, suc-mul, mul-add-div_right, mul-add-mod_self_right, div-eq_of_lt, mod-eq_of_lt, div-add-mod', add-zero, min_comm, max_comm, lt_irrefl}
+use native.Mathlib.Nat.{mul-le-mul_right, suc-mul, mul-add-div_right, mul-add-mod_self_right, div-eq_of_lt, mod-eq_of_lt, div-add-mod', add-zero, min_comm, max_comm}
 use native.Mathlib.Omega.{arith}
 use Rattle.words.specs.Packed.{packed, pair_base, pair, pair_first, pair_second, edge, triple_base, triple, triple_first, triple_second, triple_third}
 

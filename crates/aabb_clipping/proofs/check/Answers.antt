@@ -3,11 +3,9 @@ use Rattle.aabb_clipping.specs.Clip.{clip_asked}
 use Rattle.input_tests.specs.Front.{limits}
 use Rattle.input_tests.proofs.Lists.{listed}
 use Rattle.lists.proofs.Bools.{and_next, and_stop}
-use borrow.Author.Tests.{not-true, not-false}
 use mathlib.Core.Bool.{not}
 use native.Mathlib.Omega.{arith}
 use mathlib.Core.Path.{sym, ap, ◌∙◌}
-use borrow.Author.Rules.{rules}
 use Rattle.aabb_clipping.proofs.check.Goals as goal
 
 pub returns-in-Refused : goal.returns-in-Refused

@@ -1,8 +1,6 @@
 use Rattle.aabb_clipping.proofs.Delivery.{done}
 use Rattle.aabb_clipping.specs.Clip.{clip_asked, clip_result}
-use borrow.Author.Tests.{not-false}
 use native.Mathlib.Omega.{arith}
-use borrow.Author.Rules.{rules}
 use Rattle.aabb_clipping.proofs.clip_checked.Goals as goal
 
 pub returns : goal.returns

@@ -9,7 +9,6 @@ use mathlib.Core.List.{List}
 use mathlib.Core.Path.{ap, ◌∙◌}
 use native.Mathlib.Omega.{arith}
 use Prim.Native.Nat.{ℕ}
-use borrow.Author.Rules.{rules}
 use Rattle.aabb_clipping.proofs.clip_counted.Goals as goal
 
 pub returns-then-out_vertices-need_vertices : goal.returns-then-out_vertices-need_vertices

@@ -8,7 +8,6 @@ use lib.ListN.{length}
 use mathlib.Core.Path.{refl, sym, ◌∙◌}
 use native.Mathlib.Omega.{arith}
 use Prim.Native.Nat.{◌/◌}
-use borrow.Author.Rules.{rules}
 use Rattle.aabb_clipping.proofs.clip_or_refuse.Goals as goal
 
 pub slice_bounds-clip_checked-end : goal.slice_bounds-clip_checked-end

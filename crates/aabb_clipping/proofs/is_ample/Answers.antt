@@ -3,7 +3,6 @@ use Rattle.aabb_clipping.specs.Clip.{clip_asked}
 use Rattle.lists.proofs.Orders.{never}
 use mathlib.Core.Bool.{false}
 use mathlib.Core.Path.{refl, sym, ◌∙◌}
-use borrow.Author.Rules.{rules}
 use Rattle.aabb_clipping.proofs.is_ample.Goals as goal
 
 pub returns-then-n-facet_room : goal.returns-then-n-facet_room

@@ -1,10 +1,8 @@
-use mathlib.Core.Path.{◌≡◌, refl, sym, ap, ◌∙◌}
-use Prim.Native.Nat.{ℕ, ◌+◌, ◌*◌, ◌≤◌, ◌<◌, ◌-◌, ◌/◌}
+use mathlib.Core.Path.{◌∙◌}
+use Prim.Native.Nat.{◌*◌}
 use native.Mathlib.Omega.{arith}
-use lib.ListN.{get_or, length, length-set}
 use Rattle.lists.specs.Regions.{view}
 use Rattle.components.proofs.Turns.{read_length, labels_kept, joining_kept, fresh_rest, swept_start, swept_end, sizes_zero}
-use borrow.Author.Rules.{rules}
 use Rattle.components.proofs.components.Goals as goal
 
 pub join-requires : goal.join-requires

@@ -1,9 +1,8 @@
-use mathlib.Core.Path.{◌≡◌, refl, sym, ap, ◌∙◌}
-use Prim.Native.Nat.{ℕ, ◌+◌, ◌*◌, ◌≤◌, ◌<◌, ◌-◌, ◌/◌}
+use mathlib.Core.Path.{◌≡◌, refl}
+use Prim.Native.Nat.{ℕ, ◌+◌, ◌<◌, ◌-◌}
 use native.Mathlib.Omega.{arith}
-use lib.ListN.{get_or, length, length-set}
+use lib.ListN.{get_or, length-set}
 use Rattle.components.proofs.Forest.{unite_up, unite_down, rooted_up, rooted_down, rooted_elsewhere}
-use borrow.Author.Rules.{rules}
 use Rattle.components.proofs.enter.Goals as goal
 
 pub shape_of-w-then-f-eq0 : goal.shape_of-w-then-f-eq0

@@ -1,9 +1,7 @@
-use mathlib.Core.Path.{◌≡◌, refl, sym, ap, ◌∙◌}
-use Prim.Native.Nat.{ℕ, ◌+◌, ◌*◌, ◌≤◌, ◌<◌, ◌-◌, ◌/◌}
+use mathlib.Core.Path.{refl, sym, ◌∙◌}
 use native.Mathlib.Omega.{arith}
-use lib.ListN.{get_or, length, length-set}
+use lib.ListN.{length-set}
 use Rattle.components.specs.Joined.{same}
-use Rattle.components.specs.Forest.{SameTree, TreesKept}
 use Rattle.components.proofs.Forest.{kept_refl, halve_at}
 use Rattle.components.proofs.find.Goals as goal
 

@@ -1,10 +1,7 @@
-use mathlib.Core.Path.{◌≡◌, refl, sym, ap, ◌∙◌}
-use Prim.Native.Nat.{ℕ, ◌+◌, ◌*◌, ◌≤◌, ◌<◌, ◌-◌, ◌/◌}
-use native.Mathlib.Omega.{arith}
-use lib.ListN.{get_or, length, length-set}
-use Rattle.components.specs.Joined.{same}
+use mathlib.Core.Path.{◌≡◌}
+use Prim.Native.Nat.{◌+◌, ◌≤◌}
+use lib.ListN.{get_or}
 use Rattle.components.specs.Forest.{SameTree, TreesKept}
-use Rattle.components.proofs.Forest.{kept_refl, halve_at}
 use Rattle.components.proofs.find.Given as goal
 
 -- `components::find`. The loop's invariant: r is in x's tree and at most x, p is r's link, and the trees are as they were. The measure is r.

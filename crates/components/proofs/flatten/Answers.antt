@@ -1,10 +1,6 @@
-use mathlib.Core.Path.{◌≡◌, refl, sym, ap, ◌∙◌}
-use Prim.Native.Nat.{ℕ, ◌+◌, ◌*◌, ◌≤◌, ◌<◌, ◌-◌, ◌/◌}
 use native.Mathlib.Omega.{arith}
-use lib.ListN.{get_or, length, length-set}
 use native.Mathlib.Nat.{not-suc-le-zero}
-use Rattle.components.specs.Forest.{TreesKept}
-use Rattle.components.proofs.Forest.{Flat-below, kept_refl, flatten_kept, flatten_more}
+use Rattle.components.proofs.Forest.{kept_refl, flatten_kept, flatten_more}
 use Rattle.components.proofs.flatten.Goals as goal
 
 pub loop-i-init : goal.loop-i-init

@@ -1,10 +1,6 @@
-use mathlib.Core.Path.{◌≡◌, refl, sym, ap, ◌∙◌}
-use Prim.Native.Nat.{ℕ, ◌+◌, ◌*◌, ◌≤◌, ◌<◌, ◌-◌, ◌/◌}
-use native.Mathlib.Omega.{arith}
-use lib.ListN.{get_or, length, length-set}
-use native.Mathlib.Nat.{not-suc-le-zero}
+use Prim.Native.Nat.{◌≤◌, ◌-◌}
 use Rattle.components.specs.Forest.{TreesKept}
-use Rattle.components.proofs.Forest.{Flat-below, kept_refl, flatten_kept, flatten_more}
+use Rattle.components.proofs.Forest.{Flat-below}
 use Rattle.components.proofs.flatten.Given as goal
 
 -- `components::flatten`. The loop's invariant: the trees are as they were, and each item below i is linked to its root. The measure is what is left.

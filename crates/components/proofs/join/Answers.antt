@@ -1,9 +1,7 @@
-use mathlib.Core.Path.{◌≡◌, refl, sym, ap, ◌∙◌}
-use Prim.Native.Nat.{ℕ, ◌+◌, ◌*◌, ◌≤◌, ◌<◌, ◌-◌, ◌/◌}
+use mathlib.Core.Path.{◌≡◌, refl, ap}
+use Prim.Native.Nat.{ℕ, ◌*◌}
 use native.Mathlib.Omega.{arith}
-use lib.ListN.{get_or, length, length-set}
 use Rattle.lists.specs.Regions.{view}
-use Rattle.components.specs.Forest.{Swept}
 use Rattle.components.proofs.Turns.{swept_at, join_item_start, join_again}
 use Rattle.components.proofs.join.Goals as goal
 

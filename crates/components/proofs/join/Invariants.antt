@@ -1,10 +1,6 @@
-use mathlib.Core.Path.{◌≡◌, refl, sym, ap, ◌∙◌}
-use Prim.Native.Nat.{ℕ, ◌+◌, ◌*◌, ◌≤◌, ◌<◌, ◌-◌, ◌/◌}
-use native.Mathlib.Omega.{arith}
-use lib.ListN.{get_or, length, length-set}
+use Prim.Native.Nat.{◌*◌, ◌≤◌, ◌-◌}
 use Rattle.lists.specs.Regions.{view}
 use Rattle.components.specs.Forest.{Swept}
-use Rattle.components.proofs.Turns.{swept_at, join_item_start, join_again}
 use Rattle.components.proofs.join.Given as goal
 
 -- `components::join`. The loop's invariant: the items before i are done. The measure is what is left.

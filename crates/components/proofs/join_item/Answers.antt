@@ -1,11 +1,8 @@
-use mathlib.Core.Path.{◌≡◌, refl, sym, ap, ◌∙◌}
-use Prim.Native.Nat.{ℕ, ◌+◌, ◌*◌, ◌≤◌, ◌<◌, ◌-◌, ◌/◌}
+use mathlib.Core.Path.{◌≡◌}
+use Prim.Native.Nat.{ℕ, ◌+◌, ◌*◌, ◌<◌}
 use native.Mathlib.Omega.{arith}
-use lib.ListN.{get_or, length, length-set}
 use lib.Arith.{digits_lt}
 use Rattle.lists.specs.Regions.{view}
-use Rattle.components.specs.Table.{LabelRoom}
-use Rattle.components.specs.Forest.{Swept, RootOf}
 use Rattle.components.proofs.Forest.{found_rooted}
 use Rattle.components.proofs.Turns.{read_length, label_read, label_low, item_joining, item_start, item_end, swept_seen, swept_turn}
 use Rattle.components.proofs.join_item.Goals as goal

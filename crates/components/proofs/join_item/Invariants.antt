@@ -1,13 +1,7 @@
-use mathlib.Core.Path.{◌≡◌, refl, sym, ap, ◌∙◌}
-use Prim.Native.Nat.{ℕ, ◌+◌, ◌*◌, ◌≤◌, ◌<◌, ◌-◌, ◌/◌}
-use native.Mathlib.Omega.{arith}
-use lib.ListN.{get_or, length, length-set}
-use lib.Arith.{digits_lt}
+use Prim.Native.Nat.{◌+◌, ◌*◌, ◌≤◌, ◌-◌}
 use Rattle.lists.specs.Regions.{view}
 use Rattle.components.specs.Table.{LabelRoom}
 use Rattle.components.specs.Forest.{Swept, RootOf}
-use Rattle.components.proofs.Forest.{found_rooted}
-use Rattle.components.proofs.Turns.{read_length, label_read, label_low, item_joining, item_start, item_end, swept_seen, swept_turn}
 use Rattle.components.proofs.join_item.Given as goal
 
 -- `components::join_item`. The loop's invariant: the item's labels before j are entered, and r is the root of its tree. The measure is what is left.

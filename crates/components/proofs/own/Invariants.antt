@@ -1,8 +1,5 @@
-use mathlib.Core.Path.{◌≡◌, refl, sym, ap, ◌∙◌}
-use Prim.Native.Nat.{ℕ, ◌+◌, ◌*◌, ◌≤◌, ◌<◌, ◌-◌, ◌/◌}
-use native.Mathlib.Omega.{arith}
-use lib.ListN.{get_or, length, length-set}
-use Rattle.lists.proofs.Regions.{Filled, filled_none, filled_more}
+use Prim.Native.Nat.{◌≤◌, ◌-◌}
+use Rattle.lists.proofs.Regions.{Filled}
 use Rattle.components.proofs.own.Given as goal
 
 -- `components::own`. The loop's invariant: the links before i are filled. The measure is what is left.

@@ -1,8 +1,8 @@
-use mathlib.Core.Path.{◌≡◌, refl, sym, ap, ◌∙◌}
-use Prim.Native.Nat.{ℕ, ◌+◌, ◌*◌, ◌≤◌, ◌<◌, ◌-◌, ◌/◌}
+use mathlib.Core.Path.{refl}
+use Prim.Native.Nat.{◌+◌}
 use native.Mathlib.Omega.{arith}
-use lib.ListN.{get_or, length, length-set}
-use Rattle.components.proofs.Counting.{Counting, counting_start, counting_low, counting_turn, counting_end}
+use lib.ListN.{get_or}
+use Rattle.components.proofs.Counting.{counting_start, counting_low, counting_turn, counting_end}
 use Rattle.components.proofs.tally.Goals as goal
 
 pub overflow_add-sizes : goal.overflow_add-sizes

@@ -1,8 +1,5 @@
-use mathlib.Core.Path.{◌≡◌, refl, sym, ap, ◌∙◌}
-use Prim.Native.Nat.{ℕ, ◌+◌, ◌*◌, ◌≤◌, ◌<◌, ◌-◌, ◌/◌}
-use native.Mathlib.Omega.{arith}
-use lib.ListN.{get_or, length, length-set}
-use Rattle.components.proofs.Counting.{Counting, counting_start, counting_low, counting_turn, counting_end}
+use Prim.Native.Nat.{◌-◌}
+use Rattle.components.proofs.Counting.{Counting}
 use Rattle.components.proofs.tally.Given as goal
 
 -- `components::tally`. The loop's invariant: the numbers before i are counted. The measure is what is left.

@@ -1,6 +1,5 @@
 use native.Mathlib.Omega.{arith}
 use Rattle.hypot.proofs.Products.{four_pos, low_fits, divided}
-use borrow.Author.Rules.{rules}
 use Rattle.hypot.proofs.divided.Goals as goal
 
 pub nonzero_div-result : goal.nonzero_div-result

@@ -1,6 +1,5 @@
 use Prim.Native.Nat.{◌+◌, ◌%◌, ◌^◌}
 use native.Mathlib.Omega.{arith}
-use borrow.Author.Rules.{rules}
 use Rattle.hypot.proofs.exponent.Goals as goal
 
 pub returns-then-e-eq0 : goal.returns-then-e-eq0

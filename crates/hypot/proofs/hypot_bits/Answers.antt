@@ -1,5 +1,4 @@
 use Rattle.hypot.proofs.Sums.{order, far_length, near_length, root_lead}
-use borrow.Author.Rules.{rules}
 use Rattle.hypot.proofs.hypot_bits.Goals as goal
 
 pub returns-then-d-gt26 : goal.returns-then-d-gt26

@@ -1,5 +1,4 @@
 use Rattle.hypot.proofs.Rounding.{place_even, place_tie, place_more}
-use borrow.Author.Rules.{rules}
 use Rattle.hypot.proofs.place.Goals as goal
 
 pub returns-then-q-eq0 : goal.returns-then-q-eq0

@@ -1,5 +1,4 @@
 use Rattle.hypot.proofs.Products.{shifted}
-use borrow.Author.Rules.{rules}
 use Rattle.hypot.proofs.power.Goals as goal
 
 pub returns : goal.returns

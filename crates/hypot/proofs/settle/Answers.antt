@@ -1,5 +1,4 @@
 use Rattle.hypot.proofs.Rounding.{placed_half}
-use borrow.Author.Rules.{rules}
 use Rattle.hypot.proofs.settle.Goals as goal
 
 pub returns-else-q-lt-WORD : goal.returns-else-q-lt-WORD

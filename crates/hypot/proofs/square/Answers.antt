@@ -1,7 +1,6 @@
 use Prim.Native.Nat.{◌*◌, ◌/◌, ◌%◌, ◌^◌}
 use native.Mathlib.Omega.{arith}
 use Rattle.hypot.proofs.Products.{bounds, halves, squared}
-use borrow.Author.Rules.{rules}
 use Rattle.hypot.proofs.square.Goals as goal
 
 pub overflow_mul-cross : goal.overflow_mul-cross

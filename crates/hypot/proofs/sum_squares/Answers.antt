@@ -1,5 +1,4 @@
 use Rattle.hypot.proofs.Products.{summed}
-use borrow.Author.Rules.{rules}
 use Rattle.hypot.proofs.sum_squares.Goals as goal
 
 pub returns : goal.returns

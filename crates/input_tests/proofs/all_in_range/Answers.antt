@@ -1,11 +1,6 @@
 use Rattle.lists.proofs.Every.{every_stop, every_more, every_end}
-use Rattle.lists.specs.Lists.{every}
-use borrow.Author.Tests.{not-true, not-false}
 use borrow.Author.Rules.{rules}
-use Prim.Native.Nat.{◌≤◌, ◌-◌}
-use lib.ListN.{length, drop}
-use Rattle.input_tests.specs.Front.{in_range}
-use mathlib.Core.Path.{◌≡◌, refl, sym, ap, ◌∙◌}
+use mathlib.Core.Path.{refl, sym, ◌∙◌}
 use Rattle.input_tests.proofs.all_in_range.Goals as goal
 
 pub loop-i-init : goal.loop-i-init

@@ -1,6 +1,5 @@
 use Rattle.lists.proofs.Bools.{or_next, or_stop}
-use mathlib.Core.Path.{◌≡◌, refl, sym, ap, ◌∙◌}
-use borrow.Author.Rules.{rules}
+use mathlib.Core.Path.{sym, ◌∙◌}
 use Rattle.input_tests.proofs.any_ragged.Goals as goal
 
 pub returns-then-is_ragged : goal.returns-then-is_ragged

@@ -1,6 +1,5 @@
 use Rattle.lists.proofs.Bools.{or_next, or_stop}
-use mathlib.Core.Path.{◌≡◌, refl, sym, ap, ◌∙◌}
-use borrow.Author.Rules.{rules}
+use mathlib.Core.Path.{sym, ◌∙◌}
 use Rattle.input_tests.proofs.any_too_many.Goals as goal
 
 pub returns-then-is_over : goal.returns-then-is_over

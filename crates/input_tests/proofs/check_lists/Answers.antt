@@ -1,6 +1,5 @@
 use Rattle.refusals.proofs.Refusals.{holds, passes, none_left}
-use mathlib.Core.Path.{◌≡◌, refl, sym, ap, ◌∙◌}
-use borrow.Author.Rules.{rules}
+use mathlib.Core.Path.{sym, ◌∙◌}
 use Rattle.input_tests.proofs.check_lists.Goals as goal
 
 pub returns-then-any_ragged : goal.returns-then-any_ragged

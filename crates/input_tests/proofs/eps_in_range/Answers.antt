@@ -1,6 +1,6 @@
 use Rattle.lists.proofs.Bools.{and_next, and_stop}
 use Rattle.input_tests.specs.Front.{eps_in_range}
-use mathlib.Core.Path.{◌≡◌, refl, sym, ap, ◌∙◌}
+use mathlib.Core.Path.{refl, sym}
 use Rattle.input_tests.proofs.eps_in_range.Goals as goal
 
 pub returns-then-eps : goal.returns-then-eps

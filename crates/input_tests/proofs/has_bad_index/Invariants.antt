@@ -1,14 +1,9 @@
-use Rattle.lists.proofs.Every.{some_stop, some_more, some_end}
 use Rattle.lists.specs.Lists.{some}
-use borrow.Author.Tests.{lt-ltb, le-ltb}
-use borrow.Author.Rules.{rules}
-use native.Mathlib.Omega.{arith}
 use Prim.Native.Nat.{◌≤◌, ◌-◌}
 use lib.ListN.{length, drop}
 use lib.Dec.{ltb}
 use mathlib.Core.Bool.{not}
-use Rattle.input_tests.specs.Front.{bad_index}
-use mathlib.Core.Path.{◌≡◌, refl, sym, ap, ◌∙◌}
+use mathlib.Core.Path.{◌≡◌}
 use Rattle.input_tests.proofs.has_bad_index.Given as goal
 
 abbrev pub invariant-loop-i : goal.invariant-loop-i

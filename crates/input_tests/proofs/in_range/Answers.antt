@@ -1,6 +1,6 @@
 use Rattle.lists.proofs.Bools.{and_next, and_stop}
 use Rattle.input_tests.specs.Front.{in_range}
-use mathlib.Core.Path.{◌≡◌, refl, sym, ap, ◌∙◌}
+use mathlib.Core.Path.{refl, sym}
 use Rattle.input_tests.proofs.in_range.Goals as goal
 
 pub returns-then-x : goal.returns-then-x

@@ -1,7 +1,6 @@
 use Rattle.input_tests.specs.Front.{too_many}
 use Prim.Native.Nat.{ℕ}
 use mathlib.Core.Path.{ap, ◌∙◌}
-use borrow.Author.Rules.{rules}
 use Rattle.input_tests.proofs.is_over.Goals as goal
 
 pub returns : goal.returns

@@ -1,6 +1,5 @@
 use Rattle.input_tests.specs.Front.{ragged}
-use mathlib.Core.Path.{◌≡◌, refl, sym, ap, ◌∙◌}
-use borrow.Author.Rules.{rules}
+use mathlib.Core.Path.{refl}
 use Rattle.input_tests.proofs.is_ragged.Goals as goal
 
 pub returns : goal.returns

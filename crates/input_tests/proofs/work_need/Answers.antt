@@ -1,6 +1,5 @@
 use Rattle.input_tests.specs.Front.{work_need}
-use mathlib.Core.Path.{◌≡◌, refl, sym, ap, ◌∙◌}
-use borrow.Author.Rules.{rules}
+use mathlib.Core.Path.{refl}
 use Rattle.input_tests.proofs.work_need.Goals as goal
 
 pub returns : goal.returns

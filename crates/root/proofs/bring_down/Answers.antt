@@ -1,5 +1,5 @@
 use native.Mathlib.Omega.{arith}
-use Rattle.root.proofs.Digits.{Down, down_start, down_asks, down_step, down_end}
+use Rattle.root.proofs.Digits.{down_start, down_asks, down_step, down_end}
 use Rattle.root.proofs.bring_down.Goals as goal
 
 pub loop-left-preserved : goal.loop-left-preserved

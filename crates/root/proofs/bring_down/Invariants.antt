@@ -1,5 +1,4 @@
-use native.Mathlib.Omega.{arith}
-use Rattle.root.proofs.Digits.{Down, down_start, down_asks, down_step, down_end}
+use Rattle.root.proofs.Digits.{Down}
 use Rattle.root.proofs.bring_down.Given as goal
 
 abbrev pub invariant-loop-left : goal.invariant-loop-left

@@ -1,7 +1,6 @@
 use Prim.Native.Nat.{◌+◌, ◌*◌, ◌%◌, ◌^◌}
 use native.Mathlib.Omega.{arith}
 use lib.Dec.{leb}
-use borrow.Author.Rules.{rules}
 use Rattle.root.proofs.Digits.{digit_fits, append_one, append_zero}
 use Rattle.root.proofs.draw.Goals as goal
 

@@ -1,5 +1,4 @@
 use Rattle.root.proofs.Scaling.{even, uneven}
-use borrow.Author.Rules.{rules}
 use Rattle.root.proofs.root_from.Goals as goal
 
 pub returns-then-exp-eq0 : goal.returns-then-exp-eq0

@@ -2,7 +2,6 @@ use mathlib.Core.Path.{sym, subst}
 use Prim.Native.Nat.{ℕ, ◌*◌, ◌^◌}
 use Rattle.root.specs.Digits.{RootAt}
 use Rattle.root.proofs.Patterns.{small_pattern, large_pattern}
-use borrow.Author.Rules.{rules}
 use Rattle.root.proofs.root_of_bits.Goals as goal
 
 pub returns-then-e-eq0 : goal.returns-then-e-eq0

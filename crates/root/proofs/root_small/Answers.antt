@@ -2,7 +2,7 @@ use mathlib.Core.Path.{subst}
 use Prim.Native.Nat.{ℕ}
 use Rattle.root.specs.Digits.{RootAt}
 use native.Mathlib.Omega.{arith}
-use Rattle.root.proofs.Scaling.{Moved, unmoved, still, move, same}
+use Rattle.root.proofs.Scaling.{unmoved, still, move, same}
 use Rattle.root.proofs.root_small.Goals as goal
 
 pub loop-d-init : goal.loop-d-init

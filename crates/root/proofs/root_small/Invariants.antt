@@ -1,8 +1,4 @@
-use mathlib.Core.Path.{subst}
-use Prim.Native.Nat.{ℕ}
-use Rattle.root.specs.Digits.{RootAt}
-use native.Mathlib.Omega.{arith}
-use Rattle.root.proofs.Scaling.{Moved, unmoved, still, move, same}
+use Rattle.root.proofs.Scaling.{Moved}
 use Rattle.root.proofs.root_small.Given as goal
 
 abbrev pub invariant-loop-d : goal.invariant-loop-d

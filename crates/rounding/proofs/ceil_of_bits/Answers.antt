@@ -1,6 +1,5 @@
 use native.Mathlib.Omega.{arith}
 use Rattle.rounding.proofs.Segments.{weight_pos, weight_small, bits_ceil}
-use borrow.Author.Rules.{rules}
 use Rattle.rounding.proofs.ceil_of_bits.Goals as goal
 
 pub overflow_sub-result : goal.overflow_sub-result

@@ -4,7 +4,6 @@ use lib.Dec.{T}
 use lib.Ieee.{binary64, fits}
 use lib.Ieee.Bits.{to_bits-lt}
 use Rattle.rounding.proofs.Ordering.{key_plus, key_minus}
-use borrow.Author.Rules.{rules}
 use Rattle.rounding.proofs.order_key.Goals as goal
 
 pub overflow_sub-result : goal.overflow_sub-result

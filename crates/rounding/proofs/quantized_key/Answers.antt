@@ -4,7 +4,6 @@ use mir.Syntax.{w64}
 use mir.ValLaws.{to_z-of_z}
 use Rattle.root.specs.Doubles.{◌⊘◌}
 use Rattle.rounding.specs.Rounding.{rounded, key}
-use borrow.Author.Rules.{rules}
 use Rattle.rounding.proofs.quantized_key.Goals as goal
 
 pub returns : goal.returns

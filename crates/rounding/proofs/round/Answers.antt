@@ -5,7 +5,6 @@ use lib.Dec.{T}
 use lib.Ieee.{binary64, fits, is_nan}
 use Rattle.root.specs.Doubles.{finite}
 use Rattle.rounding.proofs.Rounding.{nan_away, not_nan, below_finite, plus, minus, already, can_cast, made_plus, made_minus}
-use borrow.Author.Rules.{rules}
 use Rattle.rounding.proofs.round.Goals as goal
 
 pub returns-then-x : goal.returns-then-x

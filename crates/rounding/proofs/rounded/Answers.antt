@@ -5,7 +5,6 @@ use lib.Dec.{T}
 use lib.Ieee.{binary64, fits, is_nan}
 use Rattle.root.specs.Doubles.{finite}
 use Rattle.rounding.proofs.Rounding.{nan_rounded, not_nan, below_finite, plus, minus, far_plus, far_minus, turned_fits, cast_plus, cast_minus}
-use borrow.Author.Rules.{rules}
 use Rattle.rounding.proofs.rounded.Goals as goal
 
 pub returns-then-x : goal.returns-then-x

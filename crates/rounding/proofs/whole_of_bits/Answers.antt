@@ -1,7 +1,6 @@
 use Prim.Native.Nat.{◌/◌, ◌^◌}
 use native.Mathlib.Omega.{arith}
 use Rattle.rounding.proofs.Whole.{none, weight_small, some, all}
-use borrow.Author.Rules.{rules}
 use Rattle.rounding.proofs.whole_of_bits.Goals as goal
 
 pub overflow_add-result : goal.overflow_add-result

@@ -7,9 +7,7 @@ use Rattle.root.specs.Root.{rootable}
 use Rattle.root.specs.Doubles.{◌⊗◌, 1e-10, one_f, larger}
 use lib.Ieee.{Float}
 use lib.Dec.{T}
-use borrow.Author.Tests.{not-true, not-false}
-use mathlib.Core.Path.{◌≡◌, refl, sym, ap, ◌∙◌, subst⁻¹}
-use borrow.Author.Rules.{rules}
+use mathlib.Core.Path.{sym, ap, ◌∙◌, subst⁻¹}
 use Rattle.tolerance.proofs.bbox_eps.Goals as goal
 
 pub returns-then-not-box_in_range : goal.returns-then-not-box_in_range

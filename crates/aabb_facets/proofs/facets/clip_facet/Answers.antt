@@ -7,7 +7,6 @@ use Rattle.geometry.specs.Boxes.{faces}
 use mathlib.Core.Path.{ap, ◌∙◌}
 use native.Mathlib.Omega.{arith}
 use Prim.Native.Nat.{ℕ, ◌+◌, ◌*◌}
-use borrow.Author.Rules.{rules}
 use Rattle.aabb_facets.proofs.facets.clip_facet.Goals as goal
 
 pub all_marked-requires : goal.all_marked-requires

@@ -1,13 +1,12 @@
 use Rattle.aabb_facets.proofs.RoomLaws.{fan_grows}
 use Rattle.aabb_facets.specs.Rooms.{Room, room, fan_room}
 use Rattle.geometry.specs.Boxes.{faces}
-use Rattle.aabb_polygons.proofs.CornerLists.{points_length, at}
+use Rattle.aabb_polygons.proofs.CornerLists.{points_length}
 use Rattle.aabb_polygons.specs.Steps.{corners}
 use Rattle.aabb_polygons.specs.Polygons.{clip_polygon}
 use mathlib.Core.List.{[], ◌∷◌}
 use native.Mathlib.Omega.{arith}
 use mathlib.Core.Path.{ap, ◌∙◌}
-use borrow.Author.Rules.{rules}
 use Rattle.aabb_facets.proofs.facets.cut_facet.Goals as goal
 
 pub put_fanned-requires : goal.put_fanned-requires

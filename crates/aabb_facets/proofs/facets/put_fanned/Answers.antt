@@ -1,9 +1,8 @@
 use Rattle.aabb_facets.proofs.RoomLaws.{fan_few, fan_put}
-use Rattle.aabb_polygons.proofs.CornerLists.{points_length, at}
+use Rattle.aabb_polygons.proofs.CornerLists.{points_length}
 use Rattle.aabb_polygons.specs.Steps.{corners}
 use native.Mathlib.Omega.{arith}
 use mathlib.Core.Path.{sym}
-use borrow.Author.Rules.{rules}
 use Rattle.aabb_facets.proofs.facets.put_fanned.Goals as goal
 
 pub returns-then-n-lt3 : goal.returns-then-n-lt3

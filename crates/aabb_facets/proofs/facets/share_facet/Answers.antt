@@ -1,10 +1,10 @@
-use Rattle.aabb_facets.proofs.RoomLaws.{Sharing, sharing_start, sharing_more}
+use Rattle.aabb_facets.proofs.RoomLaws.{sharing_start, sharing_more}
 use Rattle.aabb_facets.specs.Rooms.{room, share_room, share_to}
 use Rattle.aabb_planes.specs.Planes.{snapped}
 use Rattle.geometry.specs.Meshes.{vertex_of}
 use mathlib.Core.Path.{◌≡◌, ap, ◌∙◌}
 use native.Mathlib.Omega.{arith}
-use Prim.Native.Nat.{ℕ, ◌+◌, ◌*◌, ◌-◌}
+use Prim.Native.Nat.{ℕ, ◌+◌, ◌*◌}
 use Rattle.aabb_facets.proofs.facets.share_facet.Goals as goal
 
 pub loop-j-init : goal.loop-j-init

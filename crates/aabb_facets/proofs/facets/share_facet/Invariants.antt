@@ -1,10 +1,5 @@
-use Rattle.aabb_facets.proofs.RoomLaws.{Sharing, sharing_start, sharing_more}
-use Rattle.aabb_facets.specs.Rooms.{room, share_room, share_to}
-use Rattle.aabb_planes.specs.Planes.{snapped}
-use Rattle.geometry.specs.Meshes.{vertex_of}
-use mathlib.Core.Path.{◌≡◌, ap, ◌∙◌}
-use native.Mathlib.Omega.{arith}
-use Prim.Native.Nat.{ℕ, ◌+◌, ◌*◌, ◌-◌}
+use Rattle.aabb_facets.proofs.RoomLaws.{Sharing}
+use Prim.Native.Nat.{◌-◌}
 use Rattle.aabb_facets.proofs.facets.share_facet.Given as goal
 
 abbrev pub invariant-loop-j : goal.invariant-loop-j

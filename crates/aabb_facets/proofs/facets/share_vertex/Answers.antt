@@ -6,7 +6,6 @@ use lib.Seq.{sets}
 use mathlib.Core.Path.{refl, ap, ◌∙◌}
 use mathlib.Core.List.{[], ◌∷◌}
 use Prim.Native.Nat.{◌*◌}
-use borrow.Author.Rules.{rules}
 use Rattle.aabb_facets.proofs.facets.share_vertex.Goals as goal
 
 pub returns-then-k-le1 : goal.returns-then-k-le1

@@ -1,5 +1,4 @@
 use Rattle.aabb_facets.proofs.MarkLists.{mark_a, mark_b, mark_c}
-use borrow.Author.Rules.{rules}
 use Rattle.aabb_facets.proofs.marks.all_marked.Goals as goal
 
 pub returns-then-ids-i-eq0 : goal.returns-then-ids-i-eq0

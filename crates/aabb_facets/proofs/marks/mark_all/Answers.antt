@@ -1,9 +1,7 @@
 use Rattle.aabb_facets.specs.Clipped.{inside_box}
-use Rattle.aabb_facets.proofs.MarkLists.{MarkedTo, marking_none, marking_same, marking_more, marking_end}
+use Rattle.aabb_facets.proofs.MarkLists.{marking_none, marking_same, marking_more, marking_end}
 use Rattle.aabb_facets.specs.Rooms.{mark}
 use Rattle.geometry.specs.declared.point.Point.{Point}
-use lib.ListN.{length}
-use Prim.Native.Nat.{◌-◌, ◌≤◌}
 use native.Mathlib.Omega.{arith}
 use borrow.Author.Rules.{rules}
 use mathlib.Core.Path.{ap, ◌∙◌}

@@ -1,12 +1,6 @@
-use Rattle.aabb_facets.specs.Clipped.{inside_box}
-use Rattle.aabb_facets.proofs.MarkLists.{MarkedTo, marking_none, marking_same, marking_more, marking_end}
-use Rattle.aabb_facets.specs.Rooms.{mark}
-use Rattle.geometry.specs.declared.point.Point.{Point}
+use Rattle.aabb_facets.proofs.MarkLists.{MarkedTo}
 use lib.ListN.{length}
 use Prim.Native.Nat.{◌-◌, ◌≤◌}
-use native.Mathlib.Omega.{arith}
-use borrow.Author.Rules.{rules}
-use mathlib.Core.Path.{ap, ◌∙◌}
 use Rattle.aabb_facets.proofs.marks.mark_all.Given as goal
 
 abbrev pub invariant-loop-v : goal.invariant-loop-v

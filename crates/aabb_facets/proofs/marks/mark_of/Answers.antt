@@ -2,7 +2,6 @@ use mathlib.Core.Bool.{Bool}
 use Rattle.aabb_facets.specs.Clipped.{inside_box}
 use Rattle.aabb_facets.specs.Rooms.{mark}
 use mathlib.Core.Path.{sym, ap, ◌∙◌}
-use borrow.Author.Rules.{rules}
 use Rattle.aabb_facets.proofs.marks.mark_of.Goals as goal
 
 pub returns-then-point_inside_aabb : goal.returns-then-point_inside_aabb

@@ -4,12 +4,8 @@ use Rattle.geometry.proofs.Meshes.{length_points_of}
 use Rattle.geometry.specs.Meshes.{points_of}
 use Rattle.geometry.specs.Points.{origin}
 use Rattle.lists.proofs.Every.{every_stop, every_more, every_end}
-use Rattle.lists.specs.Lists.{every}
-use lib.ListN.{drop}
-use borrow.Author.Tests.{not-true, not-false}
-use mathlib.Core.Path.{◌≡◌, refl, sym, ap, ◌∙◌}
+use mathlib.Core.Path.{refl, sym, ap, ◌∙◌}
 use native.Mathlib.Omega.{arith}
-use Prim.Native.Nat.{◌≤◌, ◌-◌}
 use Rattle.aabb_facets.proofs.marks.wholly_inside.Goals as goal
 
 pub loop-k-init : goal.loop-k-init

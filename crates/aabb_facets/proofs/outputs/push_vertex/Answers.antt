@@ -1,5 +1,4 @@
 use Rattle.aabb_facets.proofs.OutputLists.{point_put_lem}
-use borrow.Author.Rules.{rules}
 use Rattle.aabb_facets.proofs.outputs.push_vertex.Goals as goal
 
 pub returns : goal.returns

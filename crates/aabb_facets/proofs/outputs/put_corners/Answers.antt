@@ -1,13 +1,9 @@
 use Rattle.aabb_facets.proofs.OutputLists.{corners_start, corners_more, corners_end}
 use Rattle.aabb_polygons.proofs.CornerLists.{points_length, at}
 use Rattle.aabb_polygons.specs.Steps.{corners}
-use Rattle.geometry.specs.Meshes.{coordinates}
-use lib.Seq.{sets}
-use lib.ListN.{length, drop}
-use Prim.Native.Nat.{◌+◌, ◌*◌, ◌-◌, ◌≤◌}
 use native.Mathlib.Omega.{arith}
 use borrow.Author.Rules.{rules}
-use mathlib.Core.Path.{◌≡◌, refl, sym, ◌∙◌}
+use mathlib.Core.Path.{refl, sym, ◌∙◌}
 use Rattle.aabb_facets.proofs.outputs.put_corners.Goals as goal
 
 pub loop-j-init : goal.loop-j-init

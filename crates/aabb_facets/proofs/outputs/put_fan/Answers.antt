@@ -1,12 +1,7 @@
-use Rattle.aabb_facets.proofs.OutputLists.{fan_from, fan_start, fan_more, fan_end}
-use Rattle.aabb_facets.specs.Clipped.{fan}
-use Rattle.geometry.specs.Triangles.{flat}
-use lib.Seq.{sets}
-use lib.ListN.{length}
-use Prim.Native.Nat.{◌+◌, ◌*◌, ◌-◌, ◌≤◌}
+use Rattle.aabb_facets.proofs.OutputLists.{fan_start, fan_more, fan_end}
 use native.Mathlib.Omega.{arith}
 use borrow.Author.Rules.{rules}
-use mathlib.Core.Path.{◌≡◌, refl, sym, ◌∙◌}
+use mathlib.Core.Path.{refl, sym, ◌∙◌}
 use Rattle.aabb_facets.proofs.outputs.put_fan.Goals as goal
 
 pub loop-j-init : goal.loop-j-init

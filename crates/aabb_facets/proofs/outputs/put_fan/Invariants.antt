@@ -1,12 +1,10 @@
-use Rattle.aabb_facets.proofs.OutputLists.{fan_from, fan_start, fan_more, fan_end}
+use Rattle.aabb_facets.proofs.OutputLists.{fan_from}
 use Rattle.aabb_facets.specs.Clipped.{fan}
 use Rattle.geometry.specs.Triangles.{flat}
 use lib.Seq.{sets}
 use lib.ListN.{length}
 use Prim.Native.Nat.{◌+◌, ◌*◌, ◌-◌, ◌≤◌}
-use native.Mathlib.Omega.{arith}
-use borrow.Author.Rules.{rules}
-use mathlib.Core.Path.{◌≡◌, refl, sym, ◌∙◌}
+use mathlib.Core.Path.{◌≡◌}
 use Rattle.aabb_facets.proofs.outputs.put_fan.Given as goal
 
 abbrev pub invariant-loop-j : goal.invariant-loop-j

@@ -1,11 +1,8 @@
 use Rattle.aabb_facets.proofs.MarkLists.{all_below}
-use Rattle.aabb_facets.proofs.Shown.{Passed, pass_start, pass_more, pass_end}
-use Rattle.aabb_polygons.proofs.CornerLists.{at}
-use lib.ListN.{length}
-use Prim.Native.Nat.{◌-◌, ◌≤◌}
+use Rattle.aabb_facets.proofs.Shown.{pass_start, pass_more, pass_end}
 use native.Mathlib.Omega.{arith}
 use borrow.Author.Rules.{rules}
-use mathlib.Core.Path.{◌≡◌, refl, sym, ◌∙◌}
+use mathlib.Core.Path.{refl, sym, ◌∙◌}
 use Rattle.aabb_facets.proofs.passes.clip_pass.Goals as goal
 
 pub loop-i-init : goal.loop-i-init

@@ -1,11 +1,7 @@
-use Rattle.aabb_facets.proofs.MarkLists.{all_below}
-use Rattle.aabb_facets.proofs.Shown.{Passed, pass_start, pass_more, pass_end}
-use Rattle.aabb_polygons.proofs.CornerLists.{at}
+use Rattle.aabb_facets.proofs.Shown.{Passed}
 use lib.ListN.{length}
 use Prim.Native.Nat.{◌-◌, ◌≤◌}
-use native.Mathlib.Omega.{arith}
-use borrow.Author.Rules.{rules}
-use mathlib.Core.Path.{◌≡◌, refl, sym, ◌∙◌}
+use mathlib.Core.Path.{◌≡◌}
 use Rattle.aabb_facets.proofs.passes.clip_pass.Given as goal
 
 abbrev pub invariant-loop-i : goal.invariant-loop-i

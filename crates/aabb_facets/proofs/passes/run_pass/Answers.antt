@@ -1,6 +1,5 @@
 use Rattle.aabb_facets.specs.Rooms.{Room, mark_words}
 use Rattle.aabb_facets.specs.Clipped.{clipped}
-use borrow.Author.Rules.{rules}
 use mathlib.Core.List.{[]}
 use mathlib.Core.Path.{ap, ◌∙◌}
 use Prim.Native.Nat.{ℕ}

@@ -1,4 +1,3 @@
-use borrow.Author.Rules.{rules}
 use Rattle.aabb_planes.proofs.crossing.segment_plane_t.Goals as goal
 
 pub returns : goal.returns

@@ -1,5 +1,4 @@
 use Rattle.geometry.specs.Points.{along}
-use borrow.Author.Rules.{rules}
 use Rattle.aabb_planes.proofs.plane.coordinate.Goals as goal
 
 pub returns-in-XMin : goal.returns-in-XMin

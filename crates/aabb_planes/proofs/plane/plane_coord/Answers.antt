@@ -1,4 +1,3 @@
-use borrow.Author.Rules.{rules}
 use Rattle.aabb_planes.proofs.plane.plane_coord.Goals as goal
 
 pub returns-in-XMin : goal.returns-in-XMin

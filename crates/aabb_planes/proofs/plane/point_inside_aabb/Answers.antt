@@ -1,9 +1,7 @@
 use Rattle.lists.specs.Lists.{every}
-use borrow.Author.Tests.{not-true, not-false}
 use Rattle.lists.proofs.Bools.{and_next, and_stop}
 use mathlib.Core.Path.{sym, ◌∙◌}
 use mathlib.Core.Bool.{and-true}
-use borrow.Author.Rules.{rules}
 use Rattle.aabb_planes.proofs.plane.point_inside_aabb.Goals as goal
 
 pub returns-then-not-point_inside_plane : goal.returns-then-not-point_inside_plane

@@ -1,6 +1,5 @@
 use Rattle.aabb_planes.specs.Planes.{inside}
 use Rattle.geometry.specs.Points.{along}
-use borrow.Author.Rules.{rules}
 use Rattle.aabb_planes.proofs.plane.point_inside_plane.Goals as goal
 
 pub returns-in-XMin : goal.returns-in-XMin

@@ -1,6 +1,5 @@
 use Rattle.aabb_planes.specs.Planes.{on_plane}
 use Rattle.geometry.specs.Points.{along}
-use borrow.Author.Rules.{rules}
 use Rattle.aabb_planes.proofs.plane.snap_to_plane.Goals as goal
 
 pub returns-in-XMin : goal.returns-in-XMin

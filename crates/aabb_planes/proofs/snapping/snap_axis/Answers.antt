@@ -1,4 +1,3 @@
-use borrow.Author.Rules.{rules}
 use Rattle.aabb_planes.proofs.snapping.snap_axis.Goals as goal
 
 pub returns : goal.returns

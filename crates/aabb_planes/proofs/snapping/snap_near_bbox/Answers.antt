@@ -1,6 +1,5 @@
 use Rattle.aabb_planes.specs.Planes.{snapped}
 use Rattle.geometry.specs.Points.{along}
-use borrow.Author.Rules.{rules}
 use Rattle.aabb_planes.proofs.snapping.snap_near_bbox.Goals as goal
 
 pub returns : goal.returns

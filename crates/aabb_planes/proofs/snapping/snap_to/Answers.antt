@@ -1,6 +1,5 @@
 use Rattle.aabb_planes.specs.Planes.{snap_to}
 use mathlib.Core.Path.{sym, ◌∙◌}
-use borrow.Author.Rules.{rules}
 use Rattle.aabb_planes.proofs.snapping.snap_to.Goals as goal
 
 pub returns-then-within : goal.returns-then-within

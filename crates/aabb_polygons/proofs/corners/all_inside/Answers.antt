@@ -2,14 +2,10 @@ use Rattle.aabb_polygons.proofs.CornerLists.{points_length, at}
 use Rattle.aabb_polygons.specs.Steps.{corners}
 use Rattle.aabb_planes.specs.Planes.{face_of, inside}
 use Rattle.lists.proofs.Every.{every_stop, every_more, every_end}
-use Rattle.lists.specs.Lists.{every}
-use borrow.Author.Tests.{not-true, not-false}
 use Rattle.geometry.specs.declared.point.Point.{Point}
-use lib.ListN.{drop}
-use Prim.Native.Nat.{◌≤◌, ◌-◌}
 use native.Mathlib.Omega.{arith}
 use borrow.Author.Rules.{rules}
-use mathlib.Core.Path.{◌≡◌, refl, sym, ap, ◌∙◌}
+use mathlib.Core.Path.{refl, sym, ap, ◌∙◌}
 use Rattle.aabb_polygons.proofs.corners.all_inside.Goals as goal
 
 pub loop-i-init : goal.loop-i-init

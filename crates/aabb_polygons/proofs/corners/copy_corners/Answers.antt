@@ -1,7 +1,5 @@
 use Rattle.aabb_polygons.proofs.CornerLists.{copy_none, copy_more}
 use Rattle.aabb_polygons.specs.Steps.{corners}
-use lib.ListN.{length}
-use Prim.Native.Nat.{◌≤◌, ◌-◌}
 use native.Mathlib.Omega.{arith}
 use borrow.Author.Rules.{rules}
 use mathlib.Core.Path.{◌≡◌, refl, sym, ap, ◌∙◌}

@@ -1,5 +1,4 @@
 use Rattle.aabb_polygons.proofs.CornerLists.{pushed}
-use borrow.Author.Rules.{rules}
 use Rattle.aabb_polygons.proofs.corners.push_corner.Goals as goal
 
 pub returns : goal.returns

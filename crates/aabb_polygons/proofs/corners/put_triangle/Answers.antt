@@ -1,5 +1,4 @@
 use Rattle.aabb_polygons.proofs.CornerLists.{three_put}
-use borrow.Author.Rules.{rules}
 use Rattle.aabb_polygons.proofs.corners.put_triangle.Goals as goal
 
 pub returns : goal.returns

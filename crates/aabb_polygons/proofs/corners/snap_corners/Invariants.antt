@@ -1,12 +1,9 @@
-use Rattle.aabb_polygons.proofs.CornerLists.{snap_none, snap_more}
 use Rattle.aabb_polygons.specs.Steps.{corners}
 use Rattle.aabb_planes.specs.Planes.{snapped}
 use lib.ListN.{length}
 use mathlib.Core.List.{map}
-use Prim.Native.Nat.{ℕ, ◌≤◌, ◌-◌}
-use native.Mathlib.Omega.{arith}
-use borrow.Author.Rules.{rules}
-use mathlib.Core.Path.{◌≡◌, refl, sym, ap, ◌∙◌}
+use Prim.Native.Nat.{◌≤◌, ◌-◌}
+use mathlib.Core.Path.{◌≡◌}
 use Rattle.aabb_polygons.proofs.corners.snap_corners.Given as goal
 
 abbrev pub invariant-loop-i : goal.invariant-loop-i

@@ -2,7 +2,6 @@ use Rattle.aabb_planes.specs.Planes.{snapped}
 use Rattle.geometry.specs.declared.point.Point.{Point}
 use mathlib.Core.List.{List, map}
 use mathlib.Core.Path.{ap, ◌∙◌}
-use borrow.Author.Rules.{rules}
 use Rattle.aabb_polygons.proofs.corners.snap_in_place.Goals as goal
 
 pub returns : goal.returns

@@ -3,7 +3,6 @@ use Rattle.aabb_polygons.specs.Polygons.{crossed}
 use mathlib.Core.List.{append-nil}
 use native.Mathlib.Omega.{arith}
 use mathlib.Core.Path.{sym, ◌∙◌}
-use borrow.Author.Rules.{rules}
 use Rattle.aabb_polygons.proofs.polygon.add_crossing.Goals as goal
 
 pub returns-then-same : goal.returns-then-same

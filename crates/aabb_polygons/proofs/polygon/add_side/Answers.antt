@@ -4,7 +4,6 @@ use Rattle.aabb_planes.specs.Planes.{face_of}
 use mathlib.Core.List.{[]}
 use native.Mathlib.Omega.{arith}
 use mathlib.Core.Path.{◌∙◌}
-use borrow.Author.Rules.{rules}
 use Rattle.aabb_polygons.proofs.polygon.add_side.Goals as goal
 
 pub add_crossing-k-requires : goal.add_crossing-k-requires

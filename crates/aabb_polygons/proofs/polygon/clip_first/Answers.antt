@@ -7,7 +7,6 @@ use Rattle.geometry.specs.declared.point.Point.{Point}
 use mathlib.Core.List.{List, map}
 use native.Mathlib.Omega.{arith}
 use mathlib.Core.Path.{sym, ap, ◌∙◌}
-use borrow.Author.Rules.{rules}
 use Rattle.aabb_polygons.proofs.polygon.clip_first.Goals as goal
 
 pub returns-then-all_inside : goal.returns-then-all_inside

@@ -4,7 +4,6 @@ use Rattle.aabb_polygons.specs.Steps.{corners}
 use Rattle.aabb_planes.specs.Planes.{face_of}
 use native.Mathlib.Omega.{arith}
 use mathlib.Core.Path.{sym, ◌∙◌}
-use borrow.Author.Rules.{rules}
 use Rattle.aabb_polygons.proofs.polygon.clip_polygon_to_plane.Goals as goal
 
 pub returns-then-all_inside : goal.returns-then-all_inside

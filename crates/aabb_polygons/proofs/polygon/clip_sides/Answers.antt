@@ -4,7 +4,6 @@ use Rattle.aabb_polygons.specs.Steps.{corners}
 use Rattle.aabb_planes.specs.Planes.{face_of}
 use native.Mathlib.Omega.{arith}
 use mathlib.Core.Path.{◌∙◌}
-use borrow.Author.Rules.{rules}
 use Rattle.aabb_polygons.proofs.polygon.clip_sides.Goals as goal
 
 pub copy_corners-requires : goal.copy_corners-requires

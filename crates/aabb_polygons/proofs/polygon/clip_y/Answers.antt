@@ -1,6 +1,5 @@
 use Rattle.aabb_polygons.proofs.Walks.{next, all_stop, all_go}
 use native.Mathlib.Omega.{arith}
-use borrow.Author.Rules.{rules}
 use Rattle.aabb_polygons.proofs.polygon.clip_y.Goals as goal
 
 pub clip_polygon_to_plane-j-requires : goal.clip_polygon_to_plane-j-requires

@@ -1,10 +1,8 @@
-use Rattle.aabb_polygons.proofs.Walks.{Walked, walked_start, walked_room, walked_more, walked_end}
+use Rattle.aabb_polygons.proofs.Walks.{walked_start, walked_room, walked_more, walked_end}
 use Rattle.aabb_planes.specs.Planes.{face_of}
-use lib.ListN.{length}
-use Prim.Native.Nat.{◌≤◌, ◌-◌}
 use native.Mathlib.Omega.{arith}
 use borrow.Author.Rules.{rules}
-use mathlib.Core.Path.{◌≡◌, refl, ◌∙◌}
+use mathlib.Core.Path.{refl, ◌∙◌}
 use Rattle.aabb_polygons.proofs.polygon.walk_sides.Goals as goal
 
 pub point_at-prev-requires : goal.point_at-prev-requires

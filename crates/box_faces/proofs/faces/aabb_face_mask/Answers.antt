@@ -3,8 +3,6 @@ use mathlib.Core.Bool.{◌&&◌}
 use Rattle.geometry.specs.Points.{along}
 use native.Mathlib.Omega.{arith}
 use Rattle.box_faces.specs.Faces.{on_face, faces_of}
-use mathlib.Core.Path.{◌≡◌, refl, sym, ap, ◌∙◌}
-use borrow.Author.Rules.{rules}
 use Rattle.box_faces.proofs.faces.aabb_face_mask.Goals as goal
 
 pub overflow_add-result : goal.overflow_add-result

@@ -1,8 +1,5 @@
 use Rattle.box_faces.proofs.Steps.{last_axis}
-use native.Mathlib.Omega.{arith}
-use borrow.Author.Tests.{eq-eqb, ne_eqb}
 use Rattle.geometry.specs.Points.{along}
-use mathlib.Core.Path.{◌≡◌, refl, sym, ap, ◌∙◌}
 use Rattle.box_faces.proofs.faces.along.Goals as goal
 
 pub returns-then-axis-eq0 : goal.returns-then-axis-eq0

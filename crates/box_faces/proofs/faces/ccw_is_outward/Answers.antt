@@ -1,6 +1,6 @@
-use borrow.Author.Tests.{eq-eqb, ne_eqb}
+use borrow.Author.Tests.{ne_eqb}
 use Rattle.lists.specs.Lists.{some}
-use mathlib.Core.Path.{◌≡◌, refl, sym, ap, ◌∙◌}
+use mathlib.Core.Path.{sym}
 use mathlib.Core.Bool.{or-false}
 use Rattle.box_faces.proofs.faces.ccw_is_outward.Goals as goal
 

@@ -1,8 +1,6 @@
 use Rattle.box_faces.proofs.Masks.{count_of}
 use native.Mathlib.Omega.{arith}
 use Rattle.box_faces.specs.Faces.{has_bit, bit_count}
-use mathlib.Core.Path.{◌≡◌, refl, sym, ap, ◌∙◌}
-use borrow.Author.Rules.{rules}
 use Rattle.box_faces.proofs.faces.count_faces.Goals as goal
 
 pub overflow_add-result : goal.overflow_add-result

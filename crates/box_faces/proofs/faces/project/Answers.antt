@@ -1,8 +1,7 @@
 use Rattle.box_faces.proofs.Steps.{uv_is}
 use Rattle.geometry.specs.Points as points
 use Rattle.box_faces.specs.Faces.{project}
-use mathlib.Core.Path.{◌≡◌, refl, sym, ap, ◌∙◌}
-use borrow.Author.Rules.{rules}
+use mathlib.Core.Path.{ap, ◌∙◌}
 use Rattle.box_faces.proofs.faces.project.Goals as goal
 
 pub along-requires : goal.along-requires

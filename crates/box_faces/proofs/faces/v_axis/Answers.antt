@@ -1,6 +1,5 @@
-use borrow.Author.Tests.{eq-eqb, ne_eqb}
+use borrow.Author.Tests.{ne_eqb}
 use native.Mathlib.Omega.{arith}
-use mathlib.Core.Path.{◌≡◌, refl, sym, ap, ◌∙◌}
 use Rattle.box_faces.proofs.faces.v_axis.Goals as goal
 
 pub returns-then-face-eq2 : goal.returns-then-face-eq2

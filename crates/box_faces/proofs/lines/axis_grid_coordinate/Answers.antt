@@ -2,7 +2,6 @@ use Rattle.rounding.proofs.Rounding.{can_cast}
 use native.Mathlib.Omega.{arith}
 use borrow.Author.Tests.{eq-eqb, ne_eqb}
 use Rattle.box_faces.specs.Lines.{line_at}
-use mathlib.Core.Path.{◌≡◌, refl, sym, ap, ◌∙◌}
 use Rattle.box_faces.proofs.lines.axis_grid_coordinate.Goals as goal
 
 pub int_to_float-result : goal.int_to_float-result

@@ -1,9 +1,8 @@
 use Rattle.box_faces.proofs.Steps.{third}
 use Prim.Native.Nat.{◌/◌}
 use native.Mathlib.Omega.{arith}
-use borrow.Author.Tests.{eq-eqb, ne_eqb}
 use Rattle.box_faces.specs.Lines.{point_on_face}
-use mathlib.Core.Path.{◌≡◌, refl, sym, ap, ◌∙◌}
+use mathlib.Core.Path.{◌≡◌}
 use Rattle.box_faces.proofs.lines.point_on_face.Goals as goal
 
 pub returns-then-face-eq0 : goal.returns-then-face-eq0

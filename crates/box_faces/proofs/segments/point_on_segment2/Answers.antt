@@ -1,7 +1,4 @@
 use Rattle.box_faces.proofs.Steps.{far_off, near_by}
-use Rattle.box_faces.specs.Segments.{on_segment_by}
-use mathlib.Core.Path.{◌≡◌, refl, sym, ap, ◌∙◌}
-use borrow.Author.Rules.{rules}
 use Rattle.box_faces.proofs.segments.point_on_segment2.Goals as goal
 
 pub returns-then-bound-abs : goal.returns-then-bound-abs

@@ -1,10 +1,9 @@
-use mathlib.Core.Path.{subst⁻¹, ◌≡◌, refl, sym, ap, ◌∙◌}
+use mathlib.Core.Path.{subst⁻¹, ap, ◌∙◌}
 use Prim.Native.Nat.{◌^◌}
 use Rattle.root.specs.Bounds.{Within}
 use Rattle.root.specs.Doubles.{◌⊗◌, larger, one_f}
 use Rattle.box_faces.specs.declared.uv.Uv.{Uv}
-use Rattle.box_faces.specs.Segments.{segment_length, segment_bound, uv_difference}
-use borrow.Author.Rules.{rules}
+use Rattle.box_faces.specs.Segments.{segment_length, segment_bound}
 use Rattle.box_faces.proofs.segments.segment_bound.Goals as goal
 
 pub segment_length-length-requires : goal.segment_length-length-requires

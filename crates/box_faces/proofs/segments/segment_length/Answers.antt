@@ -1,6 +1,5 @@
 use Rattle.box_faces.proofs.Steps.{segment_length_is}
 use mathlib.Core.Path.{sym, ◌∙◌}
-use borrow.Author.Rules.{rules}
 use Rattle.box_faces.proofs.segments.segment_length.Goals as goal
 
 pub returns : goal.returns

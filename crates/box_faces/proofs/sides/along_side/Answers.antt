@@ -1,7 +1,6 @@
 use Rattle.root.specs.Doubles.{◌⊘◌, larger}
 use Rattle.box_faces.specs.Sides.{between_ends, along_side}
-use mathlib.Core.Path.{◌≡◌, refl, sym, ap, ◌∙◌}
-use borrow.Author.Rules.{rules}
+use mathlib.Core.Path.{sym, ap, ◌∙◌}
 use Rattle.box_faces.proofs.sides.along_side.Goals as goal
 
 pub returns-then-within : goal.returns-then-within

@@ -1,6 +1,4 @@
 use Rattle.box_faces.specs.Sides.{between_ends}
-use mathlib.Core.Path.{◌≡◌, refl, sym, ap, ◌∙◌}
-use borrow.Author.Rules.{rules}
 use Rattle.box_faces.proofs.sides.between_ends.Goals as goal
 
 pub returns-then-t-slack-2 : goal.returns-then-t-slack-2

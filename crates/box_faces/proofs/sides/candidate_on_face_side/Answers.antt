@@ -1,7 +1,5 @@
 use Rattle.box_faces.proofs.Steps.{le_same}
 use Rattle.box_faces.specs.Sides.{on_side}
-use mathlib.Core.Path.{◌≡◌, refl, sym, ap, ◌∙◌}
-use borrow.Author.Rules.{rules}
 use Rattle.box_faces.proofs.sides.candidate_on_face_side.Goals as goal
 
 pub returns-then-abs : goal.returns-then-abs

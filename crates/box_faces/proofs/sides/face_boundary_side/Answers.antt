@@ -1,7 +1,6 @@
 use Rattle.box_faces.proofs.Steps.{fourth}
 use Rattle.box_faces.specs.Sides.{face_sides}
-use mathlib.Core.Path.{◌≡◌, refl, sym, ap, ◌∙◌}
-use borrow.Author.Rules.{rules}
+use mathlib.Core.Path.{◌≡◌}
 use Rattle.box_faces.proofs.sides.face_boundary_side.Goals as goal
 
 pub returns-then-k-eq0 : goal.returns-then-k-eq0

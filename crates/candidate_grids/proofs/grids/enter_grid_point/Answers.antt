@@ -1,6 +1,4 @@
-use mathlib.Core.Logic.{⊎_elim}
 use mathlib.Core.Path.{sym, ap, ◌∙◌}
-use borrow.Author.Rules.{rules}
 use Rattle.lists.proofs.Bools.{and_next, and_stop}
 use Rattle.candidate_grids.specs.Steps.{skips_near}
 use Rattle.candidate_grids.proofs.Entries.{cell_left, cell_in}

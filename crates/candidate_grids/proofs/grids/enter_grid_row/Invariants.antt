@@ -1,15 +1,7 @@
-use Prim.Native.Nat.{ℕ, ◌+◌, ◌-◌, ◌≤◌, ◌<◌}
-use native.Mathlib.Omega.{arith}
-use mathlib.Core.Path.{◌≡◌, refl, ap, subst, ◌∙◌}
+use Prim.Native.Nat.{◌+◌, ◌-◌, ◌≤◌}
 use mathlib.Core.List.{flat_map}
-use borrow.Author.Rules.{rules}
 use Rattle.lists.specs.Lists.{up_to}
-use Rattle.geometry.specs.Boxes.{lowest, highest}
-use Rattle.box_faces.specs.Faces.{v_axis}
-use Rattle.box_faces.specs.Lines.{line_at}
 use Rattle.candidate_grids.specs.Steps.{skips_near, row_cell, PointsEntered}
-use Rattle.candidate_grids.proofs.Bounded.{point_in}
-use Rattle.candidate_grids.proofs.Entries.{entered_none, entered_more, row_line_in, row_point_ready, row_cell_lem}
 use Rattle.candidate_grids.proofs.grids.enter_grid_row.Given as goal
 
 -- `candidate_grids::grids::enter_grid_row` meets its contract. The loop's invariant: the points before j were entered. Assumes nothing.

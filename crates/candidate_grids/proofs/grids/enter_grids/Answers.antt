@@ -1,6 +1,5 @@
-use Prim.Native.Nat.{◌-◌}
 use native.Mathlib.Omega.{arith}
-use Rattle.candidate_grids.proofs.Gridding.{Gridding, gridding_start, gridding_ready, gridding_turn, gridding_end}
+use Rattle.candidate_grids.proofs.Gridding.{gridding_start, gridding_ready, gridding_turn, gridding_end}
 use Rattle.candidate_grids.proofs.grids.enter_grids.Goals as goal
 
 pub loop-face-init : goal.loop-face-init

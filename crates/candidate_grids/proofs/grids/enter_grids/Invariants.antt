@@ -1,6 +1,5 @@
 use Prim.Native.Nat.{◌-◌}
-use native.Mathlib.Omega.{arith}
-use Rattle.candidate_grids.proofs.Gridding.{Gridding, gridding_start, gridding_ready, gridding_turn, gridding_end}
+use Rattle.candidate_grids.proofs.Gridding.{Gridding}
 use Rattle.candidate_grids.proofs.grids.enter_grids.Given as goal
 
 abbrev pub invariant-loop-face : goal.invariant-loop-face

@@ -1,5 +1,4 @@
 use borrow.Author.Tests.{eq-eqb, ne_eqb}
-use borrow.Author.Rules.{rules}
 use Rattle.candidate_grids.proofs.grids.face_line.Goals as goal
 
 pub returns-then-face-eq0 : goal.returns-then-face-eq0

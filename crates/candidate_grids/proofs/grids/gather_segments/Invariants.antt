@@ -1,11 +1,5 @@
-use Prim.Native.Nat.{ℕ, ◌-◌, ◌+◌, ◌*◌}
-use native.Mathlib.Omega.{arith}
-use mathlib.Core.Path.{◌≡◌, ap, ◌∙◌}
-use mathlib.Core.Logic.{⊎_elim}
-use lib.ListN.{get_or}
-use Rattle.box_faces.specs.Faces.{has_bit}
-use Rattle.candidate_grids.proofs.Gathering.{Gathering, gather_start, gather_pass, gather_one, gather_end, edge_ready}
-use Rattle.candidate_pool.specs.Offsets.{open_edges_at}
+use Prim.Native.Nat.{◌-◌}
+use Rattle.candidate_grids.proofs.Gathering.{Gathering}
 use Rattle.candidate_grids.proofs.grids.gather_segments.Given as goal
 
 -- `candidate_grids::grids::gather_segments` meets its contract. The loop's invariant: `Gathering`. Assumes nothing.

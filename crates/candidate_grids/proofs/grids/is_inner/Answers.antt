@@ -1,5 +1,4 @@
 use mathlib.Core.Path.{refl, sym, ◌∙◌}
-use borrow.Author.Rules.{rules}
 use Rattle.lists.proofs.Bools.{and_next, and_stop}
 use Rattle.candidate_grids.proofs.grids.is_inner.Goals as goal
 

@@ -1,4 +1,3 @@
-use borrow.Author.Rules.{rules}
 use Rattle.root.proofs.Patterns.{no_nan_pattern}
 use Rattle.candidate_grids.specs.Steps.{hit_at}
 use Rattle.candidate_grids.proofs.grids.is_on_segment.Goals as goal

@@ -1,9 +1,6 @@
-use Prim.Native.Nat.{◌-◌, ◌+◌, ◌*◌, ◌≤◌}
 use native.Mathlib.Omega.{arith}
-use mathlib.Core.Bool.{false}
-use mathlib.Core.Path.{◌≡◌, sym, ◌∙◌}
-use Rattle.lists.specs.Lists.{some, up_to}
-use Rattle.candidate_grids.specs.Steps.{hit_at, skips_at}
+use mathlib.Core.Path.{sym, ◌∙◌}
+use Rattle.candidate_grids.specs.Steps.{skips_at}
 use Rattle.candidate_grids.proofs.Searched.{none_yet, none_more, one_there, none_there}
 use Rattle.candidate_grids.proofs.grids.is_skipped.Goals as goal
 

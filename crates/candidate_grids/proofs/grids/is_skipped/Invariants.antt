@@ -1,10 +1,8 @@
 use Prim.Native.Nat.{◌-◌, ◌+◌, ◌*◌, ◌≤◌}
-use native.Mathlib.Omega.{arith}
 use mathlib.Core.Bool.{false}
-use mathlib.Core.Path.{◌≡◌, sym, ◌∙◌}
+use mathlib.Core.Path.{◌≡◌}
 use Rattle.lists.specs.Lists.{some, up_to}
-use Rattle.candidate_grids.specs.Steps.{hit_at, skips_at}
-use Rattle.candidate_grids.proofs.Searched.{none_yet, none_more, one_there, none_there}
+use Rattle.candidate_grids.specs.Steps.{hit_at}
 use Rattle.candidate_grids.proofs.grids.is_skipped.Given as goal
 
 abbrev pub invariant-loop-i : goal.invariant-loop-i

@@ -1,6 +1,5 @@
 use native.Mathlib.Omega.{arith}
 use mathlib.Core.Path.{sym, subst}
-use borrow.Author.Rules.{rules}
 use lib.Dec.{T}
 use lib.ListN.{length-set}
 use Rattle.root.proofs.Patterns.{no_nan}

@@ -1,7 +1,7 @@
-use Prim.Native.Nat.{◌+◌, ◌*◌, ◌-◌}
+use Prim.Native.Nat.{◌-◌}
 use Rattle.candidate_pool.specs.Offsets.{chain_at}
 use Rattle.candidate_pool.proofs.Searching.{key_is, key_filed, key_told}
-use Rattle.chains.proofs.Walking.{Walk, left, walk_start, walk_low, walk_room, walk_found, walk_turn, walk_less, walk_end}
+use Rattle.chains.proofs.Walking.{walk_start, walk_low, walk_room, walk_found, walk_turn, walk_less, walk_end}
 use native.Mathlib.Omega.{arith}
 use mathlib.Core.Path.{◌∙◌}
 use Rattle.candidate_pool.proofs.keys.find_key.Goals as goal

@@ -1,9 +1,6 @@
-use Prim.Native.Nat.{◌+◌, ◌*◌, ◌-◌}
 use Rattle.candidate_pool.specs.Offsets.{chain_at}
-use Rattle.candidate_pool.proofs.Searching.{key_is, key_filed, key_told}
-use Rattle.chains.proofs.Walking.{Walk, left, walk_start, walk_low, walk_room, walk_found, walk_turn, walk_less, walk_end}
-use native.Mathlib.Omega.{arith}
-use mathlib.Core.Path.{◌∙◌}
+use Rattle.candidate_pool.proofs.Searching.{key_is}
+use Rattle.chains.proofs.Walking.{Walk, left}
 use Rattle.candidate_pool.proofs.keys.find_key.Given as goal
 
 abbrev pub invariant-loop-link : goal.invariant-loop-link

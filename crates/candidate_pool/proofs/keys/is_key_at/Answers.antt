@@ -1,6 +1,4 @@
-use Rattle.mesh_weld.specs.Room.{same_cell}
 use borrow.Author.Tests.{eq-eqb, ne_eqb}
-use borrow.Author.Rules.{rules}
 use Rattle.candidate_pool.proofs.keys.is_key_at.Goals as goal
 
 pub returns-then-w-at-2 : goal.returns-then-w-at-2

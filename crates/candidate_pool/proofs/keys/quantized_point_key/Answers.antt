@@ -4,7 +4,6 @@ use Rattle.candidate_pool.proofs.Searching.{key_words_are}
 use Rattle.rounding.specs.Rounding.{key_word}
 use Rattle.mesh_weld.specs.Cells.{key_of}
 use mathlib.Core.Path.{ap, ◌∙◌}
-use borrow.Author.Rules.{rules}
 use Rattle.candidate_pool.proofs.keys.quantized_point_key.Goals as goal
 
 pub returns : goal.returns

@@ -1,5 +1,4 @@
 use Rattle.candidate_pool.proofs.Clearing.{cleared}
-use borrow.Author.Rules.{rules}
 use Rattle.candidate_pool.proofs.pool.clear_pool.Goals as goal
 
 pub returns : goal.returns

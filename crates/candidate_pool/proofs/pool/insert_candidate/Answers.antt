@@ -2,7 +2,6 @@ use Prim.Native.Nat.{ℕ, ◌+◌}
 use mathlib.Core.Path.{refl, subst, ◌∙◌}
 use lib.ListN.{length-set}
 use native.Mathlib.Omega.{arith}
-use borrow.Author.Rules.{rules}
 use Rattle.candidate_pool.specs.Pool.{by_key}
 use Rattle.candidate_pool.specs.Standing.{faces_in, candidate, pool_at, Inserted}
 use Rattle.candidate_pool.proofs.Adding.{number_in, same_number, inserted_faces, vertex_inserted}

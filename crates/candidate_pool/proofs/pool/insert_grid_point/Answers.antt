@@ -1,5 +1,4 @@
 use Rattle.candidate_pool.proofs.Adding.{number_in, inserted_face}
-use borrow.Author.Rules.{rules}
 use Rattle.candidate_pool.proofs.pool.insert_grid_point.Goals as goal
 
 pub push_face-requires : goal.push_face-requires

@@ -4,7 +4,6 @@ use native.Mathlib.Omega.{arith}
 use Rattle.candidate_pool.specs.Standing.{candidate}
 use Rattle.candidate_pool.proofs.Reading.{some_room}
 use Rattle.candidate_pool.proofs.Placing.{miss_room, hit_room, placed_new, placed_moved, placed_kept, number_miss, number_hit}
-use borrow.Author.Rules.{rules}
 use Rattle.candidate_pool.proofs.pool.place_candidate.Goals as goal
 
 pub bucket-b-requires : goal.bucket-b-requires

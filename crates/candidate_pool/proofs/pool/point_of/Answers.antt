@@ -2,7 +2,6 @@ use mathlib.Core.Path.{ap}
 use Rattle.candidate_pool.specs.Offsets.{entry_at}
 use Rattle.candidate_pool.specs.Standing.{point_at}
 use Rattle.candidate_pool.proofs.Numbers.{stored_numbers}
-use borrow.Author.Rules.{rules}
 use Rattle.candidate_pool.proofs.pool.point_of.Goals as goal
 
 pub float_from_bits-result : goal.float_from_bits-result

@@ -6,7 +6,6 @@ use Rattle.candidate_pool.specs.Offsets.{keys_at}
 use Rattle.mesh_weld.specs.Room.{cell_at}
 use Rattle.candidate_pool.specs.Room.{key_bucket}
 use Rattle.candidate_pool.proofs.Putting.{enter_asks, put_all, put_long}
-use borrow.Author.Rules.{rules}
 use Rattle.candidate_pool.proofs.pool.push_candidate.Goals as goal
 
 pub put_point-requires : goal.put_point-requires

@@ -7,7 +7,6 @@ use Rattle.box_faces.specs.Faces.{has_bit}
 use Rattle.candidate_pool.specs.Offsets.{entry_at, joined_at}
 use Rattle.candidate_pool.proofs.Masking.{shifted, mask_low}
 use Rattle.candidate_pool.proofs.Facing.{face_there, list_end, face_added}
-use borrow.Author.Rules.{rules}
 use Rattle.candidate_pool.proofs.pool.push_face.Goals as goal
 
 pub returns-then-has_face : goal.returns-then-has_face

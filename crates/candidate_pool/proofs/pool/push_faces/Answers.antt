@@ -1,7 +1,6 @@
 use mathlib.Core.Path.{sym, subst, ◌∙◌}
-use Prim.Native.Nat.{ℕ, ◌+◌, ◌≤◌, ◌-◌}
+use Prim.Native.Nat.{ℕ, ◌+◌}
 use mathlib.Core.List.{List}
-use mathlib.Core.Logic.{⊎_elim}
 use native.Mathlib.Omega.{arith}
 use Rattle.candidate_pool.proofs.Adding.{Adding, adding_start, adding_low, adding_turn, adding_skip, adding_end}
 use Rattle.candidate_pool.proofs.pool.push_faces.Goals.{then-has_face, else-has_face}

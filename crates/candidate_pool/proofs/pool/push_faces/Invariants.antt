@@ -1,9 +1,5 @@
-use mathlib.Core.Path.{sym, subst, ◌∙◌}
-use Prim.Native.Nat.{ℕ, ◌+◌, ◌≤◌, ◌-◌}
-use mathlib.Core.List.{List}
-use mathlib.Core.Logic.{⊎_elim}
-use native.Mathlib.Omega.{arith}
-use Rattle.candidate_pool.proofs.Adding.{Adding, adding_start, adding_low, adding_turn, adding_skip, adding_end}
+use Prim.Native.Nat.{◌≤◌, ◌-◌}
+use Rattle.candidate_pool.proofs.Adding.{Adding}
 use Rattle.candidate_pool.proofs.pool.push_faces.Given as goal
 
 -- `push_faces` meets its contract: before face k those of the mask below k were added. Assumes nothing.

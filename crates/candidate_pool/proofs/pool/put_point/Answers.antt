@@ -2,7 +2,6 @@ use mathlib.Core.Path.{refl}
 use lib.ListN.{length-set}
 use native.Mathlib.Omega.{arith}
 use Rattle.candidate_pool.proofs.Numbers.{bits_of}
-use borrow.Author.Rules.{rules}
 use Rattle.root.proofs.Patterns.{no_nan}
 use Rattle.candidate_pool.proofs.pool.put_point.Goals as goal
 

@@ -1,9 +1,8 @@
-use mathlib.Core.Path.{◌≡◌, refl, sym, ap, ◌∙◌}
-use Prim.Native.Nat.{ℕ, ◌+◌, ◌*◌, ◌≤◌, ◌<◌, ◌-◌, ◌/◌}
+use mathlib.Core.Path.{sym}
 use native.Mathlib.Omega.{arith}
-use lib.ListN.{get_or, length, length-set}
+use lib.ListN.{length}
 use borrow.Author.Tests.{eq-eqb, ne_eqb}
-use Rattle.chains.proofs.Walking.{Walk, left, walk_start, walk_low, walk_room, walk_found, walk_turn, walk_less, walk_end}
+use Rattle.chains.proofs.Walking.{walk_start, walk_low, walk_room, walk_found, walk_turn, walk_less, walk_end}
 use Rattle.chains.proofs.Words.{sought, word_filed, word_answer}
 use Rattle.chains.proofs.by_word.find_word.Goals as goal
 

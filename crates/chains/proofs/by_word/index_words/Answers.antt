@@ -1,8 +1,4 @@
-use mathlib.Core.Path.{◌≡◌, refl, sym, ap, ◌∙◌}
-use Prim.Native.Nat.{ℕ, ◌+◌, ◌*◌, ◌≤◌, ◌<◌, ◌-◌, ◌/◌}
 use native.Mathlib.Omega.{arith}
-use lib.ListN.{get_or, length, length-set}
-use Rattle.chains.specs.ByWord.{WordTable}
 use Rattle.chains.proofs.Words.{words_start, words_tail, words_turn, words_end}
 use Rattle.chains.proofs.by_word.index_words.Goals as goal
 

@@ -1,5 +1,4 @@
 use Rattle.chains.proofs.Hashing.{bucket_same}
-use borrow.Author.Rules.{rules}
 use Rattle.chains.proofs.hash.bucket.Goals as goal
 
 pub returns : goal.returns

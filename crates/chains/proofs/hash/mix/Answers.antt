@@ -1,5 +1,4 @@
 use Rattle.chains.proofs.Hashing.{mixes_mix}
-use borrow.Author.Rules.{rules}
 use Rattle.chains.proofs.hash.mix.Goals as goal
 
 pub returns : goal.returns

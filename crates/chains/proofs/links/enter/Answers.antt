@@ -1,9 +1,8 @@
-use mathlib.Core.Path.{◌≡◌, refl, sym, ap, ◌∙◌}
-use Prim.Native.Nat.{ℕ, ◌+◌, ◌*◌, ◌≤◌, ◌<◌, ◌-◌, ◌/◌}
+use mathlib.Core.Path.{refl}
+use Prim.Native.Nat.{◌+◌}
 use native.Mathlib.Omega.{arith}
-use lib.ListN.{get_or, length, length-set}
+use lib.ListN.{get_or, length-set}
 use Rattle.chains.proofs.Entering.{place_in}
-use borrow.Author.Rules.{rules}
 use Rattle.chains.proofs.links.enter.Goals as goal
 
 pub offset_bounds-m-p : goal.offset_bounds-m-p

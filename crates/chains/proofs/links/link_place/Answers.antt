@@ -1,6 +1,5 @@
 use mathlib.Core.Path.{refl}
 use borrow.Author.Tests.{eq-eqb, ne_eqb}
-use borrow.Author.Rules.{rules}
 use Rattle.chains.proofs.links.link_place.Goals as goal
 
 pub returns-then-t-eq0 : goal.returns-then-t-eq0

@@ -1,7 +1,6 @@
 use Prim.Native.Nat.{ℕ}
 use mathlib.Core.Path.{sym, ap}
 use Rattle.edges.proofs.Sides.{side_at_lem}
-use borrow.Author.Rules.{rules}
 use Rattle.edges.proofs.ends.edge_from.Goals as goal
 
 pub returns : goal.returns

@@ -3,7 +3,6 @@ use mathlib.Core.Path.{sym, ap, ◌∙◌}
 use native.Mathlib.Omega.{arith}
 use lib.ListN.{length, get_or}
 use Rattle.edges.proofs.Sides.{next_in, side_at_lem}
-use borrow.Author.Rules.{rules}
 use Rattle.edges.proofs.ends.edge_to.Goals as goal
 
 pub offset_bounds-facets-next : goal.offset_bounds-facets-next

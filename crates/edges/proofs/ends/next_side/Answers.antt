@@ -1,6 +1,5 @@
 use mathlib.Core.Path.{sym}
 use Rattle.edges.proofs.Sides.{next_wrap, next_on}
-use borrow.Author.Rules.{rules}
 use Rattle.edges.proofs.ends.next_side.Goals as goal
 
 pub returns-then-side-eq2 : goal.returns-then-side-eq2

@@ -1,6 +1,5 @@
 use mathlib.Core.Path.{◌∙◌}
 use Rattle.words.specs.Packed.{edge}
-use borrow.Author.Rules.{rules}
 use Rattle.edges.proofs.ends.side_key.Goals as goal
 
 pub returns : goal.returns

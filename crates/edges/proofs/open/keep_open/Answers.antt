@@ -1,5 +1,5 @@
-use Rattle.edges.proofs.Running.{Keeping, keeping_start, keeping_turn, keeping_end, flag_small}
-use Prim.Native.Nat.{◌+◌, ◌-◌}
+use Rattle.edges.proofs.Running.{keeping_start, keeping_turn, keeping_end, flag_small}
+use Prim.Native.Nat.{◌+◌}
 use lib.ListN.{length-set}
 use lib.Dec.{eqb}
 use native.Mathlib.Omega.{arith}

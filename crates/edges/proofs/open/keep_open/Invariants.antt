@@ -1,8 +1,5 @@
-use Rattle.edges.proofs.Running.{Keeping, keeping_start, keeping_turn, keeping_end, flag_small}
-use Prim.Native.Nat.{◌+◌, ◌-◌}
-use lib.ListN.{length-set}
-use lib.Dec.{eqb}
-use native.Mathlib.Omega.{arith}
+use Rattle.edges.proofs.Running.{Keeping}
+use Prim.Native.Nat.{◌-◌}
 use Rattle.edges.proofs.open.keep_open.Given as goal
 
 -- `keep_open` meets its contract: of the runs before i those of one record are at the front. Assumes nothing.

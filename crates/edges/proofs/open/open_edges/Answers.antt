@@ -1,6 +1,5 @@
 use native.Mathlib.Omega.{arith}
 use Rattle.edges.proofs.Steps.{ascends, opens}
-use borrow.Author.Rules.{rules}
 use Rattle.edges.proofs.open.open_edges.Goals as goal
 
 pub keep_open-k-requires : goal.keep_open-k-requires

@@ -1,7 +1,6 @@
-use lib.ListN.{length, length-set}
-use Prim.Native.Nat.{◌-◌}
+use lib.ListN.{length-set}
 use native.Mathlib.Omega.{arith}
-use Rattle.edges.proofs.Running.{Listing, listing_start, listing_turn, listing_end}
+use Rattle.edges.proofs.Running.{listing_start, listing_turn, listing_end}
 use Rattle.edges.proofs.table.side_records.Goals as goal
 
 pub loop-side-init : goal.loop-side-init

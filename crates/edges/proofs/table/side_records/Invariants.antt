@@ -1,7 +1,6 @@
-use lib.ListN.{length, length-set}
+use lib.ListN.{length}
 use Prim.Native.Nat.{◌-◌}
-use native.Mathlib.Omega.{arith}
-use Rattle.edges.proofs.Running.{Listing, listing_start, listing_turn, listing_end}
+use Rattle.edges.proofs.Running.{Listing}
 use Rattle.edges.proofs.table.side_records.Given as goal
 
 -- `side_records` meets its contract: after some turns the records of as many sides are written. Assumes nothing.

@@ -1,5 +1,4 @@
 use Rattle.edges.proofs.Steps.{sorts_sides}
-use borrow.Author.Rules.{rules}
 use Rattle.edges.proofs.table.sort_sides.Goals as goal
 
 pub returns : goal.returns

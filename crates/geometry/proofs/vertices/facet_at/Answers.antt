@@ -1,5 +1,4 @@
 use Rattle.geometry.specs.Triangles.{tri}
-use borrow.Author.Rules.{rules}
 use Rattle.geometry.proofs.vertices.facet_at.Goals as goal
 
 pub returns : goal.returns

@@ -1,7 +1,6 @@
 use Rattle.geometry.proofs.Meshes.{vertex_at}
 use lib.Ieee.{nan}
 use mathlib.Core.Path.{sym}
-use borrow.Author.Rules.{rules}
 use Rattle.geometry.proofs.vertices.point_at.Goals as goal
 
 pub returns : goal.returns

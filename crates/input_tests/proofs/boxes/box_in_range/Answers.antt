@@ -1,10 +1,9 @@
-use borrow.Author.Tests.{not-true, not-false}
+use borrow.Author.Tests.{not-false}
 use Rattle.lists.proofs.Bools.{and_next, and_stop}
 use Rattle.lists.specs.Lists.{every}
 use Rattle.input_tests.specs.Front.{box_in_range}
-use mathlib.Core.Path.{◌≡◌, refl, sym, ap, ◌∙◌}
+use mathlib.Core.Path.{sym, ◌∙◌}
 use mathlib.Core.Bool.{and-true}
-use borrow.Author.Rules.{rules}
 use Rattle.input_tests.proofs.boxes.box_in_range.Goals as goal
 
 pub returns-then-not-pair_in_range : goal.returns-then-not-pair_in_range

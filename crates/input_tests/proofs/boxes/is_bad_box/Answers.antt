@@ -1,9 +1,8 @@
 use Rattle.lists.proofs.Bools.{or_next, or_stop}
 use Rattle.lists.specs.Lists.{some}
 use Rattle.input_tests.specs.Front.{bad_box}
-use mathlib.Core.Path.{◌≡◌, refl, sym, ap, ◌∙◌}
+use mathlib.Core.Path.{sym, ◌∙◌}
 use mathlib.Core.Bool.{or-false}
-use borrow.Author.Rules.{rules}
 use Rattle.input_tests.proofs.boxes.is_bad_box.Goals as goal
 
 pub returns-then-is_closed : goal.returns-then-is_closed

@@ -1,6 +1,5 @@
 use Rattle.lists.proofs.Bools.{and_next, and_stop}
-use mathlib.Core.Path.{◌≡◌, refl, sym, ap, ◌∙◌}
-use borrow.Author.Rules.{rules}
+use mathlib.Core.Path.{refl, sym, ◌∙◌}
 use Rattle.input_tests.proofs.boxes.pair_in_range.Goals as goal
 
 pub returns-then-in_range : goal.returns-then-in_range

@@ -1,6 +1,5 @@
 use Rattle.lists.proofs.Bools.{or_stop, or_next}
-use mathlib.Core.Path.{◌≡◌, refl, sym, ◌∙◌}
-use borrow.Author.Rules.{rules}
+use mathlib.Core.Path.{refl, sym, ◌∙◌}
 use Rattle.input_tests.proofs.grid.box_has_far_key.Goals as goal
 
 pub returns-then-has_far_key : goal.returns-then-has_far_key

@@ -1,7 +1,6 @@
 use Rattle.input_tests.proofs.Grids.{small_product, size_is}
 use native.Mathlib.Omega.{arith}
 use Prim.Native.Nat.{◌+◌}
-use borrow.Author.Rules.{rules}
 use Rattle.input_tests.proofs.grid.grid_size.Goals as goal
 
 pub overflow_mul-result : goal.overflow_mul-result

@@ -1,8 +1,7 @@
 use mir.Syntax.{w64}
 use mir.ValLaws.{to_z-of_z}
 use Rattle.rounding.specs.Rounding.{beyond, far_key}
-use mathlib.Core.Path.{◌≡◌, refl, sym, ap, ◌∙◌}
-use borrow.Author.Rules.{rules}
+use mathlib.Core.Path.{ap, ◌∙◌}
 use Rattle.input_tests.proofs.grid.is_far.Goals as goal
 
 pub returns : goal.returns

@@ -3,9 +3,8 @@ use Rattle.lists.proofs.Bools.{or_stop, or_next}
 use Rattle.lists.specs.Lists.{some}
 use borrow.Author.Tests.{lt-ltb, le-ltb}
 use Rattle.input_tests.specs.Front.{grid_too_fine}
-use mathlib.Core.Path.{◌≡◌, refl, sym, ap, ◌∙◌}
+use mathlib.Core.Path.{sym, ◌∙◌}
 use mathlib.Core.Bool.{or-false}
-use borrow.Author.Rules.{rules}
 use Rattle.input_tests.proofs.grid.is_grid_too_fine.Goals as goal
 
 pub returns-then-segments_of-gt256 : goal.returns-then-segments_of-gt256

@@ -1,6 +1,5 @@
 use Rattle.mesh_compact.proofs.Compacting.{none_passed, none_small, apart, labels_low, room, compacted_is}
 use native.Mathlib.Omega.{arith}
-use borrow.Author.Rules.{rules}
 use Rattle.mesh_compact.proofs.compact.remove_small_disconnected_components.Goals as goal
 
 pub returns-then-k-eq0 : goal.returns-then-k-eq0

@@ -1,5 +1,4 @@
 use Rattle.mesh_compact.proofs.Naming.{has_number, cornered}
-use borrow.Author.Rules.{rules}
 use Rattle.mesh_compact.proofs.renumber.number_corner.Goals as goal
 
 pub overflow_sub-m : goal.overflow_sub-m

@@ -4,7 +4,6 @@ use Rattle.geometry.specs.Triangles.{Triangle}
 use native.Mathlib.Omega.{arith}
 use Prim.Native.Nat.{ℕ}
 use mathlib.Core.Path.{ap, subst}
-use borrow.Author.Rules.{rules}
 use Rattle.mesh_compact.proofs.renumber.number_facet.Goals as goal
 
 pub number_corner-w1-requires : goal.number_corner-w1-requires

@@ -2,7 +2,6 @@ use Rattle.mesh_compact.proofs.Loop.{corner0, corner1, corner2, passed_over_lem,
 use Prim.Native.Nat.{◌+◌, ◌*◌}
 use native.Mathlib.Omega.{arith}
 use mathlib.Core.Path.{sym, ◌∙◌}
-use borrow.Author.Rules.{rules}
 use Rattle.mesh_compact.proofs.renumber.number_if_kept.Goals as goal
 
 pub is_large-requires : goal.is_large-requires

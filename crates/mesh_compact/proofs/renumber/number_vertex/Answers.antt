@@ -2,7 +2,6 @@ use Rattle.mesh_compact.proofs.Naming.{after_old, after_new}
 use lib.ListN.{length-set}
 use native.Mathlib.Omega.{arith}
 use mathlib.Core.Path.{sym}
-use borrow.Author.Rules.{rules}
 use Rattle.mesh_compact.proofs.renumber.number_vertex.Goals as goal
 
 pub returns-then-m-at-ne0 : goal.returns-then-m-at-ne0

@@ -1,9 +1,6 @@
 use Rattle.mesh_compact.proofs.Loop.{still_room, going_on, going_from, going_start, going_end}
-use Rattle.mesh_compact.specs.Room.{NumberedSoFar}
-use lib.ListN.{length}
 use native.Mathlib.Omega.{arith}
-use Prim.Native.Nat.{◌-◌}
-use mathlib.Core.Path.{◌≡◌, refl, ◌∙◌}
+use mathlib.Core.Path.{refl, ◌∙◌}
 use Rattle.mesh_compact.proofs.renumber.renumber.Goals as goal
 
 pub zero_part-requires : goal.zero_part-requires

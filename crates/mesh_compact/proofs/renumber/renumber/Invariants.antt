@@ -1,9 +1,7 @@
-use Rattle.mesh_compact.proofs.Loop.{still_room, going_on, going_from, going_start, going_end}
 use Rattle.mesh_compact.specs.Room.{NumberedSoFar}
 use lib.ListN.{length}
-use native.Mathlib.Omega.{arith}
 use Prim.Native.Nat.{◌-◌}
-use mathlib.Core.Path.{◌≡◌, refl, ◌∙◌}
+use mathlib.Core.Path.{◌≡◌}
 use Rattle.mesh_compact.proofs.renumber.renumber.Given as goal
 
 abbrev pub invariant-loop-i : goal.invariant-loop-i

@@ -5,7 +5,6 @@ use Rattle.words.specs.Packed.{triple}
 use Rattle.geometry.specs.Numbers.{mesh_vertices_of}
 use Rattle.geometry.specs.Triangles.{Triangle}
 use mathlib.Core.Path.{sym, subst, ap, ◌∙◌}
-use borrow.Author.Rules.{rules}
 use Rattle.mesh_filter.proofs.corners.corners_key.Goals as goal
 
 pub pack_triple-requires : goal.pack_triple-requires

@@ -3,7 +3,6 @@ use lib.ListN.{get_or}
 use native.Mathlib.Omega.{arith}
 use Prim.Native.Nat.{ℕ, ◌+◌, ◌*◌}
 use mathlib.Core.Path.{ap, ◌∙◌}
-use borrow.Author.Rules.{rules}
 use Rattle.mesh_filter.proofs.corners.corners_of.Goals as goal
 
 pub overflow_add-numbers : goal.overflow_add-numbers

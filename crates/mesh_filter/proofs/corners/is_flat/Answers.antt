@@ -4,7 +4,6 @@ use Rattle.geometry.specs.declared.point.Point.{Point}
 use lib.Ieee.{Float, binary64, le, mul}
 use native.Mathlib.Omega.{arith}
 use mathlib.Core.Path.{ap, ◌∙◌}
-use borrow.Author.Rules.{rules}
 use Rattle.mesh_filter.proofs.corners.is_flat.Goals as goal
 
 pub welded_point-a-requires : goal.welded_point-a-requires

@@ -1,7 +1,6 @@
 use Rattle.geometry.specs.Meshes.{vertex_of}
 use native.Mathlib.Omega.{arith}
 use mathlib.Core.Path.{ap, ◌∙◌}
-use borrow.Author.Rules.{rules}
 use Rattle.mesh_filter.proofs.corners.welded_point.Goals as goal
 
 pub vertex_at-requires : goal.vertex_at-requires

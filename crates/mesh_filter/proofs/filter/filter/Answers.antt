@@ -1,9 +1,7 @@
 use Rattle.mesh_filter.proofs.Steps.{going_start, still_numbered, turn_same, turned_on, filtered, none_filtered}
-use Rattle.mesh_filter.specs.Room.{points_in_room, facets_in_room, FacetFiltered}
-use lib.ListN.{length}
 use native.Mathlib.Omega.{arith}
-use Prim.Native.Nat.{◌+◌, ◌-◌}
-use mathlib.Core.Path.{◌≡◌, refl, ◌∙◌}
+use Prim.Native.Nat.{◌+◌}
+use mathlib.Core.Path.{refl, ◌∙◌}
 use Rattle.mesh_filter.proofs.filter.filter.Goals as goal
 
 pub returns-then-n-eq0 : goal.returns-then-n-eq0

@@ -8,7 +8,6 @@ use lib.Dec.{eqb}
 use native.Mathlib.Omega.{arith}
 use Prim.Native.Nat.{ℕ, ◌+◌, ◌*◌, ◌-◌}
 use mathlib.Core.Path.{◌≡◌, sym, ap, ◌∙◌, subst}
-use borrow.Author.Rules.{rules}
 use Rattle.mesh_filter.proofs.filter.find_key.Goals as goal
 
 pub find_word-requires : goal.find_word-requires

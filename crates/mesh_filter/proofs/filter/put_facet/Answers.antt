@@ -1,6 +1,5 @@
 use lib.ListN.{length-set}
 use native.Mathlib.Omega.{arith}
-use borrow.Author.Rules.{rules}
 use Rattle.mesh_filter.proofs.filter.put_facet.Goals as goal
 
 pub bounds-m-at-2 : goal.bounds-m-at-2

@@ -1,5 +1,4 @@
 use Rattle.mesh_weld.proofs.Signs.{asked, told, cell_is}
-use borrow.Author.Rules.{rules}
 use Rattle.mesh_weld.proofs.cells.cell_of.Goals as goal
 
 pub word_of_key-requires : goal.word_of_key-requires

@@ -3,7 +3,6 @@ use Rattle.geometry.specs.Points.{norm2}
 use Rattle.geometry.specs.declared.point.Point.{Point}
 use lib.Ieee.{Float, binary64, le, mul}
 use mathlib.Core.Path.{ap, ◌∙◌}
-use borrow.Author.Rules.{rules}
 use Rattle.mesh_weld.proofs.cells.is_near.Goals as goal
 
 pub returns : goal.returns

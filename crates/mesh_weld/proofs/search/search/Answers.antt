@@ -1,7 +1,6 @@
 use Rattle.mesh_weld.proofs.Searching.{found_cell}
 use native.Mathlib.Omega.{arith}
 use mathlib.Core.Path.{◌∙◌}
-use borrow.Author.Rules.{rules}
 use Rattle.mesh_weld.proofs.search.search.Goals as goal
 
 pub search_block-requires : goal.search_block-requires

@@ -1,8 +1,6 @@
-use Rattle.mesh_weld.proofs.Searching.{meets_at, filed, met}
-use Rattle.chains.proofs.Walking.{Walk, left, walk_start, walk_low, walk_room, walk_found, walk_turn, walk_less, walk_end}
-use native.Mathlib.Omega.{arith}
-use Prim.Native.Nat.{◌*◌, ◌-◌}
-use mathlib.Core.Path.{sym, ◌∙◌}
+use Rattle.mesh_weld.proofs.Searching.{meets_at}
+use Rattle.chains.proofs.Walking.{Walk, left}
+use Prim.Native.Nat.{◌*◌}
 use Rattle.mesh_weld.proofs.search.search_cell.Given as goal
 
 abbrev pub invariant-loop-l : goal.invariant-loop-l

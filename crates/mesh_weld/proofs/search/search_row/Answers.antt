@@ -1,7 +1,6 @@
 use Rattle.mesh_weld.proofs.Searching.{found_hit, found_miss}
 use Rattle.mesh_weld.specs.Room.{z_up}
 use mathlib.Core.List.{[], ◌∷◌}
-use borrow.Author.Rules.{rules}
 use Rattle.mesh_weld.proofs.search.search_row.Goals as goal
 
 pub returns-then-r0-ne0 : goal.returns-then-r0-ne0

@@ -1,6 +1,5 @@
 use lib.ListN.{length-set}
 use native.Mathlib.Omega.{arith}
-use borrow.Author.Rules.{rules}
 use Rattle.mesh_weld.proofs.weld.keep.Goals as goal
 
 pub bounds-m-at : goal.bounds-m-at

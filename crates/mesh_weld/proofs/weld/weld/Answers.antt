@@ -1,9 +1,6 @@
 use Rattle.mesh_weld.proofs.Steps.{going_start, going_end, none_welds}
-use Rattle.mesh_weld.specs.Room.{WeldedSoFar}
-use lib.ListN.{length}
 use native.Mathlib.Omega.{arith}
-use Prim.Native.Nat.{◌-◌}
-use mathlib.Core.Path.{◌≡◌, refl, ◌∙◌}
+use mathlib.Core.Path.{refl, ◌∙◌}
 use Rattle.mesh_weld.proofs.weld.weld.Goals as goal
 
 pub returns-then-n-eq0 : goal.returns-then-n-eq0

@@ -8,7 +8,6 @@ use native.Mathlib.Omega.{arith}
 use Prim.Native.Nat.{ℕ, ◌+◌, ◌*◌}
 use mathlib.Core.List.{List}
 use mathlib.Core.Path.{sym, ap, ◌∙◌, subst}
-use borrow.Author.Rules.{rules}
 use Rattle.mesh_weld.proofs.weld.weld_vertex.Goals as goal
 
 pub cell_of-c-requires : goal.cell_of-c-requires

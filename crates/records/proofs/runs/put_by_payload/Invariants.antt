@@ -1,10 +1,5 @@
-use Prim.Native.Nat.{ℕ, ◌+◌, ◌-◌, ◌≤◌, ◌<◌}
-use mathlib.Core.Path.{◌≡◌, subst}
-use native.Mathlib.Omega.{arith}
-use lib.ListN.{length}
-use Rattle.records.specs.Buffer.{payload_in}
+use Prim.Native.Nat.{◌-◌, ◌≤◌}
 use Rattle.records.specs.Runs.{PayloadsPut}
-use Rattle.records.proofs.ByRuns.{put_none, payload_now, put_more}
 use Rattle.records.proofs.runs.put_by_payload.Given as goal
 
 -- `put_by_payload` meets its contract: the word stands by the payload of each record before j. Assumes nothing.

@@ -1,5 +1,4 @@
-use Rattle.records.proofs.ByRuns.{Same, same_start, same_more, run_cut}
-use Prim.Native.Nat.{◌-◌}
+use Rattle.records.proofs.ByRuns.{same_start, same_more, run_cut}
 use native.Mathlib.Omega.{arith}
 use Rattle.records.proofs.runs.run_end.Goals as goal
 

@@ -1,6 +1,5 @@
-use Rattle.records.proofs.ByRuns.{Same, same_start, same_more, run_cut}
+use Rattle.records.proofs.ByRuns.{Same}
 use Prim.Native.Nat.{◌-◌}
-use native.Mathlib.Omega.{arith}
 use Rattle.records.proofs.runs.run_end.Given as goal
 
 -- `run_end` meets its contract: the records from i up to e have one key. Assumes nothing.

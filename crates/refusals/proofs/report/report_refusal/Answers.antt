@@ -1,6 +1,5 @@
 use Rattle.refusals.proofs.Reports.{in_case}
 use Rattle.refusals.specs.Refusals.{documented}
-use borrow.Author.Rules.{rules}
 use Rattle.refusals.proofs.report.report_refusal.Goals as goal
 
 pub returns-in-Ragged : goal.returns-in-Ragged

@@ -1,5 +1,4 @@
 use Rattle.refusals.proofs.Reports.{reply_two, reply_three, reply_four, reply_refused}
-use borrow.Author.Rules.{rules}
 use Rattle.refusals.proofs.report.report_reply.Goals as goal
 
 pub returns-in-DoneTwo : goal.returns-in-DoneTwo

@@ -1,8 +1,7 @@
-use Prim.Native.Nat.{◌-◌}
 use mathlib.Core.Path.{◌∙◌}
 use native.Mathlib.Omega.{arith}
 use lib.ListN.{length, replicate, length-replicate}
-use Rattle.words.proofs.Overlay.{Writing, writing_start, zero_turn, zero_end, overlay_whole}
+use Rattle.words.proofs.Overlay.{writing_start, zero_turn, zero_end, overlay_whole}
 use Rattle.words.proofs.clearing.zero.Goals as goal
 
 pub loop-i-init : goal.loop-i-init

@@ -1,8 +1,6 @@
 use Prim.Native.Nat.{◌-◌}
-use mathlib.Core.Path.{◌∙◌}
-use native.Mathlib.Omega.{arith}
-use lib.ListN.{length, replicate, length-replicate}
-use Rattle.words.proofs.Overlay.{Writing, writing_start, zero_turn, zero_end, overlay_whole}
+use lib.ListN.{length, replicate}
+use Rattle.words.proofs.Overlay.{Writing}
 use Rattle.words.proofs.clearing.zero.Given as goal
 
 -- `zero` meets its contract: after i turns the first i words are zero. Assumes nothing.

@@ -1,7 +1,6 @@
-use Prim.Native.Nat.{◌-◌}
 use native.Mathlib.Omega.{arith}
 use lib.ListN.{replicate, length-replicate}
-use Rattle.words.proofs.Overlay.{Writing, writing_start, zero_turn, zero_end}
+use Rattle.words.proofs.Overlay.{writing_start, zero_turn, zero_end}
 use Rattle.words.proofs.clearing.zero_front.Goals as goal
 
 pub loop-k-init : goal.loop-k-init

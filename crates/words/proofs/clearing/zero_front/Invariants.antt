@@ -1,7 +1,6 @@
 use Prim.Native.Nat.{◌-◌}
-use native.Mathlib.Omega.{arith}
-use lib.ListN.{replicate, length-replicate}
-use Rattle.words.proofs.Overlay.{Writing, writing_start, zero_turn, zero_end}
+use lib.ListN.{replicate}
+use Rattle.words.proofs.Overlay.{Writing}
 use Rattle.words.proofs.clearing.zero_front.Given as goal
 
 -- `zero_front` meets its contract: after k turns the first k words are zero. Assumes nothing.

@@ -1,9 +1,7 @@
-use Prim.Native.Nat.{◌-◌}
 use mathlib.Core.Path.{refl}
 use native.Mathlib.Omega.{arith}
 use lib.Ieee.{nan}
-use lib.ListN.{length}
-use Rattle.words.proofs.Overlay.{Writing, writing_start, writing_turn, writing_end}
+use Rattle.words.proofs.Overlay.{writing_start, writing_turn, writing_end}
 use Rattle.words.proofs.copying.copy_doubles.Goals as goal
 
 pub loop-k-init : goal.loop-k-init

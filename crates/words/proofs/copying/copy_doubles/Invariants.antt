@@ -1,9 +1,6 @@
 use Prim.Native.Nat.{◌-◌}
-use mathlib.Core.Path.{refl}
-use native.Mathlib.Omega.{arith}
-use lib.Ieee.{nan}
 use lib.ListN.{length}
-use Rattle.words.proofs.Overlay.{Writing, writing_start, writing_turn, writing_end}
+use Rattle.words.proofs.Overlay.{Writing}
 use Rattle.words.proofs.copying.copy_doubles.Given as goal
 
 -- `copy_doubles` meets its contract: after k turns the first k doubles are written. Assumes nothing.

@@ -1,8 +1,6 @@
 use Prim.Native.Nat.{◌-◌}
-use mathlib.Core.Path.{refl}
-use native.Mathlib.Omega.{arith}
 use lib.ListN.{length}
-use Rattle.words.proofs.Overlay.{Writing, writing_start, writing_turn, writing_end}
+use Rattle.words.proofs.Overlay.{Writing}
 use Rattle.words.proofs.copying.copy_words.Given as goal
 
 -- `copy_words` meets its contract: after i turns the first i words are written. Assumes nothing.

@@ -1,8 +1,5 @@
-use mathlib.Core.Path.{◌≡◌, refl, sym, ap, ◌∙◌}
-use Prim.Native.Nat.{ℕ, ◌+◌, ◌*◌, ◌≤◌, ◌<◌, ◌-◌, ◌/◌}
 use native.Mathlib.Omega.{arith}
-use lib.ListN.{get_or, length, length-set}
-use Rattle.lists.proofs.Regions.{Filled, filled_none, filled_more}
+use Rattle.lists.proofs.Regions.{filled_none, filled_more}
 use Rattle.words.proofs.parts.zero_part.Goals as goal
 
 pub loop-i-init : goal.loop-i-init

@@ -1,8 +1,5 @@
-use mathlib.Core.Path.{◌≡◌, refl, sym, ap, ◌∙◌}
-use Prim.Native.Nat.{ℕ, ◌+◌, ◌*◌, ◌≤◌, ◌<◌, ◌-◌, ◌/◌}
-use native.Mathlib.Omega.{arith}
-use lib.ListN.{get_or, length, length-set}
-use Rattle.lists.proofs.Regions.{Filled, filled_none, filled_more}
+use Prim.Native.Nat.{◌≤◌, ◌-◌}
+use Rattle.lists.proofs.Regions.{Filled}
 use Rattle.words.proofs.parts.zero_part.Given as goal
 
 -- `zero_part` meets its contract: after i turns the first i words of the part are 0. Assumes nothing.

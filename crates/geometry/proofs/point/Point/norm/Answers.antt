@@ -1,8 +1,7 @@
 use Rattle.root.specs.Root.{root, rootable}
 use lib.Ieee.{Float}
 use lib.Dec.{T}
-use mathlib.Core.Path.{◌≡◌, ap, ◌∙◌, subst⁻¹}
-use borrow.Author.Rules.{rules}
+use mathlib.Core.Path.{ap, ◌∙◌, subst⁻¹}
 use Rattle.geometry.proofs.point.Point.norm.Goals as goal
 
 pub sqrt-requires : goal.sqrt-requires
