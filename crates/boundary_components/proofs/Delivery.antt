@@ -15,7 +15,7 @@ use Rattle.edges.specs.Edges.{pair_words}
 use Rattle.refusals.specs.declared.refusal.Refusal.TheVariants.{NoRoom}
 use Rattle.refusals.specs.declared.reply.Reply.TheVariants.{DoneThree, Refused}
 use Rattle.refusals.specs.Refusals.{documented_reply}
-use Rattle.refusals.specs.Answers.{Output, output, Answer}
+use Rattle.refusals.specs.Answers.{output, Answer}
 use Rattle.refusals.proofs.Answers.{short, done_three}
 use Rattle.irregular_edges.specs.Irregular.{irregular_edges}
 use Rattle.boundary_groups.specs.Groups.{boundary_components, component_words}

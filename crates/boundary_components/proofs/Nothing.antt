@@ -5,25 +5,25 @@
 --   closed_nothing, nothing_closed   the theorem, either way
 use Prim.Native.Nat.{ℕ, ◌<◌}
 use native.Mathlib.Omega.{arith}
-use mathlib.Core.Bool.{Bool, true, false, cond}
+use mathlib.Core.Bool.{Bool, true, false}
 use mathlib.Core.List.Memᴰ
 use mathlib.Core.List.{List, [], ◌∷◌, map, flat_map, Memᴰ}
-use mathlib.Core.Logic.{◌⊎◌, inl, inr, ⊎_elim}
+use mathlib.Core.Logic.{⊎_elim}
 use mathlib.Core.Path.{◌≡◌, refl, sym, ap, ◌∙◌, subst}
 use borrow.Author.Tests.{eq-eqb, eqb-true}
-use lib.Dec.{T, eqb}
+use lib.Dec.{eqb}
 use lib.ListN.{length}
 use Rattle.lists.specs.Lists.{some, keep, up_from, sort_by, distinct_from, distinct}
 use Rattle.lists.proofs.Bools.{yes, is_true, is_false}
-use Rattle.lists.proofs.Mapped.{Each, each_of, keep_none}
+use Rattle.lists.proofs.Mapped.{each_of, keep_none}
 use Rattle.lists.proofs.Members.{keep_of, flat_map_of}
 use Rattle.lists.proofs.Orders.{cases, never}
 use Rattle.lists.proofs.SortBy.{length_sort_by}
 use Rattle.geometry.specs.Triangles.{Triangle}
 use Rattle.edges.specs.Edges.{sides, sorted_pair, same_pair, bearers, is_open, pair_before, open_edges, pair_words}
-use Rattle.irregular_edges.specs.Irregular.{same_side, is_irregular, irregular_edges}
+use Rattle.irregular_edges.specs.Irregular.{is_irregular, irregular_edges}
 use Rattle.components.specs.Joined.{Joined}
-use Rattle.boundary_groups.specs.Groups.{nth_edge, groups, SameComponent, open_pairs, boundary_components, component_words}
+use Rattle.boundary_groups.specs.Groups.{nth_edge, groups, open_pairs, boundary_components, component_words}
 use Rattle.boundary_groups.proofs.Together.{one_component}
 use Rattle.boundary_components.specs.Boundary.{ClosedMesh, Nothing}
 use Rattle.boundary_components.proofs.Regular.{two_ends, two_sides, one_back, not_open, not_irregular}

@@ -2,23 +2,20 @@
 --   both_ways_counted   of an edge with two ends: its bearers are those that run as s does and those that run back
 --   one_end_counted     of an edge a, a: all its bearers run as s does
 --   regular-side, side-regular   neither open nor irregular, exactly if so borne
-use Prim.Native.Nat.{ℕ, zero, suc, ◌+◌, ◌≤◌, ◌<◌}
+use Prim.Native.Nat.{ℕ, zero, suc, ◌+◌, ◌≤◌}
 use native.Mathlib.Omega.{arith}
 use mathlib.Core.Bool.{Bool, true, false, ◌&&◌, ◌||◌}
 use mathlib.Core.List.{List, [], ◌∷◌, Memᴰ}
-use mathlib.Core.Logic.{◌⊎◌, inl, inr, ⊎_elim}
 use mathlib.Core.Path.{◌≡◌, refl, sym, ap, ◌∙◌}
 use borrow.Author.Tests.{ltb-false, le-ltb, eqb-true, eq-eqb}
-use lib.Dec.{T, eqb, ltb}
-use lib.ListN.{length, get_or}
+use lib.Dec.{eqb, ltb}
+use lib.ListN.{length}
 use Rattle.lists.specs.Lists.{keep, count}
-use Rattle.lists.proofs.Bools.{both_ways, or_next, or_none_left, or_none_right, and_left, and_right, and_next}
+use Rattle.lists.proofs.Bools.{or_next, or_none_left, or_none_right, and_left, and_next}
 use Rattle.lists.proofs.Counts.{keep_same, count_some}
 use Rattle.lists.proofs.Members.{mem_get_d}
 use Rattle.lists.proofs.Multiplicity.{more, count_cons}
-use Rattle.lists.proofs.Orders.{cases, never}
 use Rattle.edges.specs.Edges.{same_pair, bearers}
-use Rattle.edges.proofs.Edges.{same_pair_refl}
 use Rattle.irregular_edges.specs.Irregular.{same_side, is_irregular}
 
 abbrev back : ℕ × ℕ → ℕ × ℕ

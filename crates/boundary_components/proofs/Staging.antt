@@ -4,30 +4,29 @@
 --   pairs_in        their pairs are the open edges, the smaller end first
 --   edges_ready     what grouping asks
 --   listed          all three lists stand in the work room
-use Prim.Native.Nat.{ℕ, ◌+◌, ◌*◌, ◌-◌, ◌/◌, ◌%◌, ◌≤◌, ◌<◌}
+use Prim.Native.Nat.{ℕ, ◌+◌, ◌*◌, ◌-◌, ◌≤◌, ◌<◌}
 use native.Mathlib.Omega.{arith}
-use mathlib.Core.Bool.{Bool, true, false, not}
-use mathlib.Core.List.{List, [], ◌∷◌, map, flat_map}
-use mathlib.Core.Path.{◌≡◌, refl, sym, ap, ◌∙◌, subst}
+use mathlib.Core.Bool.{not}
+use mathlib.Core.List.{List, map, flat_map}
+use mathlib.Core.Path.{◌≡◌, refl, sym, ap, ◌∙◌}
 use borrow.Author.Tests.{ltb-true, not-false}
 use lib.Dec.{ltb}
-use lib.ListN.{length, get_or, take, drop, replicate, length-map, get_or-map}
-use lib.Seq.{get_or-take, get_or-drop, ext_get_or}
-use Rattle.lists.specs.Lists.{some, up_to}
-use Rattle.lists.specs.Regions.{view, Outside, Above, PartZeroed}
+use lib.ListN.{length, get_or, length-map, get_or-map}
+use lib.Seq.{ext_get_or}
+use Rattle.lists.specs.Lists.{up_to}
+use Rattle.lists.specs.Regions.{view, PartZeroed}
 use Rattle.lists.proofs.Every.{none_at}
 use Rattle.lists.proofs.Places.{length_up, at_map_up}
 use Rattle.lists.proofs.Regions.{view_same}
 use Rattle.words.specs.Packed.{pair_first, pair_second}
 use Rattle.geometry.specs.Triangles.{threes}
-use Rattle.edges.specs.Edges.{sides, sorted_pair, open_edges, pair_words}
-use Rattle.edges.specs.Table.{edge_key, next_side, EdgeTable, KeptOpen, OpenEdges}
+use Rattle.edges.specs.Edges.{sorted_pair, open_edges, pair_words}
+use Rattle.edges.specs.Table.{next_side, EdgeTable, KeptOpen, OpenEdges}
 use Rattle.edges.proofs.Sides.{Small, next_in, side_at_lem}
 use Rattle.edges.proofs.Keys.{key_first, key_second}
 use Rattle.edges.proofs.Edges.{open_small}
 use Rattle.edges.proofs.Steps.{opens}
 use Rattle.input_tests.specs.Front.{bad_index}
-use Rattle.irregular_edges.specs.Irregular.{irregular_edges}
 use Rattle.irregular_edges.specs.Listed.{IrregularListed}
 use Rattle.irregular_edges.proofs.Walking.{table_kept}
 use Rattle.boundary_groups.specs.Groups.{open_pairs, boundary_components, component_words}

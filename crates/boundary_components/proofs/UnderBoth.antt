@@ -7,7 +7,7 @@ use mathlib.Core.Bool.{Bool, false}
 use mathlib.Core.List.{List, [], ◌∷◌, flat_map}
 use borrow.Author.Tests.{le-ltb}
 use lib.ListN.{length}
-use Rattle.geometry.specs.Triangles.{Triangle, threes}
+use Rattle.geometry.specs.Triangles.{threes}
 use Rattle.edges.specs.Edges.{pair_words}
 use Rattle.refusals.specs.declared.refusal.Refusal.TheVariants.{Ragged, TooMany, BadIndex}
 use Rattle.refusals.specs.Refusals.{Test, settle}

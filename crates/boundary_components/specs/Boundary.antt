@@ -6,7 +6,7 @@
 use Rattle.std.specs.Prelude.{ℕ, ◌/◌, ◌≡◌, ◌||◌, ltb, length}
 use mathlib.Core.List.{List, [], ◌∷◌, Memᴰ, flat_map}
 use Rattle.lists.specs.Lists.{count}
-use Rattle.geometry.specs.Triangles.{Triangle, threes}
+use Rattle.geometry.specs.Triangles.{Triangle}
 use Rattle.edges.specs.Edges.{sides, bearers, pair_words}
 use Rattle.refusals.specs.declared.refusal.Refusal.TheVariants.{Ragged, TooMany, BadIndex}
 use Rattle.refusals.specs.Refusals.{Test}

@@ -1,7 +1,7 @@
 -- Laws of the records of component and edge, sorted. Assumes nothing.
 --   sorted_runs      their runs are the groups, one by one
 --   sorted_list      the edges' numbers, in their order, are the groups one behind the other
-use Prim.Native.Nat.{ℕ, zero, suc, ◌+◌, ◌≤◌, ◌<◌}
+use Prim.Native.Nat.{ℕ, zero, suc, ◌≤◌, ◌<◌}
 use native.Mathlib.Omega.{arith}
 use mathlib.Core.Path.{◌≡◌, refl, sym, ap, ◌∙◌, subst}
 use mathlib.Core.Bool.{Bool, true, false, cond}

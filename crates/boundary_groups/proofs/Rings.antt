@@ -20,7 +20,7 @@ use Rattle.lists.proofs.Multiplicity.{more, count_cons, keep_yes, keep_no}
 use Rattle.lists.proofs.Places.{length_up}
 use Rattle.components.specs.Joined.{one, via}
 use Rattle.edges.specs.Edges.{pair_words}
-use Rattle.boundary_groups.specs.Groups.{is_end, all_places, nth_edge, linked, together, groups, is_ring, Ring}
+use Rattle.boundary_groups.specs.Groups.{is_end, all_places, nth_edge, together, groups, is_ring, Ring}
 use Rattle.boundary_groups.proofs.Together.{eqb_T, first_end, second_end, share_of, place_in, in_place, at_place, together_told, Group, of_groups, group_told}
 
 module _ {A : Type 0} where

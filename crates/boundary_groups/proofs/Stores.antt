@@ -1,7 +1,7 @@
 -- Laws of the loops that store. Assumes nothing.
 --   PairsPut, pairs_none, pairs_more     pairs of words, one behind the other
 --   Tallying, tally_start, tally_low, tally_turn, tally_end   ends are counted
-use Prim.Native.Nat.{ℕ, zero, ◌+◌, ◌*◌, ◌≤◌, ◌<◌}
+use Prim.Native.Nat.{ℕ, ◌+◌, ◌*◌, ◌≤◌, ◌<◌}
 use native.Mathlib.Numerals.{add-one}
 use native.Mathlib.Omega.{arith}
 use native.Mathlib.Decide.{ℕ_discrete}

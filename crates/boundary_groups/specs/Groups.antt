@@ -5,7 +5,7 @@
 --   boundary_components   the open edges of facets so grouped, each once and the smaller end first
 --   is_ring, Ring     as a test, and as told            component_words   of each component how many edges it has, and 1 if it is a ring, else 0
 --   SameComponent    two places are in one group
-use Rattle.std.specs.Prelude.{ℕ, ◌<◌, ◌≡◌, ◌⊎◌, Bool, cond, not, ◌&&◌, ◌||◌, eqb, length, get_or}
+use Rattle.std.specs.Prelude.{ℕ, ◌≡◌, ◌⊎◌, Bool, cond, not, ◌&&◌, ◌||◌, eqb, length, get_or}
 use mathlib.Core.List.{List, [], ◌∷◌, Memᴰ, map, flat_map}
 use Rattle.lists.specs.Lists.{every, some, keep, count, has, up_to}
 use Rattle.geometry.specs.Triangles.{Triangle}

@@ -6,7 +6,7 @@
 use Prim.Native.Nat.{ℕ, ◌+◌, ◌*◌, ◌-◌, ◌≤◌, ◌<◌, min, max}
 use mathlib.Core.Bool.{Bool, true, false, cond, ◌&&◌, ◌||◌}
 use mathlib.Core.List.{List, [], ◌∷◌, ◌++◌, map, append_assoc, append-nil}
-use mathlib.Core.Logic.{◌⊎◌, inl, inr, ⊎_elim}
+use mathlib.Core.Logic.{inl, inr, ⊎_elim}
 use mathlib.Core.Path.{◌≡◌, refl, sym, ap, subst, ◌∙◌}
 use native.Mathlib.Omega.{arith}
 use borrow.Author.Tests.{lt-ltb, eqb-true, eq-eqb, ltb-true}
@@ -26,7 +26,6 @@ use Rattle.records.specs.Runs.{runs, first_key, Run}
 use Rattle.records.specs.Records.{record_before, sorted}
 use Rattle.records.proofs.ByRuns.{runs_nil, run_at, first_key_lem, runs_distinct}
 use Rattle.records.proofs.Comparing.{Lex, record_order, lex_before, not_lex}
-use Rattle.geometry.specs.Triangles.{tri}
 use Rattle.edges.specs.Edges.{sorted_pair, same_pair, pair_before}
 use Rattle.edges.proofs.Edges.{same_sorted, sorted_same}
 use Rattle.candidate_constraints.specs.Steps.{Kept, Roomy, unpacked, pair_key, pair_record, Distinct}

@@ -3,7 +3,7 @@
 --   in_list                                         a place of a face's list is within the room, by the names that the code has for it
 --   pool_same, shown_same, edges_after, held_after  after stores elsewhere
 --   holds_shown                                     what `all_constraints` is given
-use Prim.Native.Nat.{ℕ, ◌+◌, ◌*◌, ◌≤◌, ◌<◌}
+use Prim.Native.Nat.{ℕ, ◌+◌, ◌≤◌, ◌<◌}
 use mathlib.Core.List.{List}
 use mathlib.Core.Path.{◌≡◌, sym, subst}
 use native.Mathlib.Omega.{arith}

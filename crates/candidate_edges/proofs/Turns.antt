@@ -28,7 +28,7 @@ use Rattle.candidate_pool.proofs.Edges.{edges_more, edges_same, held_kept, held_
 use Rattle.geometry.proofs.Meshes.{length_points_of}
 use Rattle.candidate_edges.proofs.Sources.{sourced_same}
 use Rattle.candidate_edges.specs.Surface.{edge_faces, mesh_candidate, enter_edge}
-use Rattle.candidate_edges.specs.Steps.{TableAt, MeshFits, Sourced, SourcesReady, VertexEntered, surface_at, EdgesEntering, EdgeEntered}
+use Rattle.candidate_edges.specs.Steps.{TableAt, MeshFits, SourcesReady, VertexEntered, surface_at, EdgesEntering, EdgeEntered}
 use Rattle.candidate_edges.proofs.Faces.{mask_faces, mask_small}
 
 -- ---- three words stored one behind the other

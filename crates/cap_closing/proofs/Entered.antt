@@ -3,11 +3,11 @@
 --   points_are    the points                 corners_are   the corners as vertex numbers
 use Prim.Native.Nat.{ℕ, ◌+◌, ◌-◌, ◌<◌}
 use mathlib.Core.Path.{◌≡◌, refl, sym, ap, subst, ◌∙◌}
-use mathlib.Core.Bool.{Bool, cond}
+use mathlib.Core.Bool.{cond}
 use mathlib.Core.List.{List, [], ◌∷◌, ◌++◌, map, foldl, flat_map, Memᴰ}
 use lib.Dec.{eqb}
 use lib.ListN.{length, get_or, length-map}
-use Rattle.lists.specs.Lists.{keep, place, distinct}
+use Rattle.lists.specs.Lists.{place, distinct}
 use Rattle.lists.proofs.Counts.{keep_same}
 use Rattle.lists.proofs.Mapped.{Each, each_of, of_each}
 use Rattle.lists.proofs.Sequences.{at_map}

@@ -11,7 +11,7 @@ use native.Mathlib.Omega.{arith}
 use lib.Dec.{eqb}
 use lib.ListN.{length, get_or, length-map}
 use lib.Ieee.{Float}
-use Rattle.lists.specs.Lists.{keep, count, distinct, up_to}
+use Rattle.lists.specs.Lists.{keep, distinct, up_to}
 use Rattle.lists.proofs.Mapped.{Each, each_map}
 use Rattle.geometry.specs.Triangles.{Triangle, tri, mapped, flat}
 use Rattle.geometry.specs.Meshes.{points_of}

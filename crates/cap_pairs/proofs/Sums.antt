@@ -9,12 +9,9 @@ use mathlib.Core.List.{List, [], ◌∷◌, ◌++◌, map, Memᴰ}
 use mathlib.Core.Path.{◌≡◌, refl, sym, ap, ◌∙◌}
 use native.Mathlib.Omega.{arith}
 use native.Mathlib.Numerals.{add-one}
-use borrow.Author.Tests.{eqb-true, eq-eqb}
-use lib.Dec.{eqb}
 use lib.ListN.{length, get_or}
 use Rattle.lists.specs.Lists.{some, place, up_from, up_to}
 use Rattle.lists.proofs.Sequences.{some_up}
-use Rattle.lists.proofs.Bools.{both_ways, eqb_sym}
 
 -- ---- some
 module _ {A : Type 0} (p : A → Bool) where

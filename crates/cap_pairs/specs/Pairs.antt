@@ -4,7 +4,7 @@
 --   PairNumbers    two have one number exactly if they have the same two candidates
 --   Numbered       what `number_pairs` leaves
 --   PairsKnown     by their numbers stand the faces of open edges that run up, of those that run down, and of triangles that hold the pair
-use Rattle.std.specs.Prelude.{ℕ, ◌+◌, ◌*◌, ◌-◌, ◌/◌, ◌≤◌, ◌<◌, ◌≡◌, cond, ◌&&◌, List, eqb, ltb, length, get_or}
+use Rattle.std.specs.Prelude.{ℕ, ◌+◌, ◌*◌, ◌-◌, ◌/◌, ◌<◌, ◌≡◌, cond, ◌&&◌, List, eqb, ltb, length, get_or}
 use Rattle.lists.specs.Lists.{some}
 use Rattle.lists.specs.Regions.{Above}
 use Rattle.geometry.specs.Triangles.{edges}

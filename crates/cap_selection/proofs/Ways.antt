@@ -6,15 +6,15 @@
 --   seed_parts             an open edge is held backwards by one of three sides
 use Prim.Native.Nat.{ℕ, zero, suc, ◌+◌, ◌*◌, ◌<◌}
 use native.Mathlib.Omega.{arith}
-use mathlib.Core.Path.{◌≡◌, refl, sym, ap, ◌∙◌, subst}
+use mathlib.Core.Path.{◌≡◌, refl, ap, ◌∙◌}
 use mathlib.Core.Bool.{Bool, true, false, ◌&&◌, ◌||◌}
 use mathlib.Core.List.{List, [], ◌∷◌, map, flat_map}
-use mathlib.Core.Logic.{◌⊎◌, inr, ⊎_elim}
+use mathlib.Core.Logic.{inr, ⊎_elim}
 use borrow.Author.Tests.{ltb-true, lt-ltb, eqb-true, eq-eqb}
-use lib.Dec.{T, eqb, ltb}
+use lib.Dec.{eqb, ltb}
 use lib.ListN.{length, get_or}
 use Rattle.lists.specs.Lists.{some}
-use Rattle.lists.proofs.Bools.{and_left, and_right, and_next, yes, both_ways}
+use Rattle.lists.proofs.Bools.{and_left, and_right, and_next, both_ways}
 use Rattle.lists.proofs.Sequences.{some_same}
 use Rattle.geometry.specs.Triangles.{Triangle, edges, contains_oriented_edge}
 use Rattle.edges.specs.Edges.{sides, same_pair}

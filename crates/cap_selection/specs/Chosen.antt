@@ -1,7 +1,7 @@
 -- The selection in the work room, of which the outer contract does not speak. Assumes nothing.
 --   chosen_in   of each triangle whether its component holds a seed, as it stands in the room
 --   Chosen     what `select_caps` leaves: the definition's selection
-use Rattle.std.specs.Prelude.{ℕ, ◌+◌, ◌*◌, ◌/◌, ◌<◌, ◌≡◌, Bool, List, map, eqb, length, get_or}
+use Rattle.std.specs.Prelude.{ℕ, ◌+◌, ◌/◌, ◌<◌, ◌≡◌, Bool, List, map, eqb, length, get_or}
 use Rattle.lists.specs.Lists.{up_to}
 use Rattle.lists.specs.Regions.{Above}
 use Rattle.candidate_pool.specs.Offsets.{open_edges_at}

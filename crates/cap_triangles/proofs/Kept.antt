@@ -5,7 +5,7 @@
 --   supplied_kept     with a list of triangles
 --   turned_in_kept, turned_kept           the turned triangles: they end at pair_records_at
 --   ready_kept        and with the open edges
-use Prim.Native.Nat.{ℕ, ◌+◌, ◌-◌, ◌*◌, ◌/◌, ◌≤◌, ◌<◌}
+use Prim.Native.Nat.{ℕ, ◌+◌, ◌*◌, ◌/◌, ◌≤◌, ◌<◌}
 use mathlib.Core.Path.{◌≡◌, sym, ap, ◌∙◌, subst}
 use mathlib.Core.List.{List, map}
 use native.Mathlib.Omega.{arith}

@@ -5,7 +5,7 @@
 --   area_of      twice the signed area of three points of a face
 --   corners_in   the three points that candidates have there
 --   turned_by    a triangle turned outward
-use Rattle.std.specs.Prelude.{ℕ, ◌+◌, ◌*◌, ◌<◌, Bool, cond, not, ◌&&◌, ◌||◌, List, eqb, ltb, Float, length, get_or}
+use Rattle.std.specs.Prelude.{ℕ, ◌+◌, ◌<◌, Bool, cond, not, ◌&&◌, ◌||◌, List, eqb, ltb, Float, length, get_or}
 use Rattle.std.specs.Bool.{beq}
 use Rattle.std.specs.Float.Ieee.{lt}
 use Rattle.root.specs.Doubles.{◌⊖◌, ◌⊗◌, zero_f}

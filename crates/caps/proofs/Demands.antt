@@ -2,21 +2,19 @@
 --   closed_meets      the mesh of a selection is what demand 3 says; result_meets of the definition's mesh, for every input
 --   demand_decides    demand 3 leaves no other mesh
 --   closes            what an operation that settles the definition's mesh writes is what demand 3 says
-use Prim.Native.Nat.{ℕ, ◌+◌}
+use Prim.Native.Nat.{ℕ}
 use mathlib.Core.Path.{◌≡◌, refl, sym, ap, ◌∙◌, subst}
-use mathlib.Core.Bool.{Bool, true, false, cond}
-use mathlib.Core.List.{List, [], ◌∷◌, ◌++◌, map, foldl}
-use lib.Dec.{T, eqb}
-use lib.ListN.{length, get_or, set}
+use mathlib.Core.Bool.{Bool, false, cond}
+use mathlib.Core.List.{List, ◌++◌}
+use lib.ListN.{length, get_or}
 use lib.Ieee.{Float}
 use Rattle.geometry.specs.declared.point.Point.{Point}
-use Rattle.geometry.specs.Triangles.{Triangle, flat}
 use Rattle.geometry.specs.Meshes.{Mesh, mesh_of}
 use Rattle.refusals.specs.Refusals.{Test}
 use Rattle.refusals.specs.Answers.{mesh_outputs, Answer}
 use Rattle.refusals.proofs.Answers.{answer_done}
 use Rattle.candidate_pool.specs.OpenEdges.{OpenEdge}
-use Rattle.candidate_pool.specs.Pool.{Pool, point_of}
+use Rattle.candidate_pool.specs.Pool.{Pool}
 use Rattle.candidate_surface.specs.Asked.{Asked}
 use Rattle.cap_triangles.specs.Selection.{Cap, caps_of, outward_caps, selected, Selects}
 use Rattle.cap_triangles.proofs.Selecting.{selected_selects, selects_unique}

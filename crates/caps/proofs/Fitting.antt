@@ -2,7 +2,7 @@
 --   listable, listable_same   the cap list, once tests 1 to 7 have passed, and the room for it; a room of the same length serves as well
 --   tabled_room     the room for the open edges' table
 --   closable        what the closing asks, once tests 10 and 11 have passed
-use Prim.Native.Nat.{ℕ, ◌+◌, ◌*◌, ◌/◌, ◌≤◌, ◌<◌}
+use Prim.Native.Nat.{ℕ, ◌/◌, ◌≤◌, ◌<◌}
 use native.Mathlib.Omega.{arith}
 use mathlib.Core.Path.{◌≡◌, subst}
 use mathlib.Core.List.{List}

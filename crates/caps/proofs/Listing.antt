@@ -3,9 +3,9 @@
 --   bad_refused         10 refuses                     good_list      or does not
 --   turned_ready        the triangles turned           numbered_ready, noted_ready   pairs numbered, and faces noted
 --   EdgesAnswered, edges_answered   11
-use Prim.Native.Nat.{ℕ, ◌+◌, ◌*◌, ◌/◌, ◌%◌, ◌≤◌, ◌<◌}
+use Prim.Native.Nat.{ℕ, ◌*◌, ◌/◌, ◌≤◌, ◌<◌}
 use native.Mathlib.Omega.{arith}
-use mathlib.Core.Path.{◌≡◌, refl, sym, ap, ◌∙◌, subst}
+use mathlib.Core.Path.{◌≡◌, sym, ap, ◌∙◌, subst}
 use mathlib.Core.List.{List, [], ◌∷◌}
 use borrow.Author.Tests.{lt-ltb, le-ltb}
 use lib.Dec.{ltb}
@@ -18,7 +18,6 @@ use Rattle.lists.proofs.Places.{length_up}
 use Rattle.lists.proofs.Regions.{above_less, above_more}
 use Rattle.refusals.specs.declared.refusal.Refusal.{Refusal}
 use Rattle.refusals.specs.declared.refusal.Refusal.TheVariants.{BadCap, MissingEdge}
-use Rattle.refusals.specs.declared.refusal.Checked.{Checked}
 use Rattle.refusals.specs.declared.refusal.Checked.TheVariants.{Passed, Refused}
 use Rattle.refusals.specs.Refusals.{Test, first_refusal}
 use Rattle.refusals.proofs.Refusals.{holds, passes, none_left}

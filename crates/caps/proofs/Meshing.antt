@@ -1,26 +1,26 @@
 -- Laws of the steps that close a mesh: what stands in the room after the last is the definition's mesh. Assumes nothing.
 --   chosen_ready, chosen_words   what is left for the closing, once the selection is made
 --   deliverable, standing_is     the closed mesh can be written out, and it is the definition's         answered   with test 12
-use Prim.Native.Nat.{ℕ, ◌+◌, ◌*◌, ◌/◌, ◌≤◌, ◌<◌}
+use Prim.Native.Nat.{ℕ, ◌/◌}
 use native.Mathlib.Omega.{arith}
 use mathlib.Core.Bool.{Bool}
 use mathlib.Core.Path.{◌≡◌, sym, ap, subst, ◌∙◌}
 use mathlib.Core.List.{List, [], ◌++◌}
 use lib.ListN.{length}
 use lib.Ieee.{Float}
-use Rattle.geometry.specs.Triangles.{Triangle, threes}
+use Rattle.geometry.specs.Triangles.{threes}
 use Rattle.geometry.specs.Meshes.{Mesh, mesh_of}
 use Rattle.candidate_pool.specs.Offsets.{open_edges_at}
 use Rattle.refusals.specs.Answers.{mesh_outputs, Answer}
 use Rattle.candidate_pool.specs.Standing.{pool_at}
-use Rattle.cap_triangles.specs.Selection.{Cap, caps_of, outward_caps, selected}
+use Rattle.cap_triangles.specs.Selection.{caps_of, outward_caps, selected}
 use Rattle.cap_triangles.specs.Room.{labels_at, closing_at, Pooled, TurnedReady}
 use Rattle.cap_triangles.proofs.Kept.{pool_kept, pooled_kept, edges_kept, turned_kept}
 use Rattle.cap_selection.specs.Chosen.{chosen_in, Chosen}
 use Rattle.cap_closing.specs.Closing.{own_facets, closed}
 use Rattle.cap_closing.specs.Entering.{MeshWords, Closed}
 use Rattle.cap_outputs.specs.Written.{closed_mesh_in, Deliverable}
-use Rattle.caps.specs.Steps.{edges_in, closed_of, closed_mesh, Closable}
+use Rattle.caps.specs.Steps.{edges_in, closed_mesh, Closable}
 use Rattle.caps.proofs.Numbering.{words_kept}
 
 module _ (vs : List Float) (fs cap_list : List ℕ) (n k : ℕ) (positive : Bool) (w : List ℕ) (D : Closable vs fs cap_list n k w) (w₁ : List ℕ)

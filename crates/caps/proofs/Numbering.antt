@@ -2,7 +2,7 @@
 --   Low            no candidate of the pool names a vertex beyond m
 --   low_insert, low_fold   kept by what is inserted
 --   full_low       of the candidates of a mesh      words_low     as they stand in the room      words_kept    and stay
-use Prim.Native.Nat.{ℕ, zero, suc, ◌+◌, ◌*◌, ◌/◌, ◌≤◌, ◌<◌}
+use Prim.Native.Nat.{ℕ, zero, suc, ◌+◌, ◌/◌, ◌≤◌, ◌<◌}
 use native.Mathlib.Omega.{arith}
 use mathlib.Core.Bool.{Bool, true, false, cond, ◌&&◌}
 use mathlib.Core.Path.{◌≡◌, ap, ◌∙◌}

@@ -5,7 +5,7 @@
 --   Closable       what is asked of mesh and room for it to be closed
 --   Listable       what is asked of the cap list, and the room for it
 --   surface_mesh    the result of a mesh with a facet, in a mode that closes
-use Rattle.std.specs.Prelude.{ℕ, ◌+◌, ◌*◌, ◌/◌, ◌≤◌, ◌≡◌, Bool, cond, List, length, Float}
+use Rattle.std.specs.Prelude.{ℕ, ◌/◌, ◌≤◌, ◌≡◌, Bool, cond, List, length, Float}
 use Rattle.lists.specs.Regions.{Above}
 use Rattle.geometry.specs.Meshes.{Mesh, mesh_of}
 use Rattle.refusals.specs.declared.refusal.Checked.{Checked}

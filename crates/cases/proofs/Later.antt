@@ -3,9 +3,9 @@
 --   later_earlier, later_none, later_other, later_alone   `is_later`, by what was found
 --   listed_number, listed_value, listed_words   number, first value and words of the reply, by the box and the work room lent
 use Prim.Native.Nat.{ℕ, ◌+◌, ◌*◌, ◌/◌, ◌≤◌, ◌<◌}
-use mathlib.Core.Path.{◌≡◌, refl, sym, ap, ap₂, ◌∙◌, subst}
+use mathlib.Core.Path.{◌≡◌, refl, sym, ap, ◌∙◌, subst}
 use mathlib.Core.Bool.{Bool, true, false, not, ◌&&◌}
-use mathlib.Core.List.{List, [], ◌∷◌}
+use mathlib.Core.List.{List}
 use native.Mathlib.Omega.{arith}
 use native.Mathlib.Nat.{zero-add}
 use borrow.Author.Tests.{ltb-true, ltb-false, lt-ltb, le-ltb, eq-eqb, ne_eqb}
@@ -21,7 +21,7 @@ use Rattle.refusals.specs.Refusals.{settle}
 use Rattle.candidate_outputs.specs.Outputs.{candidate_words}
 use Rattle.candidate_surface.specs.Asked.{asked}
 use Rattle.boundary_closure.specs.Operation.{candidates_result}
-use Rattle.cases.specs.Comparing.{stands_at, free, FirstWhere, place_of}
+use Rattle.cases.specs.Comparing.{stands_at, free, FirstWhere}
 use Rattle.cases.specs.Cleaning.{values_of}
 use Rattle.cases.specs.Closing.{list_reply, Listing, candidates_in, earlier, later, is_later}
 

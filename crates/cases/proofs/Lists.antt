@@ -3,7 +3,7 @@
 --   facet_listing               the reply to the facet
 --   facet_number, facet_value   number and first value of the reply to the facet, by the box and the work room lent
 use Prim.Native.Nat.{ℕ}
-use mathlib.Core.Path.{◌≡◌, sym, ap, ap₂, ◌∙◌, subst}
+use mathlib.Core.Path.{◌≡◌, ap, ap₂, ◌∙◌, subst}
 use mathlib.Core.List.{List, [], ◌∷◌}
 use lib.ListN.{length, get_or, replicate, length-replicate}
 use lib.Ieee.{Float}

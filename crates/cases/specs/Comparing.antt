@@ -7,7 +7,7 @@
 --   FirstWhere       the first number below n that passes a test, and n where none does
 --   place_of     the first candidate at a point, and how many candidates there are where none is there
 use Rattle.std.specs.Prelude.{ℕ, ◌+◌, ◌*◌, ◌/◌, ◌≤◌, ◌<◌, ◌≡◌, Bool, true, false, cond, not, ◌&&◌, ◌||◌, List, eqb, leb, length, get_or, Float}
-use Rattle.std.specs.Float.{nan, binary64}
+use Rattle.std.specs.Float.{binary64}
 use Rattle.std.specs.Float.Ieee.{eq, to_bits}
 use Rattle.lists.specs.Lists.{every, place, up_to}
 

@@ -4,7 +4,6 @@ use mathlib.Core.Path.{◌∙◌}
 use lib.ListN.{length, replicate, length-replicate}
 use Rattle.words.proofs.Overlay.{overlay_whole}
 use Rattle.refusals.proofs.Answers.{answered}
-use borrow.Author.Rules.{rules}
 use Rattle.boundary_components.proofs.boundary_components.Goals as goal
 
 pub returns : goal.returns

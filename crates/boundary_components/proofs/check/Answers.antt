@@ -4,7 +4,6 @@ use lib.ListN.{length}
 use mathlib.Core.Bool.{false}
 use native.Mathlib.Omega.{arith}
 use mathlib.Core.Path.{◌≡◌, sym, ◌∙◌}
-use borrow.Author.Rules.{rules}
 use Rattle.boundary_components.proofs.check.Goals as goal
 
 pub returns-then-is_ragged : goal.returns-then-is_ragged

@@ -1,6 +1,4 @@
-use Rattle.boundary_components.proofs.Delivery.{short_edges, short_components, short_irregular, written, room}
-use native.Mathlib.Omega.{arith}
-use borrow.Author.Rules.{rules}
+use Rattle.boundary_components.proofs.Delivery.{short_edges, short_components, short_irregular, written}
 use Rattle.boundary_components.proofs.list_checked.Goals as goal
 
 pub returns-then-out_edges-edges : goal.returns-then-out_edges-edges

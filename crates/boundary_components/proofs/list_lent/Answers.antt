@@ -5,7 +5,6 @@ use Rattle.input_tests.specs.Front.{limits}
 use Rattle.boundary_components.specs.Boundary.{boundary_tests, boundary_outputs}
 use Rattle.boundary_components.proofs.Checking.{passed}
 use mathlib.Core.Path.{refl, sym, ◌∙◌}
-use borrow.Author.Rules.{rules}
 use Rattle.boundary_components.proofs.list_lent.Goals as goal
 
 pub list_checked-requires : goal.list_checked-requires

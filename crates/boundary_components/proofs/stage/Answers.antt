@@ -1,7 +1,6 @@
 use Rattle.boundary_components.proofs.Staging.{table_again, edges_ready, listed}
 use Rattle.edges.proofs.Steps.{ascends}
 use native.Mathlib.Omega.{arith}
-use borrow.Author.Rules.{rules}
 use Rattle.boundary_components.proofs.stage.Goals as goal
 
 pub keep_open-edges-requires : goal.keep_open-edges-requires

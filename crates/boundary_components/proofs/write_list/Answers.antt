@@ -1,5 +1,4 @@
 use Rattle.boundary_components.proofs.Delivery.{part_written}
-use borrow.Author.Rules.{rules}
 use Rattle.boundary_components.proofs.write_list.Goals as goal
 
 pub returns : goal.returns

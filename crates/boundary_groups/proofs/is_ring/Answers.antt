@@ -1,10 +1,6 @@
-use Prim.Native.Nat.{◌*◌, ◌-◌, ◌≤◌}
-use mathlib.Core.Path.{◌≡◌, refl, sym, ◌∙◌}
+use mathlib.Core.Path.{refl, sym, ◌∙◌}
 use native.Mathlib.Omega.{arith}
-use Rattle.records.specs.Buffer.{records_at}
-use Rattle.lists.specs.Lists.{every}
-use Rattle.boundary_groups.specs.Staged.{turns_of}
-use Rattle.boundary_groups.proofs.Walks.{every_records_stop, every_records_more, every_records_end, not_true, not_false}
+use Rattle.boundary_groups.proofs.Walks.{every_records_stop, every_records_more, every_records_end}
 use Rattle.boundary_groups.proofs.is_ring.Goals as goal
 
 pub loop-j-init : goal.loop-j-init

@@ -1,9 +1,9 @@
-use Prim.Native.Nat.{◌+◌, ◌*◌, ◌-◌, ◌≤◌}
+use Prim.Native.Nat.{◌+◌, ◌*◌}
 use lib.ListN.{get_or, length-set}
 use mathlib.Core.Path.{refl}
 use native.Mathlib.Omega.{arith}
 use Rattle.boundary_groups.proofs.Walks.{records_end}
-use Rattle.boundary_groups.proofs.Stores.{PairsPut, pairs_none, pairs_more}
+use Rattle.boundary_groups.proofs.Stores.{pairs_none, pairs_more}
 use Rattle.boundary_groups.proofs.number_records.Goals as goal
 
 pub loop-i-preserved : goal.loop-i-preserved

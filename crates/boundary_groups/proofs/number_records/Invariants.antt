@@ -1,9 +1,6 @@
-use Prim.Native.Nat.{◌+◌, ◌*◌, ◌-◌, ◌≤◌}
-use lib.ListN.{get_or, length-set}
-use mathlib.Core.Path.{refl}
-use native.Mathlib.Omega.{arith}
-use Rattle.boundary_groups.proofs.Walks.{records_end}
-use Rattle.boundary_groups.proofs.Stores.{PairsPut, pairs_none, pairs_more}
+use Prim.Native.Nat.{◌+◌, ◌-◌, ◌≤◌}
+use lib.ListN.{get_or}
+use Rattle.boundary_groups.proofs.Stores.{PairsPut}
 use Rattle.boundary_groups.proofs.number_records.Given as goal
 
 -- `number_records`. The loop's invariant: the records before i are stored. The measure is what is left. Assumes nothing.

@@ -2,7 +2,7 @@ use Prim.Native.Nat.{◌+◌, ◌*◌, ◌-◌}
 use lib.ListN.{length-set}
 use mathlib.Core.Path.{refl}
 use native.Mathlib.Omega.{arith}
-use Rattle.boundary_groups.proofs.Walks.{Putting, TurnBounds, putting_start, putting_ready, putting_turn, putting_end, flag}
+use Rattle.boundary_groups.proofs.Walks.{TurnBounds, putting_start, putting_ready, putting_turn, putting_end, flag}
 use Rattle.boundary_groups.proofs.put_components.Goals as goal
 
 pub loop-i-preserved : goal.loop-i-preserved

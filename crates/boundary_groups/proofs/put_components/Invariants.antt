@@ -1,8 +1,5 @@
-use Prim.Native.Nat.{◌+◌, ◌*◌, ◌-◌}
-use lib.ListN.{length-set}
-use mathlib.Core.Path.{refl}
-use native.Mathlib.Omega.{arith}
-use Rattle.boundary_groups.proofs.Walks.{Putting, TurnBounds, putting_start, putting_ready, putting_turn, putting_end, flag}
+use Prim.Native.Nat.{◌-◌}
+use Rattle.boundary_groups.proofs.Walks.{Putting}
 use Rattle.boundary_groups.proofs.put_components.Given as goal
 
 -- `put_components`. The loop's invariant: the words of the runs before record i stand from `to` on. The measure is what is left. Assumes nothing.

@@ -1,11 +1,10 @@
-use Prim.Native.Nat.{◌+◌, ◌*◌, ◌-◌, ◌≤◌}
+use Prim.Native.Nat.{◌+◌, ◌*◌}
 use lib.ListN.{length-set}
 use mathlib.Core.Path.{refl, ap, ◌∙◌}
 use native.Mathlib.Omega.{arith}
 use Rattle.boundary_groups.proofs.Walks.{ends_end}
 use Rattle.words.specs.Packed.{pair_first, pair_second}
-use Rattle.boundary_groups.specs.Staged.{edge_in}
-use Rattle.boundary_groups.proofs.Stores.{PairsPut, pairs_none, pairs_more}
+use Rattle.boundary_groups.proofs.Stores.{pairs_none, pairs_more}
 use Rattle.boundary_groups.proofs.put_ends.Goals as goal
 
 pub loop-i-preserved : goal.loop-i-preserved

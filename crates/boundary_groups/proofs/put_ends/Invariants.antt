@@ -1,11 +1,6 @@
-use Prim.Native.Nat.{◌+◌, ◌*◌, ◌-◌, ◌≤◌}
-use lib.ListN.{length-set}
-use mathlib.Core.Path.{refl, ap, ◌∙◌}
-use native.Mathlib.Omega.{arith}
-use Rattle.boundary_groups.proofs.Walks.{ends_end}
-use Rattle.words.specs.Packed.{pair_first, pair_second}
+use Prim.Native.Nat.{◌-◌, ◌≤◌}
 use Rattle.boundary_groups.specs.Staged.{edge_in}
-use Rattle.boundary_groups.proofs.Stores.{PairsPut, pairs_none, pairs_more}
+use Rattle.boundary_groups.proofs.Stores.{PairsPut}
 use Rattle.boundary_groups.proofs.put_ends.Given as goal
 
 -- `put_ends`. The loop's invariant: the ends of the edges before i stand from `to` on. The measure is what is left. Assumes nothing.

@@ -1,9 +1,9 @@
-use Prim.Native.Nat.{ℕ, ◌+◌, ◌*◌, ◌-◌, ◌≤◌}
+use Prim.Native.Nat.{ℕ, ◌+◌, ◌*◌}
 use lib.ListN.{get_or, length-set}
 use mathlib.Core.Path.{refl, ap, ◌∙◌}
 use native.Mathlib.Omega.{arith}
 use Rattle.boundary_groups.proofs.Walks.{edges_end}
-use Rattle.boundary_groups.proofs.Stores.{PairsPut, pairs_none, pairs_more}
+use Rattle.boundary_groups.proofs.Stores.{pairs_none, pairs_more}
 use Rattle.boundary_groups.proofs.put_grouped.Goals as goal
 
 pub loop-j-preserved : goal.loop-j-preserved

@@ -1,9 +1,6 @@
-use Prim.Native.Nat.{ℕ, ◌+◌, ◌*◌, ◌-◌, ◌≤◌}
-use lib.ListN.{get_or, length-set}
-use mathlib.Core.Path.{refl, ap, ◌∙◌}
-use native.Mathlib.Omega.{arith}
-use Rattle.boundary_groups.proofs.Walks.{edges_end}
-use Rattle.boundary_groups.proofs.Stores.{PairsPut, pairs_none, pairs_more}
+use Prim.Native.Nat.{◌+◌, ◌*◌, ◌-◌, ◌≤◌}
+use lib.ListN.{get_or}
+use Rattle.boundary_groups.proofs.Stores.{PairsPut}
 use Rattle.boundary_groups.proofs.put_grouped.Given as goal
 
 -- `put_grouped`. The loop's invariant: the ends of the edges of the records before j stand from `to` on. The measure is what is left. Assumes nothing.

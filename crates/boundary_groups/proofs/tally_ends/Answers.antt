@@ -1,7 +1,6 @@
-use Prim.Native.Nat.{◌-◌}
 use mathlib.Core.Path.{refl}
 use native.Mathlib.Omega.{arith}
-use Rattle.boundary_groups.proofs.Stores.{Tallying, tally_start, tally_in, tally_low, tally_turn, tally_end}
+use Rattle.boundary_groups.proofs.Stores.{tally_start, tally_in, tally_low, tally_turn, tally_end}
 use Rattle.boundary_groups.proofs.tally_ends.Goals as goal
 
 pub loop-i-preserved : goal.loop-i-preserved

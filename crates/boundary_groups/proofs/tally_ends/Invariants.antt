@@ -1,7 +1,5 @@
 use Prim.Native.Nat.{◌-◌}
-use mathlib.Core.Path.{refl}
-use native.Mathlib.Omega.{arith}
-use Rattle.boundary_groups.proofs.Stores.{Tallying, tally_start, tally_in, tally_low, tally_turn, tally_end}
+use Rattle.boundary_groups.proofs.Stores.{Tallying}
 use Rattle.boundary_groups.proofs.tally_ends.Given as goal
 
 -- `tally_ends`. The loop's invariant: the ends before i are counted. The measure is what is left. Assumes nothing.

@@ -1,7 +1,5 @@
-use Rattle.irregular_edges.proofs.Walking.{Writing, walk_start, walk_room, walk_yes, walk_no, walk_end, table_kept}
-use lib.ListN.{length, length-set}
-use Prim.Native.Nat.{◌-◌}
-use borrow.Author.Rules.{rules}
+use Rattle.irregular_edges.proofs.Walking.{walk_start, walk_room, walk_yes, walk_no, walk_end, table_kept}
+use lib.ListN.{length-set}
 use native.Mathlib.Omega.{arith}
 use Rattle.irregular_edges.proofs.irregular_edges.Goals as goal
 

@@ -1,8 +1,6 @@
-use Rattle.irregular_edges.proofs.Walking.{Writing, walk_start, walk_room, walk_yes, walk_no, walk_end, table_kept}
-use lib.ListN.{length, length-set}
+use Rattle.irregular_edges.proofs.Walking.{Writing}
+use lib.ListN.{length}
 use Prim.Native.Nat.{◌-◌}
-use borrow.Author.Rules.{rules}
-use native.Mathlib.Omega.{arith}
 use Rattle.irregular_edges.proofs.irregular_edges.Given as goal
 
 -- `irregular_edges` meets its contract: the pairs of the irregular runs before i are written. Assumes nothing.

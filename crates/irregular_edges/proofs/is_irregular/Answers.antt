@@ -3,7 +3,6 @@ use Rattle.edges.specs.Edges.{sides}
 use Rattle.geometry.specs.Triangles.{threes}
 use Prim.Native.Nat.{◌*◌, ◌-◌}
 use native.Mathlib.Omega.{arith}
-use borrow.Author.Rules.{rules}
 use Rattle.irregular_edges.proofs.is_irregular.Goals as goal
 
 -- `is_irregular` meets its contract: the length of the run decides, and of two records where their sides begin. Assumes nothing.

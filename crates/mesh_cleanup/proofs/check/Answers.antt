@@ -4,10 +4,8 @@ use Rattle.input_tests.specs.Front.{limits}
 use Rattle.input_tests.proofs.Lists.{listed}
 use Rattle.lists.proofs.Bools.{and_next, and_stop}
 use native.Mathlib.Omega.{arith}
-use borrow.Author.Tests.{not-true, not-false}
 use mathlib.Core.Bool.{not}
 use mathlib.Core.Path.{sym, ap, ◌∙◌}
-use borrow.Author.Rules.{rules}
 use Rattle.mesh_cleanup.proofs.check.Goals as goal
 
 pub returns-in-Refused : goal.returns-in-Refused

@@ -2,7 +2,6 @@ use Rattle.mesh_cleanup.specs.Clean.{clean_asked, clean_result}
 use Rattle.mesh_cleanup.proofs.Delivery.{short_vertices, short_facets, done}
 use native.Mathlib.Omega.{arith}
 use mathlib.Core.Path.{refl}
-use borrow.Author.Rules.{rules}
 use Rattle.mesh_cleanup.proofs.clean_checked.Goals as goal
 
 pub returns-then-out_vertices-need : goal.returns-then-out_vertices-need

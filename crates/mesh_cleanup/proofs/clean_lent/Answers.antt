@@ -5,7 +5,6 @@ use Rattle.refusals.specs.Answers.{mesh_outputs}
 use Rattle.input_tests.specs.Front.{limits}
 use Rattle.mesh_cleanup.specs.Clean.{clean_asked, clean_tests, clean_result}
 use mathlib.Core.Path.{refl, sym, ◌∙◌}
-use borrow.Author.Rules.{rules}
 use Rattle.mesh_cleanup.proofs.clean_lent.Goals as goal
 
 pub clean_checked-requires : goal.clean_checked-requires

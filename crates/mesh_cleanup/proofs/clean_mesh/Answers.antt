@@ -1,6 +1,5 @@
 use Rattle.mesh_cleanup.proofs.Delivery.{cleaned_up}
 use Rattle.mesh_cleanup.specs.Clean.{clean_asked}
-use borrow.Author.Rules.{rules}
 use Rattle.mesh_cleanup.proofs.clean_mesh.Goals as goal
 
 pub returns : goal.returns

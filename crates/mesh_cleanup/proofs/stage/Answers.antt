@@ -1,7 +1,6 @@
 use lib.ListN.{length}
 use Rattle.mesh_cleanup.specs.Clean.{clean_asked}
 use Rattle.mesh_cleanup.proofs.Staging.{keys_in, weld_room, numbered, last_room, staged}
-use borrow.Author.Rules.{rules}
 use Rattle.mesh_cleanup.proofs.stage.Goals as goal
 
 pub weld-count-requires : goal.weld-count-requires

@@ -1,9 +1,6 @@
 use mathlib.Core.List.{[]}
 use Rattle.mesh_cleanup.proofs.Outputs.{numbers_start, number_room, numbers_turn, numbers_end}
-use Rattle.words.proofs.Overlay.{Writing}
-use Rattle.lists.specs.Regions.{view}
 use native.Mathlib.Omega.{arith}
-use Prim.Native.Nat.{◌-◌}
 use Rattle.mesh_cleanup.proofs.write_numbers.Goals as goal
 
 pub loop-i-init : goal.loop-i-init

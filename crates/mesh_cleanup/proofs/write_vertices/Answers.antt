@@ -5,7 +5,7 @@ use Rattle.words.proofs.Overlay.{Writing}
 use Rattle.geometry.specs.Meshes.{coordinates, vertex_of}
 use lib.Ieee.{Float}
 use native.Mathlib.Omega.{arith}
-use Prim.Native.Nat.{◌+◌, ◌*◌, ◌-◌}
+use Prim.Native.Nat.{◌+◌, ◌*◌}
 use mathlib.Core.Path.{sym, ap, subst, ◌∙◌}
 use Rattle.mesh_cleanup.proofs.write_vertices.Goals as goal
 

@@ -1,12 +1,8 @@
 use Rattle.lists.specs.Regions.{view}
-use mathlib.Core.List.{map, List}
-use Rattle.mesh_cleanup.proofs.Outputs.{vertices_start, vertex_room, vertices_turn, vertices_end}
+use mathlib.Core.List.{map}
 use Rattle.words.proofs.Overlay.{Writing}
 use Rattle.geometry.specs.Meshes.{coordinates, vertex_of}
-use lib.Ieee.{Float}
-use native.Mathlib.Omega.{arith}
-use Prim.Native.Nat.{◌+◌, ◌*◌, ◌-◌}
-use mathlib.Core.Path.{sym, ap, subst, ◌∙◌}
+use Prim.Native.Nat.{◌*◌, ◌-◌}
 use Rattle.mesh_cleanup.proofs.write_vertices.Given as goal
 
 abbrev pub invariant-loop-k : goal.invariant-loop-k

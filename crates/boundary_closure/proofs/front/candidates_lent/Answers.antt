@@ -7,7 +7,6 @@ use Rattle.candidate_surface.specs.Asked.{asked}
 use Rattle.boundary_closure.proofs.Delivery.{refused_before, no_facet_lem, some_facet}
 use Rattle.candidate_surface.proofs.Fitting.{room_for}
 use Rattle.closure_tests.proofs.Checking.{sound, room_passed}
-use borrow.Author.Rules.{rules}
 use Rattle.boundary_closure.proofs.front.candidates_lent.Goals as goal
 
 pub returns-then-facets-eq0 : goal.returns-then-facets-eq0

@@ -1,5 +1,4 @@
 use Rattle.refusals.proofs.Answers.{answered}
-use borrow.Author.Rules.{rules}
 use Rattle.boundary_closure.proofs.front.cap_candidates.Goals as goal
 
 pub returns : goal.returns

@@ -5,7 +5,6 @@ use Rattle.boundary_closure.proofs.Listing.{no_ends_left, ends_left, Made, made_
 use Rattle.boundary_closure.proofs.Delivery.{no_ends, some_ends}
 use Rattle.candidate_surface.proofs.Fitting.{vertices_in, most_small}
 use Rattle.candidate_surface.proofs.Completing.{fits_same}
-use borrow.Author.Rules.{rules}
 use Rattle.boundary_closure.proofs.front.list_candidates.Goals as goal
 
 pub enter_surface-listed-requires : goal.enter_surface-listed-requires

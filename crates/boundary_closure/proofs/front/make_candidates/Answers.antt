@@ -6,7 +6,6 @@ use Rattle.candidate_outputs.specs.Outputs.{candidate_outputs}
 use Rattle.candidate_surface.specs.Asked.{asked}
 use Rattle.candidate_surface.proofs.Fitting.{mesh_fits}
 use Rattle.candidate_surface.proofs.Completing.{fits_same}
-use borrow.Author.Rules.{rules}
 use Rattle.boundary_closure.proofs.front.make_candidates.Goals as goal
 
 pub table_edges-k-requires : goal.table_edges-k-requires

@@ -1,7 +1,6 @@
-use Rattle.candidate_constraints.proofs.Listing.{Faced, faced_start, faced_shown, faced_roomy, faced_held, faced_few, faced_turn, faced_end}
+use Rattle.candidate_constraints.proofs.Listing.{faced_start, faced_shown, faced_roomy, faced_held, faced_few, faced_turn, faced_end}
 use Rattle.candidate_constraints.proofs.Showing.{holds_shown}
 use native.Mathlib.Omega.{arith}
-use Prim.Native.Nat.{◌-◌}
 use Rattle.candidate_constraints.proofs.constraints.all_constraints.Goals as goal
 
 pub loop-face-init : goal.loop-face-init

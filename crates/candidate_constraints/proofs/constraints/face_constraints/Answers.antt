@@ -3,7 +3,6 @@ use Rattle.sorting.proofs.Sorting.{sorted_part}
 use borrow.Rule.Slice.PartMut.{put_mid}
 use native.Mathlib.Omega.{arith}
 use Prim.Native.Nat.{◌+◌, ◌*◌, ◌-◌}
-use borrow.Author.Rules.{rules}
 use Rattle.candidate_constraints.proofs.constraints.face_constraints.Goals as goal
 
 pub returns-then-w-face-lt3 : goal.returns-then-w-face-lt3

@@ -1,6 +1,5 @@
 use Rattle.candidate_constraints.proofs.Listing.{shown1, shown2, roomy2, placed2, held2, few2, pairs_listed}
 use native.Mathlib.Omega.{arith}
-use borrow.Author.Rules.{rules}
 use Rattle.candidate_constraints.proofs.constraints.list_pairs.Goals as goal
 
 pub push_sides-c-requires : goal.push_sides-c-requires

@@ -1,8 +1,5 @@
-use Rattle.candidate_constraints.proofs.Once.{Keeping, keeping_start, keeping_turn, keeping_end}
-use Prim.Native.Nat.{◌+◌, ◌*◌, ◌-◌}
-use mathlib.Core.Path.{◌≡◌}
+use Rattle.candidate_constraints.proofs.Once.{keeping_start, keeping_turn, keeping_end}
 use native.Mathlib.Omega.{arith}
-use Rattle.candidate_pool.specs.Offsets.{pairs_at, constraints_at}
 use Rattle.candidate_constraints.proofs.distinct.keep_distinct.Goals as goal
 
 pub pairs_at-pairs-requires : goal.pairs_at-pairs-requires

@@ -1,7 +1,6 @@
-use Rattle.candidate_constraints.proofs.Once.{Keeping, keeping_start, keeping_turn, keeping_end}
-use Prim.Native.Nat.{◌+◌, ◌*◌, ◌-◌}
+use Rattle.candidate_constraints.proofs.Once.{Keeping}
+use Prim.Native.Nat.{◌-◌}
 use mathlib.Core.Path.{◌≡◌}
-use native.Mathlib.Omega.{arith}
 use Rattle.candidate_pool.specs.Offsets.{pairs_at, constraints_at}
 use Rattle.candidate_constraints.proofs.distinct.keep_distinct.Given as goal
 

@@ -1,6 +1,5 @@
 use mathlib.Core.Path.{◌∙◌}
 use Rattle.candidate_constraints.proofs.Once.{key_ascending, key_descending}
-use borrow.Author.Rules.{rules}
 use Rattle.candidate_constraints.proofs.pairs.pair_key.Goals as goal
 
 pub returns-then-a-b : goal.returns-then-a-b

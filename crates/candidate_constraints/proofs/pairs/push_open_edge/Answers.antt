@@ -9,7 +9,6 @@ use Rattle.candidate_pool.specs.Pool.{face_list}
 use Rattle.candidate_pool.specs.Standing.{pool_at}
 use Rattle.candidate_constraints.proofs.Noting.{member_low, noted_place}
 use Rattle.candidate_constraints.proofs.Pairing.{edge_ends, edge_pushed, edge_skipped}
-use borrow.Author.Rules.{rules}
 use Rattle.candidate_constraints.proofs.pairs.push_open_edge.Goals as goal
 
 pub place_of_candidate-a-requires : goal.place_of_candidate-a-requires

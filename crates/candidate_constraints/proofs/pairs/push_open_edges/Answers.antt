@@ -1,6 +1,5 @@
-use Rattle.candidate_constraints.proofs.Pairing.{Edging, edging_start, edging_shown, edging_roomy, edging_placed, edging_held, edging_next, edging_end}
+use Rattle.candidate_constraints.proofs.Pairing.{edging_start, edging_shown, edging_roomy, edging_placed, edging_held, edging_next, edging_end}
 use native.Mathlib.Omega.{arith}
-use Prim.Native.Nat.{◌+◌, ◌*◌, ◌-◌}
 use Rattle.candidate_pool.specs.Offsets.{open_edges_at}
 use Rattle.candidate_constraints.proofs.pairs.push_open_edges.Goals as goal
 

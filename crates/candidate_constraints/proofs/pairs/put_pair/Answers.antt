@@ -1,7 +1,6 @@
 use Rattle.records.specs.Buffer.{put_record}
 use mathlib.Core.Path.{ap}
 use Prim.Native.Nat.{ℕ}
-use borrow.Author.Rules.{rules}
 use Rattle.candidate_constraints.proofs.pairs.put_pair.Goals as goal
 
 pub returns : goal.returns

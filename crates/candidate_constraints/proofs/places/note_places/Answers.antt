@@ -1,10 +1,9 @@
-use Prim.Native.Nat.{ℕ, ◌+◌, ◌-◌, ◌<◌}
-use mathlib.Core.Path.{◌≡◌, refl, ap}
+use Prim.Native.Nat.{ℕ, ◌+◌, ◌<◌}
+use mathlib.Core.Path.{refl, ap}
 use lib.ListN.{get_or, length}
 use native.Mathlib.Omega.{arith}
-use Rattle.candidate_pool.specs.Offsets.{list_at, places_at}
 use Rattle.candidate_constraints.proofs.Showing.{in_list}
-use Rattle.candidate_constraints.proofs.Noting.{Noting, noted_low, noting_start, noting_named, noting_end}
+use Rattle.candidate_constraints.proofs.Noting.{noted_low, noting_start, noting_named, noting_end}
 use Rattle.candidate_constraints.proofs.places.note_places.Goals as goal
 
 pub list_at-list-requires : goal.list_at-list-requires

@@ -1,10 +1,8 @@
-use Prim.Native.Nat.{ℕ, ◌+◌, ◌-◌, ◌<◌}
-use mathlib.Core.Path.{◌≡◌, refl, ap}
-use lib.ListN.{get_or, length}
-use native.Mathlib.Omega.{arith}
+use Prim.Native.Nat.{◌-◌}
+use mathlib.Core.Path.{◌≡◌}
+use lib.ListN.{get_or}
 use Rattle.candidate_pool.specs.Offsets.{list_at, places_at}
-use Rattle.candidate_constraints.proofs.Showing.{in_list}
-use Rattle.candidate_constraints.proofs.Noting.{Noting, noted_low, noting_start, noting_named, noting_end}
+use Rattle.candidate_constraints.proofs.Noting.{Noting}
 use Rattle.candidate_constraints.proofs.places.note_places.Given as goal
 
 -- `note_places` meets its contract: after i turns the first i candidates of the list have their places noted. Assumes nothing.

@@ -1,7 +1,6 @@
 use Prim.Native.Nat.{ℕ, ◌+◌}
 use mathlib.Core.Path.{ap}
 use lib.ListN.{get_or}
-use borrow.Author.Rules.{rules}
 use Rattle.candidate_constraints.proofs.places.place_of_candidate.Goals as goal
 
 pub returns : goal.returns

@@ -1,11 +1,11 @@
-use Prim.Native.Nat.{ℕ, ◌+◌, ◌*◌, ◌-◌, ◌≤◌, ◌<◌}
-use mathlib.Core.Path.{◌≡◌, refl, ap, ◌∙◌}
+use Prim.Native.Nat.{ℕ, ◌+◌, ◌*◌, ◌≤◌, ◌<◌}
+use mathlib.Core.Path.{refl, ap, ◌∙◌}
 use lib.ListN.{get_or, length}
 use native.Mathlib.Omega.{arith}
-use Rattle.candidate_pool.specs.Offsets.{entry_at, list_at, side_at}
+use Rattle.candidate_pool.specs.Offsets.{entry_at}
 use Rattle.candidate_pool.specs.Standing.{point_at}
 use Rattle.candidate_constraints.proofs.Showing.{in_list}
-use Rattle.candidate_constraints.proofs.Along.{Collecting, collecting_start, collected_stored, on_side_no_nan, collecting_named, collecting_end}
+use Rattle.candidate_constraints.proofs.Along.{collecting_start, collected_stored, on_side_no_nan, collecting_named, collecting_end}
 use Rattle.candidate_constraints.proofs.side.collect_side.Goals as goal
 
 pub list_at-list-requires : goal.list_at-list-requires

@@ -1,11 +1,8 @@
-use Prim.Native.Nat.{ℕ, ◌+◌, ◌*◌, ◌-◌, ◌≤◌, ◌<◌}
-use mathlib.Core.Path.{◌≡◌, refl, ap, ◌∙◌}
-use lib.ListN.{get_or, length}
-use native.Mathlib.Omega.{arith}
-use Rattle.candidate_pool.specs.Offsets.{entry_at, list_at, side_at}
-use Rattle.candidate_pool.specs.Standing.{point_at}
-use Rattle.candidate_constraints.proofs.Showing.{in_list}
-use Rattle.candidate_constraints.proofs.Along.{Collecting, collecting_start, collected_stored, on_side_no_nan, collecting_named, collecting_end}
+use Prim.Native.Nat.{◌-◌}
+use mathlib.Core.Path.{◌≡◌}
+use lib.ListN.{get_or}
+use Rattle.candidate_pool.specs.Offsets.{list_at, side_at}
+use Rattle.candidate_constraints.proofs.Along.{Collecting}
 use Rattle.candidate_constraints.proofs.side.collect_side.Given as goal
 
 -- `collect_side` meets its contract: after i turns the records are those of the first i candidates of the list. Assumes nothing.

@@ -1,5 +1,4 @@
 use Rattle.candidate_constraints.proofs.Along.{fraction_one, fraction_none}
-use borrow.Author.Rules.{rules}
 use Rattle.candidate_constraints.proofs.side.note_fraction.Goals as goal
 
 pub order_key-requires : goal.order_key-requires

@@ -1,9 +1,7 @@
-use Rattle.candidate_constraints.proofs.Pairing.{Nearing, nearing_start, near_named, nearing_named, nearing_end}
+use Rattle.candidate_constraints.proofs.Pairing.{nearing_start, near_named, nearing_named, nearing_end}
 use native.Mathlib.Omega.{arith}
-use mathlib.Core.Path.{◌≡◌}
-use Prim.Native.Nat.{◌+◌, ◌*◌, ◌-◌, ◌<◌}
+use Prim.Native.Nat.{◌+◌, ◌*◌, ◌<◌}
 use lib.ListN.{length}
-use Rattle.candidate_pool.specs.Offsets.{side_at, pairs_at}
 use Rattle.candidate_constraints.proofs.side.push_neighbours.Goals as goal
 
 pub side_at-at-requires : goal.side_at-at-requires

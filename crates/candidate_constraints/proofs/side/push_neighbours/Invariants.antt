@@ -1,8 +1,6 @@
-use Rattle.candidate_constraints.proofs.Pairing.{Nearing, nearing_start, near_named, nearing_named, nearing_end}
-use native.Mathlib.Omega.{arith}
+use Rattle.candidate_constraints.proofs.Pairing.{Nearing}
 use mathlib.Core.Path.{◌≡◌}
-use Prim.Native.Nat.{◌+◌, ◌*◌, ◌-◌, ◌<◌}
-use lib.ListN.{length}
+use Prim.Native.Nat.{◌-◌}
 use Rattle.candidate_pool.specs.Offsets.{side_at, pairs_at}
 use Rattle.candidate_constraints.proofs.side.push_neighbours.Given as goal
 

@@ -3,7 +3,6 @@ use Rattle.sorting.proofs.Sorting.{sorted_part}
 use borrow.Rule.Slice.PartMut.{put_mid}
 use native.Mathlib.Omega.{arith}
 use Prim.Native.Nat.{◌+◌, ◌*◌, ◌-◌}
-use borrow.Author.Rules.{rules}
 use Rattle.candidate_constraints.proofs.side.push_side.Goals as goal
 
 pub overflow_mul-m : goal.overflow_mul-m

@@ -1,9 +1,8 @@
-use Rattle.candidate_constraints.proofs.Siding.{Siding, siding_start, siding_shown, siding_few, siding_turn, siding_end}
+use Rattle.candidate_constraints.proofs.Siding.{siding_start, siding_shown, siding_few, siding_turn, siding_end}
 use Rattle.box_faces.specs.Sides.{side_from}
 use Rattle.box_faces.specs.Faces.{uv}
 use Rattle.root.specs.Doubles.{zero_f}
 use native.Mathlib.Omega.{arith}
-use Prim.Native.Nat.{◌-◌}
 use Rattle.candidate_constraints.proofs.side.push_sides.Goals as goal
 
 pub loop-k-init : goal.loop-k-init

@@ -1,7 +1,6 @@
 use Prim.Native.Nat.{ℕ, ◌<◌}
 use mathlib.Core.Path.{sym, subst}
 use native.Mathlib.Omega.{arith}
-use borrow.Author.Rules.{rules}
 use Rattle.candidate_edges.proofs.Faces.{mask_small}
 use Rattle.candidate_edges.proofs.Passes.{corner_in, corner_out}
 use Rattle.candidate_edges.proofs.corners.enter_corner.Goals as goal

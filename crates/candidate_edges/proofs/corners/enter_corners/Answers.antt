@@ -1,6 +1,5 @@
-use Prim.Native.Nat.{◌-◌}
 use native.Mathlib.Omega.{arith}
-use Rattle.candidate_edges.proofs.Passes.{CornersGoing, corners_start, corners_turn, corners_end}
+use Rattle.candidate_edges.proofs.Passes.{corners_start, corners_turn, corners_end}
 use Rattle.candidate_edges.proofs.corners.enter_corners.Goals as goal
 
 pub loop-v-init : goal.loop-v-init

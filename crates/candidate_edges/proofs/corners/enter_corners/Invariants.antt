@@ -1,6 +1,5 @@
 use Prim.Native.Nat.{◌-◌}
-use native.Mathlib.Omega.{arith}
-use Rattle.candidate_edges.proofs.Passes.{CornersGoing, corners_start, corners_turn, corners_end}
+use Rattle.candidate_edges.proofs.Passes.{CornersGoing}
 use Rattle.candidate_edges.proofs.corners.enter_corners.Given as goal
 
 -- `enter_corners` meets its contract. The invariant: the pool has the vertices below v that are on two or more faces (`CornersGoing`). Assumes nothing.

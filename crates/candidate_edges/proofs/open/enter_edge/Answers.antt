@@ -2,7 +2,6 @@ use Prim.Native.Nat.{ℕ, ◌+◌, ◌*◌, ◌/◌, ◌<◌}
 use mathlib.Core.Path.{sym, subst}
 use native.Mathlib.Omega.{arith}
 use Rattle.candidate_pool.specs.Offsets.{edge_table_at}
-use borrow.Author.Rules.{rules}
 use lib.ListN.{length, get_or}
 use Rattle.geometry.specs.Triangles.{threes}
 use Rattle.geometry.specs.Meshes.{vertex, points_of}

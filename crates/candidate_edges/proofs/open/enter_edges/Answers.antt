@@ -1,6 +1,5 @@
-use Prim.Native.Nat.{◌-◌}
 use native.Mathlib.Omega.{arith}
-use Rattle.candidate_edges.proofs.Passes.{EdgesGoing, edges_start, edges_turn, edges_end}
+use Rattle.candidate_edges.proofs.Passes.{edges_start, edges_turn, edges_end}
 use Rattle.candidate_edges.proofs.open.enter_edges.Goals as goal
 
 pub loop-i-init : goal.loop-i-init

@@ -1,6 +1,5 @@
 use Prim.Native.Nat.{◌-◌}
-use native.Mathlib.Omega.{arith}
-use Rattle.candidate_edges.proofs.Passes.{EdgesGoing, edges_start, edges_turn, edges_end}
+use Rattle.candidate_edges.proofs.Passes.{EdgesGoing}
 use Rattle.candidate_edges.proofs.open.enter_edges.Given as goal
 
 -- `enter_edges` meets its contract. The invariant: the room holds what the first i open edges leave (`EdgesGoing`). Assumes nothing.

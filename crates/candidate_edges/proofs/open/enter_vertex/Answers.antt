@@ -1,6 +1,5 @@
 use Prim.Native.Nat.{◌<◌}
 use native.Mathlib.Omega.{arith}
-use borrow.Author.Rules.{rules}
 use Rattle.candidate_pool.specs.Standing.{faces_in}
 use Rattle.candidate_edges.proofs.Ends.{vertex_in, vertex_room, vertex_entered}
 use Rattle.candidate_edges.proofs.open.enter_vertex.Goals as goal

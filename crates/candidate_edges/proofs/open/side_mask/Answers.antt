@@ -1,7 +1,6 @@
 use Prim.Native.Nat.{◌/◌}
 use mathlib.Core.Path.{ap, ◌∙◌}
 use native.Mathlib.Omega.{arith}
-use borrow.Author.Rules.{rules}
 use lib.ListN.{length}
 use Rattle.geometry.specs.Meshes.{vertex, points_of}
 use Rattle.box_faces.specs.Faces.{face_bits, faces_of}

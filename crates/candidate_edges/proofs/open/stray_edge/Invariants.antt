@@ -1,16 +1,10 @@
-use Prim.Native.Nat.{◌+◌, ◌*◌, ◌-◌, ◌/◌, ◌≤◌, ◌<◌}
-use mathlib.Core.Path.{◌≡◌, ◌∙◌}
-use native.Mathlib.Omega.{arith}
-use borrow.Author.Tests.{eq-eqb, ne_eqb}
-use lib.Dec.{eqb}
-use lib.ListN.{length, get_or, drop}
+use Prim.Native.Nat.{◌+◌, ◌-◌, ◌≤◌}
+use mathlib.Core.Path.{◌≡◌}
+use lib.ListN.{drop}
 use Rattle.lists.specs.Lists.{place}
 use Rattle.geometry.specs.Triangles.{threes}
-use Rattle.edges.specs.Edges.{sides, open_edges}
-use Rattle.lists.proofs.Sequences.{place_stop, place_more, place_end}
-use Rattle.candidate_edges.proofs.Ends.{side_is, side_low}
-use Rattle.candidate_edges.proofs.Passes.{stray, stray_test}
-use Rattle.candidate_pool.specs.Offsets.{edge_table_at}
+use Rattle.edges.specs.Edges.{open_edges}
+use Rattle.candidate_edges.proofs.Passes.{stray}
 use Rattle.candidate_edges.proofs.open.stray_edge.Given as goal
 
 -- `stray_edge` meets its contract. The invariant: none of the first i open edges is on no face. Assumes nothing.

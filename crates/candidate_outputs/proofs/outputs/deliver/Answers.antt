@@ -11,7 +11,6 @@ use mathlib.Core.Path.{ap, ◌∙◌}
 use native.Mathlib.Omega.{arith}
 use Rattle.candidate_outputs.proofs.Lengths.{all_lists_long, edges_long, edges_few}
 use Rattle.candidate_outputs.proofs.Delivery.{short_candidates, short_lists, short_constraints, short_edges, done}
-use borrow.Author.Rules.{rules}
 use Rattle.candidate_outputs.proofs.outputs.deliver.Goals as goal
 
 pub overflow_mul-e : goal.overflow_mul-e

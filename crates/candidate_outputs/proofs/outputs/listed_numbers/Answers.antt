@@ -1,7 +1,6 @@
 use mathlib.Core.Path.{refl}
 use native.Mathlib.Omega.{arith}
 use Rattle.candidate_outputs.proofs.Lengths.{SixShort, six_short}
-use borrow.Author.Rules.{rules}
 use Rattle.candidate_outputs.proofs.outputs.listed_numbers.Goals as goal
 
 pub overflow_add-result : goal.overflow_add-result

@@ -1,11 +1,9 @@
-use borrow.Author.Rules.{rules}
 use lib.Seq.{sets}
-use Prim.Native.Nat.{◌≤◌, ◌-◌}
 use mathlib.Core.List.{[], ◌∷◌}
 use mathlib.Core.Path.{refl, ◌∙◌}
 use native.Mathlib.Omega.{arith}
 use Rattle.candidate_outputs.proofs.Blocks.{key_block, keys_are, keys_long}
-use Rattle.lists.proofs.Blocks.{BlocksStored, blocks_start, blocks_turn, blocks_room, blocks_long, blocks_end}
+use Rattle.lists.proofs.Blocks.{blocks_start, blocks_turn, blocks_room, blocks_long, blocks_end}
 use Rattle.candidate_outputs.proofs.outputs.write_constraints.Goals as goal
 
 pub loop-i-init : goal.loop-i-init

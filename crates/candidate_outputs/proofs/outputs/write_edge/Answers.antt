@@ -1,10 +1,10 @@
-use Prim.Native.Nat.{◌≤◌, ◌+◌, ◌-◌}
+use Prim.Native.Nat.{◌+◌}
 use lib.ListN.{get_or}
 use mathlib.Core.Path.{refl}
 use native.Mathlib.Omega.{arith}
 use Rattle.candidate_outputs.specs.Written.{face_words}
 use Rattle.candidate_outputs.proofs.Blocks.{faces_are, faces_long}
-use Rattle.lists.proofs.Blocks.{BlocksStored, blocks_start, blocks_turn, blocks_room, blocks_long, blocks_end, blocks_place}
+use Rattle.lists.proofs.Blocks.{blocks_start, blocks_turn, blocks_room, blocks_long, blocks_end, blocks_place}
 use Rattle.candidate_outputs.proofs.outputs.write_edge.Goals as goal
 
 pub overflow_add-mask : goal.overflow_add-mask

@@ -1,10 +1,7 @@
 use Prim.Native.Nat.{◌≤◌, ◌+◌, ◌-◌}
 use lib.ListN.{get_or}
-use mathlib.Core.Path.{refl}
-use native.Mathlib.Omega.{arith}
 use Rattle.candidate_outputs.specs.Written.{face_words}
-use Rattle.candidate_outputs.proofs.Blocks.{faces_are, faces_long}
-use Rattle.lists.proofs.Blocks.{BlocksStored, blocks_start, blocks_turn, blocks_room, blocks_long, blocks_end, blocks_place}
+use Rattle.lists.proofs.Blocks.{BlocksStored}
 use Rattle.candidate_outputs.proofs.outputs.write_edge.Given as goal
 
 abbrev pub invariant-loop-face : goal.invariant-loop-face

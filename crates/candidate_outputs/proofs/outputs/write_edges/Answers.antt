@@ -1,9 +1,8 @@
-use Prim.Native.Nat.{◌≤◌, ◌-◌}
 use lib.ListN.{length}
 use mathlib.Core.Path.{refl, ap}
 use native.Mathlib.Omega.{arith}
 use Rattle.candidate_outputs.proofs.Blocks.{edge_block, edges_are}
-use Rattle.lists.proofs.Blocks.{BlocksStored, blocks_start, blocks_turn, blocks_room, blocks_long, blocks_end}
+use Rattle.lists.proofs.Blocks.{blocks_start, blocks_turn, blocks_room, blocks_long, blocks_end}
 use Rattle.candidate_outputs.proofs.outputs.write_edges.Goals as goal
 
 pub loop-i-init : goal.loop-i-init

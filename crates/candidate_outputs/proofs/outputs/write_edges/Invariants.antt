@@ -1,9 +1,6 @@
 use Prim.Native.Nat.{◌≤◌, ◌-◌}
-use lib.ListN.{length}
-use mathlib.Core.Path.{refl, ap}
-use native.Mathlib.Omega.{arith}
-use Rattle.candidate_outputs.proofs.Blocks.{edge_block, edges_are}
-use Rattle.lists.proofs.Blocks.{BlocksStored, blocks_start, blocks_turn, blocks_room, blocks_long, blocks_end}
+use Rattle.candidate_outputs.proofs.Blocks.{edge_block}
+use Rattle.lists.proofs.Blocks.{BlocksStored}
 use Rattle.candidate_outputs.proofs.outputs.write_edges.Given as goal
 
 abbrev pub invariant-loop-i : goal.invariant-loop-i

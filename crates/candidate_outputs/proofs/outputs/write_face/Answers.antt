@@ -1,10 +1,9 @@
-use borrow.Author.Tests.{not-true, not-false}
+use borrow.Author.Tests.{not-false}
 use lib.Seq.{sets}
 use lib.ListN.{length}
 use mathlib.Core.Path.{sym, ap, ◌∙◌}
 use native.Mathlib.Omega.{arith}
 use Rattle.candidate_outputs.proofs.Blocks.{face_taken, face_left}
-use borrow.Author.Rules.{rules}
 use Rattle.candidate_outputs.proofs.outputs.write_face.Goals as goal
 
 pub returns-then-not-has_face : goal.returns-then-not-has_face

@@ -1,11 +1,11 @@
 use lib.ListN.{get_or}
 use lib.Seq.{sets}
 use Rattle.lists.specs.Regions.{view}
-use Prim.Native.Nat.{ℕ, ◌≤◌, ◌-◌}
+use Prim.Native.Nat.{ℕ}
 use mathlib.Core.Path.{refl, ap, ◌∙◌}
 use native.Mathlib.Omega.{arith}
 use Rattle.candidate_outputs.proofs.Blocks.{list_block, lists_long, block_long, lists_stored}
-use Rattle.lists.proofs.Blocks.{BlocksStored, blocks_start, blocks_turn, blocks_room, blocks_long, blocks_end}
+use Rattle.lists.proofs.Blocks.{blocks_start, blocks_turn, blocks_room, blocks_long, blocks_end}
 use Rattle.candidate_outputs.proofs.outputs.write_face_lists.Goals as goal
 
 pub write_words-requires : goal.write_words-requires

@@ -1,11 +1,6 @@
-use lib.ListN.{get_or}
-use lib.Seq.{sets}
-use Rattle.lists.specs.Regions.{view}
-use Prim.Native.Nat.{ℕ, ◌≤◌, ◌-◌}
-use mathlib.Core.Path.{refl, ap, ◌∙◌}
-use native.Mathlib.Omega.{arith}
-use Rattle.candidate_outputs.proofs.Blocks.{list_block, lists_long, block_long, lists_stored}
-use Rattle.lists.proofs.Blocks.{BlocksStored, blocks_start, blocks_turn, blocks_room, blocks_long, blocks_end}
+use Prim.Native.Nat.{◌≤◌, ◌-◌}
+use Rattle.candidate_outputs.proofs.Blocks.{list_block}
+use Rattle.lists.proofs.Blocks.{BlocksStored}
 use Rattle.candidate_outputs.proofs.outputs.write_face_lists.Given as goal
 
 abbrev pub invariant-loop-face : goal.invariant-loop-face

@@ -1,5 +1,4 @@
 use Rattle.candidate_outputs.proofs.Blocks.{part_copied}
-use borrow.Author.Rules.{rules}
 use Rattle.candidate_outputs.proofs.outputs.write_words.Goals as goal
 
 pub returns : goal.returns

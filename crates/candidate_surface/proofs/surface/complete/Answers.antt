@@ -4,7 +4,6 @@ use lib.Ieee.{of_bits}
 use Rattle.candidate_surface.specs.Asked.{asked}
 use Rattle.candidate_surface.proofs.Fitting.{skip_within, vertices_in}
 use Rattle.candidate_surface.proofs.Completing.{grids_ready, completed}
-use borrow.Author.Rules.{rules}
 use Rattle.candidate_surface.proofs.surface.complete.Goals as goal
 
 pub enter_corners-requires : goal.enter_corners-requires

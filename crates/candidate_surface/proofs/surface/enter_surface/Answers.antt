@@ -1,6 +1,5 @@
 use native.Mathlib.Omega.{arith}
 use Rattle.candidate_surface.proofs.Completing.{fits_same, table_left, surfaced}
-use borrow.Author.Rules.{rules}
 use Rattle.candidate_surface.proofs.surface.enter_surface.Goals as goal
 
 pub clear_pool-requires : goal.clear_pool-requires

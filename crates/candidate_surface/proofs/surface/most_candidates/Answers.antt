@@ -1,7 +1,6 @@
 use native.Mathlib.Omega.{arith}
 use Rattle.candidate_surface.specs.Asked.{one_resolution}
 use Rattle.candidate_surface.proofs.Fitting.{grid_small}
-use borrow.Author.Rules.{rules}
 use Rattle.candidate_surface.proofs.surface.most_candidates.Goals as goal
 
 pub overflow_add-result : goal.overflow_add-result

@@ -1,5 +1,4 @@
 use Rattle.candidate_surface.proofs.Frames.{table_put}
-use borrow.Author.Rules.{rules}
 use Rattle.candidate_surface.proofs.surface.table_edges.Goals as goal
 
 pub returns : goal.returns

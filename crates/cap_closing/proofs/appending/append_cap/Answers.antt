@@ -1,7 +1,6 @@
 use Prim.Native.Nat.{ℕ}
 use mathlib.Core.Path.{sym, subst, ◌∙◌}
 use native.Mathlib.Omega.{arith}
-use borrow.Author.Rules.{rules}
 use Rattle.geometry.specs.Numbers.{candidates_of, mesh_vertices_of}
 use Rattle.geometry.specs.Triangles.{Triangle}
 use Rattle.mesh_filter.specs.Room.{Below}

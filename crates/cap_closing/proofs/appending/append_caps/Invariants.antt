@@ -1,9 +1,6 @@
-use Prim.Native.Nat.{ℕ, ◌-◌, ◌≤◌}
-use mathlib.Core.Path.{◌≡◌, subst}
-use native.Mathlib.Omega.{arith}
+use Prim.Native.Nat.{◌-◌, ◌≤◌}
 use Rattle.cap_triangles.specs.Room.{closing_at}
 use Rattle.cap_closing.specs.Steps.{Appending}
-use Rattle.cap_closing.proofs.Turns.{appending_none, appending_turn, taking_kept, shaped_kept}
 use Rattle.cap_closing.proofs.appending.append_caps.Given as goal
 
 -- `append_caps` meets its contract: one triangle more (`appending_turn`). Assumes nothing.

@@ -1,7 +1,6 @@
 use mathlib.Core.Bool.{Bool, true, false, true≢false, false≢true, beq}
 use mathlib.Core.Path.{◌≡◌, refl, sym, ap, ◌∙◌}
 use native.Mathlib.Omega.{arith}
-use borrow.Author.Rules.{rules}
 use Rattle.cap_closing.proofs.appending.append_if_taken.Goals as goal
 
 -- `append_if_taken` meets its contract: by whether the mode takes the triangle. Assumes nothing.

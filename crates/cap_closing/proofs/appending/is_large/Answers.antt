@@ -1,6 +1,5 @@
 use mathlib.Core.Bool.{not}
 use mathlib.Core.Path.{sym, subst, ap, ◌∙◌}
-use borrow.Author.Rules.{rules}
 use lib.Ieee.{Float, le}
 use Rattle.root.specs.Doubles.{1e-12}
 use Rattle.geometry.specs.Points.{area2}

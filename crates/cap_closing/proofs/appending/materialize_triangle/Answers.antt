@@ -1,6 +1,5 @@
 use mathlib.Core.List.{[], ◌∷◌}
 use native.Mathlib.Omega.{arith}
-use borrow.Author.Rules.{rules}
 use Rattle.geometry.specs.Triangles.{tri}
 use Rattle.geometry.specs.Numbers.{candidates_of}
 use Rattle.cap_triangles.specs.Room.{closing_at}

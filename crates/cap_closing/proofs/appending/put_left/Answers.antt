@@ -1,6 +1,5 @@
 use Prim.Native.Nat.{◌+◌, ◌*◌}
 use native.Mathlib.Omega.{arith}
-use borrow.Author.Rules.{rules}
 use lib.ListN.{set, length-set}
 use Rattle.cap_closing.proofs.appending.put_left.Goals as goal
 

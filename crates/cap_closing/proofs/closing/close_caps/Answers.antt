@@ -1,6 +1,5 @@
 use Prim.Native.Nat.{◌/◌}
 use native.Mathlib.Omega.{arith}
-use borrow.Author.Rules.{rules}
 use lib.ListN.{length}
 use Rattle.cap_triangles.specs.Room.{closing_at}
 use Rattle.cap_closing.proofs.Whole.{shaped_first, taking_first, closed}

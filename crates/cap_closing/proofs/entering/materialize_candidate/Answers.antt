@@ -1,7 +1,6 @@
 use Prim.Native.Nat.{◌+◌}
 use mathlib.Core.Path.{refl}
 use native.Mathlib.Omega.{arith}
-use borrow.Author.Rules.{rules}
 use lib.ListN.{length-set}
 use Rattle.cap_triangles.specs.Room.{closing_at}
 use Rattle.cap_closing.proofs.Numbering.{old_at, new_at, top_room}

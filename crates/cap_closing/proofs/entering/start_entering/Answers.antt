@@ -1,10 +1,6 @@
-use Prim.Native.Nat.{◌+◌, ◌*◌, ◌-◌, ◌≤◌}
 use mathlib.Core.Path.{◌∙◌}
 use native.Mathlib.Omega.{arith}
-use Rattle.candidate_pool.specs.Offsets.{entry_at}
-use borrow.Author.Rules.{rules}
-use lib.ListN.{get_or, set, length-set}
-use Rattle.lists.proofs.Regions.{Filled}
+use lib.ListN.{set, length-set}
 use Rattle.cap_triangles.specs.Room.{closing_at}
 use Rattle.cap_closing.proofs.Beginning.{copy_none, copy_more, started}
 use Rattle.cap_closing.proofs.entering.start_entering.Goals as goal

@@ -1,12 +1,8 @@
-use Prim.Native.Nat.{◌+◌, ◌*◌, ◌-◌, ◌≤◌}
-use mathlib.Core.Path.{◌∙◌}
-use native.Mathlib.Omega.{arith}
+use Prim.Native.Nat.{◌+◌, ◌-◌, ◌≤◌}
 use Rattle.candidate_pool.specs.Offsets.{entry_at}
-use borrow.Author.Rules.{rules}
-use lib.ListN.{get_or, set, length-set}
+use lib.ListN.{get_or}
 use Rattle.lists.proofs.Regions.{Filled}
 use Rattle.cap_triangles.specs.Room.{closing_at}
-use Rattle.cap_closing.proofs.Beginning.{copy_none, copy_more, started}
 use Rattle.cap_closing.proofs.entering.start_entering.Given as goal
 
 -- `start_entering` meets its contract: the copy goes on from candidate to candidate (`copy_more`). Assumes nothing.

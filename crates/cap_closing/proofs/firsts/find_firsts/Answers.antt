@@ -2,7 +2,6 @@ use Prim.Native.Nat.{◌≤◌, ℕ, ◌+◌, ◌*◌, ◌-◌, ◌<◌}
 use mathlib.Core.Path.{◌≡◌, sym, subst}
 use native.Mathlib.Omega.{arith}
 use borrow.Rule.Slice.PartMut.{put_mid}
-use borrow.Author.Rules.{rules}
 use lib.ListN.{length}
 use Rattle.records.specs.Buffer.{payload_in}
 use Rattle.sorting.proofs.Sorting.{sorted_part}

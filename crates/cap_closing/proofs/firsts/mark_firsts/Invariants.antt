@@ -1,6 +1,5 @@
-use Prim.Native.Nat.{◌+◌, ◌-◌, ◌≤◌}
-use native.Mathlib.Omega.{arith}
-use Rattle.cap_closing.proofs.Marks.{Marking, marking_start, place_room, put_long, put_below, marking_turn, marking_end}
+use Prim.Native.Nat.{◌-◌}
+use Rattle.cap_closing.proofs.Marks.{Marking}
 use Rattle.cap_closing.proofs.firsts.mark_firsts.Given as goal
 
 -- `mark_firsts` meets its contract: the runs before i are marked. Assumes nothing.

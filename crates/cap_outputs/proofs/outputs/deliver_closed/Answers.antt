@@ -18,7 +18,6 @@ use Rattle.cap_outputs.proofs.Delivery.{
 use native.Mathlib.Omega.{arith}
 use lib.ListN.{length, get_or}
 use Prim.Native.Nat.{◌+◌, ◌*◌}
-use borrow.Author.Rules.{rules}
 use Rattle.cap_outputs.proofs.outputs.deliver_closed.Goals as goal
 
 pub overflow_mul-v : goal.overflow_mul-v

@@ -4,10 +4,8 @@ use Rattle.words.specs.Overlay.{overlay}
 use Prim.Native.Nat.{ℕ}
 use lib.Ieee.{Float}
 use lib.ListN.{length}
-use native.Mathlib.Omega.{arith}
 use mathlib.Core.List.{List}
 use mathlib.Core.Path.{ap, ◌∙◌}
-use borrow.Author.Rules.{rules}
 use Rattle.cap_outputs.proofs.outputs.deliver_mesh.Goals as goal
 
 pub returns-then-out_vertices-vertices : goal.returns-then-out_vertices-vertices

@@ -3,7 +3,6 @@ use lib.Seq.{sets}
 use lib.ListN.{length}
 use native.Mathlib.Omega.{arith}
 use mathlib.Core.Path.{sym, ap, ◌∙◌}
-use borrow.Author.Rules.{rules}
 use Rattle.cap_outputs.proofs.outputs.write_cap.Goals as goal
 
 pub returns-then-w-first-ne1 : goal.returns-then-w-first-ne1

@@ -1,7 +1,7 @@
-use lib.ListN.{get_or, length}
+use lib.ListN.{get_or}
 use mathlib.Core.Path.{◌≡◌, refl, ap}
-use Prim.Native.Nat.{ℕ, ◌+◌, ◌*◌, ◌-◌, ◌≤◌}
-use Rattle.lists.proofs.Blocks.{BlocksStored, blocks_start, blocks_turn, blocks_room, blocks_long, blocks_end}
+use Prim.Native.Nat.{ℕ, ◌+◌, ◌*◌}
+use Rattle.lists.proofs.Blocks.{blocks_start, blocks_turn, blocks_room, blocks_long, blocks_end}
 use Rattle.cap_outputs.proofs.Blocks.{cap_block}
 use native.Mathlib.Omega.{arith}
 use Rattle.cap_outputs.proofs.outputs.write_caps.Goals as goal

@@ -1,11 +1,11 @@
-use Rattle.lists.proofs.Blocks.{BlocksStored, blocks_start, blocks_turn, blocks_room, blocks_long, blocks_end}
+use Rattle.lists.proofs.Blocks.{blocks_start, blocks_turn, blocks_room, blocks_long, blocks_end}
 use Rattle.cap_outputs.proofs.Blocks.{three, fresh_block, fresh_are, fresh_long}
 use Rattle.geometry.specs.declared.point.Point.{Point}
 use lib.Seq.{sets}
 use lib.ListN.{length}
 use native.Mathlib.Omega.{arith}
 use mathlib.Core.Path.{ap, ◌∙◌}
-use Prim.Native.Nat.{◌+◌, ◌*◌, ◌-◌, ◌≤◌}
+use Prim.Native.Nat.{◌+◌, ◌*◌}
 use Rattle.cap_outputs.proofs.outputs.write_fresh.Goals as goal
 
 pub loop-i-init : goal.loop-i-init

@@ -1,10 +1,7 @@
 use Rattle.cap_outputs.proofs.Blocks.{own_positive, own_negative}
 use Rattle.words.proofs.Overlay.{sets_overlay}
 use lib.Seq.{sets}
-use mathlib.Core.List.{List}
 use mathlib.Core.Path.{sym, ap, ◌∙◌}
-use Prim.Native.Nat.{ℕ}
-use borrow.Author.Rules.{rules}
 use Rattle.cap_outputs.proofs.outputs.write_own.Goals as goal
 
 pub returns-then-positive : goal.returns-then-positive

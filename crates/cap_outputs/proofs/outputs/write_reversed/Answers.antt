@@ -1,8 +1,8 @@
-use Rattle.lists.proofs.Blocks.{BlocksStored, blocks_start, blocks_turn, blocks_long, blocks_end}
+use Rattle.lists.proofs.Blocks.{blocks_start, blocks_turn, blocks_long, blocks_end}
 use Rattle.cap_outputs.proofs.Blocks.{reversed_block, reversed_are}
 use lib.ListN.{length}
 use native.Mathlib.Omega.{arith}
-use Prim.Native.Nat.{◌+◌, ◌*◌, ◌/◌, ◌-◌, ◌≤◌}
+use Prim.Native.Nat.{◌*◌, ◌/◌}
 use Rattle.cap_outputs.proofs.outputs.write_reversed.Goals as goal
 
 pub loop-i-init : goal.loop-i-init

@@ -1,8 +1,7 @@
-use Rattle.lists.proofs.Blocks.{BlocksStored, blocks_start, blocks_turn, blocks_long, blocks_end}
-use Rattle.cap_outputs.proofs.Blocks.{reversed_block, reversed_are}
+use Rattle.lists.proofs.Blocks.{BlocksStored}
+use Rattle.cap_outputs.proofs.Blocks.{reversed_block}
 use lib.ListN.{length}
-use native.Mathlib.Omega.{arith}
-use Prim.Native.Nat.{◌+◌, ◌*◌, ◌/◌, ◌-◌, ◌≤◌}
+use Prim.Native.Nat.{◌*◌, ◌/◌, ◌-◌, ◌≤◌}
 use Rattle.cap_outputs.proofs.outputs.write_reversed.Given as goal
 
 abbrev pub invariant-loop-i : goal.invariant-loop-i

@@ -1,7 +1,6 @@
 use Rattle.geometry.proofs.Threes.{three_set}
 use lib.ListN.{length-set}
 use native.Mathlib.Omega.{arith}
-use borrow.Author.Rules.{rules}
 use Rattle.cap_outputs.proofs.outputs.write_three.Goals as goal
 
 pub bounds-out-at-2 : goal.bounds-out-at-2

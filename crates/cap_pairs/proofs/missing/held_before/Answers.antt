@@ -1,9 +1,8 @@
 use Rattle.cap_pairs.proofs.Walking.{FaceWalk, walk_start, walk_skip, walk_pass, walk_stop, walk_end}
 use Rattle.cap_pairs.specs.Steps.{missing_face}
 use native.Mathlib.Omega.{arith}
-use mathlib.Core.Logic.{⊎_elim}
 use mathlib.Core.Path.{sym, subst, ◌∙◌}
-use Prim.Native.Nat.{ℕ, ◌+◌, ◌-◌}
+use Prim.Native.Nat.{ℕ, ◌+◌}
 use Rattle.cap_pairs.proofs.missing.held_before.Goals.{then-has_face+else-is_missing, else-has_face}
 use Rattle.cap_pairs.proofs.missing.held_before.Goals as goal
 

@@ -1,9 +1,6 @@
-use Rattle.cap_pairs.proofs.Walking.{FaceWalk, walk_start, walk_skip, walk_pass, walk_stop, walk_end}
+use Rattle.cap_pairs.proofs.Walking.{FaceWalk}
 use Rattle.cap_pairs.specs.Steps.{missing_face}
-use native.Mathlib.Omega.{arith}
-use mathlib.Core.Logic.{⊎_elim}
-use mathlib.Core.Path.{sym, subst, ◌∙◌}
-use Prim.Native.Nat.{ℕ, ◌+◌, ◌-◌}
+use Prim.Native.Nat.{◌-◌}
 use Rattle.cap_pairs.proofs.missing.held_before.Given as goal
 
 -- `held_before` meets its contract: none of the faces before `face` is missing, and `count` of them are the mask's. Assumes nothing.

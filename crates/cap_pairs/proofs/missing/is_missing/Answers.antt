@@ -6,7 +6,6 @@ use mathlib.Core.Path.{refl, sym, ap, ◌∙◌}
 use lib.Dec.{leb}
 use lib.ListN.{get_or}
 use mathlib.Core.Bool.{not}
-use borrow.Author.Rules.{rules}
 use Rattle.cap_pairs.proofs.missing.is_missing.Goals as goal
 
 pub returns-then-w-face-lt3 : goal.returns-then-w-face-lt3

@@ -1,7 +1,6 @@
 use Rattle.cap_pairs.proofs.Adding.{added_there, fits_sum, added_new}
 use native.Mathlib.Omega.{arith}
 use mathlib.Core.Path.{refl, sym, ◌∙◌}
-use borrow.Author.Rules.{rules}
 use Rattle.cap_pairs.proofs.noting.add_face.Goals as goal
 
 pub returns-then-has_face : goal.returns-then-has_face

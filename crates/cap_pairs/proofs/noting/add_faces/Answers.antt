@@ -1,10 +1,9 @@
 use mathlib.Core.Path.{sym, subst, ◌∙◌}
 use mathlib.Core.List.{List}
-use Prim.Native.Nat.{ℕ, ◌+◌, ◌-◌, ◌≤◌}
+use Prim.Native.Nat.{ℕ, ◌+◌}
 use Rattle.cap_pairs.proofs.Adding.{Below, adding_start, adding_skip, adding_turn, adding_end}
 use Rattle.cap_pairs.specs.Steps.{Added}
 use native.Mathlib.Omega.{arith}
-use mathlib.Core.Logic.{⊎_elim}
 use Rattle.cap_pairs.proofs.noting.add_faces.Goals.{then-has_face, else-has_face}
 use Rattle.cap_pairs.proofs.noting.add_faces.Goals as goal
 

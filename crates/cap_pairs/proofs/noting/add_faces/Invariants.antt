@@ -1,10 +1,6 @@
-use mathlib.Core.Path.{sym, subst, ◌∙◌}
-use mathlib.Core.List.{List}
-use Prim.Native.Nat.{ℕ, ◌+◌, ◌-◌, ◌≤◌}
-use Rattle.cap_pairs.proofs.Adding.{Below, adding_start, adding_skip, adding_turn, adding_end}
+use Prim.Native.Nat.{◌-◌, ◌≤◌}
+use Rattle.cap_pairs.proofs.Adding.{Below}
 use Rattle.cap_pairs.specs.Steps.{Added}
-use native.Mathlib.Omega.{arith}
-use mathlib.Core.Logic.{⊎_elim}
 use Rattle.cap_pairs.proofs.noting.add_faces.Given as goal
 
 -- `add_faces` meets its contract: the mask's faces below `face` are added. Assumes nothing.

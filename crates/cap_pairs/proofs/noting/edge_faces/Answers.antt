@@ -4,7 +4,6 @@ use mathlib.Core.Path.{refl, sym}
 use lib.Dec.{eqb}
 use lib.ListN.{get_or}
 use Prim.Native.Nat.{◌+◌}
-use borrow.Author.Rules.{rules}
 use Rattle.cap_pairs.proofs.noting.edge_faces.Goals as goal
 
 pub returns-then-w-at : goal.returns-then-w-at

@@ -5,7 +5,7 @@ use Rattle.box_faces.specs.Faces.{has_bit}
 use native.Mathlib.Omega.{arith}
 use lib.ListN.{get_or}
 use mathlib.Core.Path.{refl, subst}
-use Prim.Native.Nat.{ℕ, ◌+◌, ◌-◌, ◌≤◌}
+use Prim.Native.Nat.{ℕ, ◌+◌}
 use Rattle.cap_pairs.proofs.noting.note_edges.Goals as goal
 
 pub open_edges_at-edges-requires : goal.open_edges_at-edges-requires

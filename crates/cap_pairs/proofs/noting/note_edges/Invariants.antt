@@ -1,11 +1,6 @@
-use Rattle.cap_pairs.proofs.Targets.{three_fits, edge_fits, edge_in_lem, edge_in_1, number_in, number_fits, note_edge_asks, note_edge_turn}
-use Rattle.cap_pairs.proofs.Adding.{noted_start}
 use Rattle.cap_pairs.specs.Steps.{Noted, edge_mask, edge_target}
 use Rattle.box_faces.specs.Faces.{has_bit}
-use native.Mathlib.Omega.{arith}
-use lib.ListN.{get_or}
-use mathlib.Core.Path.{refl, subst}
-use Prim.Native.Nat.{ℕ, ◌+◌, ◌-◌, ◌≤◌}
+use Prim.Native.Nat.{◌-◌, ◌≤◌}
 use Rattle.cap_pairs.proofs.noting.note_edges.Given as goal
 
 -- `note_edges` meets its contract: the faces of the first i open edges are added to the words of their pairs. Assumes nothing.

@@ -1,6 +1,5 @@
 use Rattle.cap_pairs.proofs.Tables.{up_room, down_room, held_room, tables_cleared, numbers_cleared, zeros_cleared, tables_noted, numbers_noted, zeros_noted, sides_faces, above_all, known}
 use mathlib.Core.Path.{refl, ◌∙◌}
-use borrow.Author.Rules.{rules}
 use Rattle.cap_pairs.proofs.noting.note_faces.Goals as goal
 
 pub zero_part-requires : goal.zero_part-requires

@@ -1,11 +1,7 @@
-use Rattle.cap_pairs.proofs.Targets.{note_side_low, note_side_asks, note_side_turn}
-use Rattle.cap_pairs.proofs.Adding.{noted_start}
 use Rattle.cap_pairs.specs.Steps.{Noted, side_target, side_face}
-use native.Mathlib.Omega.{arith}
-use lib.ListN.{length, get_or}
+use lib.ListN.{length}
 use lib.Dec.{eqb}
-use mathlib.Core.Path.{refl, subst}
-use Prim.Native.Nat.{ℕ, ◌+◌, ◌*◌, ◌/◌, ◌-◌, ◌≤◌}
+use Prim.Native.Nat.{◌*◌, ◌/◌, ◌-◌, ◌≤◌}
 use Rattle.cap_pairs.proofs.noting.note_sides.Given as goal
 
 -- `note_sides` meets its contract: the faces of the first s sides are added to the words of their pairs. Assumes nothing.

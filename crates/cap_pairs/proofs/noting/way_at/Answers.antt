@@ -5,7 +5,6 @@ use mathlib.Core.Path.{refl, sym}
 use lib.Dec.{ltb}
 use lib.ListN.{get_or}
 use Prim.Native.Nat.{◌+◌}
-use borrow.Author.Rules.{rules}
 use Rattle.cap_pairs.proofs.noting.way_at.Goals as goal
 
 pub returns-then-w-at : goal.returns-then-w-at

@@ -5,7 +5,6 @@ use mathlib.Core.Path.{refl, sym, ap, ◌∙◌}
 use lib.Dec.{eqb}
 use lib.ListN.{get_or}
 use Prim.Native.Nat.{◌+◌}
-use borrow.Author.Rules.{rules}
 use Rattle.cap_pairs.proofs.pairs.edge_word.Goals as goal
 
 pub returns-then-w-at-eq0 : goal.returns-then-w-at-eq0

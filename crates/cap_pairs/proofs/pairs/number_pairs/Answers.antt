@@ -5,7 +5,6 @@ use native.Mathlib.Omega.{arith}
 use borrow.Rule.Slice.PartMut.{put_mid}
 use lib.ListN.{length}
 use Prim.Native.Nat.{◌+◌, ◌*◌, ◌-◌, ◌/◌}
-use borrow.Author.Rules.{rules}
 use Rattle.cap_pairs.proofs.pairs.number_pairs.Goals as goal
 
 -- `number_pairs` meets its contract: the records of edges and of sides, their sort, and their numbers. Assumes nothing.

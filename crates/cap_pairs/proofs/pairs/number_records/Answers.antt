@@ -1,6 +1,5 @@
-use Prim.Native.Nat.{◌-◌}
 use native.Mathlib.Omega.{arith}
-use Rattle.cap_pairs.proofs.Recording.{Numbering, numbering_start, which_room, numbering_turn, numbering_end}
+use Rattle.cap_pairs.proofs.Recording.{numbering_start, which_room, numbering_turn, numbering_end}
 use Rattle.cap_pairs.proofs.pairs.number_records.Goals as goal
 
 pub loop-i-init : goal.loop-i-init

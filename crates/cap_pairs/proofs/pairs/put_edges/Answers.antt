@@ -1,10 +1,9 @@
 use Rattle.cap_pairs.proofs.Writing.{edge_asks, edge_turn, edge_end}
 use Rattle.cap_pairs.proofs.Recording.{recording_start}
-use Rattle.cap_pairs.specs.Steps.{Recorded}
 use Rattle.cap_pairs.specs.Pairs.{edge_pair}
 use native.Mathlib.Omega.{arith}
 use lib.ListN.{length-set}
-use Prim.Native.Nat.{◌-◌, ◌+◌, ◌*◌, ◌≤◌}
+use Prim.Native.Nat.{◌+◌, ◌*◌}
 use Rattle.cap_pairs.proofs.pairs.put_edges.Goals as goal
 
 pub open_edges_at-edges-requires : goal.open_edges_at-edges-requires

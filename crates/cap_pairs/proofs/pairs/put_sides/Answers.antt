@@ -1,10 +1,10 @@
 use Rattle.cap_pairs.proofs.Writing.{side_room, side_asks, side_turn, side_end}
 use Rattle.cap_pairs.proofs.Recording.{recording_start}
-use Rattle.cap_pairs.specs.Steps.{Recorded, side_words}
+use Rattle.cap_pairs.specs.Steps.{side_words}
 use native.Mathlib.Omega.{arith}
 use lib.ListN.{length-set}
 use mathlib.Core.Path.{refl}
-use Prim.Native.Nat.{◌-◌, ◌+◌, ◌*◌, ◌≤◌}
+use Prim.Native.Nat.{◌+◌, ◌*◌}
 use Rattle.cap_pairs.proofs.pairs.put_sides.Goals as goal
 
 pub turned_at-turned-requires : goal.turned_at-turned-requires

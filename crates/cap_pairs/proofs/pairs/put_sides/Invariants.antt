@@ -1,10 +1,5 @@
-use Rattle.cap_pairs.proofs.Writing.{side_room, side_asks, side_turn, side_end}
-use Rattle.cap_pairs.proofs.Recording.{recording_start}
 use Rattle.cap_pairs.specs.Steps.{Recorded, side_words}
-use native.Mathlib.Omega.{arith}
-use lib.ListN.{length-set}
-use mathlib.Core.Path.{refl}
-use Prim.Native.Nat.{◌-◌, ◌+◌, ◌*◌, ◌≤◌}
+use Prim.Native.Nat.{◌-◌, ◌*◌, ◌≤◌}
 use Rattle.cap_pairs.proofs.pairs.put_sides.Given as goal
 
 -- `put_sides` meets its contract: after some turns the records of as many sides are written behind those of the open edges. Assumes nothing.

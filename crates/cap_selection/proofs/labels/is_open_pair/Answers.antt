@@ -1,4 +1,3 @@
-use borrow.Author.Rules.{rules}
 use Rattle.cap_selection.proofs.Reading.{open_first, open_second}
 use Rattle.cap_selection.proofs.labels.is_open_pair.Goals as goal
 

@@ -1,4 +1,3 @@
-use borrow.Author.Rules.{rules}
 use Rattle.cap_selection.proofs.Tabling.{labels_joining, joined_caps}
 use Rattle.cap_selection.proofs.labels.join_caps.Goals as goal
 

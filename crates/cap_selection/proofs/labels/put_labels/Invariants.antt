@@ -1,11 +1,6 @@
-use Prim.Native.Nat.{ℕ, ◌+◌, ◌*◌, ◌-◌, ◌≤◌}
-use mathlib.Core.Path.{sym, subst, ◌∙◌}
-use native.Mathlib.Omega.{arith}
-use lib.ListN.{set}
-use Rattle.lists.proofs.Regions.{Filled, filled_none, filled_more}
+use Prim.Native.Nat.{◌*◌, ◌-◌, ◌≤◌}
+use Rattle.lists.proofs.Regions.{Filled}
 use Rattle.cap_selection.specs.Steps.{label_in}
-use Rattle.cap_selection.proofs.Same.{label_same, numbered_same}
-use Rattle.cap_selection.proofs.Tabling.{labels_above, labelled_end}
 use Rattle.cap_selection.proofs.labels.put_labels.Given as goal
 
 -- `labels::put_labels`. The loop's invariant: the labels of the sides before s are put. The measure is what is left. Assumes nothing.

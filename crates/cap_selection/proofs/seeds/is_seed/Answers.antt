@@ -1,5 +1,4 @@
 use mathlib.Core.Path.{refl, sym, ◌∙◌}
-use borrow.Author.Rules.{rules}
 use Rattle.lists.proofs.Bools.{or_stop, or_next}
 use Rattle.cap_selection.specs.Steps.{seed_in}
 use Rattle.cap_selection.proofs.seeds.is_seed.Goals as goal

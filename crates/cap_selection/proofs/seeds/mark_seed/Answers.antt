@@ -1,7 +1,6 @@
 use Prim.Native.Nat.{ℕ, ◌+◌}
 use mathlib.Core.Path.{ap}
 use native.Mathlib.Omega.{arith}
-use borrow.Author.Rules.{rules}
 use lib.ListN.{get_or}
 use Rattle.cap_selection.proofs.Reading.{seed_skipped, seed_marked}
 use Rattle.cap_selection.proofs.seeds.mark_seed.Goals as goal

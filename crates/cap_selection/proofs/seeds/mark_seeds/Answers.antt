@@ -1,7 +1,7 @@
-use Prim.Native.Nat.{◌-◌, ◌/◌}
+use Prim.Native.Nat.{◌/◌}
 use native.Mathlib.Omega.{arith}
 use lib.ListN.{length}
-use Rattle.cap_selection.proofs.Marking.{Marking, mark_start, marking_numbered, component_low, mark_turn, mark_end}
+use Rattle.cap_selection.proofs.Marking.{mark_start, marking_numbered, component_low, mark_turn, mark_end}
 use Rattle.cap_selection.proofs.seeds.mark_seeds.Goals as goal
 
 pub loop-i-init : goal.loop-i-init

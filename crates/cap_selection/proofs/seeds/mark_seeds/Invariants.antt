@@ -1,7 +1,6 @@
 use Prim.Native.Nat.{◌-◌, ◌/◌}
-use native.Mathlib.Omega.{arith}
 use lib.ListN.{length}
-use Rattle.cap_selection.proofs.Marking.{Marking, mark_start, marking_numbered, component_low, mark_turn, mark_end}
+use Rattle.cap_selection.proofs.Marking.{Marking}
 use Rattle.cap_selection.proofs.seeds.mark_seeds.Given as goal
 
 -- `seeds::mark_seeds`. The loop's invariant: of the triangles before i the seeds' components are marked. The measure is what is left. Assumes nothing.

@@ -1,6 +1,5 @@
 use Prim.Native.Nat.{ℕ, ◌/◌}
 use mathlib.Core.Path.{subst}
-use borrow.Author.Rules.{rules}
 use lib.ListN.{length}
 use Rattle.lists.specs.Regions.{PartZeroed}
 use Rattle.cap_selection.proofs.Opening.{sides_numbered}

@@ -1,6 +1,5 @@
 use mathlib.Core.Path.{refl, sym, ◌∙◌}
 use Rattle.lists.proofs.Bools.{and_next, and_stop}
-use borrow.Author.Rules.{rules}
 use Rattle.cap_triangles.proofs.listed.all_listed.Goals as goal
 
 pub returns-then-is_listed-2 : goal.returns-then-is_listed-2

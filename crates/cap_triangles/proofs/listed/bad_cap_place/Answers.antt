@@ -1,10 +1,10 @@
-use Prim.Native.Nat.{ℕ, ◌+◌, ◌*◌, ◌-◌}
+use Prim.Native.Nat.{ℕ, ◌+◌, ◌*◌}
 use mathlib.Core.Path.{◌≡◌, sym, ap, ◌∙◌}
 use lib.ListN.{get_or}
 use native.Mathlib.Omega.{arith}
 use Rattle.geometry.specs.Triangles.{Triangle}
 use Rattle.cap_triangles.specs.Steps.{bad_words}
-use Rattle.cap_triangles.proofs.Passing.{Passed, passed_start, passed_stop, passed_more, passed_end}
+use Rattle.cap_triangles.proofs.Passing.{passed_start, passed_stop, passed_more, passed_end}
 use Rattle.cap_triangles.proofs.listed.bad_cap_place.Goals as goal
 
 pub loop-i-init : goal.loop-i-init

@@ -1,10 +1,5 @@
-use Prim.Native.Nat.{ℕ, ◌+◌, ◌*◌, ◌-◌}
-use mathlib.Core.Path.{◌≡◌, sym, ap, ◌∙◌}
-use lib.ListN.{get_or}
-use native.Mathlib.Omega.{arith}
-use Rattle.geometry.specs.Triangles.{Triangle}
-use Rattle.cap_triangles.specs.Steps.{bad_words}
-use Rattle.cap_triangles.proofs.Passing.{Passed, passed_start, passed_stop, passed_more, passed_end}
+use Prim.Native.Nat.{◌-◌}
+use Rattle.cap_triangles.proofs.Passing.{Passed}
 use Rattle.cap_triangles.proofs.listed.bad_cap_place.Given as goal
 
 -- `bad_cap_place` meets its contract. The invariant: none of the first i triangles is bad. Assumes nothing.

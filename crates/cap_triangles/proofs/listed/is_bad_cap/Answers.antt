@@ -4,7 +4,6 @@ use native.Mathlib.Omega.{arith}
 use borrow.Author.Tests.{lt-ltb, le-ltb}
 use Rattle.lists.proofs.Bools.{or_next, or_stop}
 use Rattle.cap_triangles.specs.Steps.{bad_words}
-use borrow.Author.Rules.{rules}
 use Rattle.cap_triangles.proofs.listed.is_bad_cap.Goals as goal
 
 -- `is_bad_cap` meets its contract, test by test. Assumes nothing.

@@ -7,7 +7,6 @@ use Rattle.lists.proofs.Bools.{and_next, and_stop}
 use Rattle.box_faces.specs.Faces.{has_bit}
 use Rattle.candidate_pool.specs.Standing.{count_at}
 use Rattle.cap_triangles.specs.Steps.{listed_in}
-use borrow.Author.Rules.{rules}
 use Rattle.cap_triangles.proofs.listed.is_listed.Goals as goal
 
 pub returns-then-id-w : goal.returns-then-id-w

@@ -1,6 +1,5 @@
 use Rattle.cap_triangles.proofs.Turns.{turned_as, reversed_as}
 use Rattle.geometry.specs.Numbers.{candidates_of}
-use borrow.Author.Rules.{rules}
 use Rattle.cap_triangles.proofs.turning.orient_face_triangle.Goals as goal
 
 -- `orient_face_triangle` meets its contract, by the side of the test. Assumes nothing.

@@ -1,6 +1,5 @@
-use Rattle.cap_triangles.proofs.Turns.{Turning, turning_start, turning_asks, turning_more, turning_end}
+use Rattle.cap_triangles.proofs.Turns.{turning_start, turning_asks, turning_more, turning_end}
 use Rattle.geometry.specs.Numbers.{candidates_of}
-use Prim.Native.Nat.{◌-◌}
 use lib.ListN.{length-set}
 use native.Mathlib.Omega.{arith}
 use Rattle.cap_triangles.proofs.turning.turn_caps.Goals as goal

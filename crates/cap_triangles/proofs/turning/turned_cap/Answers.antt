@@ -1,5 +1,4 @@
 use Rattle.cap_triangles.proofs.Turns.{turned_words}
-use borrow.Author.Rules.{rules}
 use Rattle.cap_triangles.proofs.turning.turned_cap.Goals as goal
 
 pub returns : goal.returns

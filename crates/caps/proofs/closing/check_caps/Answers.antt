@@ -1,6 +1,4 @@
 use Rattle.caps.proofs.Listing.{bad_refused, good_list, turned_ready, numbered_ready, noted_ready, EdgesAnswered, edges_answered}
-use native.Mathlib.Omega.{arith}
-use borrow.Author.Rules.{rules}
 use Rattle.caps.proofs.closing.check_caps.Goals as goal
 
 pub bad_cap_place-bad-requires : goal.bad_cap_place-bad-requires

@@ -1,6 +1,5 @@
 use Rattle.caps.proofs.Meshing.{chosen_ready, chosen_words, deliverable, answered}
 use native.Mathlib.Omega.{arith}
-use borrow.Author.Rules.{rules}
 use Rattle.caps.proofs.closing.close_mesh.Goals as goal
 
 pub select_caps-requires : goal.select_caps-requires

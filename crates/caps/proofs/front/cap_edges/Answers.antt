@@ -9,7 +9,6 @@ use native.Mathlib.Omega.{arith}
 use lib.ListN.{length}
 use mathlib.Core.Path.{sym, ap, ◌∙◌}
 use Rattle.candidate_surface.specs.Asked.{asked}
-use borrow.Author.Rules.{rules}
 use Rattle.caps.proofs.front.cap_edges.Goals as goal
 
 pub enter_surface-listed-requires : goal.enter_surface-listed-requires

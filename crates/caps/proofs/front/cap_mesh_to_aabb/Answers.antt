@@ -1,6 +1,5 @@
 use Rattle.caps.proofs.Ordering.{capped}
 use Rattle.candidate_surface.specs.Asked.{asked}
-use borrow.Author.Rules.{rules}
 use Rattle.caps.proofs.front.cap_mesh_to_aabb.Goals as goal
 
 pub returns : goal.returns

@@ -2,12 +2,10 @@ use Rattle.caps.proofs.Ordering.{front_refused, handed_back, gone_on, over_open,
 use Rattle.caps.proofs.Fitting.{listable}
 use Rattle.closure_tests.proofs.Checking.{sound}
 use Rattle.closure_tests.specs.Tests.{closure_tests}
-use native.Mathlib.Omega.{arith}
 use lib.ListN.{length}
 use mathlib.Core.Path.{sym, ◌∙◌}
 use Rattle.input_tests.specs.Front.{limits}
 use Rattle.candidate_surface.specs.Asked.{asked}
-use borrow.Author.Rules.{rules}
 use Rattle.caps.proofs.front.caps_lent.Goals as goal
 
 pub deliver_mesh-requires : goal.deliver_mesh-requires

@@ -5,7 +5,6 @@ use Rattle.candidate_surface.proofs.Fitting.{mesh_fits, most_small}
 use native.Mathlib.Omega.{arith}
 use mathlib.Core.Path.{sym, ◌∙◌}
 use Rattle.candidate_surface.specs.Asked.{asked}
-use borrow.Author.Rules.{rules}
 use Rattle.caps.proofs.front.make_caps.Goals as goal
 
 pub table_edges-k-requires : goal.table_edges-k-requires

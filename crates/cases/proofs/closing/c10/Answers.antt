@@ -2,8 +2,7 @@ use Rattle.cases.proofs.Lists.{facet_number}
 use lib.ListN.{length-replicate}
 use lib.Dec.{eqb}
 use Prim.Native.Nat.{ℕ}
-use mathlib.Core.Path.{◌≡◌, refl, sym, ap, ap₂, ◌∙◌}
-use borrow.Author.Rules.{rules}
+use mathlib.Core.Path.{ap}
 use Rattle.cases.proofs.closing.c10.Goals as goal
 
 pub returns : goal.returns

@@ -7,10 +7,9 @@ use lib.ListN.{length-replicate}
 use lib.Dec.{eqb}
 use mathlib.Core.List.{[], ◌∷◌}
 use Prim.Native.Nat.{ℕ, min}
-use borrow.Author.Tests.{eq-eqb, ne_eqb, not-true, not-false}
+use borrow.Author.Tests.{eq-eqb, ne_eqb}
 use Rattle.lists.proofs.Bools.{and_next, and_stop}
-use mathlib.Core.Path.{◌≡◌, refl, sym, ap, ap₂, ◌∙◌}
-use borrow.Author.Rules.{rules}
+use mathlib.Core.Path.{sym, ap, ◌∙◌}
 use Rattle.cases.proofs.closing.c13.Goals as goal
 
 pub returns-then-segments_of-ne256 : goal.returns-then-segments_of-ne256

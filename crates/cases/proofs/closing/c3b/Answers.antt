@@ -1,11 +1,10 @@
 use Prim.Native.Nat.{ℕ}
-use mathlib.Core.Path.{◌≡◌, refl, sym, ap, ◌∙◌}
+use mathlib.Core.Path.{refl, sym, ap, ◌∙◌}
 use borrow.Author.Tests.{eq-eqb, ne_eqb}
 use lib.ListN.{length-replicate}
 use Rattle.lists.proofs.Bools.{and_next, and_stop}
 use Rattle.cases.specs.Closing.{is_later}
 use Rattle.cases.proofs.Later.{listed_number, listed_words}
-use borrow.Author.Rules.{rules}
 use Rattle.cases.proofs.closing.c3b.Goals as goal
 
 pub returns-then-number-ne0 : goal.returns-then-number-ne0

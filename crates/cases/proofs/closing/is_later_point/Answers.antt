@@ -1,5 +1,4 @@
 use Rattle.cases.proofs.Later.{later_earlier, later_none, later_other, later_alone}
-use borrow.Author.Rules.{rules}
 use Rattle.cases.proofs.closing.is_later_point.Goals as goal
 
 pub returns-then-place_of-n : goal.returns-then-place_of-n

@@ -1,5 +1,4 @@
 use Rattle.cases.proofs.Lists.{listing}
-use borrow.Author.Rules.{rules}
 use Rattle.cases.proofs.closing.list_candidates.Goals as goal
 
 pub returns : goal.returns

@@ -1,5 +1,4 @@
 use Rattle.cases.proofs.Lists.{facet_listing}
-use borrow.Author.Rules.{rules}
 use Rattle.cases.proofs.closing.reply_to_facet.Goals as goal
 
 pub returns : goal.returns

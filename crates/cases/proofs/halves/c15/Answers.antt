@@ -1,7 +1,6 @@
 use Prim.Native.Nat.{ℕ}
-use mathlib.Core.Path.{◌≡◌, refl, sym, ap, ◌∙◌}
+use mathlib.Core.Path.{refl, sym, ap, ◌∙◌}
 use borrow.Author.Tests.{eq-eqb, ne_eqb}
-use borrow.Author.Rules.{rules}
 use lib.ListN.{length-replicate}
 use Rattle.lists.proofs.Bools.{and_next, and_stop}
 use Rattle.cases.specs.Halves.{closes_both}

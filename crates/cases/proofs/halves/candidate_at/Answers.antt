@@ -1,5 +1,4 @@
 use Rattle.cases.proofs.Turned.{placed}
-use borrow.Author.Rules.{rules}
 use Rattle.cases.proofs.halves.candidate_at.Goals as goal
 
 pub returns : goal.returns

@@ -1,7 +1,6 @@
 use mathlib.Core.Path.{refl, sym, ◌∙◌}
 use borrow.Author.Tests.{eq-eqb, ne_eqb}
 use Rattle.lists.proofs.Bools.{cond_true, cond_false}
-use borrow.Author.Rules.{rules}
 use Rattle.cases.proofs.halves.cap_word.Goals as goal
 
 pub returns-then-i-eq0 : goal.returns-then-i-eq0

@@ -1,8 +1,6 @@
 use Prim.Native.Nat.{ℕ}
 use mathlib.Core.List.{List}
-use mathlib.Core.Path.{◌≡◌, refl, sym, ap, ◌∙◌}
-use borrow.Author.Tests.{not-true, not-false}
-use borrow.Author.Rules.{rules}
+use mathlib.Core.Path.{refl, sym, ap, ◌∙◌}
 use Rattle.lists.proofs.Bools.{and_next, and_stop}
 use Rattle.caps.specs.declared.mode.BoundaryClosure.TheVariants.{ClosePositive, CloseNegative}
 use Rattle.cases.specs.Halves.{closes_to, lower_half, upper_half, closes_both}

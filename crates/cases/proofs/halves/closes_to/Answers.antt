@@ -1,7 +1,6 @@
 use Prim.Native.Nat.{ℕ}
 use mathlib.Core.Path.{◌∙◌}
 use lib.ListN.{length-replicate}
-use borrow.Author.Rules.{rules}
 use Rattle.cases.proofs.Turned.{capped_to}
 use Rattle.cases.proofs.halves.closes_to.Goals as goal
 

@@ -1,11 +1,5 @@
-use Prim.Native.Nat.{ℕ, ◌-◌, ◌≤◌}
-use native.Mathlib.Omega.{arith}
 use borrow.Author.Rules.{rules}
-use borrow.Author.Tests.{not-true, not-false}
-use mathlib.Core.Path.{◌≡◌, refl, sym, ap, ◌∙◌}
-use lib.ListN.{get_or, drop}
-use Rattle.lists.specs.Lists.{every, up_to}
-use Rattle.cases.specs.Halves.{is_point, has_facets}
+use mathlib.Core.Path.{sym, ◌∙◌}
 use Rattle.cases.proofs.Turned.{corner_start, corner_stop, corner_more, corner_end}
 use Rattle.cases.proofs.halves.has_facets.Goals as goal
 

@@ -1,12 +1,8 @@
 use Prim.Native.Nat.{ℕ, ◌-◌, ◌≤◌}
-use native.Mathlib.Omega.{arith}
-use borrow.Author.Rules.{rules}
-use borrow.Author.Tests.{not-true, not-false}
-use mathlib.Core.Path.{◌≡◌, refl, sym, ap, ◌∙◌}
+use mathlib.Core.Path.{◌≡◌}
 use lib.ListN.{get_or, drop}
 use Rattle.lists.specs.Lists.{every, up_to}
 use Rattle.cases.specs.Halves.{is_point, has_facets}
-use Rattle.cases.proofs.Turned.{corner_start, corner_stop, corner_more, corner_end}
 use Rattle.cases.proofs.halves.has_facets.Given as goal
 
 abbrev pub invariant-loop-i : goal.invariant-loop-i

@@ -4,8 +4,7 @@ use lib.ListN.{get_or}
 use Prim.Native.Nat.{ℕ}
 use borrow.Author.Tests.{eq-eqb, ne_eqb}
 use Rattle.lists.proofs.Bools.{and_next, and_stop}
-use mathlib.Core.Path.{◌≡◌, refl, sym, ap, ◌∙◌}
-use borrow.Author.Rules.{rules}
+use mathlib.Core.Path.{sym, ap, ◌∙◌}
 use Rattle.cases.proofs.halves.is_half.Goals as goal
 
 pub returns-then-report_reply-ne0 : goal.returns-then-report_reply-ne0

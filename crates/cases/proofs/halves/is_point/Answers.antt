@@ -3,7 +3,6 @@ use mathlib.Core.Path.{sym}
 use borrow.Author.Tests.{le-ltb}
 use Rattle.lists.proofs.Bools.{and_stop}
 use Rattle.cases.specs.Halves.{is_point}
-use borrow.Author.Rules.{rules}
 use Rattle.cases.proofs.halves.is_point.Goals as goal
 
 pub returns-then-vertices-n : goal.returns-then-vertices-n

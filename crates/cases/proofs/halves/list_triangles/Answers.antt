@@ -1,10 +1,8 @@
-use Prim.Native.Nat.{ℕ, ◌-◌, ◌≤◌, ◌<◌}
-use native.Mathlib.Omega.{arith}
+use Prim.Native.Nat.{ℕ}
 use borrow.Author.Rules.{rules}
 use borrow.Author.Count.{below_none}
-use mathlib.Core.Path.{◌≡◌, sym, ◌∙◌}
-use lib.ListN.{length, get_or, length-replicate, length-set}
-use Rattle.cases.specs.Halves.{cap_word}
+use mathlib.Core.Path.{◌∙◌}
+use lib.ListN.{length-replicate, length-set}
 use Rattle.cases.proofs.Turned.{turned_more, turned_all}
 use Rattle.cases.proofs.halves.list_triangles.Goals as goal
 

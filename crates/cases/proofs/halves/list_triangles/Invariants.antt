@@ -1,11 +1,7 @@
 use Prim.Native.Nat.{ℕ, ◌-◌, ◌≤◌, ◌<◌}
-use native.Mathlib.Omega.{arith}
-use borrow.Author.Rules.{rules}
-use borrow.Author.Count.{below_none}
-use mathlib.Core.Path.{◌≡◌, sym, ◌∙◌}
-use lib.ListN.{length, get_or, length-replicate, length-set}
+use mathlib.Core.Path.{◌≡◌}
+use lib.ListN.{length, get_or}
 use Rattle.cases.specs.Halves.{cap_word}
-use Rattle.cases.proofs.Turned.{turned_more, turned_all}
 use Rattle.cases.proofs.halves.list_triangles.Given as goal
 
 abbrev pub invariant-loop-i : goal.invariant-loop-i

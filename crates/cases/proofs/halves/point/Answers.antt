@@ -1,5 +1,5 @@
 use native.Mathlib.Omega.{arith}
-use mathlib.Core.Path.{◌≡◌, sym, ap}
+use mathlib.Core.Path.{sym, ap}
 use Rattle.cases.specs.Halves.{half_point}
 use Rattle.cases.proofs.Turned.{last_point}
 use Rattle.cases.proofs.halves.point.Goals as goal

@@ -1,10 +1,9 @@
 use mathlib.Core.Path.{sym, ap, ◌∙◌}
 use mathlib.Core.Bool.{not}
-use borrow.Author.Tests.{not-true, not-false}
+use borrow.Author.Tests.{not-false}
 use Rattle.input_tests.specs.Front.{limits}
 use Rattle.candidate_surface.specs.Asked.{asked}
 use Rattle.closure_tests.proofs.Checking.{need_small, lists_refused, number_refused, box_refused, grid_refused, room_refused, all_passed_lem}
-use borrow.Author.Rules.{rules}
 use Rattle.closure_tests.proofs.tests.check_closure.Goals as goal
 
 pub returns-in-Refused : goal.returns-in-Refused

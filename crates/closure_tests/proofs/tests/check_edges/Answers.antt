@@ -4,7 +4,6 @@ use mathlib.Core.Path.{sym, ap, ◌∙◌}
 use Rattle.lists.proofs.Bools.{or_next, or_stop}
 use Rattle.candidate_surface.specs.Asked.{asked}
 use Rattle.closure_tests.proofs.Checking.{key_refused, edge_refused, edges_passed, ends_of}
-use borrow.Author.Rules.{rules}
 use Rattle.closure_tests.proofs.tests.check_edges.Goals as goal
 
 pub returns-then-has_far_key : goal.returns-then-has_far_key

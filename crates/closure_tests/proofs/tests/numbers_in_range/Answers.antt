@@ -1,7 +1,5 @@
 use mathlib.Core.Path.{sym, ◌∙◌}
-use borrow.Author.Tests.{not-true, not-false}
 use Rattle.lists.proofs.Bools.{and_next, and_stop}
-use borrow.Author.Rules.{rules}
 use Rattle.closure_tests.proofs.tests.numbers_in_range.Goals as goal
 
 pub returns-then-not-all_in_range : goal.returns-then-not-all_in_range

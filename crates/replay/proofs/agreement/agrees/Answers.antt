@@ -1,7 +1,6 @@
 use Rattle.replay.specs.Agreement.{tolerance, lists}
 use Rattle.replay.proofs.Agreeing.{short, as_tolerance, as_lists}
 use Rattle.replay.proofs.Deciding.{refuted, ends}
-use borrow.Author.Rules.{rules}
 use Rattle.replay.proofs.agreement.agrees.Goals as goal
 
 pub returns-then-stored-lt32 : goal.returns-then-stored-lt32

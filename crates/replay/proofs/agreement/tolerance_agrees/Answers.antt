@@ -1,6 +1,5 @@
 use Rattle.replay.proofs.Agreeing.{same_box, tolerance_decides}
 use Rattle.replay.proofs.Deciding.{refuted, stops, passes}
-use borrow.Author.Rules.{rules}
 use Rattle.replay.proofs.agreement.tolerance_agrees.Goals as goal
 
 pub returns-then-stored-ne32 : goal.returns-then-stored-ne32

@@ -1,5 +1,4 @@
 use Rattle.replay.proofs.Listing.{boundary_decides}
-use borrow.Author.Rules.{rules}
 use Rattle.replay.proofs.boundary.boundary_agrees.Goals as goal
 
 pub returns : goal.returns

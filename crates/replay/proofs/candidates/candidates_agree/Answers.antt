@@ -1,6 +1,5 @@
 use Rattle.replay.proofs.Listing.{candidates_decides}
 use Rattle.replay.proofs.Agreeing.{same_box}
-use borrow.Author.Rules.{rules}
 use Rattle.replay.proofs.candidates.candidates_agree.Goals as goal
 
 pub same_candidates-requires : goal.same_candidates-requires

@@ -1,6 +1,5 @@
 use Rattle.replay.proofs.Deciding.{stops, passes, ends}
 use Rattle.replay.proofs.Comparing.{four_decides}
-use borrow.Author.Rules.{rules}
 use Rattle.replay.proofs.candidates.same_candidates.Goals as goal
 
 pub returns-then-not-same_listing : goal.returns-then-not-same_listing

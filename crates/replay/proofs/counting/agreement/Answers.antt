@@ -1,7 +1,6 @@
 use Rattle.replay.proofs.Deciding.{clash}
 use Rattle.replay.proofs.Tallying.{one, none_of}
 use native.Mathlib.Omega.{arith}
-use borrow.Author.Rules.{rules}
 use Rattle.lists.proofs.Bools.{is_true, yes}
 use Rattle.replay.proofs.counting.agreement.Goals as goal
 

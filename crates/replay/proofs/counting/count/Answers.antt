@@ -1,7 +1,4 @@
-use Rattle.replay.proofs.Tallying.{tally_start, tally_more, tally_stop, tally_end, Tallying}
-use lib.ListN.{length}
-use Prim.Native.Nat.{◌-◌}
-use borrow.Author.Rules.{rules}
+use Rattle.replay.proofs.Tallying.{tally_start, tally_more, tally_stop, tally_end}
 use native.Mathlib.Omega.{arith}
 use Rattle.replay.proofs.counting.count.Goals as goal
 

@@ -1,8 +1,6 @@
-use Rattle.replay.proofs.Tallying.{tally_start, tally_more, tally_stop, tally_end, Tallying}
+use Rattle.replay.proofs.Tallying.{Tallying}
 use lib.ListN.{length}
 use Prim.Native.Nat.{◌-◌}
-use borrow.Author.Rules.{rules}
-use native.Mathlib.Omega.{arith}
 use Rattle.replay.proofs.counting.count.Given as goal
 
 abbrev pub invariant-loop-at : goal.invariant-loop-at

@@ -1,7 +1,6 @@
 use Rattle.replay.proofs.Deciding.{refuted, ends}
 use Rattle.replay.proofs.Listing.{as_candidates, as_boundary, no_listing}
 use Rattle.replay.specs.Agreement.{candidates, boundary}
-use borrow.Author.Rules.{rules}
 use Rattle.replay.proofs.listings.listing_agrees.Goals as goal
 
 pub returns-then-stored-eq4 : goal.returns-then-stored-eq4

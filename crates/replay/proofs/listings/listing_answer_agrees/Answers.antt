@@ -2,7 +2,6 @@ use native.Mathlib.Omega.{arith}
 use lib.Dec.{lit<}
 use Rattle.replay.proofs.Filling.{front_length}
 use mathlib.Core.Path.{sym}
-use borrow.Author.Rules.{rules}
 use Rattle.replay.proofs.listings.listing_answer_agrees.Goals as goal
 
 pub slice_bounds-run_listing-end : goal.slice_bounds-run_listing-end

@@ -1,8 +1,7 @@
 use native.Mathlib.Omega.{arith}
 use lib.Dec.{lit<}
-use mathlib.Core.Path.{◌≡◌, ap, ◌∙◌}
+use mathlib.Core.Path.{ap, ◌∙◌}
 use Rattle.replay.specs.Contents.{old_words}
-use borrow.Author.Rules.{rules}
 use Rattle.replay.proofs.listings.run_listing.Goals as goal
 
 pub old_words-requires-2 : goal.old_words-requires-2

@@ -1,5 +1,4 @@
 use Rattle.replay.proofs.Agreeing.{same_box, caps_reply_lem, caps_result_lem, lent_caps, outputs_within, mesh_called, answer_decides}
-use borrow.Author.Rules.{rules}
 use Rattle.replay.proofs.meshes.caps_agrees.Goals as goal
 
 pub same_answer-requires : goal.same_answer-requires

@@ -1,5 +1,4 @@
 use Rattle.replay.proofs.Agreeing.{clean_reply_lem, clean_result_lem, outputs_within, mesh_called, answer_decides}
-use borrow.Author.Rules.{rules}
 use Rattle.replay.proofs.meshes.clean_agrees.Goals as goal
 
 pub same_answer-requires : goal.same_answer-requires

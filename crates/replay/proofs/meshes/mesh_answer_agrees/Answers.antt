@@ -2,7 +2,6 @@ use mathlib.Core.Path.{sym}
 use Rattle.replay.proofs.Filling.{front_length}
 use lib.Dec.{lit<}
 use native.Mathlib.Omega.{arith}
-use borrow.Author.Rules.{rules}
 use Rattle.replay.proofs.meshes.mesh_answer_agrees.Goals as goal
 
 pub slice_bounds-run-end : goal.slice_bounds-run-end

@@ -1,11 +1,10 @@
 use Rattle.replay.specs.Contents.{old_doubles, old_words}
 use Rattle.replay.specs.Agreement.{clip, clean, caps}
-use mathlib.Core.Path.{◌≡◌, ap, ◌∙◌}
+use mathlib.Core.Path.{ap, ◌∙◌}
 use Rattle.replay.proofs.Deciding.{refuted, ends}
 use Rattle.replay.proofs.Agreeing.{as_clip, as_clean, as_caps, no_operation}
 use lib.Dec.{lit<}
 use native.Mathlib.Omega.{arith}
-use borrow.Author.Rules.{rules}
 use Rattle.replay.proofs.meshes.run.Goals as goal
 
 pub old_numbers-requires : goal.old_numbers-requires

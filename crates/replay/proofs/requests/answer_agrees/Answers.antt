@@ -1,7 +1,6 @@
 use Rattle.replay.proofs.Deciding.{ends}
 use Rattle.replay.proofs.Agreeing.{as_listing_4, as_listing_6, as_mesh}
 use Rattle.replay.specs.Agreement.{mesh, listing}
-use borrow.Author.Rules.{rules}
 use Rattle.replay.proofs.requests.answer_agrees.Goals as goal
 
 pub returns-then-stored-eq4 : goal.returns-then-stored-eq4

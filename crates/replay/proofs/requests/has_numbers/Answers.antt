@@ -1,5 +1,4 @@
 use Rattle.replay.proofs.Deciding.{stops, passes, ends}
-use borrow.Author.Rules.{rules}
 use Rattle.replay.proofs.requests.has_numbers.Goals as goal
 
 pub returns-then-not-are_few : goal.returns-then-not-are_few

@@ -1,5 +1,4 @@
 use Rattle.replay.proofs.Deciding.{stops, passes, ends}
-use borrow.Author.Rules.{rules}
 use Rattle.replay.proofs.requests.lists_agree.Goals as goal
 
 pub returns-then-not-is_laid : goal.returns-then-not-is_laid

@@ -1,6 +1,5 @@
 use Rattle.replay.proofs.Agreeing.{lists_decides}
 use mathlib.Core.Path.{◌∙◌}
-use borrow.Author.Rules.{rules}
 use Rattle.replay.proofs.requests.read_lists.Goals as goal
 
 pub returns : goal.returns

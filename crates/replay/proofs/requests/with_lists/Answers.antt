@@ -2,7 +2,6 @@ use mathlib.Core.Path.{sym}
 use Rattle.replay.proofs.Filling.{front_length}
 use lib.Dec.{lit<}
 use native.Mathlib.Omega.{arith}
-use borrow.Author.Rules.{rules}
 use Rattle.replay.proofs.requests.with_lists.Goals as goal
 
 pub slice_bounds-vertices-end : goal.slice_bounds-vertices-end

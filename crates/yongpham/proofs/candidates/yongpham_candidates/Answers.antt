@@ -1,5 +1,4 @@
 use Rattle.refusals.proofs.Answers.{called}
-use borrow.Author.Rules.{rules}
 use Rattle.yongpham.proofs.candidates.yongpham_candidates.Goals as goal
 
 pub returns : goal.returns

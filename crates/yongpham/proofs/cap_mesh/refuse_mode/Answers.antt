@@ -1,5 +1,4 @@
 use Rattle.yongpham.proofs.Reports.{no_mode_passed, no_mode_refused}
-use borrow.Author.Rules.{rules}
 use Rattle.yongpham.proofs.cap_mesh.refuse_mode.Goals as goal
 
 pub returns-in-Passed : goal.returns-in-Passed

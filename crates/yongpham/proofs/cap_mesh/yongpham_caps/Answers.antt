@@ -1,6 +1,5 @@
 use mathlib.Core.Path.{refl}
 use Rattle.yongpham.proofs.Reports.{caps_none, caps_reported}
-use borrow.Author.Rules.{rules}
 use Rattle.yongpham.proofs.cap_mesh.yongpham_caps.Goals as goal
 
 pub returns-then-mode-gt2 : goal.returns-then-mode-gt2
