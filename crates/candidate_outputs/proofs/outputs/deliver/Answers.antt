@@ -39,7 +39,7 @@ returns-then-constraints-t c =
     let s = c in
     let a = s.args in
     short_constraints a.n a.nf a.k a.listed a.total a.w.now s.requires _ c.listed_numbers-l.ensures.0 a.candidates.now
-    a.face_lists.now a.constraints.now a.open_edges.now c.if-candidates-c.false c.if-face_lists-l.false c.if-constraints-t.true
+    a.face_lists.now a.constraints.now a.open_edges.now c.if-candidates-c.false (omega arith) c.if-constraints-t.true
 
 pub returns-then-open_edges-e : goal.returns-then-open_edges-e
 returns-then-open_edges-e c =

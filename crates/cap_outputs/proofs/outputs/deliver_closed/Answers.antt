@@ -64,7 +64,7 @@ returns-then-out_facets-f c =
     (vertices_long a.vertices.now a.facets.now a.n a.nc a.left a.caps a.positive a.w.now
     c.requires c.vertices_at.result
     c.vertices_at.ensures) (facets_long a.vertices.now a.facets.now a.n a.nc a.left a.caps a.positive a.w.now
-    c.requires) a.out_vertices.now a.out_facets.now c.if-out_vertices-v.false c.if-out_facets-f.true
+    c.requires) a.out_vertices.now a.out_facets.now (omega arith) c.if-out_facets-f.true
 
 pub copy_doubles-requires : goal.copy_doubles-requires
 copy_doubles-requires c =

@@ -86,7 +86,7 @@ returns-in-Passed c =
     ends_closed a.vertices.now a.facets.now a.cap_list.now (asked a.extents a.eps a.resolution) a.mode a.out_vertices.now _ a.out_facets.now _ _
     (ends_left a.vertices.now a.facets.now a.cap_list.now (asked a.extents a.eps a.resolution) a.mode
     c.enter_surface-listed.result c.enter_surface-listed.ensures.1
-    c.if-listed-eq0.false) (ap first_refusal (sym (tests_are a.vertices.now a.facets.now a.cap_list.now (asked a.extents a.eps a.resolution) a.mode a.n a.k
+    (omega arith)) (ap first_refusal (sym (tests_are a.vertices.now a.facets.now a.cap_list.now (asked a.extents a.eps a.resolution) a.mode a.n a.k
     c.complete.new.w c.complete.ensures)) ∙ sym c.check_caps.ensures.found ∙ c.in-Passed.is)
     (closed_mesh a.vertices.now a.facets.now a.cap_list.now a.n a.k
     c.is_positive.result
@@ -107,7 +107,7 @@ returns-in-Refused c =
     (ends_left a.vertices.now a.facets.now a.cap_list.now (asked a.extents a.eps a.resolution) a.mode
     c.enter_surface-listed.result
     c.enter_surface-listed.ensures.1
-    c.if-listed-eq0.false)
+    (omega arith))
     (ap first_refusal (sym (tests_are a.vertices.now a.facets.now a.cap_list.now (asked a.extents a.eps a.resolution) a.mode a.n a.k
     c.complete.new.w
     c.complete.ensures)) ∙ sym c.check_caps.ensures.found ∙
