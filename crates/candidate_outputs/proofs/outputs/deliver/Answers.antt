@@ -61,7 +61,11 @@ write_edges-requires c =
     let s = fit in
     let a = s.args in
     let e = ap (λ (x : ℕ). length (open_edge_words (edges_at a.w.now x a.k))) c.open_edges_at.ensures in
-    let l = edges_long a.n a.nf a.k a.listed a.total a.w.now s.requires in record { k_in_bounds = omega (arith, s.requires.size, s.requires.edges, c.open_edges_at.ensures); k_in_bounds_2 = omega (arith, fit.if-open_edges-e.false, l, e) }
+    let l = edges_long a.n a.nf a.k a.listed a.total a.w.now s.requires in
+    record {
+      k_in_bounds = omega (arith, s.requires.size, s.requires.edges, c.open_edges_at.ensures);
+      k_in_bounds_2 = omega (arith, fit.if-open_edges-e.false, l, e);
+    }
 
 pub returns : goal.returns
 returns c =
