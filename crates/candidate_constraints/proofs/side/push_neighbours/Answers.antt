@@ -5,7 +5,7 @@ use lib.ListN.{length}
 use Rattle.candidate_constraints.proofs.side.push_neighbours.Goals.{In-loop-j}
 use Rattle.candidate_constraints.proofs.side.push_neighbours.Goals as goal
 
--- within a turn, the named place and the next pair's place lie in w
+-- the two places that a turn reads, and the pair that it writes
 turn_in : (c : In-loop-j) → (c.side_at-at.result + 2 * c.loop-j.j + 3 < length c.loop-j.w)
     × (c.pairs_at-pairs.result + 2 * c.loop-j.c + 1 < length c.loop-j.w)
 turn_in c =
