@@ -9,16 +9,23 @@ use Rattle.candidate_pool.specs.Pool.{face_list}
 use Rattle.candidate_pool.specs.Standing.{pool_at}
 use Rattle.candidate_constraints.proofs.Noting.{member_low, noted_place}
 use Rattle.candidate_constraints.proofs.Pairing.{edge_ends, edge_pushed, edge_skipped}
+use Rattle.candidate_constraints.proofs.pairs.push_open_edge.Goals.{Then-has_face}
 use Rattle.candidate_constraints.proofs.pairs.push_open_edge.Goals as goal
+
+-- the candidates of the edge's two ends are in the face's list
+ends : (c : Then-has_face) →
+    let edge : ℕ = c.open_edges_at.result + 3 * c.args.i in
+    let listed : List ℕ = face_list (pool_at c.args.n c.args.w.now) c.args.face in
+    (has listed (get_or c.args.w.now edge 0) ≡ true) × (has listed (get_or c.args.w.now (edge + 1) 0) ≡ true)
+ends c =
+    let s = c in
+    let at = c.open_edges_at in
+    edge_ends s.args.n s.args.nf s.args.i s.args.face s.args.w.now s.requires.edges_held s.requires.face_bound.0 at.result at.ensures
+    (sym c.has_face.ensures ∙ c.if-has_face.true)
 
 pub place_of_candidate-a-requires : goal.place_of_candidate-a-requires
 place_of_candidate-a-requires c =
-    let edge : ℕ = c.open_edges_at.result + 3 * c.args.i in
-    let listed : List ℕ = face_list (pool_at c.args.n c.args.w.now) c.args.face in
-    let ends : (has listed (get_or c.args.w.now edge 0) ≡ true) × (has listed (get_or c.args.w.now (edge + 1) 0) ≡ true) = let s = c in
-    let at = c.open_edges_at in
-    edge_ends s.args.n s.args.nf s.args.i s.args.face s.args.w.now s.requires.edges_held s.requires.face_bound.0 at.result at.ensures
-    (sym c.has_face.ensures ∙ c.if-has_face.true) in
+    let ends = ends (goal.at.place_of_candidate-a-requires c).Then-has_face in
     let s = c in (
       omega (arith, s.requires.roomy.small),
       omega (
@@ -30,12 +37,7 @@ place_of_candidate-a-requires c =
 
 pub place_of_candidate-b-requires : goal.place_of_candidate-b-requires
 place_of_candidate-b-requires c =
-    let edge : ℕ = c.open_edges_at.result + 3 * c.args.i in
-    let listed : List ℕ = face_list (pool_at c.args.n c.args.w.now) c.args.face in
-    let ends : (has listed (get_or c.args.w.now edge 0) ≡ true) × (has listed (get_or c.args.w.now (edge + 1) 0) ≡ true) = let s = c in
-    let at = c.open_edges_at in
-    edge_ends s.args.n s.args.nf s.args.i s.args.face s.args.w.now s.requires.edges_held s.requires.face_bound.0 at.result at.ensures
-    (sym c.has_face.ensures ∙ c.if-has_face.true) in
+    let ends = ends (goal.at.place_of_candidate-b-requires c).Then-has_face in
     let s = c in (
       omega (arith, s.requires.roomy.small),
       omega (
@@ -47,12 +49,7 @@ place_of_candidate-b-requires c =
 
 pub put_pair-requires : goal.put_pair-requires
 put_pair-requires c =
-    let edge : ℕ = c.open_edges_at.result + 3 * c.args.i in
-    let listed : List ℕ = face_list (pool_at c.args.n c.args.w.now) c.args.face in
-    let ends : (has listed (get_or c.args.w.now edge 0) ≡ true) × (has listed (get_or c.args.w.now (edge + 1) 0) ≡ true) = let s = c in
-    let at = c.open_edges_at in
-    edge_ends s.args.n s.args.nf s.args.i s.args.face s.args.w.now s.requires.edges_held s.requires.face_bound.0 at.result at.ensures
-    (sym c.has_face.ensures ∙ c.if-has_face.true) in
+    let ends = ends (goal.at.put_pair-requires c).Then-has_face in
     let s = c in
     let IF' = c in (
       omega (arith, c.pairs_at.ensures, s.requires.roomy.room, s.requires.face_bound.2),

@@ -4,7 +4,26 @@ use lib.ListN.{get_or, length}
 use native.Mathlib.Omega.{arith}
 use Rattle.candidate_constraints.proofs.Showing.{in_list}
 use Rattle.candidate_constraints.proofs.Noting.{noted_low, noting_start, noting_named, noting_end}
+use Rattle.candidate_constraints.proofs.places.note_places.Goals.{In-loop-i}
 use Rattle.candidate_constraints.proofs.places.note_places.Goals as goal
+
+-- the word that a turn reads
+read-in : (c : In-loop-i) → (c.list_at-list.result + c.loop-i.i < length c.loop-i.w) × (c.loop-i.i < c.args.n)
+read-in c =
+    let s = c in
+    let l = c.loop-i in
+    let h = in_list s.args.n s.args.w.now s.requires.shown s.args.face s.requires.n_bound.1 c.list_at-list.result
+    (get_or s.args.w.now s.args.face 0) l.i l.invariant.1 refl (omega (arith, l.invariant.3, c.loop-i-test.true)) in
+    (omega (arith, h.0, l.invariant.0.kept.long, s.requires.shown.size), h.1)
+
+-- the word that a turn writes
+write-in : (c : In-loop-i) → c.places_at-places.result + get_or c.loop-i.w (c.list_at-list.result + c.loop-i.i) 0 < length c.loop-i.w
+write-in c =
+    let s = c in
+    let l = c.loop-i in
+    let h = noted_low s.args.n s.args.face s.args.w.now s.requires.shown s.requires.n_bound.1 s.requires.n_bound.2 l.w l.i l.invariant.0
+    (omega (arith, l.invariant.3, c.loop-i-test.true)) in
+    omega (arith, h, ap (λ (x : ℕ). get_or l.w (x + l.i) 0) l.invariant.1, l.invariant.2, l.invariant.0.kept.long, s.requires.n_bound.2)
 
 pub list_at-list-requires : goal.list_at-list-requires
 list_at-list-requires c =
@@ -29,52 +48,27 @@ loop-i-init c =
 
 pub candidate_of_place-id-requires : goal.candidate_of_place-id-requires
 candidate_of_place-id-requires c =
-    let read-in : (c.list_at-list.result + c.loop-i.i < length c.loop-i.w) ×
-    (c.loop-i.i < c.args.n) = let s = c in
-    let l = c.loop-i in
-    let h = in_list s.args.n s.args.w.now s.requires.shown s.args.face s.requires.n_bound.1 c.list_at-list.result
-    (get_or s.args.w.now s.args.face 0) l.i l.invariant.1 refl (omega (arith, l.invariant.3, c.loop-i-test.true)) in
-    (omega (arith, h.0, l.invariant.0.kept.long, s.requires.shown.size), h.1) in
+    let read-in = read-in (goal.at.candidate_of_place-id-requires c).In-loop-i in
     read-in.0
 
 pub overflow_add-w : goal.overflow_add-w
 overflow_add-w c =
-    let write-in : c.places_at-places.result + get_or c.loop-i.w (c.list_at-list.result + c.loop-i.i) 0 < length
-    c.loop-i.w = let s = c in
-    let l = c.loop-i in
-    let h = noted_low s.args.n s.args.face s.args.w.now s.requires.shown s.requires.n_bound.1 s.requires.n_bound.2 l.w l.i l.invariant.0
-    (omega (arith, l.invariant.3, c.loop-i-test.true)) in
-    omega (arith, h, ap (λ (x : ℕ). get_or l.w (x + l.i) 0) l.invariant.1, l.invariant.2, l.invariant.0.kept.long, s.requires.n_bound.2) in
+    let write-in = write-in (goal.at.overflow_add-w c).In-loop-i in
     omega (arith, write-in, c.candidate_of_place-id.ensures)
 
 pub offset_bounds-w-places : goal.offset_bounds-w-places
 offset_bounds-w-places c =
-    let write-in : c.places_at-places.result + get_or c.loop-i.w (c.list_at-list.result + c.loop-i.i) 0 < length
-    c.loop-i.w = let s = c in
-    let l = c.loop-i in
-    let h = noted_low s.args.n s.args.face s.args.w.now s.requires.shown s.requires.n_bound.1 s.requires.n_bound.2 l.w l.i l.invariant.0
-    (omega (arith, l.invariant.3, c.loop-i-test.true)) in
-    omega (arith, h, ap (λ (x : ℕ). get_or l.w (x + l.i) 0) l.invariant.1, l.invariant.2, l.invariant.0.kept.long, s.requires.n_bound.2) in
+    let write-in = write-in (goal.at.offset_bounds-w-places c).In-loop-i in
     omega (arith, write-in, c.candidate_of_place-id.ensures)
 
 pub bounds-w-places : goal.bounds-w-places
 bounds-w-places c =
-    let write-in : c.places_at-places.result + get_or c.loop-i.w (c.list_at-list.result + c.loop-i.i) 0 < length
-    c.loop-i.w = let s = c in
-    let l = c.loop-i in
-    let h = noted_low s.args.n s.args.face s.args.w.now s.requires.shown s.requires.n_bound.1 s.requires.n_bound.2 l.w l.i l.invariant.0
-    (omega (arith, l.invariant.3, c.loop-i-test.true)) in
-    omega (arith, h, ap (λ (x : ℕ). get_or l.w (x + l.i) 0) l.invariant.1, l.invariant.2, l.invariant.0.kept.long, s.requires.n_bound.2) in
+    let write-in = write-in (goal.at.bounds-w-places c).In-loop-i in
     omega (arith, write-in, c.candidate_of_place-id.ensures)
 
 pub overflow_add-i : goal.overflow_add-i
 overflow_add-i c =
-    let read-in : (c.list_at-list.result + c.loop-i.i < length c.loop-i.w) ×
-    (c.loop-i.i < c.args.n) = let s = c in
-    let l = c.loop-i in
-    let h = in_list s.args.n s.args.w.now s.requires.shown s.args.face s.requires.n_bound.1 c.list_at-list.result
-    (get_or s.args.w.now s.args.face 0) l.i l.invariant.1 refl (omega (arith, l.invariant.3, c.loop-i-test.true)) in
-    (omega (arith, h.0, l.invariant.0.kept.long, s.requires.shown.size), h.1) in
+    let read-in = read-in (goal.at.overflow_add-i c).In-loop-i in
     omega (arith, read-in)
 
 pub loop-i-smaller : goal.loop-i-smaller

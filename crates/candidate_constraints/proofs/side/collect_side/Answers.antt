@@ -6,7 +6,19 @@ use Rattle.candidate_pool.specs.Offsets.{entry_at}
 use Rattle.candidate_pool.specs.Standing.{point_at}
 use Rattle.candidate_constraints.proofs.Showing.{in_list}
 use Rattle.candidate_constraints.proofs.Along.{collecting_start, collected_stored, on_side_no_nan, collecting_named, collecting_end}
+use Rattle.candidate_constraints.proofs.side.collect_side.Goals.{In-loop-i}
 use Rattle.candidate_constraints.proofs.side.collect_side.Goals as goal
+
+-- the place that a turn reads, the two that it writes, and that no more are kept than were read
+turn_in : (c : In-loop-i) → (c.list_at-list.result + c.loop-i.i < length c.loop-i.w)
+    × (c.side_at-at.result + 2 * c.loop-i.m + 1 < length c.loop-i.w) × (c.loop-i.m ≤ c.loop-i.i)
+turn_in c =
+    let s = c in
+    let l = c.loop-i in
+    let h = in_list s.args.n s.args.w.now s.requires.shown s.args.face s.requires.n_bound.1 c.list_at-list.result
+    (get_or s.args.w.now s.args.face 0) l.i l.invariant.1 refl (omega (arith, l.invariant.3, c.loop-i-test.true)) in
+    let e = l.invariant.0.kept.long in
+    (omega (arith, h.0, e, s.requires.shown.size), omega (arith, h.1, l.invariant.0.few, l.invariant.2, e, s.requires.n_bound.2), l.invariant.0.few)
 
 pub list_at-list-requires : goal.list_at-list-requires
 list_at-list-requires c =
@@ -35,13 +47,7 @@ loop-i-init c =
 
 pub candidate_of_place-requires : goal.candidate_of_place-requires
 candidate_of_place-requires c =
-    let turn_in : (c.list_at-list.result + c.loop-i.i < length c.loop-i.w)
-    × (c.side_at-at.result + 2 * c.loop-i.m + 1 < length c.loop-i.w) × (c.loop-i.m ≤ c.loop-i.i) = let s = c in
-    let l = c.loop-i in
-    let h = in_list s.args.n s.args.w.now s.requires.shown s.args.face s.requires.n_bound.1 c.list_at-list.result
-    (get_or s.args.w.now s.args.face 0) l.i l.invariant.1 refl (omega (arith, l.invariant.3, c.loop-i-test.true)) in
-    let e = l.invariant.0.kept.long in
-    (omega (arith, h.0, e, s.requires.shown.size), omega (arith, h.1, l.invariant.0.few, l.invariant.2, e, s.requires.n_bound.2), l.invariant.0.few) in
+    let turn_in = turn_in (goal.at.candidate_of_place-requires c).In-loop-i in
     turn_in.0
 
 pub point_of-requires : goal.point_of-requires
@@ -60,35 +66,17 @@ candidate_on_face_side-t-requires c = tt
 
 pub overflow_mul-m : goal.overflow_mul-m
 overflow_mul-m c =
-    let turn_in : (c.list_at-list.result + c.loop-i.i < length c.loop-i.w)
-    × (c.side_at-at.result + 2 * c.loop-i.m + 1 < length c.loop-i.w) × (c.loop-i.m ≤ c.loop-i.i) = let s = c in
-    let l = c.loop-i in
-    let h = in_list s.args.n s.args.w.now s.requires.shown s.args.face s.requires.n_bound.1 c.list_at-list.result
-    (get_or s.args.w.now s.args.face 0) l.i l.invariant.1 refl (omega (arith, l.invariant.3, c.loop-i-test.true)) in
-    let e = l.invariant.0.kept.long in
-    (omega (arith, h.0, e, s.requires.shown.size), omega (arith, h.1, l.invariant.0.few, l.invariant.2, e, s.requires.n_bound.2), l.invariant.0.few) in
+    let turn_in = turn_in (goal.at.overflow_mul-m c).In-loop-i in
     omega (arith, turn_in)
 
 pub overflow_add-at : goal.overflow_add-at
 overflow_add-at c =
-    let turn_in : (c.list_at-list.result + c.loop-i.i < length c.loop-i.w)
-    × (c.side_at-at.result + 2 * c.loop-i.m + 1 < length c.loop-i.w) × (c.loop-i.m ≤ c.loop-i.i) = let s = c in
-    let l = c.loop-i in
-    let h = in_list s.args.n s.args.w.now s.requires.shown s.args.face s.requires.n_bound.1 c.list_at-list.result
-    (get_or s.args.w.now s.args.face 0) l.i l.invariant.1 refl (omega (arith, l.invariant.3, c.loop-i-test.true)) in
-    let e = l.invariant.0.kept.long in
-    (omega (arith, h.0, e, s.requires.shown.size), omega (arith, h.1, l.invariant.0.few, l.invariant.2, e, s.requires.n_bound.2), l.invariant.0.few) in
+    let turn_in = turn_in (goal.at.overflow_add-at c).In-loop-i in
     omega (arith, turn_in)
 
 pub note_fraction-m-requires : goal.note_fraction-m-requires
 note_fraction-m-requires c =
-    let turn_in : (c.list_at-list.result + c.loop-i.i < length c.loop-i.w)
-    × (c.side_at-at.result + 2 * c.loop-i.m + 1 < length c.loop-i.w) × (c.loop-i.m ≤ c.loop-i.i) = let s = c in
-    let l = c.loop-i in
-    let h = in_list s.args.n s.args.w.now s.requires.shown s.args.face s.requires.n_bound.1 c.list_at-list.result
-    (get_or s.args.w.now s.args.face 0) l.i l.invariant.1 refl (omega (arith, l.invariant.3, c.loop-i-test.true)) in
-    let e = l.invariant.0.kept.long in
-    (omega (arith, h.0, e, s.requires.shown.size), omega (arith, h.1, l.invariant.0.few, l.invariant.2, e, s.requires.n_bound.2), l.invariant.0.few) in
+    let turn_in = turn_in (goal.at.note_fraction-m-requires c).In-loop-i in
     let s = c in
     let candidate-on-face-side' = c.candidate_on_face_side-t in (
       omega (arith, turn_in),
@@ -97,24 +85,12 @@ note_fraction-m-requires c =
 
 pub overflow_add-m : goal.overflow_add-m
 overflow_add-m c =
-    let turn_in : (c.list_at-list.result + c.loop-i.i < length c.loop-i.w)
-    × (c.side_at-at.result + 2 * c.loop-i.m + 1 < length c.loop-i.w) × (c.loop-i.m ≤ c.loop-i.i) = let s = c in
-    let l = c.loop-i in
-    let h = in_list s.args.n s.args.w.now s.requires.shown s.args.face s.requires.n_bound.1 c.list_at-list.result
-    (get_or s.args.w.now s.args.face 0) l.i l.invariant.1 refl (omega (arith, l.invariant.3, c.loop-i-test.true)) in
-    let e = l.invariant.0.kept.long in
-    (omega (arith, h.0, e, s.requires.shown.size), omega (arith, h.1, l.invariant.0.few, l.invariant.2, e, s.requires.n_bound.2), l.invariant.0.few) in
+    let turn_in = turn_in (goal.at.overflow_add-m c).In-loop-i in
     omega (arith, c.note_fraction-m.ensures.few, turn_in)
 
 pub overflow_add-i : goal.overflow_add-i
 overflow_add-i c =
-    let turn_in : (c.list_at-list.result + c.loop-i.i < length c.loop-i.w)
-    × (c.side_at-at.result + 2 * c.loop-i.m + 1 < length c.loop-i.w) × (c.loop-i.m ≤ c.loop-i.i) = let s = c in
-    let l = c.loop-i in
-    let h = in_list s.args.n s.args.w.now s.requires.shown s.args.face s.requires.n_bound.1 c.list_at-list.result
-    (get_or s.args.w.now s.args.face 0) l.i l.invariant.1 refl (omega (arith, l.invariant.3, c.loop-i-test.true)) in
-    let e = l.invariant.0.kept.long in
-    (omega (arith, h.0, e, s.requires.shown.size), omega (arith, h.1, l.invariant.0.few, l.invariant.2, e, s.requires.n_bound.2), l.invariant.0.few) in
+    let turn_in = turn_in (goal.at.overflow_add-i c).In-loop-i in
     omega (arith, turn_in)
 
 pub loop-i-smaller : goal.loop-i-smaller

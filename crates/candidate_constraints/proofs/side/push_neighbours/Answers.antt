@@ -2,7 +2,18 @@ use Rattle.candidate_constraints.proofs.Pairing.{nearing_start, near_named, near
 use native.Mathlib.Omega.{arith}
 use Prim.Native.Nat.{◌+◌, ◌*◌, ◌<◌}
 use lib.ListN.{length}
+use Rattle.candidate_constraints.proofs.side.push_neighbours.Goals.{In-loop-j}
 use Rattle.candidate_constraints.proofs.side.push_neighbours.Goals as goal
+
+-- the two places that a turn reads, and the pair that it writes
+turn_in : (c : In-loop-j) → (c.side_at-at.result + 2 * c.loop-j.j + 3 < length c.loop-j.w)
+    × (c.pairs_at-pairs.result + 2 * c.loop-j.c + 1 < length c.loop-j.w)
+turn_in c =
+    let l = c.loop-j in
+    let o = l.invariant.0 in (
+      omega (arith, c.requires.n_bound, o.within, o.pushed.kept.long, l.invariant.1, c.loop-j-test.true),
+      omega (arith, c.requires.n_bound, o.sum, o.pushed.kept.long, l.invariant.2, c.loop-j-test.true),
+    )
 
 pub side_at-at-requires : goal.side_at-at-requires
 side_at-at-requires c = omega (arith, c.requires.n_bound)
@@ -22,236 +33,67 @@ overflow_add-j c =
 
 pub overflow_mul-a : goal.overflow_mul-a
 overflow_mul-a c =
-    let turn_in : (c.side_at-at.result + 2 * c.loop-j.j + 3 < length c.loop-j.w)
-    × (c.pairs_at-pairs.result + 2 * c.loop-j.c + 1 < length c.loop-j.w) = let s = c in
-    let l = c.loop-j in
-    let o = l.invariant.0 in (
-      omega (arith, s.requires.n_bound, o.within, o.pushed.kept.long, l.invariant.1, c.loop-j-test.true),
-      omega (
-        arith,
-        s.requires.n_bound,
-        o.sum,
-        o.pushed.kept.long,
-        l.invariant.2,
-        c.loop-j-test.true,
-      ),
-    ) in
+    let turn_in = turn_in (goal.at.overflow_mul-a c).In-loop-j in
     omega (arith, turn_in)
 
 pub overflow_add-a : goal.overflow_add-a
 overflow_add-a c =
-    let turn_in : (c.side_at-at.result + 2 * c.loop-j.j + 3 < length c.loop-j.w)
-    × (c.pairs_at-pairs.result + 2 * c.loop-j.c + 1 < length c.loop-j.w) = let s = c in
-    let l = c.loop-j in
-    let o = l.invariant.0 in (
-      omega (arith, s.requires.n_bound, o.within, o.pushed.kept.long, l.invariant.1, c.loop-j-test.true),
-      omega (
-        arith,
-        s.requires.n_bound,
-        o.sum,
-        o.pushed.kept.long,
-        l.invariant.2,
-        c.loop-j-test.true,
-      ),
-    ) in
+    let turn_in = turn_in (goal.at.overflow_add-a c).In-loop-j in
     omega (arith, turn_in)
 
 pub overflow_add-a-in-loop-j : goal.overflow_add-a-in-loop-j
 overflow_add-a-in-loop-j c =
-    let turn_in : (c.side_at-at.result + 2 * c.loop-j.j + 3 < length c.loop-j.w)
-    × (c.pairs_at-pairs.result + 2 * c.loop-j.c + 1 < length c.loop-j.w) = let s = c in
-    let l = c.loop-j in
-    let o = l.invariant.0 in (
-      omega (arith, s.requires.n_bound, o.within, o.pushed.kept.long, l.invariant.1, c.loop-j-test.true),
-      omega (
-        arith,
-        s.requires.n_bound,
-        o.sum,
-        o.pushed.kept.long,
-        l.invariant.2,
-        c.loop-j-test.true,
-      ),
-    ) in
+    let turn_in = turn_in (goal.at.overflow_add-a-in-loop-j c).In-loop-j in
     omega (arith, turn_in)
 
 pub offset_bounds-w-at : goal.offset_bounds-w-at
 offset_bounds-w-at c =
-    let turn_in : (c.side_at-at.result + 2 * c.loop-j.j + 3 < length c.loop-j.w)
-    × (c.pairs_at-pairs.result + 2 * c.loop-j.c + 1 < length c.loop-j.w) = let s = c in
-    let l = c.loop-j in
-    let o = l.invariant.0 in (
-      omega (arith, s.requires.n_bound, o.within, o.pushed.kept.long, l.invariant.1, c.loop-j-test.true),
-      omega (
-        arith,
-        s.requires.n_bound,
-        o.sum,
-        o.pushed.kept.long,
-        l.invariant.2,
-        c.loop-j-test.true,
-      ),
-    ) in
+    let turn_in = turn_in (goal.at.offset_bounds-w-at c).In-loop-j in
     omega (arith, turn_in)
 
 pub bounds-w-at : goal.bounds-w-at
 bounds-w-at c =
-    let turn_in : (c.side_at-at.result + 2 * c.loop-j.j + 3 < length c.loop-j.w)
-    × (c.pairs_at-pairs.result + 2 * c.loop-j.c + 1 < length c.loop-j.w) = let s = c in
-    let l = c.loop-j in
-    let o = l.invariant.0 in (
-      omega (arith, s.requires.n_bound, o.within, o.pushed.kept.long, l.invariant.1, c.loop-j-test.true),
-      omega (
-        arith,
-        s.requires.n_bound,
-        o.sum,
-        o.pushed.kept.long,
-        l.invariant.2,
-        c.loop-j-test.true,
-      ),
-    ) in
+    let turn_in = turn_in (goal.at.bounds-w-at c).In-loop-j in
     omega (arith, turn_in)
 
 pub overflow_mul-b : goal.overflow_mul-b
 overflow_mul-b c =
-    let turn_in : (c.side_at-at.result + 2 * c.loop-j.j + 3 < length c.loop-j.w)
-    × (c.pairs_at-pairs.result + 2 * c.loop-j.c + 1 < length c.loop-j.w) = let s = c in
-    let l = c.loop-j in
-    let o = l.invariant.0 in (
-      omega (arith, s.requires.n_bound, o.within, o.pushed.kept.long, l.invariant.1, c.loop-j-test.true),
-      omega (
-        arith,
-        s.requires.n_bound,
-        o.sum,
-        o.pushed.kept.long,
-        l.invariant.2,
-        c.loop-j-test.true,
-      ),
-    ) in
+    let turn_in = turn_in (goal.at.overflow_mul-b c).In-loop-j in
     omega (arith, turn_in)
 
 pub overflow_add-b : goal.overflow_add-b
 overflow_add-b c =
-    let turn_in : (c.side_at-at.result + 2 * c.loop-j.j + 3 < length c.loop-j.w)
-    × (c.pairs_at-pairs.result + 2 * c.loop-j.c + 1 < length c.loop-j.w) = let s = c in
-    let l = c.loop-j in
-    let o = l.invariant.0 in (
-      omega (arith, s.requires.n_bound, o.within, o.pushed.kept.long, l.invariant.1, c.loop-j-test.true),
-      omega (
-        arith,
-        s.requires.n_bound,
-        o.sum,
-        o.pushed.kept.long,
-        l.invariant.2,
-        c.loop-j-test.true,
-      ),
-    ) in
+    let turn_in = turn_in (goal.at.overflow_add-b c).In-loop-j in
     omega (arith, turn_in)
 
 pub overflow_add-b-in-loop-j : goal.overflow_add-b-in-loop-j
 overflow_add-b-in-loop-j c =
-    let turn_in : (c.side_at-at.result + 2 * c.loop-j.j + 3 < length c.loop-j.w)
-    × (c.pairs_at-pairs.result + 2 * c.loop-j.c + 1 < length c.loop-j.w) = let s = c in
-    let l = c.loop-j in
-    let o = l.invariant.0 in (
-      omega (arith, s.requires.n_bound, o.within, o.pushed.kept.long, l.invariant.1, c.loop-j-test.true),
-      omega (
-        arith,
-        s.requires.n_bound,
-        o.sum,
-        o.pushed.kept.long,
-        l.invariant.2,
-        c.loop-j-test.true,
-      ),
-    ) in
+    let turn_in = turn_in (goal.at.overflow_add-b-in-loop-j c).In-loop-j in
     omega (arith, turn_in)
 
 pub offset_bounds-w-at-in-loop-j : goal.offset_bounds-w-at-in-loop-j
 offset_bounds-w-at-in-loop-j c =
-    let turn_in : (c.side_at-at.result + 2 * c.loop-j.j + 3 < length c.loop-j.w)
-    × (c.pairs_at-pairs.result + 2 * c.loop-j.c + 1 < length c.loop-j.w) = let s = c in
-    let l = c.loop-j in
-    let o = l.invariant.0 in (
-      omega (arith, s.requires.n_bound, o.within, o.pushed.kept.long, l.invariant.1, c.loop-j-test.true),
-      omega (
-        arith,
-        s.requires.n_bound,
-        o.sum,
-        o.pushed.kept.long,
-        l.invariant.2,
-        c.loop-j-test.true,
-      ),
-    ) in
+    let turn_in = turn_in (goal.at.offset_bounds-w-at-in-loop-j c).In-loop-j in
     omega (arith, turn_in)
 
 pub bounds-w-at-in-loop-j : goal.bounds-w-at-in-loop-j
 bounds-w-at-in-loop-j c =
-    let turn_in : (c.side_at-at.result + 2 * c.loop-j.j + 3 < length c.loop-j.w)
-    × (c.pairs_at-pairs.result + 2 * c.loop-j.c + 1 < length c.loop-j.w) = let s = c in
-    let l = c.loop-j in
-    let o = l.invariant.0 in (
-      omega (arith, s.requires.n_bound, o.within, o.pushed.kept.long, l.invariant.1, c.loop-j-test.true),
-      omega (
-        arith,
-        s.requires.n_bound,
-        o.sum,
-        o.pushed.kept.long,
-        l.invariant.2,
-        c.loop-j-test.true,
-      ),
-    ) in
+    let turn_in = turn_in (goal.at.bounds-w-at-in-loop-j c).In-loop-j in
     omega (arith, turn_in)
 
 pub overflow_mul-c : goal.overflow_mul-c
 overflow_mul-c c =
-    let turn_in : (c.side_at-at.result + 2 * c.loop-j.j + 3 < length c.loop-j.w)
-    × (c.pairs_at-pairs.result + 2 * c.loop-j.c + 1 < length c.loop-j.w) = let s = c in
-    let l = c.loop-j in
-    let o = l.invariant.0 in (
-      omega (arith, s.requires.n_bound, o.within, o.pushed.kept.long, l.invariant.1, c.loop-j-test.true),
-      omega (
-        arith,
-        s.requires.n_bound,
-        o.sum,
-        o.pushed.kept.long,
-        l.invariant.2,
-        c.loop-j-test.true,
-      ),
-    ) in
+    let turn_in = turn_in (goal.at.overflow_mul-c c).In-loop-j in
     omega (arith, turn_in)
 
 pub overflow_add-pairs : goal.overflow_add-pairs
 overflow_add-pairs c =
-    let turn_in : (c.side_at-at.result + 2 * c.loop-j.j + 3 < length c.loop-j.w)
-    × (c.pairs_at-pairs.result + 2 * c.loop-j.c + 1 < length c.loop-j.w) = let s = c in
-    let l = c.loop-j in
-    let o = l.invariant.0 in (
-      omega (arith, s.requires.n_bound, o.within, o.pushed.kept.long, l.invariant.1, c.loop-j-test.true),
-      omega (
-        arith,
-        s.requires.n_bound,
-        o.sum,
-        o.pushed.kept.long,
-        l.invariant.2,
-        c.loop-j-test.true,
-      ),
-    ) in
+    let turn_in = turn_in (goal.at.overflow_add-pairs c).In-loop-j in
     omega (arith, turn_in)
 
 pub put_pair-requires : goal.put_pair-requires
 put_pair-requires c =
-    let turn_in : (c.side_at-at.result + 2 * c.loop-j.j + 3 < length c.loop-j.w)
-    × (c.pairs_at-pairs.result + 2 * c.loop-j.c + 1 < length c.loop-j.w) = let s = c in
-    let l = c.loop-j in
-    let o = l.invariant.0 in (
-      omega (arith, s.requires.n_bound, o.within, o.pushed.kept.long, l.invariant.1, c.loop-j-test.true),
-      omega (
-        arith,
-        s.requires.n_bound,
-        o.sum,
-        o.pushed.kept.long,
-        l.invariant.2,
-        c.loop-j-test.true,
-      ),
-    ) in
+    let turn_in = turn_in (goal.at.put_pair-requires c).In-loop-j in
     let s = c in
     let loop' = c.loop-j in
     let places = near_named s.args.n s.args.face s.args.m s.args.count s.args.w.now s.requires.n_bound.2 s.requires.n_bound.3 loop'.w loop'.c loop'.j
@@ -261,38 +103,12 @@ put_pair-requires c =
 
 pub overflow_add-c : goal.overflow_add-c
 overflow_add-c c =
-    let turn_in : (c.side_at-at.result + 2 * c.loop-j.j + 3 < length c.loop-j.w)
-    × (c.pairs_at-pairs.result + 2 * c.loop-j.c + 1 < length c.loop-j.w) = let s = c in
-    let l = c.loop-j in
-    let o = l.invariant.0 in (
-      omega (arith, s.requires.n_bound, o.within, o.pushed.kept.long, l.invariant.1, c.loop-j-test.true),
-      omega (
-        arith,
-        s.requires.n_bound,
-        o.sum,
-        o.pushed.kept.long,
-        l.invariant.2,
-        c.loop-j-test.true,
-      ),
-    ) in
+    let turn_in = turn_in (goal.at.overflow_add-c c).In-loop-j in
     omega (arith, turn_in)
 
 pub overflow_add-j-in-loop-j : goal.overflow_add-j-in-loop-j
 overflow_add-j-in-loop-j c =
-    let turn_in : (c.side_at-at.result + 2 * c.loop-j.j + 3 < length c.loop-j.w)
-    × (c.pairs_at-pairs.result + 2 * c.loop-j.c + 1 < length c.loop-j.w) = let s = c in
-    let l = c.loop-j in
-    let o = l.invariant.0 in (
-      omega (arith, s.requires.n_bound, o.within, o.pushed.kept.long, l.invariant.1, c.loop-j-test.true),
-      omega (
-        arith,
-        s.requires.n_bound,
-        o.sum,
-        o.pushed.kept.long,
-        l.invariant.2,
-        c.loop-j-test.true,
-      ),
-    ) in
+    let turn_in = turn_in (goal.at.overflow_add-j-in-loop-j c).In-loop-j in
     omega (arith, turn_in)
 
 pub loop-j-smaller : goal.loop-j-smaller
