@@ -3,7 +3,15 @@ use lib.ListN.{length-set}
 use mathlib.Core.Path.{refl}
 use native.Mathlib.Omega.{arith}
 use Rattle.boundary_groups.proofs.Walks.{TurnBounds, putting_start, putting_ready, putting_turn, putting_end, flag}
+use Rattle.boundary_groups.proofs.put_components.Goals.{After-is_ring-ring}
 use Rattle.boundary_groups.proofs.put_components.Goals as goal
+
+-- what bounds a turn's numbers
+turn : (c : After-is_ring-ring) → TurnBounds c.args.w.now c.args.k c.args.to c.loop-i.w c.loop-i.c c.loop-i.i c.run_end-e.result
+turn c =
+    let inv = c.loop-i.invariant in
+    let run = c.run_end-e.ensures in
+    record { same = inv.long; few = inv.few; more = run.more; within = run.within; room = c.requires.k_bound.1.1 }
 
 pub loop-i-preserved : goal.loop-i-preserved
 loop-i-preserved c =
@@ -37,111 +45,47 @@ is_ring-ring-requires c =
     }
 
 pub overflow_sub-w : goal.overflow_sub-w
-overflow_sub-w c =
-    let turn : TurnBounds c.args.w.now c.args.k c.args.to c.loop-i.w
-    c.loop-i.c c.loop-i.i c.run_end-e.result = let inv = c.loop-i.invariant in
-    let run = c.run_end-e.ensures in
-    record { same = inv.long; few = inv.few; more = run.more; within = run.within; room = c.requires.k_bound.1.1 } in
-    let b = turn in omega arith
+overflow_sub-w c = let b = turn (goal.at.overflow_sub-w c).After-is_ring-ring in omega arith
 
 pub overflow_mul-w : goal.overflow_mul-w
-overflow_mul-w c =
-    let turn : TurnBounds c.args.w.now c.args.k c.args.to c.loop-i.w
-    c.loop-i.c c.loop-i.i c.run_end-e.result = let inv = c.loop-i.invariant in
-    let run = c.run_end-e.ensures in
-    record { same = inv.long; few = inv.few; more = run.more; within = run.within; room = c.requires.k_bound.1.1 } in
-    let b = turn in omega arith
+overflow_mul-w c = let b = turn (goal.at.overflow_mul-w c).After-is_ring-ring in omega arith
 
 pub overflow_add-w : goal.overflow_add-w
-overflow_add-w c =
-    let turn : TurnBounds c.args.w.now c.args.k c.args.to c.loop-i.w
-    c.loop-i.c c.loop-i.i c.run_end-e.result = let inv = c.loop-i.invariant in
-    let run = c.run_end-e.ensures in
-    record { same = inv.long; few = inv.few; more = run.more; within = run.within; room = c.requires.k_bound.1.1 } in
-    let b = turn in omega arith
+overflow_add-w c = let b = turn (goal.at.overflow_add-w c).After-is_ring-ring in omega arith
 
 pub offset_bounds-w-to : goal.offset_bounds-w-to
-offset_bounds-w-to c =
-    let turn : TurnBounds c.args.w.now c.args.k c.args.to c.loop-i.w
-    c.loop-i.c c.loop-i.i c.run_end-e.result = let inv = c.loop-i.invariant in
-    let run = c.run_end-e.ensures in
-    record { same = inv.long; few = inv.few; more = run.more; within = run.within; room = c.requires.k_bound.1.1 } in
-    let b = turn in omega arith
+offset_bounds-w-to c = let b = turn (goal.at.offset_bounds-w-to c).After-is_ring-ring in omega arith
 
 pub bounds-w-to : goal.bounds-w-to
-bounds-w-to c =
-    let turn : TurnBounds c.args.w.now c.args.k c.args.to c.loop-i.w
-    c.loop-i.c c.loop-i.i c.run_end-e.result = let inv = c.loop-i.invariant in
-    let run = c.run_end-e.ensures in
-    record { same = inv.long; few = inv.few; more = run.more; within = run.within; room = c.requires.k_bound.1.1 } in
-    let b = turn in omega arith
+bounds-w-to c = let b = turn (goal.at.bounds-w-to c).After-is_ring-ring in omega arith
 
 pub overflow_cast-w : goal.overflow_cast-w
-overflow_cast-w c =
-    let turn : TurnBounds c.args.w.now c.args.k c.args.to c.loop-i.w
-    c.loop-i.c c.loop-i.i c.run_end-e.result = let inv = c.loop-i.invariant in
-    let run = c.run_end-e.ensures in
-    record { same = inv.long; few = inv.few; more = run.more; within = run.within; room = c.requires.k_bound.1.1 } in
-    let b = turn in omega arith
+overflow_cast-w c = let b = turn (goal.at.overflow_cast-w c).After-is_ring-ring in omega arith
 
 pub overflow_mul-w-in-loop-i : goal.overflow_mul-w-in-loop-i
-overflow_mul-w-in-loop-i c =
-    let turn : TurnBounds c.args.w.now c.args.k c.args.to c.loop-i.w
-    c.loop-i.c c.loop-i.i c.run_end-e.result = let inv = c.loop-i.invariant in
-    let run = c.run_end-e.ensures in
-    record { same = inv.long; few = inv.few; more = run.more; within = run.within; room = c.requires.k_bound.1.1 } in
-    let b = turn in omega arith
+overflow_mul-w-in-loop-i c = let b = turn (goal.at.overflow_mul-w-in-loop-i c).After-is_ring-ring in omega arith
 
 pub overflow_add-w-in-loop-i : goal.overflow_add-w-in-loop-i
-overflow_add-w-in-loop-i c =
-    let turn : TurnBounds c.args.w.now c.args.k c.args.to c.loop-i.w
-    c.loop-i.c c.loop-i.i c.run_end-e.result = let inv = c.loop-i.invariant in
-    let run = c.run_end-e.ensures in
-    record { same = inv.long; few = inv.few; more = run.more; within = run.within; room = c.requires.k_bound.1.1 } in
-    let b = turn in omega arith
+overflow_add-w-in-loop-i c = let b = turn (goal.at.overflow_add-w-in-loop-i c).After-is_ring-ring in omega arith
 
 pub overflow_add-w-in-loop-i-2 : goal.overflow_add-w-in-loop-i-2
-overflow_add-w-in-loop-i-2 c =
-    let turn : TurnBounds c.args.w.now c.args.k c.args.to c.loop-i.w
-    c.loop-i.c c.loop-i.i c.run_end-e.result = let inv = c.loop-i.invariant in
-    let run = c.run_end-e.ensures in
-    record { same = inv.long; few = inv.few; more = run.more; within = run.within; room = c.requires.k_bound.1.1 } in
-    let b = turn in omega arith
+overflow_add-w-in-loop-i-2 c = let b = turn (goal.at.overflow_add-w-in-loop-i-2 c).After-is_ring-ring in omega arith
 
 pub offset_bounds-w-to-in-loop-i : goal.offset_bounds-w-to-in-loop-i
-offset_bounds-w-to-in-loop-i c =
-    let turn : TurnBounds c.args.w.now c.args.k c.args.to c.loop-i.w
-    c.loop-i.c c.loop-i.i c.run_end-e.result = let inv = c.loop-i.invariant in
-    let run = c.run_end-e.ensures in
-    record { same = inv.long; few = inv.few; more = run.more; within = run.within; room = c.requires.k_bound.1.1 } in
-    let b = turn in omega arith
+offset_bounds-w-to-in-loop-i c = let b = turn (goal.at.offset_bounds-w-to-in-loop-i c).After-is_ring-ring in omega arith
 
 pub bounds-w-to-in-loop-i : goal.bounds-w-to-in-loop-i
 bounds-w-to-in-loop-i c =
-    let turn : TurnBounds c.args.w.now c.args.k c.args.to c.loop-i.w
-    c.loop-i.c c.loop-i.i c.run_end-e.result = let inv = c.loop-i.invariant in
-    let run = c.run_end-e.ensures in
-    record { same = inv.long; few = inv.few; more = run.more; within = run.within; room = c.requires.k_bound.1.1 } in
-    let b = turn in
+    let b = turn (goal.at.bounds-w-to-in-loop-i c).After-is_ring-ring in
     let l = c.loop-i in
     let s = c.args in
     omega (arith, length-set l.w (s.to + 2 * l.c) (c.run_end-e.result - l.i))
 
 pub overflow_add-c : goal.overflow_add-c
-overflow_add-c c =
-    let turn : TurnBounds c.args.w.now c.args.k c.args.to c.loop-i.w
-    c.loop-i.c c.loop-i.i c.run_end-e.result = let inv = c.loop-i.invariant in
-    let run = c.run_end-e.ensures in
-    record { same = inv.long; few = inv.few; more = run.more; within = run.within; room = c.requires.k_bound.1.1 } in
-    let b = turn in omega arith
+overflow_add-c c = let b = turn (goal.at.overflow_add-c c).After-is_ring-ring in omega arith
 
 pub loop-i-smaller : goal.loop-i-smaller
-loop-i-smaller c =
-    let turn : TurnBounds c.args.w.now c.args.k c.args.to c.loop-i.w
-    c.loop-i.c c.loop-i.i c.run_end-e.result = let inv = c.loop-i.invariant in
-    let run = c.run_end-e.ensures in
-    record { same = inv.long; few = inv.few; more = run.more; within = run.within; room = c.requires.k_bound.1.1 } in
-    let b = turn in omega arith
+loop-i-smaller c = let b = turn (goal.at.loop-i-smaller c).After-is_ring-ring in omega arith
 
 pub shape_of-w : goal.shape_of-w
 shape_of-w c = omega (arith, c.loop-i.invariant.long)
