@@ -10,7 +10,25 @@ use Rattle.lists.proofs.Sequences.{place_stop, place_more, place_end}
 use Rattle.candidate_edges.proofs.Ends.{side_is, side_low}
 use Rattle.candidate_edges.proofs.Passes.{stray, stray_test}
 use Rattle.candidate_pool.specs.Offsets.{edge_table_at}
+use Rattle.candidate_edges.proofs.open.stray_edge.Goals.{In-loop-i, After-side_mask}
 use Rattle.candidate_edges.proofs.open.stray_edge.Goals as goal
+
+-- the word that a turn reads
+turn_in : (c : In-loop-i) → c.edge_table_at-table.result + 2 * c.loop-i.i + 1 < length c.args.w.now
+turn_in c = omega (arith, c.requires.mesh_fits.size, c.requires.mesh_fits.threes, c.requires.table_at.within, c.loop-i-test.true, c.edge_table_at-table.ensures)
+
+-- the mask answers whether the open edge is on no face
+tested : (c : After-side_mask) → let a = c.args in
+    stray a.vertices.now a.facets.now a.extents a.eps (get_or (open_edges (threes a.facets.now)) c.loop-i.i (0, 0)) ≡ eqb c.side_mask.result 0
+tested c =
+    let a = c.args in
+    let t = c.edge_table_at-table in
+    let l = c.loop-i in
+    let side = get_or (sides (threes a.facets.now)) (get_or a.w.now (t.result + 2 * l.i + 1) 0) (0, 0) in
+    stray_test a.vertices.now a.facets.now a.extents a.eps c.side_mask.result (get_or (open_edges (threes a.facets.now)) l.i (0, 0)) side
+    (side_is a.facets.now a.w.now (edge_table_at a.n (length a.facets.now / 3)) t.result a.k l.i c.requires.table_at t.ensures
+    c.loop-i-test.true)
+    c.side_mask.ensures
 
 pub edge_table_at-table-requires : goal.edge_table_at-table-requires
 edge_table_at-table-requires c = (c.requires.mesh_fits.small, c.requires.mesh_fits.few)
@@ -19,64 +37,19 @@ pub loop-i-init : goal.loop-i-init
 loop-i-init c = (omega arith, omega arith)
 
 pub overflow_mul-side : goal.overflow_mul-side
-overflow_mul-side c =
-    let turn_in : c.edge_table_at-table.result + 2 * c.loop-i.i + 1 < length c.args.w.now = let s = c in omega (
-      arith,
-      s.requires.mesh_fits.size,
-      s.requires.mesh_fits.threes,
-      s.requires.table_at.within,
-      c.loop-i-test.true,
-      c.edge_table_at-table.ensures,
-    ) in
-    omega (arith, turn_in)
+overflow_mul-side c = omega (arith, turn_in (goal.at.overflow_mul-side c).In-loop-i)
 
 pub overflow_add-side : goal.overflow_add-side
-overflow_add-side c =
-    let turn_in : c.edge_table_at-table.result + 2 * c.loop-i.i + 1 < length c.args.w.now = let s = c in omega (
-      arith,
-      s.requires.mesh_fits.size,
-      s.requires.mesh_fits.threes,
-      s.requires.table_at.within,
-      c.loop-i-test.true,
-      c.edge_table_at-table.ensures,
-    ) in
-    omega (arith, turn_in)
+overflow_add-side c = omega (arith, turn_in (goal.at.overflow_add-side c).In-loop-i)
 
 pub overflow_add-side-in-loop-i : goal.overflow_add-side-in-loop-i
-overflow_add-side-in-loop-i c =
-    let turn_in : c.edge_table_at-table.result + 2 * c.loop-i.i + 1 < length c.args.w.now = let s = c in omega (
-      arith,
-      s.requires.mesh_fits.size,
-      s.requires.mesh_fits.threes,
-      s.requires.table_at.within,
-      c.loop-i-test.true,
-      c.edge_table_at-table.ensures,
-    ) in
-    omega (arith, turn_in)
+overflow_add-side-in-loop-i c = omega (arith, turn_in (goal.at.overflow_add-side-in-loop-i c).In-loop-i)
 
 pub offset_bounds-w-table : goal.offset_bounds-w-table
-offset_bounds-w-table c =
-    let turn_in : c.edge_table_at-table.result + 2 * c.loop-i.i + 1 < length c.args.w.now = let s = c in omega (
-      arith,
-      s.requires.mesh_fits.size,
-      s.requires.mesh_fits.threes,
-      s.requires.table_at.within,
-      c.loop-i-test.true,
-      c.edge_table_at-table.ensures,
-    ) in
-    omega (arith, turn_in)
+offset_bounds-w-table c = omega (arith, turn_in (goal.at.offset_bounds-w-table c).In-loop-i)
 
 pub bounds-w-table : goal.bounds-w-table
-bounds-w-table c =
-    let turn_in : c.edge_table_at-table.result + 2 * c.loop-i.i + 1 < length c.args.w.now = let s = c in omega (
-      arith,
-      s.requires.mesh_fits.size,
-      s.requires.mesh_fits.threes,
-      s.requires.table_at.within,
-      c.loop-i-test.true,
-      c.edge_table_at-table.ensures,
-    ) in
-    omega (arith, turn_in)
+bounds-w-table c = omega (arith, turn_in (goal.at.bounds-w-table c).In-loop-i)
 
 pub side_mask-requires : goal.side_mask-requires
 side_mask-requires c =
@@ -94,60 +67,29 @@ side_mask-requires c =
 
 pub returns-then-side_mask-eq0 : goal.returns-then-side_mask-eq0
 returns-then-side_mask-eq0 c =
-    let tested : let s = c in
-    stray s.args.vertices.now s.args.facets.now s.args.extents s.args.eps (get_or (open_edges (threes s.args.facets.now))
-    c.loop-i.i (0, 0))
-    ≡ eqb c.side_mask.result 0 = let s = c in
-    let a = s.args in
-    let t = c.edge_table_at-table in
-    let l = c.loop-i in
-    let side = get_or (sides (threes a.facets.now)) (get_or a.w.now (t.result + 2 * l.i + 1) 0) (0, 0) in
-    stray_test a.vertices.now a.facets.now a.extents a.eps c.side_mask.result (get_or (open_edges (threes a.facets.now)) l.i (0, 0)) side
-    (side_is a.facets.now a.w.now (edge_table_at a.n (length a.facets.now / 3)) t.result a.k l.i s.requires.table_at t.ensures
-    c.loop-i-test.true)
-    c.side_mask.ensures in
+    let t = tested (goal.at.returns-then-side_mask-eq0 c).After-side_mask in
     let s = c in
     let loop' = c.loop-i in
     place_stop (stray s.args.vertices.now s.args.facets.now s.args.extents s.args.eps) (open_edges (threes s.args.facets.now)) loop'.i
     loop'.invariant.1 (0, 0)
-    (omega (arith, s.requires.table_at.count, c.loop-i-test.true)) (tested ∙ eq-eqb c.side_mask.result 0 c.if-side_mask-eq0.true)
+    (omega (arith, s.requires.table_at.count, c.loop-i-test.true)) (t ∙ eq-eqb c.side_mask.result 0 c.if-side_mask-eq0.true)
 
 pub overflow_add-i : goal.overflow_add-i
-overflow_add-i c =
-    let turn_in : c.edge_table_at-table.result + 2 * c.loop-i.i + 1 < length c.args.w.now = let s = c in omega (
-      arith,
-      s.requires.mesh_fits.size,
-      s.requires.mesh_fits.threes,
-      s.requires.table_at.within,
-      c.loop-i-test.true,
-      c.edge_table_at-table.ensures,
-    ) in
-    omega (arith, turn_in)
+overflow_add-i c = omega (arith, turn_in (goal.at.overflow_add-i c).In-loop-i)
 
 pub loop-i-smaller : goal.loop-i-smaller
 loop-i-smaller c = omega (arith, c.loop-i-test.true)
 
 pub loop-i-preserved : goal.loop-i-preserved
 loop-i-preserved c =
-    let tested : let s = c in
-    stray s.args.vertices.now s.args.facets.now s.args.extents s.args.eps (get_or (open_edges (threes s.args.facets.now))
-    c.loop-i.i (0, 0))
-    ≡ eqb c.side_mask.result 0 = let s = c in
-    let a = s.args in
-    let t = c.edge_table_at-table in
-    let l = c.loop-i in
-    let side = get_or (sides (threes a.facets.now)) (get_or a.w.now (t.result + 2 * l.i + 1) 0) (0, 0) in
-    stray_test a.vertices.now a.facets.now a.extents a.eps c.side_mask.result (get_or (open_edges (threes a.facets.now)) l.i (0, 0)) side
-    (side_is a.facets.now a.w.now (edge_table_at a.n (length a.facets.now / 3)) t.result a.k l.i s.requires.table_at t.ensures
-    c.loop-i-test.true)
-    c.side_mask.ensures in
+    let t = tested (goal.at.loop-i-preserved c).After-side_mask in
     let loop-test' = c.loop-i-test in
     let s = c in
     let loop' = c.loop-i in (
       omega (arith, loop-test'.true),
       place_more (stray s.args.vertices.now s.args.facets.now s.args.extents s.args.eps) (open_edges (threes s.args.facets.now)) loop'.i
           loop'.invariant.1 (0, 0)
-          (omega (arith, s.requires.table_at.count, loop-test'.true)) (tested ∙ ne_eqb c.side_mask.result 0 c.if-side_mask-eq0.false),
+          (omega (arith, s.requires.table_at.count, loop-test'.true)) (t ∙ ne_eqb c.side_mask.result 0 c.if-side_mask-eq0.false),
     )
 
 pub returns : goal.returns
