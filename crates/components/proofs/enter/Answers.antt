@@ -3,7 +3,15 @@ use Prim.Native.Nat.{ℕ, ◌+◌, ◌<◌, ◌-◌}
 use native.Mathlib.Omega.{arith}
 use lib.ListN.{get_or, length-set}
 use Rattle.components.proofs.Forest.{unite_up, unite_down, rooted_up, rooted_down, rooted_elsewhere}
+use Rattle.components.proofs.enter.Goals.{Else-f-eq0}
 use Rattle.components.proofs.enter.Goals as goal
+
+-- the item that came to the label first
+abbrev first : Else-f-eq0 → ℕ
+first c = get_or c.args.w.now c.args.s 0 - 1
+
+first-in : (c : Else-f-eq0) → first c < c.args.n
+first-in c = c.requires.by_index (first c) (omega arith)
 
 pub shape_of-w-then-f-eq0 : goal.shape_of-w-then-f-eq0
 shape_of-w-then-f-eq0 c = simp length-set (omega arith)
@@ -20,15 +28,11 @@ returns-then-f-eq0 c =
 
 pub find-t-requires : goal.find-t-requires
 find-t-requires c =
-    let s = c.args in
-    let first : ℕ = get_or s.w.now s.s 0 - 1 in
-    let first-in : first < s.n = c.requires.by_index first (omega arith) in record { n_in_bounds = omega arith; x_lt_n = first-in; forest = c.requires.forest }
+    let f-in = first-in (goal.at.find-t-requires c).Else-f-eq0 in record { n_in_bounds = omega arith; x_lt_n = f-in; forest = c.requires.forest }
 
 pub overflow_add-w-then-r-t : goal.overflow_add-w-then-r-t
 overflow_add-w-then-r-t c =
-    let s = c.args in
-    let first : ℕ = get_or s.w.now s.s 0 - 1 in
-    let first-in : first < s.n = c.requires.by_index first (omega arith) in
+    let f-in = first-in (goal.at.overflow_add-w-then-r-t c).Else-f-eq0 in
     let found = c.find-t in
     let a = c.requires.root_of.small in
     let t = found.ensures.small in
@@ -37,9 +41,7 @@ overflow_add-w-then-r-t c =
 
 pub offset_bounds-w-at : goal.offset_bounds-w-at
 offset_bounds-w-at c =
-    let s = c.args in
-    let first : ℕ = get_or s.w.now s.s 0 - 1 in
-    let first-in : first < s.n = c.requires.by_index first (omega arith) in
+    let f-in = first-in (goal.at.offset_bounds-w-at c).Else-f-eq0 in
     let found = c.find-t in
     let a = c.requires.root_of.small in
     let t = found.ensures.small in
@@ -48,9 +50,7 @@ offset_bounds-w-at c =
 
 pub bounds-w-at : goal.bounds-w-at
 bounds-w-at c =
-    let s = c.args in
-    let first : ℕ = get_or s.w.now s.s 0 - 1 in
-    let first-in : first < s.n = c.requires.by_index first (omega arith) in
+    let f-in = first-in (goal.at.bounds-w-at c).Else-f-eq0 in
     let found = c.find-t in
     let a = c.requires.root_of.small in
     let t = found.ensures.small in
@@ -59,9 +59,7 @@ bounds-w-at c =
 
 pub shape_of-w-then-r-t : goal.shape_of-w-then-r-t
 shape_of-w-then-r-t c =
-    let s = c.args in
-    let first : ℕ = get_or s.w.now s.s 0 - 1 in
-    let first-in : first < s.n = c.requires.by_index first (omega arith) in
+    let f-in = first-in (goal.at.shape_of-w-then-r-t c).Else-f-eq0 in
     let found = c.find-t in
     let a = c.requires.root_of.small in
     let t = found.ensures.small in
@@ -71,20 +69,18 @@ shape_of-w-then-r-t c =
 pub returns-then-r-t : goal.returns-then-r-t
 returns-then-r-t c =
     let s = c.args in
-    let first : ℕ = get_or s.w.now s.s 0 - 1 in
-    let first-in : first < s.n = c.requires.by_index first (omega arith) in
+    let p = (goal.at.returns-then-r-t c).Else-f-eq0 in
+    let f-in = first-in p in
     let found = c.find-t in
-    let united = unite_up s.w.now found.new.w s.at s.n s.i first s.r _ (omega arith) (omega arith) first-in c.requires.root_of
+    let united = unite_up s.w.now found.new.w s.at s.n s.i (first p) s.r _ (omega arith) (omega arith) f-in c.requires.root_of
     found.ensures c.if-r-t.true in
-    let rooted = rooted_up s.w.now found.new.w s.at s.n s.i first s.r _ (omega arith) (omega arith) first-in c.requires.root_of
+    let rooted = rooted_up s.w.now found.new.w s.at s.n s.i (first p) s.r _ (omega arith) (omega arith) f-in c.requires.root_of
     found.ensures c.if-r-t.true in
-    record { unseen = λ e. absurd (omega arith); seen = λ f e. let h : f ≡ first = omega arith in rw h united; rooted = rooted }
+    record { unseen = λ e. absurd (omega arith); seen = λ f e. let h : f ≡ first p = omega arith in rw h united; rooted = rooted }
 
 pub overflow_add-w-2 : goal.overflow_add-w-2
 overflow_add-w-2 c =
-    let s = c.args in
-    let first : ℕ = get_or s.w.now s.s 0 - 1 in
-    let first-in : first < s.n = c.requires.by_index first (omega arith) in
+    let f-in = first-in (goal.at.overflow_add-w-2 c).Else-f-eq0 in
     let found = c.find-t in
     let a = c.requires.root_of.small in
     let t = found.ensures.small in
@@ -93,9 +89,7 @@ overflow_add-w-2 c =
 
 pub offset_bounds-w-at-2 : goal.offset_bounds-w-at-2
 offset_bounds-w-at-2 c =
-    let s = c.args in
-    let first : ℕ = get_or s.w.now s.s 0 - 1 in
-    let first-in : first < s.n = c.requires.by_index first (omega arith) in
+    let f-in = first-in (goal.at.offset_bounds-w-at-2 c).Else-f-eq0 in
     let found = c.find-t in
     let a = c.requires.root_of.small in
     let t = found.ensures.small in
@@ -104,9 +98,7 @@ offset_bounds-w-at-2 c =
 
 pub bounds-w-at-2 : goal.bounds-w-at-2
 bounds-w-at-2 c =
-    let s = c.args in
-    let first : ℕ = get_or s.w.now s.s 0 - 1 in
-    let first-in : first < s.n = c.requires.by_index first (omega arith) in
+    let f-in = first-in (goal.at.bounds-w-at-2 c).Else-f-eq0 in
     let found = c.find-t in
     let a = c.requires.root_of.small in
     let t = found.ensures.small in
@@ -115,9 +107,7 @@ bounds-w-at-2 c =
 
 pub shape_of-w : goal.shape_of-w
 shape_of-w c =
-    let s = c.args in
-    let first : ℕ = get_or s.w.now s.s 0 - 1 in
-    let first-in : first < s.n = c.requires.by_index first (omega arith) in
+    let f-in = first-in (goal.at.shape_of-w c).Else-f-eq0 in
     let found = c.find-t in
     let a = c.requires.root_of.small in
     let t = found.ensures.small in
@@ -127,11 +117,11 @@ shape_of-w c =
 pub returns : goal.returns
 returns c =
     let s = c.args in
-    let first : ℕ = get_or s.w.now s.s 0 - 1 in
-    let first-in : first < s.n = c.requires.by_index first (omega arith) in
+    let p = (goal.at.returns c).Else-f-eq0 in
+    let f-in = first-in p in
     let found = c.find-t in
-    let united = unite_down s.w.now found.new.w s.at s.n s.i first s.r _ (omega arith) (omega arith) first-in c.requires.root_of
+    let united = unite_down s.w.now found.new.w s.at s.n s.i (first p) s.r _ (omega arith) (omega arith) f-in c.requires.root_of
     found.ensures c.if-r-t.false in
-    let rooted = rooted_down s.w.now found.new.w s.at s.n s.i first s.r _ (omega arith) (omega arith) first-in c.requires.root_of
+    let rooted = rooted_down s.w.now found.new.w s.at s.n s.i (first p) s.r _ (omega arith) (omega arith) f-in c.requires.root_of
     found.ensures c.if-r-t.false in
-    record { unseen = λ e. absurd (omega arith); seen = λ f e. let h : f ≡ first = omega arith in rw h united; rooted = rooted }
+    record { unseen = λ e. absurd (omega arith); seen = λ f e. let h : f ≡ first p = omega arith in rw h united; rooted = rooted }

@@ -5,7 +5,18 @@ use lib.Arith.{digits_lt}
 use Rattle.lists.specs.Regions.{view}
 use Rattle.components.proofs.Forest.{found_rooted}
 use Rattle.components.proofs.Turns.{read_length, label_read, label_low, item_joining, item_start, item_end, swept_seen, swept_turn}
+use Rattle.components.proofs.join_item.Goals.{In-loop-j}
 use Rattle.components.proofs.join_item.Goals as goal
+
+-- where the item's label j stands
+abbrev slot : In-loop-j → ℕ
+slot c = c.args.i * c.args.k + c.loop-j.j
+
+slot-in : (c : In-loop-j) → slot c < c.args.n * c.args.k
+slot-in c =
+    let s = c.args in
+    let l = c.loop-j in
+    digits_lt {q = s.i} {m = s.n} {r = l.j} {c = s.k} (omega arith) (omega arith)
 
 pub overflow_add-firsts : goal.overflow_add-firsts
 overflow_add-firsts c = omega arith
@@ -37,11 +48,11 @@ overflow_add-q c =
     let l = c.loop-j in
     let s = c.args in
     let found = c.find-r in
-    let slot : ℕ = s.i * s.k + l.j in
-    let x : slot < s.n * s.k = digits_lt {q = s.i} {m = s.n} {r = l.j} {c = s.k} (omega arith) (omega arith) in
-    let q = label_read found.new.w s.labels s.n s.k s.m s.at l.invariant.0 l.w slot slot (s.labels + s.i * s.k + l.j) l.invariant.2
+    let p = (goal.at.overflow_add-q c).In-loop-j in
+    let x = slot-in p in
+    let q = label_read found.new.w s.labels s.n s.k s.m s.at l.invariant.0 l.w (slot p) (slot p) (s.labels + s.i * s.k + l.j) l.invariant.2
     x (omega arith) in
-    let b = label_low found.new.w s.labels s.n s.k s.m s.at l.invariant.0 slot x in
+    let b = label_low found.new.w s.labels s.n s.k s.m s.at l.invariant.0 (slot p) x in
     let e = l.invariant.2.long in
     let a = found.ensures.kept.long in
     let u = c.requires.label_room in
@@ -52,11 +63,11 @@ offset_bounds-w-from c =
     let l = c.loop-j in
     let s = c.args in
     let found = c.find-r in
-    let slot : ℕ = s.i * s.k + l.j in
-    let x : slot < s.n * s.k = digits_lt {q = s.i} {m = s.n} {r = l.j} {c = s.k} (omega arith) (omega arith) in
-    let q = label_read found.new.w s.labels s.n s.k s.m s.at l.invariant.0 l.w slot slot (s.labels + s.i * s.k + l.j) l.invariant.2
+    let p = (goal.at.offset_bounds-w-from c).In-loop-j in
+    let x = slot-in p in
+    let q = label_read found.new.w s.labels s.n s.k s.m s.at l.invariant.0 l.w (slot p) (slot p) (s.labels + s.i * s.k + l.j) l.invariant.2
     x (omega arith) in
-    let b = label_low found.new.w s.labels s.n s.k s.m s.at l.invariant.0 slot x in
+    let b = label_low found.new.w s.labels s.n s.k s.m s.at l.invariant.0 (slot p) x in
     let e = l.invariant.2.long in
     let a = found.ensures.kept.long in
     let u = c.requires.label_room in
@@ -67,11 +78,11 @@ bounds-w-from c =
     let l = c.loop-j in
     let s = c.args in
     let found = c.find-r in
-    let slot : ℕ = s.i * s.k + l.j in
-    let x : slot < s.n * s.k = digits_lt {q = s.i} {m = s.n} {r = l.j} {c = s.k} (omega arith) (omega arith) in
-    let q = label_read found.new.w s.labels s.n s.k s.m s.at l.invariant.0 l.w slot slot (s.labels + s.i * s.k + l.j) l.invariant.2
+    let p = (goal.at.bounds-w-from c).In-loop-j in
+    let x = slot-in p in
+    let q = label_read found.new.w s.labels s.n s.k s.m s.at l.invariant.0 l.w (slot p) (slot p) (s.labels + s.i * s.k + l.j) l.invariant.2
     x (omega arith) in
-    let b = label_low found.new.w s.labels s.n s.k s.m s.at l.invariant.0 slot x in
+    let b = label_low found.new.w s.labels s.n s.k s.m s.at l.invariant.0 (slot p) x in
     let e = l.invariant.2.long in
     let a = found.ensures.kept.long in
     let u = c.requires.label_room in
@@ -82,11 +93,11 @@ overflow_add-firsts-in-loop-j c =
     let l = c.loop-j in
     let s = c.args in
     let found = c.find-r in
-    let slot : ℕ = s.i * s.k + l.j in
-    let x : slot < s.n * s.k = digits_lt {q = s.i} {m = s.n} {r = l.j} {c = s.k} (omega arith) (omega arith) in
-    let q = label_read found.new.w s.labels s.n s.k s.m s.at l.invariant.0 l.w slot slot (s.labels + s.i * s.k + l.j) l.invariant.2
+    let p = (goal.at.overflow_add-firsts-in-loop-j c).In-loop-j in
+    let x = slot-in p in
+    let q = label_read found.new.w s.labels s.n s.k s.m s.at l.invariant.0 l.w (slot p) (slot p) (s.labels + s.i * s.k + l.j) l.invariant.2
     x (omega arith) in
-    let b = label_low found.new.w s.labels s.n s.k s.m s.at l.invariant.0 slot x in
+    let b = label_low found.new.w s.labels s.n s.k s.m s.at l.invariant.0 (slot p) x in
     let e = l.invariant.2.long in
     let a = found.ensures.kept.long in
     let u = c.requires.label_room in
@@ -97,11 +108,11 @@ enter-r-requires c =
     let l = c.loop-j in
     let s = c.args in
     let found = c.find-r in
-    let slot : ℕ = s.i * s.k + l.j in
-    let x : slot < s.n * s.k = digits_lt {q = s.i} {m = s.n} {r = l.j} {c = s.k} (omega arith) (omega arith) in
-    let q = label_read found.new.w s.labels s.n s.k s.m s.at l.invariant.0 l.w slot slot (s.labels + s.i * s.k + l.j) l.invariant.2
+    let p = (goal.at.enter-r-requires c).In-loop-j in
+    let x = slot-in p in
+    let q = label_read found.new.w s.labels s.n s.k s.m s.at l.invariant.0 l.w (slot p) (slot p) (s.labels + s.i * s.k + l.j) l.invariant.2
     x (omega arith) in
-    let b = label_low found.new.w s.labels s.n s.k s.m s.at l.invariant.0 slot x in
+    let b = label_low found.new.w s.labels s.n s.k s.m s.at l.invariant.0 (slot p) x in
     let e = l.invariant.2.long in
     let a = found.ensures.kept.long in
     let u = c.requires.label_room in
@@ -127,11 +138,11 @@ loop-j-preserved c =
     let l = c.loop-j in
     let s = c.args in
     let found = c.find-r in
-    let slot : ℕ = s.i * s.k + l.j in
-    let x : slot < s.n * s.k = digits_lt {q = s.i} {m = s.n} {r = l.j} {c = s.k} (omega arith) (omega arith) in
-    let q = label_read found.new.w s.labels s.n s.k s.m s.at l.invariant.0 l.w slot slot (s.labels + s.i * s.k + l.j) l.invariant.2
+    let p = (goal.at.loop-j-preserved c).In-loop-j in
+    let x = slot-in p in
+    let q = label_read found.new.w s.labels s.n s.k s.m s.at l.invariant.0 l.w (slot p) (slot p) (s.labels + s.i * s.k + l.j) l.invariant.2
     x (omega arith) in
-    let b = label_low found.new.w s.labels s.n s.k s.m s.at l.invariant.0 slot x in
+    let b = label_low found.new.w s.labels s.n s.k s.m s.at l.invariant.0 (slot p) x in
     let e = l.invariant.2.long in
     let a = found.ensures.kept.long in
     let u = c.requires.label_room in
