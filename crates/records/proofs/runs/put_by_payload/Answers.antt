@@ -8,6 +8,7 @@ use Rattle.records.proofs.ByRuns.{put_none, payload_now, put_more}
 use Rattle.records.proofs.runs.put_by_payload.Goals.{In-loop-j}
 use Rattle.records.proofs.runs.put_by_payload.Goals as goal
 
+-- the word that a turn writes is in the words
 room : (c : In-loop-j) → c.args.to + payload_in c.loop-j.m c.args.at c.loop-j.j < length c.loop-j.m
 room c =
     let s = c in
