@@ -8,11 +8,13 @@ use Rattle.rounding.proofs.Rounding.{nan_away, not_nan, below_finite, plus, minu
 use Rattle.rounding.proofs.round.Goals.{Else-c-ge-WHOLE, Else-x}
 use Rattle.rounding.proofs.round.Goals as goal
 
+-- past the first test, the argument is no NaN
 number : (c : Else-x) → T (not (is_nan c.args.x))
 number c = not_nan c.args.x c.if-x.false
 
+-- and below the limit it is finite
 bounded : (c : Else-c-ge-WHOLE) → T (finite c.args.x)
-bounded c = below_finite c.args.x (number c.before) (omega (arith, c.if-c-ge-WHOLE.false))
+bounded c = below_finite c.args.x (not_nan c.args.x c.if-x.false) (omega (arith, c.if-c-ge-WHOLE.false))
 
 pub returns-then-x : goal.returns-then-x
 returns-then-x c = nan_away c.args.x c.if-x.true

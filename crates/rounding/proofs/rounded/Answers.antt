@@ -8,11 +8,13 @@ use Rattle.rounding.proofs.Rounding.{nan_rounded, not_nan, below_finite, plus, m
 use Rattle.rounding.proofs.rounded.Goals.{Else-c-ge-WIDE, Else-x}
 use Rattle.rounding.proofs.rounded.Goals as goal
 
+-- past the first test, the argument is no NaN
 number : (c : Else-x) → T (not (is_nan c.args.x))
 number c = not_nan c.args.x c.if-x.false
 
+-- and below the limit it is finite
 bounded : (c : Else-c-ge-WIDE) → T (finite c.args.x)
-bounded c = below_finite c.args.x (number c.before) (omega (arith, c.if-c-ge-WIDE.false))
+bounded c = below_finite c.args.x (not_nan c.args.x c.if-x.false) (omega (arith, c.if-c-ge-WIDE.false))
 
 pub returns-then-x : goal.returns-then-x
 returns-then-x c = nan_rounded c.args.x c.if-x.true
