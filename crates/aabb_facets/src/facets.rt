@@ -89,8 +89,7 @@ fn share_facet(
     ensures vertices_bound_2 { (result.vertices ≤ at.vertices + 3) × (result.numbers ≡ at.numbers + 3) }
 {
     let mut to = at;
-    let mut j = 0;
-    while j < 3 {
+    for j in 0..3 {
         to = share_vertex(
             vertices,
             corner_at(facets, 3 * i + j),
@@ -101,7 +100,6 @@ fn share_facet(
             out_facets,
             to,
         );
-        j += 1;
     }
     to
 }

@@ -27,10 +27,8 @@ pub fn mark_all(vertices: &[f64], extents: AABB, eps: f64, ids: &mut [u64])
     requires { 3 * length ids.old ≤ length vertices.now }
     ensures { ids.new ≡ mark_words vertices.now extents eps (length ids.old) [] }
 {
-    let mut v = 0;
-    while v < ids.len() {
+    for v in 0..ids.len() {
         ids[v] = mark_of(vertex_at(vertices, MeshVertexId(v)), extents, eps);
-        v += 1;
     }
 }
 
@@ -55,12 +53,10 @@ pub fn wholly_inside(vertices: &[f64], extents: AABB, eps: f64) -> bool
     ensures { result ≡ every (inside_box extents eps) (points_of vertices.now) }
 {
     let n = vertices.len() / 3;
-    let mut k = 0;
-    while k < n {
+    for k in 0..n {
         if !point_inside_aabb(vertex_at(vertices, MeshVertexId(k)), extents, eps) {
             return false;
         }
-        k += 1;
     }
     true
 }

@@ -27,10 +27,8 @@ pub fn put_corners(out: &mut [f64], base: MeshVertexId, polygon: &[f64], n: usiz
     requires base_bound { (base.0 < 4294967000) × (n ≤ 28) }
     ensures { out.new ≡ sets out.old (3 * base.0) (coordinates (corners polygon.now n)) }
 {
-    let mut j = 0;
-    while j < n {
+    for j in 0..n {
         push_vertex(out, MeshVertexId(base.0 + j), point_at(polygon, j));
-        j += 1;
     }
 }
 
@@ -39,12 +37,10 @@ pub fn put_fan(out: &mut [u32], at: usize, base: MeshVertexId, n: usize)
     requires { (at < 4294967296) × ((base.0 < 4294967000) × (n ≤ 28)) }
     ensures { out.new ≡ sets out.old at (flat (fan base.0 n)) }
 {
-    let mut j = 0;
-    while j < n {
+    for j in 0..n {
         let prev = base.0 + j + 1;
         put_number(out, at + 3 * j, base.0 as u32);
         put_number(out, at + 3 * j + 1, prev as u32);
         put_number(out, at + 3 * j + 2, (prev + 1) as u32);
-        j += 1;
     }
 }

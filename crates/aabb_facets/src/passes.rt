@@ -33,8 +33,7 @@ fn clip_pass(
         vertices: 0,
         numbers: 0,
     };
-    let mut i = 0;
-    while i < n {
+    for i in 0..n {
         at = clip_facet(
             vertices,
             facets,
@@ -48,7 +47,6 @@ fn clip_pass(
             out_facets,
             at,
         );
-        i += 1;
     }
     at
 }

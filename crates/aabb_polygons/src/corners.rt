@@ -32,12 +32,10 @@ pub fn all_inside(polygon: &[f64], n: usize, plane: BoxPlane, extents: AABB, eps
     requires n_bound { n ≤ 28 }
     ensures { result ≡ every (λ p. inside extents eps (face_of plane) p) (corners polygon.now n) }
 {
-    let mut i = 0;
-    while i < n {
+    for i in 0..n {
         if !point_inside_plane(point_at(polygon, i), plane, extents, eps) {
             return false;
         }
-        i += 1;
     }
     true
 }
@@ -47,12 +45,10 @@ pub fn none_inside(polygon: &[f64], n: usize, plane: BoxPlane, extents: AABB, ep
     requires n_bound { n ≤ 28 }
     ensures { result ≡ every (λ p. not (inside extents eps (face_of plane) p)) (corners polygon.now n) }
 {
-    let mut i = 0;
-    while i < n {
+    for i in 0..n {
         if point_inside_plane(point_at(polygon, i), plane, extents, eps) {
             return false;
         }
-        i += 1;
     }
     true
 }
@@ -62,10 +58,8 @@ pub fn copy_corners(to: &mut [f64], from: &[f64], n: usize)
     requires n_bound { n ≤ 28 }
     ensures { corners to.new n ≡ corners from.now n }
 {
-    let mut i = 0;
-    while i < n {
+    for i in 0..n {
         push_corner(to, i, point_at(from, i));
-        i += 1;
     }
 }
 
@@ -74,10 +68,8 @@ pub fn snap_corners(to: &mut [f64], from: &[f64], n: usize, extents: AABB, eps: 
     requires n_bound { n ≤ 28 }
     ensures { corners to.new n ≡ map (snapped extents eps) (corners from.now n) }
 {
-    let mut i = 0;
-    while i < n {
+    for i in 0..n {
         push_corner(to, i, snap_near_bbox(point_at(from, i), extents, eps));
-        i += 1;
     }
 }
 

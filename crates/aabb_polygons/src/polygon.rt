@@ -102,12 +102,10 @@ fn walk_sides(
 {
     let mut k = 0;
     let mut prev = point_at(polygon, n - 1);
-    let mut i = 0;
-    while i < n {
+    for i in 0..n {
         let curr = point_at(polygon, i);
         k = add_side(out, k, prev, curr, plane, extents, eps);
         prev = curr;
-        i += 1;
     }
     k
 }

@@ -18,12 +18,10 @@ fn put_ends(w: &mut [u64], k: usize, to: usize)
     requires { (2 * k ≤ to) × (to + 2 * k ≤ length w.old) }
     ensures { EndsPut w.old w.new k to }
 {
-    let mut i = 0;
-    while i < k {
+    for i in 0..k {
         let key = w[2 * i];
         w[to + 2 * i] = pair_first(key);
         w[to + 2 * i + 1] = pair_second(key);
-        i += 1;
     }
 }
 
@@ -32,11 +30,9 @@ fn tally_ends(w: &mut [u64], ends: usize, t: usize, to: usize, m: usize)
     requires { TallyRoom w.old ends t to m }
     ensures { EndsTallied w.old w.new ends t to m }
 {
-    let mut i = 0;
-    while i < t {
+    for i in 0..t {
         let v = w[ends + i] as usize;
         w[to + v] = w[to + v] + 1;
-        i += 1;
     }
 }
 
@@ -45,11 +41,9 @@ fn number_records(w: &mut [u64], k: usize, numbers: usize)
     requires { (2 * k ≤ numbers) × (numbers + k ≤ length w.old) }
     ensures { RecordsNumbered w.old w.new k numbers }
 {
-    let mut i = 0;
-    while i < k {
+    for i in 0..k {
         w[2 * i] = w[numbers + i];
         w[2 * i + 1] = i as u64;
-        i += 1;
     }
 }
 
@@ -59,14 +53,12 @@ fn put_grouped(w: &mut [u64], k: usize, ends: usize, to: usize)
     requires k_bound { (2 * k ≤ ends) × ((ends + 2 * k ≤ to) × (to + 2 * k ≤ length w.old)) }
     ensures { EdgesPut w.old w.new k ends to }
 {
-    let mut j = 0;
-    while j < k {
+    for j in 0..k {
         let i = w[2 * j + 1] as usize;
         let from = w[ends + 2 * i];
         let other = w[ends + 2 * i + 1];
         w[to + 2 * j] = from;
         w[to + 2 * j + 1] = other;
-        j += 1;
     }
 }
 
@@ -94,12 +86,10 @@ fn is_ring(w: &[u64], k: usize, m: usize, ends: usize, degrees: usize, i: usize,
     requires i_le_e { (i ≤ e) × (e ≤ k) }
     ensures { result ≡ every (turns_of w.now ends degrees) (records_at w.now (2 * i) (e - i)) }
 {
-    let mut j = i;
-    while j < e {
+    for j in i..e {
         if !turns_once(w, k, m, ends, degrees, j) {
             return false;
         }
-        j += 1;
     }
     true
 }

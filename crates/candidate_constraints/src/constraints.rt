@@ -75,10 +75,8 @@ pub fn all_constraints(
     ensures { Constrained extents eps n nf k result w.old w.new }
 {
     let mut total = 0;
-    let mut face = 0;
-    while face < 6 {
+    for face in 0..6 {
         total = face_constraints(w, n, nf, k, face, extents, eps, total);
-        face += 1;
     }
     total
 }

@@ -71,10 +71,8 @@ pub fn push_open_edges(
         w.new }
 {
     let mut c = count;
-    let mut i = 0;
-    while i < k {
+    for i in 0..k {
         c = push_open_edge(w, n, nf, i, face, c);
-        i += 1;
     }
     c
 }

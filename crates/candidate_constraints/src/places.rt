@@ -22,11 +22,9 @@ pub fn note_places(w: &mut [u64], n: usize, face: usize)
     let list = list_at(n, face);
     let places = places_at(n);
     let count = w[face] as usize;
-    let mut i = 0;
-    while i < count {
+    for i in 0..count {
         let id = candidate_of_place(w, list, FacePlace(i));
         w[places + id.0] = i as u64;
-        i += 1;
     }
 }
 

@@ -45,12 +45,10 @@ fn collect_side(w: &mut [u64], n: usize, face: usize, side: Side, eps: f64) -> u
     let at = side_at(n);
     let count = w[face] as usize;
     let mut m = 0;
-    let mut i = 0;
-    while i < count {
+    for i in 0..count {
         let p = project(face, point_of(w, candidate_of_place(w, list, FacePlace(i))));
         let t = candidate_on_face_side(side, p, eps);
         m += note_fraction(w, at + 2 * m, t, FacePlace(i));
-        i += 1;
     }
     m
 }
@@ -94,11 +92,9 @@ pub fn push_sides(w: &mut [u64], n: usize, face: usize, extents: AABB, eps: f64)
     ensures { Pushed n face (side_at n) (4 * n) (side_pairs extents eps (pool_at n w.old) face) 0 result w.old w.new }
 {
     let mut c = 0;
-    let mut k = 0;
-    while k < 4 {
+    for k in 0..4 {
         let side = face_boundary_side(face, k, extents);
         c = push_side(w, n, face, side, eps, c);
-        k += 1;
     }
     c
 }

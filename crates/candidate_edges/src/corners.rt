@@ -29,9 +29,7 @@ pub fn enter_corners(w: &mut [u64], vertices: &[f64], n: usize, extents: AABB, e
     ensures { CornersEntered vertices.now extents eps n w.old w.new }
 {
     let count = vertices.len() / 3;
-    let mut v = 0;
-    while v < count {
+    for v in 0..count {
         enter_corner(w, vertices, n, MeshVertexId(v), extents, eps);
-        v += 1;
     }
 }

@@ -45,13 +45,11 @@ pub fn stray_edge(
     ensures { result ≡ place (λ e. eqb (length (edge_faces extents eps (mesh_of vertices.now facets.now) e)) 0) (open_edges (threes facets.now)) }
 {
     let table = edge_table_at(n, facets.len() / 3);
-    let mut i = 0;
-    while i < k {
+    for i in 0..k {
         let side = w[table + 2 * i + 1] as usize;
         if side_mask(vertices, facets, side, extents, eps) == 0 {
             return i;
         }
-        i += 1;
     }
     k
 }
@@ -135,10 +133,8 @@ pub fn enter_edges(
     ensures { EdgesEntered vertices.now facets.now extents eps n k result w.old w.new }
 {
     let mut listed = 0;
-    let mut i = 0;
-    while i < k {
+    for i in 0..k {
         listed += enter_edge(w, vertices, facets, n, i, extents, eps);
-        i += 1;
     }
     listed
 }

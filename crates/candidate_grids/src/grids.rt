@@ -92,13 +92,11 @@ fn gather_segments(
     let edges = open_edges_at(n, nf);
     let segments = segments_at(n, nf);
     let mut count = 0;
-    let mut i = 0;
-    while i < k {
+    for i in 0..k {
         if has_face(w[edges + 3 * i + 2], face) {
             gather_segment(w, segments + 5 * count, edges + 3 * i, face, tolerance);
             count += 1;
         }
-        i += 1;
     }
     count
 }
@@ -123,12 +121,10 @@ fn is_skipped(w: &[u64], n: usize, near: Near, p: Uv) -> bool
     requires { NearReady n near w.now }
     ensures { result ≡ skips_near w.now near p }
 {
-    let mut i = 0;
-    while i < near.count {
+    for i in 0..near.count {
         if is_on_segment(w, near.at + 5 * i, p, near.tolerance) {
             return true;
         }
-        i += 1;
     }
     false
 }
@@ -200,12 +196,10 @@ fn enter_grid_row(
     ensures { PointsEntered eps n (flat_map (row_cell (skips_near w.old near) extents face row last) (up_to (last + 1))) (last + 1) w.old w.new }
 {
     let axis = v_axis(face);
-    let mut j = 0;
-    while j <= last {
+    for j in 0..=last {
         let v = grid_line(extents, axis, last, j);
         let p = point_on_face(face, row.at, row.u, v);
         enter_grid_point(w, n, near, face, p, is_inner(row.inner, j, last), eps);
-        j += 1;
     }
 }
 
@@ -239,15 +233,13 @@ fn enter_face_grid(
         count: count,
         tolerance: tolerance,
     };
-    let mut i = 0;
-    while i <= last {
+    for i in 0..=last {
         let row = Row {
             at: at,
             u: grid_line(extents, axis, last, i),
             inner: is_interior(i, last),
         };
         enter_grid_row(w, n, near, face, row, extents, last_v, eps);
-        i += 1;
     }
 }
 
@@ -264,9 +256,7 @@ pub fn enter_grids(
     requires { GridReady extents eps resolution skip n nf k w.old }
     ensures { Gridded extents eps resolution skip n nf k w.old w.new }
 {
-    let mut face = 0;
-    while face < 6 {
+    for face in 0..6 {
         enter_face_grid(w, n, nf, k, face, extents, eps, resolution, skip);
-        face += 1;
     }
 }

@@ -54,12 +54,10 @@ fn write_face_lists(w: &[u64], n: usize, out: &mut [u64])
 {
     write_words(w, 0, 6, out, 0);
     let mut at = 6;
-    let mut face = 0;
-    while face < 6 {
+    for face in 0..6 {
         let count = w[face] as usize;
         write_words(w, list_at(n, face), count, out, at);
         at += count;
-        face += 1;
     }
 }
 
@@ -69,8 +67,7 @@ fn write_constraints(w: &[u64], at: usize, total: usize, out: &mut [u64])
     ensures { out.new ≡ sets out.old 0 (constraint_words (map unpacked (view w.now at total))) }
 {
     let mut o = 0;
-    let mut i = 0;
-    while i < total {
+    for i in 0..total {
         let key = w[at + i];
         write_three(
             out,
@@ -80,7 +77,6 @@ fn write_constraints(w: &[u64], at: usize, total: usize, out: &mut [u64])
             triple_third(key),
         );
         o += 3;
-        i += 1;
     }
 }
 
@@ -104,10 +100,8 @@ fn write_edge(w: &[u64], edge: usize, out: &mut [u64], at: usize) -> usize
 {
     let mask = w[edge + 2];
     let mut o = at;
-    let mut face = 0;
-    while face < 6 {
+    for face in 0..6 {
         o = write_face(out, o, mask, face, w[edge], w[edge + 1]);
-        face += 1;
     }
     o
 }
@@ -119,10 +113,8 @@ fn write_edges(w: &[u64], edges: usize, k: usize, out: &mut [u64])
     ensures { out.new ≡ sets out.old 0 (open_edge_words (edges_at w.now edges k)) }
 {
     let mut o = 0;
-    let mut i = 0;
-    while i < k {
+    for i in 0..k {
         o = write_edge(w, edges + 3 * i, out, o);
-        i += 1;
     }
 }
 

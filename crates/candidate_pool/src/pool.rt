@@ -116,12 +116,10 @@ fn push_faces(w: &mut [u64], n: usize, id: CandidateVertexId, mask: u64, eps: f6
     requires id_bound { id.0 < count_at w.old }
     ensures { FacesAdded eps n id.0 mask w.old w.new }
 {
-    let mut face = 0;
-    while face < 6 {
+    for face in 0..6 {
         if has_face(mask, face) {
             push_face(w, n, id, face, eps);
         }
-        face += 1;
     }
 }
 

@@ -130,10 +130,8 @@ pub fn append_caps(
     ensures { Appending vertices.now (closing_at n nf nc) n nf nc positive nc result w.old w.new }
 {
     let mut left = 0;
-    let mut i = 0;
-    while i < nc {
+    for i in 0..nc {
         left += append_if_taken(w, vertices, n, nf, nc, positive, i, left);
-        i += 1;
     }
     left
 }

@@ -20,10 +20,8 @@ pub fn start_entering(w: &mut [u64], n: usize, nf: usize, nc: usize, nv: usize)
     let given = given_at(n, nf, nc);
     let count = w[6] as usize;
     w[vertices_at(n, nf, nc)] = nv as u64;
-    let mut c = 0;
-    while c < count {
+    for c in 0..count {
         w[given + c] = w[entry_at(CandidateVertexId(c)) + 3];
-        c += 1;
     }
 }
 

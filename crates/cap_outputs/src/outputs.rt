@@ -57,11 +57,9 @@ fn write_fresh(w: &[u64], fresh: usize, count: usize, out: &mut [f64], at: usize
     requires by_index { (i : ℕ) → i < count → PointStored w.now (entry_at (get_or w.now (fresh + i) 0)) × (entry_at (get_or w.now (fresh + i) 0) + 2 < length w.now) }
     ensures { out.new ≡ sets out.old at (coordinates (points_in w.now (view w.now fresh count))) }
 {
-    let mut i = 0;
-    while i < count {
+    for i in 0..count {
         let c = w[fresh + i] as usize;
         write_point(out, at + 3 * i, point_of(w, CandidateVertexId(c)));
-        i += 1;
     }
 }
 
@@ -70,8 +68,7 @@ fn write_reversed(facets: &[u32], out: &mut [u32])
     requires { (length facets.now % 3 ≡ 0) × (length facets.now ≤ length out.old) }
     ensures { out.new ≡ sets out.old 0 (flat (map reversed (threes facets.now))) }
 {
-    let mut i = 0;
-    while i < facets.len() / 3 {
+    for i in 0..facets.len() / 3 {
         write_three(
             out,
             3 * i,
@@ -79,7 +76,6 @@ fn write_reversed(facets: &[u32], out: &mut [u32])
             facets[3 * i + 2],
             facets[3 * i + 1],
         );
-        i += 1;
     }
 }
 
@@ -122,10 +118,8 @@ fn write_caps(w: &[u64], facets: usize, firsts: usize, left: usize, out: &mut [u
     ensures { out.new ≡ sets out.old at (all_cap_words w.now facets firsts left) }
 {
     let mut o = at;
-    let mut i = 0;
-    while i < left {
+    for i in 0..left {
         o = write_cap(w, facets + 3 * i, firsts + i, out, o);
-        i += 1;
     }
 }
 

@@ -30,15 +30,13 @@ fn held_before(w: &[u64], mask: u64, held: u64) -> usize
     ensures { result ≡ place (missing_face w.now held) (faces_in mask) }
 {
     let mut count = 0;
-    let mut face = 0;
-    while face < 6 {
+    for face in 0..6 {
         if has_face(mask, face) {
             if is_missing(w, held, face) {
                 return count;
             }
             count += 1;
         }
-        face += 1;
     }
     count
 }
@@ -54,8 +52,7 @@ pub fn missing_place(w: &[u64], n: usize, nf: usize, k: usize, cap_list: &[u64])
     let numbers = numbers_at(n, nf, nc);
     let held = held_at(n, nf, nc);
     let mut place = 0;
-    let mut i = 0;
-    while i < k {
+    for i in 0..k {
         let mask = w[edges + 3 * i + 2];
         let pair = w[numbers + i] as usize;
         let before = held_before(w, mask, w[held + pair]);
@@ -63,7 +60,6 @@ pub fn missing_place(w: &[u64], n: usize, nf: usize, k: usize, cap_list: &[u64])
         if before < count_faces(mask) {
             return place;
         }
-        i += 1;
     }
     place
 }

@@ -26,12 +26,10 @@ fn add_faces(w: &mut [u64], at: usize, mask: u64)
     requires { (at < length w.old) × (get_or w.old at 0 < 64) }
     ensures { Added w.old w.new at (has_bit mask) }
 {
-    let mut face = 0;
-    while face < 6 {
+    for face in 0..6 {
         if has_face(mask, face) {
             add_face(w, at, face);
         }
-        face += 1;
     }
 }
 
@@ -62,13 +60,11 @@ fn note_edges(w: &mut [u64], n: usize, nf: usize, nc: usize, k: usize)
     let numbers = numbers_at(n, nf, nc);
     let up = up_at(n, nf, nc);
     let down = down_at(n, nf, nc);
-    let mut i = 0;
-    while i < k {
+    for i in 0..k {
         let table = way_at(w, edges + 3 * i, up, down);
         let pair = w[numbers + i] as usize;
         let mask = edge_faces(w, edges + 3 * i);
         add_faces(w, table + pair, mask);
-        i += 1;
     }
 }
 
@@ -84,12 +80,10 @@ fn note_sides(w: &mut [u64], n: usize, nf: usize, k: usize, cap_list: &[u64])
     let nc = cap_list.len() / 4;
     let numbers = numbers_at(n, nf, nc) + k;
     let held = held_at(n, nf, nc);
-    let mut s = 0;
-    while s < 3 * nc {
+    for s in 0..3 * nc {
         let pair = w[numbers + s] as usize;
         let face = cap_list[s / 3 * 4] as usize;
         add_face(w, held + pair, face);
-        s += 1;
     }
 }
 

@@ -41,11 +41,9 @@ fn put_edges(w: &mut [u64], n: usize, nf: usize, nc: usize, k: usize)
 {
     let edges = open_edges_at(n, nf);
     let records = records_at(n, nf, nc);
-    let mut i = 0;
-    while i < k {
+    for i in 0..k {
         w[records + 2 * i] = edge_word(w, edges + 3 * i);
         w[records + 2 * i + 1] = i as u64;
-        i += 1;
     }
 }
 
@@ -57,11 +55,9 @@ fn put_sides(w: &mut [u64], n: usize, nf: usize, nc: usize, k: usize)
 {
     let turned = turned_at(n, nf);
     let records = records_at(n, nf, nc) + 2 * k;
-    let mut s = 0;
-    while s < 3 * nc {
+    for s in 0..3 * nc {
         w[records + 2 * s] = pair_word(w[turned + s], w[turned + next_side(s)]);
         w[records + 2 * s + 1] = (k + s) as u64;
-        s += 1;
     }
 }
 

@@ -36,10 +36,8 @@ fn put_labels(w: &mut [u64], n: usize, nf: usize, nc: usize, k: usize)
     ensures { Labelled n nf nc k w.old w.new }
 {
     let labels = labels_at(n, nf, nc);
-    let mut s = 0;
-    while s < 3 * nc {
+    for s in 0..3 * nc {
         w[labels + s] = side_label(w, n, nf, nc, k, s);
-        s += 1;
     }
 }
 

@@ -57,10 +57,8 @@ fn mark_seeds(w: &mut [u64], n: usize, nf: usize, k: usize, cap_list: &[u64])
     ensures { SeedsMarked n nf (length cap_list.now / 4) k cap_list.now w.old w.new }
 {
     let nc = cap_list.len() / 4;
-    let mut i = 0;
-    while i < nc {
+    for i in 0..nc {
         mark_seed(w, n, nf, nc, k, i, cap_list[4 * i] as usize);
-        i += 1;
     }
 }
 

@@ -92,14 +92,12 @@ pub fn bad_cap_place(w: &[u64], n: usize, cap_list: &[u64]) -> usize
 {
     let nc = cap_list.len() / 4;
     let mut last = 0;
-    let mut i = 0;
-    while i < nc {
+    for i in 0..nc {
         let face = cap_list[4 * i];
         if is_bad_cap(w, last, face, supplied(cap_list, i)) {
             return i;
         }
         last = face;
-        i += 1;
     }
     nc
 }

@@ -46,13 +46,11 @@ pub fn turn_caps(w: &mut [u64], n: usize, nf: usize, cap_list: &[u64])
 {
     let nc = cap_list.len() / 4;
     let turned = turned_at(n, nf);
-    let mut i = 0;
-    while i < nc {
+    for i in 0..nc {
         let t = orient_face_triangle(w, cap_list[4 * i] as usize, supplied(cap_list, i));
         w[turned + 3 * i] = t.a.0 as u64;
         w[turned + 3 * i + 1] = t.b.0 as u64;
         w[turned + 3 * i + 2] = t.c.0 as u64;
-        i += 1;
     }
 }
 

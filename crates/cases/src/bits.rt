@@ -19,12 +19,10 @@ pub fn begins_with(list: &[f64], front: &[f64]) -> bool
     if list.len() < front.len() {
         return false;
     }
-    let mut i = 0;
-    while i < front.len() {
+    for i in 0..front.len() {
         if bits(list[i]) != bits(front[i]) {
             return false;
         }
-        i += 1;
     }
     true
 }
@@ -36,12 +34,10 @@ pub fn begins_with_numbers(list: &[u32], front: &[u32]) -> bool
     if list.len() < front.len() {
         return false;
     }
-    let mut i = 0;
-    while i < front.len() {
+    for i in 0..front.len() {
         if list[i] != front[i] {
             return false;
         }
-        i += 1;
     }
     true
 }

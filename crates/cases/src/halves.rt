@@ -88,10 +88,8 @@ fn list_triangles(candidates: &[u64]) -> [u64; 80]
     ensures { result ≡ cap_list_of candidates.now }
 {
     let mut list = [0u64; 80];
-    let mut i = 0;
-    while i < 80 {
+    for i in 0..80 {
         list[i] = cap_word(candidates, i);
-        i += 1;
     }
     list
 }
@@ -112,12 +110,10 @@ fn is_point(vertices: &[f64], v: u32, p: usize) -> bool
 fn has_facets(vertices: &[f64], facets: &[u32; 36], stated: &[usize; 36]) -> bool
     ensures { result ≡ has_facets vertices.now facets.now stated.now }
 {
-    let mut i = 0;
-    while i < 36 {
+    for i in 0..36 {
         if !is_point(vertices, facets[i], stated[i]) {
             return false;
         }
-        i += 1;
     }
     true
 }

@@ -39,12 +39,10 @@ pub fn is_alone(candidates: &[u64], x: u64, at: usize) -> bool
     ensures { result ≡ every (free candidates.now x at) (up_to (length candidates.now / 5)) }
 {
     let n = candidates.len() / 5;
-    let mut i = 0;
-    while i < n {
+    for i in 0..n {
         if !is_free(candidates, i, x, at) {
             return false;
         }
-        i += 1;
     }
     true
 }
@@ -54,12 +52,10 @@ pub fn place_of(candidates: &[u64], x: u64, y: u64, z: u64) -> usize
     ensures { FirstWhere (stands_at candidates.now x y z) (length candidates.now / 5) result }
 {
     let n = candidates.len() / 5;
-    let mut i = 0;
-    while i < n {
+    for i in 0..n {
         if is_at(candidates, i, x, y, z) {
             return i;
         }
-        i += 1;
     }
     n
 }

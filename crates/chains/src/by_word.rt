@@ -15,11 +15,9 @@ pub fn index_words(m: &mut [u64], at: usize, nb: usize, keys: &[u64])
     ensures { WordTable keys.now at nb m.old m.new (length keys.now) }
 {
     words::zero_part(m, at, nb + nb);
-    let mut i = 0;
-    while i < keys.len() {
+    for i in 0..keys.len() {
         let b = bucket(keys[i], 0, 0, nb as u64) as usize;
         enter(m, at, nb, i, b);
-        i += 1;
     }
 }
 

@@ -57,10 +57,8 @@ fn own(w: &mut [u64], at: usize, n: usize)
     requires { at + n ≤ length w.old }
     ensures { Owned w.old w.new at n }
 {
-    let mut i = 0;
-    while i < n {
+    for i in 0..n {
         w[at + i] = i as u64;
-        i += 1;
     }
 }
 
@@ -70,11 +68,9 @@ fn flatten(w: &mut [u64], at: usize, n: usize)
     requires forest { Forest w.old at n }
     ensures { Flattened w.old w.new at n }
 {
-    let mut i = 0;
-    while i < n {
+    for i in 0..n {
         let p = w[at + i] as usize;
         w[at + i] = w[at + p];
-        i += 1;
     }
 }
 
@@ -86,11 +82,9 @@ fn tally(w: &mut [u64], at: usize, n: usize)
     ensures { SizesTallied w.old w.new at n }
 {
     let sizes = at + n;
-    let mut i = 0;
-    while i < n {
+    for i in 0..n {
         let r = w[at + i] as usize;
         w[sizes + r] = w[sizes + r] + 1;
-        i += 1;
     }
 }
 
@@ -104,11 +98,9 @@ fn join_item(w: &mut [u64], labels: usize, n: usize, k: usize, m: usize, at: usi
     let firsts = at + n + n;
     let from = labels + i * k;
     let mut r = find(w, at, n, i);
-    let mut j = 0;
-    while j < k {
+    for j in 0..k {
         let q = w[from + j] as usize;
         r = enter(w, at, n, firsts + q, i, r);
-        j += 1;
     }
 }
 
@@ -117,10 +109,8 @@ fn join(w: &mut [u64], labels: usize, n: usize, k: usize, m: usize, at: usize)
     requires swept { Swept (view w.old labels (n * k)) n k m at w.old w.old 0 }
     ensures { Swept (view w.old labels (n * k)) n k m at w.old w.new (n * k) }
 {
-    let mut i = 0;
-    while i < n {
+    for i in 0..n {
         join_item(w, labels, n, k, m, at, i);
-        i += 1;
     }
 }
 

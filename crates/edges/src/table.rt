@@ -9,12 +9,10 @@ pub fn side_records(facets: &[u32], w: &mut [u64])
     requires { (length facets.now % 3 ≡ 0) × (2 * length facets.now ≤ length w.old) }
     ensures { SideRecords facets.now w.old w.new }
 {
-    let mut side = 0;
-    while side < facets.len() {
+    for side in 0..facets.len() {
         let key = side_key(facets, side);
         w[2 * side] = key;
         w[2 * side + 1] = side as u64;
-        side += 1;
     }
 }
 

@@ -96,12 +96,10 @@ fn all_below(w: &[u64], at: usize, e: usize, m: usize) -> bool
     requires { at + e ≤ length w.now }
     ensures { result ≡ true → BelowUpTo w.now at e m }
 {
-    let mut t = 0;
-    while t < e {
+    for t in 0..e {
         if w[at + t] as usize >= m {
             return false;
         }
-        t += 1;
     }
     true
 }
@@ -140,10 +138,8 @@ fn answer(m: &[u64], nb: usize, keys: &[u64], asked: &[u64], found: &mut [u64])
     requires asked_in_bounds { length asked.now ≤ length found.old }
     ensures { LinksFound keys.now asked.now found.new (length asked.now) }
 {
-    let mut i = 0;
-    while i < asked.len() {
+    for i in 0..asked.len() {
         found[i] = chains::find_word(m, 0, nb, keys, asked[i]);
-        i += 1;
     }
 }
 

@@ -80,11 +80,9 @@ fn write_vertices(m: &[u64], at: usize, n: usize, vertices: &[f64], out: &mut [f
     requires by_index { (j : ℕ) → j < n → get_or m.now (at + j) 0 < length vertices.now / 3 }
     ensures { out.new ≡ overlay (coordinates (map (vertex_of vertices.now) (view m.now at n))) out.old }
 {
-    let mut k = 0;
-    while k < n {
+    for k in 0..n {
         let v = vertex_in(m, at + k);
         write_point(out, 3 * k, vertex_at(vertices, v));
-        k += 1;
     }
 }
 
@@ -94,10 +92,8 @@ fn write_numbers(m: &[u64], at: usize, n: usize, out: &mut [u32])
     requires by_index { (j : ℕ) → j < n → get_or m.now (at + j) 0 < 196609 }
     ensures { out.new ≡ overlay (view m.now at n) out.old }
 {
-    let mut i = 0;
-    while i < n {
+    for i in 0..n {
         out[i] = m[at + i] as u32;
-        i += 1;
     }
 }
 

@@ -135,10 +135,8 @@ pub fn renumber(
         vertices: 0,
         corners: 0,
     };
-    let mut i = 0;
-    while i < k {
+    for i in 0..k {
         w = number_if_kept(m, kept, facets, parts, k, at, n, least, w, i);
-        i += 1;
     }
     w
 }

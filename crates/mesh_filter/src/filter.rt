@@ -93,10 +93,8 @@ pub fn filter(
     }
     zero_part(m, at, 8 * n);
     let mut count = 0;
-    let mut f = 0;
-    while f < n {
+    for f in 0..n {
         count = filter_facet(m, welded, vertices, facets, at, n, f, count, eps);
-        f += 1;
     }
     count
 }

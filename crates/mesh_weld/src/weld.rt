@@ -62,10 +62,8 @@ pub fn weld(m: &mut [u64], vs: &[f64], n: usize, eps: f64) -> usize
     }
     zero_part(m, 0, 8 * n);
     let mut count = 0;
-    let mut i = 0;
-    while i < n {
+    for i in 0..n {
         count = weld_vertex(m, vs, n, MeshVertexId(i), count, eps);
-        i += 1;
     }
     count
 }

@@ -25,10 +25,8 @@ pub fn put_by_payload(m: &mut [u64], at: usize, to: usize, i: usize, e: usize, x
     requires by_index { (j : ℕ) → i ≤ j → j < e → to + payload_in m.old at j < length m.old }
     ensures { PayloadsPut m.old m.new at to i e x }
 {
-    let mut j = i;
-    while j < e {
+    for j in i..e {
         let payload = m[at + 2 * j + 1] as usize;
         m[to + payload] = x;
-        j += 1;
     }
 }

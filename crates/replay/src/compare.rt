@@ -15,12 +15,10 @@ pub fn same_words(a: &[u64], b: &[u64]) -> bool
     if a.len() != b.len() {
         return false;
     }
-    let mut i = 0;
-    while i < a.len() {
+    for i in 0..a.len() {
         if a[i] != b[i] {
             return false;
         }
-        i += 1;
     }
     true
 }
@@ -50,12 +48,10 @@ pub fn same_doubles(stored: &[u64], from: usize, output: &[f64]) -> bool
     requires { from + length output.now ≤ length stored.now }
     ensures { Decides (SameDoubles stored.now from output.now) result }
 {
-    let mut i = 0;
-    while i < output.len() {
+    for i in 0..output.len() {
         if !same_double(output[i], stored[from + i]) {
             return false;
         }
-        i += 1;
     }
     true
 }
@@ -64,12 +60,10 @@ pub fn same_numbers(stored: &[u64], from: usize, output: &[u32]) -> bool
     requires { from + length output.now ≤ length stored.now }
     ensures { Decides (SameWords stored.now from output.now) result }
 {
-    let mut i = 0;
-    while i < output.len() {
+    for i in 0..output.len() {
         if output[i] as u64 != stored[from + i] {
             return false;
         }
-        i += 1;
     }
     true
 }
@@ -85,12 +79,10 @@ pub fn same_list(stored: &[u64], from: usize, n: usize, output: &[u64]) -> bool
 pub fn is_zero(room: &[u64]) -> bool
     ensures { Decides (Everywhere (λ k. get_or room.now k 0 ≡ 0) (length room.now)) result }
 {
-    let mut i = 0;
-    while i < room.len() {
+    for i in 0..room.len() {
         if room[i] != 0 {
             return false;
         }
-        i += 1;
     }
     true
 }

@@ -43,10 +43,8 @@ pub fn read_doubles(stored: &[u64], from: usize, list: &mut [f64])
     requires { from + length list.old ≤ length stored.now }
     ensures { list.new ≡ doubles_in stored.now from (length list.old) }
 {
-    let mut i = 0;
-    while i < list.len() {
+    for i in 0..list.len() {
         list[i] = double(stored[from + i]);
-        i += 1;
     }
 }
 
@@ -61,10 +59,8 @@ pub fn read_numbers(stored: &[u64], from: usize, list: &mut [u32])
     requires { from + length list.old ≤ length stored.now }
     ensures { list.new ≡ numbers_in stored.now from (length list.old) }
 {
-    let mut i = 0;
-    while i < list.len() {
+    for i in 0..list.len() {
         list[i] = low_half(stored[from + i]);
-        i += 1;
     }
 }
 
@@ -72,11 +68,9 @@ pub fn old_doubles(output: &mut [f64])
     ensures { output.new ≡ old_doubles (length output.old) }
 {
     let mut x = 1.5;
-    let mut i = 0;
-    while i < output.len() {
+    for i in 0..output.len() {
         output[i] = x;
         x = x + 1.0;
-        i += 1;
     }
 }
 
@@ -85,11 +79,9 @@ pub fn old_numbers(output: &mut [u32])
     ensures { output.new ≡ old_words (length output.old) }
 {
     let mut x: u32 = 3000000000;
-    let mut i = 0;
-    while i < output.len() {
+    for i in 0..output.len() {
         output[i] = x;
         x += 1;
-        i += 1;
     }
 }
 
@@ -98,10 +90,8 @@ pub fn old_words(room: &mut [u64])
     ensures { room.new ≡ old_words (length room.old) }
 {
     let mut x: u64 = 3000000000;
-    let mut i = 0;
-    while i < room.len() {
+    for i in 0..room.len() {
         room[i] = x;
         x += 1;
-        i += 1;
     }
 }

@@ -83,12 +83,10 @@ pub fn are_numbers(stored: &[u64], from: usize, n: usize) -> bool
     requires { from + n ≤ length stored.now }
     ensures { Decides (Everywhere (λ k. nan_bits binary64 (get_or stored.now (from + k) 0) ≡ false) n) result }
 {
-    let mut i = 0;
-    while i < n {
+    for i in 0..n {
         if is_nan(stored[from + i]) {
             return false;
         }
-        i += 1;
     }
     true
 }
@@ -98,12 +96,10 @@ pub fn are_few(stored: &[u64], from: usize, n: usize, most: u64) -> bool
     requires { from + n ≤ length stored.now }
     ensures { Decides (Few stored.now from n most) result }
 {
-    let mut i = 0;
-    while i < n {
+    for i in 0..n {
         if stored[from + i] > most {
             return false;
         }
-        i += 1;
     }
     true
 }

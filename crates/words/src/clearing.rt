@@ -5,10 +5,8 @@ ghost use Rattle.words.specs.Overlay.{overlay};
 pub fn zero(w: &mut [u64])
     ensures { w.new ≡ replicate (length w.old) 0 }
 {
-    let mut i = 0;
-    while i < w.len() {
+    for i in 0..w.len() {
         w[i] = 0;
-        i += 1;
     }
 }
 
@@ -17,9 +15,7 @@ pub fn zero_front(w: &mut [u64], n: usize)
     requires { n ≤ length w.old }
     ensures { w.new ≡ overlay (replicate n 0) w.old }
 {
-    let mut k = 0;
-    while k < n {
+    for k in 0..n {
         w[k] = 0;
-        k += 1;
     }
 }

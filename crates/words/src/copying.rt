@@ -6,10 +6,8 @@ pub fn copy_words(from: &[u64], to: &mut [u64])
     requires { length from.now ≤ length to.old }
     ensures { to.new ≡ overlay from.now to.old }
 {
-    let mut i = 0;
-    while i < from.len() {
+    for i in 0..from.len() {
         to[i] = from[i];
-        i += 1;
     }
 }
 
@@ -17,10 +15,8 @@ pub fn copy_numbers(from: &[u32], to: &mut [u32])
     requires { length from.now ≤ length to.old }
     ensures { to.new ≡ overlay from.now to.old }
 {
-    let mut j = 0;
-    while j < from.len() {
+    for j in 0..from.len() {
         to[j] = from[j];
-        j += 1;
     }
 }
 
@@ -28,10 +24,8 @@ pub fn copy_doubles(from: &[f64], to: &mut [f64])
     requires { length from.now ≤ length to.old }
     ensures { to.new ≡ overlay from.now to.old }
 {
-    let mut k = 0;
-    while k < from.len() {
+    for k in 0..from.len() {
         to[k] = from[k];
-        k += 1;
     }
 }
 

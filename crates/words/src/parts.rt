@@ -6,9 +6,7 @@ pub fn zero_part(w: &mut [u64], at: usize, n: usize)
     requires { at + n ≤ length w.old }
     ensures { PartZeroed w.old w.new at n }
 {
-    let mut i = 0;
-    while i < n {
+    for i in 0..n {
         w[at + i] = 0;
-        i += 1;
     }
 }

@@ -12,12 +12,6 @@ turns_once-requires c = record { ends_ready = c.requires.ends_ready; j_lt_k = om
 pub returns-then-not-turns_once : goal.returns-then-not-turns_once
 returns-then-not-turns_once c = sym (every_records_stop _ _ _ _ _ (omega arith) c.loop-j.invariant.1.1 (sym c.turns_once.ensures ∙ c.if-not-turns_once.true))
 
-pub overflow_add-j : goal.overflow_add-j
-overflow_add-j c = omega arith
-
-pub loop-j-smaller : goal.loop-j-smaller
-loop-j-smaller c = omega arith
-
 pub loop-j-preserved : goal.loop-j-preserved
 loop-j-preserved c =
     (omega arith, (omega arith, every_records_more _ _ _ _ _ (omega arith) c.loop-j.invariant.1.1 (sym c.turns_once.ensures ∙ c.if-not-turns_once.false)))

@@ -9,6 +9,3 @@ use Rattle.boundary_groups.proofs.is_ring.Given as goal
 abbrev pub invariant-loop-j : goal.invariant-loop-j
 invariant-loop-j l = (l.i ≤ l.j) × ((l.j ≤ l.e) × (every (turns_of l.w l.ends l.degrees) (records_at l.w (2 * l.i) (l.e - l.i)) ≡ every (turns_of l.w l.ends
     l.degrees) (records_at l.w (2 * l.j) (l.e - l.j))))
-
-abbrev pub decreases-loop-j : goal.decreases-loop-j
-decreases-loop-j l = l.e - l.j

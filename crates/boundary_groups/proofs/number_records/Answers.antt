@@ -53,11 +53,5 @@ bounds-w-i-in-loop-i c =
     let s = c.args in
     omega (arith, l.invariant.1.long, length-set l.w (2 * l.i) (get_or l.w (s.numbers + l.i) 0))
 
-pub overflow_add-i : goal.overflow_add-i
-overflow_add-i c = omega arith
-
-pub loop-i-smaller : goal.loop-i-smaller
-loop-i-smaller c = omega arith
-
 pub shape_of-w : goal.shape_of-w
 shape_of-w c = omega arith

@@ -71,11 +71,5 @@ bounds-w-to-in-loop-i c =
     let s = c.args in
     omega (arith, l.invariant.1.long, length-set l.w (s.to + 2 * l.i) c.pair_first.result)
 
-pub overflow_add-i : goal.overflow_add-i
-overflow_add-i c = omega arith
-
-pub loop-i-smaller : goal.loop-i-smaller
-loop-i-smaller c = omega arith
-
 pub shape_of-w : goal.shape_of-w
 shape_of-w c = omega arith

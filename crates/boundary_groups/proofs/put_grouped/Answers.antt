@@ -140,11 +140,5 @@ bounds-w-to-in-loop-j c =
     let s = c.args in
     omega (arith, l.invariant.1.long, length-set l.w (s.to + 2 * l.j) (get_or l.w (s.ends + 2 * get_or l.w (2 * l.j + 1) 0) 0))
 
-pub overflow_add-j : goal.overflow_add-j
-overflow_add-j c = omega arith
-
-pub loop-j-smaller : goal.loop-j-smaller
-loop-j-smaller c = omega arith
-
 pub shape_of-w : goal.shape_of-w
 shape_of-w c = omega arith

@@ -7,6 +7,3 @@ use Rattle.boundary_groups.proofs.put_grouped.Given as goal
 abbrev pub invariant-loop-j : goal.invariant-loop-j
 invariant-loop-j l = (l.j ≤ l.k) × PairsPut (λ j. get_or l.initial.w (l.ends + 2 * get_or l.initial.w (2 * j + 1) 0) 0) (λ j. get_or l.initial.w (l.ends + 2 *
     get_or l.initial.w (2 * j + 1) 0 + 1) 0) l.initial.w l.w l.to l.j
-
-abbrev pub decreases-loop-j : goal.decreases-loop-j
-decreases-loop-j l = l.k - l.j

@@ -77,11 +77,5 @@ bounds-w-to-in-loop-i c =
     let lo = tally_in s.w.now l.w s.ends s.t s.to s.m l.i c.requires (omega arith) l.invariant in
     omega (arith, c.requires.room)
 
-pub overflow_add-i : goal.overflow_add-i
-overflow_add-i c = omega (arith)
-
-pub loop-i-smaller : goal.loop-i-smaller
-loop-i-smaller c = omega (arith)
-
 pub shape_of-w : goal.shape_of-w
 shape_of-w c = omega (arith)

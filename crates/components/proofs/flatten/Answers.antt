@@ -33,12 +33,6 @@ offset_bounds-w-at-in-loop-i-2 c = let l = c.loop-i in let a = l.invariant.1.for
 pub bounds-w-at-in-loop-i-2 : goal.bounds-w-at-in-loop-i-2
 bounds-w-at-in-loop-i-2 c = let l = c.loop-i in let a = l.invariant.1.forest l.i (omega arith) in omega arith
 
-pub overflow_add-i : goal.overflow_add-i
-overflow_add-i c = omega arith
-
-pub loop-i-smaller : goal.loop-i-smaller
-loop-i-smaller c = omega arith
-
 pub loop-i-preserved : goal.loop-i-preserved
 loop-i-preserved c =
     let l = c.loop-i in

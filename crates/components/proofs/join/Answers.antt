@@ -17,12 +17,6 @@ join_item-requires c =
     let h = join_item_start s.w.now l.w s.labels s.n s.k s.m s.at (l.i * s.k) (l.i * s.k)
     c.requires.label_room l.invariant.1 refl in record { label_room = h.0; i_lt_n = omega arith; swept = h.1 }
 
-pub overflow_add-i : goal.overflow_add-i
-overflow_add-i c = omega arith
-
-pub loop-i-smaller : goal.loop-i-smaller
-loop-i-smaller c = omega arith
-
 pub loop-i-preserved : goal.loop-i-preserved
 loop-i-preserved c =
     let l = c.loop-i in

@@ -8,6 +8,3 @@ use Rattle.components.proofs.join_item.Given as goal
 abbrev pub invariant-loop-j : goal.invariant-loop-j
 invariant-loop-j l = LabelRoom l.initial.w l.labels l.n l.k l.m l.at × (l.j ≤ l.k) × Swept (view l.initial.w l.labels (l.n * l.k)) l.n l.k l.m l.at l.initial.w l.w
     (l.i * l.k + l.j) × RootOf l.w l.at l.n l.i l.r
-
-abbrev pub decreases-loop-j : goal.decreases-loop-j
-decreases-loop-j l = l.k - l.j

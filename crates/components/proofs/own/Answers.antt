@@ -14,12 +14,6 @@ offset_bounds-w-at c = omega arith
 pub bounds-w-at : goal.bounds-w-at
 bounds-w-at c = omega arith
 
-pub overflow_add-i : goal.overflow_add-i
-overflow_add-i c = omega arith
-
-pub loop-i-smaller : goal.loop-i-smaller
-loop-i-smaller c = omega arith
-
 pub loop-i-preserved : goal.loop-i-preserved
 loop-i-preserved c = let l = c.loop-i in (omega arith, filled_more (λ j. j) _ l.w c.args.at l.i (omega arith) l.invariant.1)
 

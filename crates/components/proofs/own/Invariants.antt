@@ -5,6 +5,3 @@ use Rattle.components.proofs.own.Given as goal
 -- `components::own`. The loop's invariant: the links before i are filled. The measure is what is left.
 abbrev pub invariant-loop-i : goal.invariant-loop-i
 invariant-loop-i l = (l.i ≤ l.n) × Filled (λ j. j) l.initial.w l.w l.at l.i
-
-abbrev pub decreases-loop-i : goal.decreases-loop-i
-decreases-loop-i l = l.n - l.i

@@ -77,12 +77,6 @@ bounds-w-sizes-in-loop-i c =
     let b = l.invariant.rest (s.at + l.i) (λ j h e. omega arith) in
     omega arith
 
-pub overflow_add-i : goal.overflow_add-i
-overflow_add-i c = omega arith
-
-pub loop-i-smaller : goal.loop-i-smaller
-loop-i-smaller c = omega arith
-
 pub loop-i-preserved : goal.loop-i-preserved
 loop-i-preserved c =
     let l = c.loop-i in

@@ -5,6 +5,3 @@ use Rattle.components.proofs.tally.Given as goal
 -- `components::tally`. The loop's invariant: the numbers before i are counted. The measure is what is left.
 abbrev pub invariant-loop-i : goal.invariant-loop-i
 invariant-loop-i l = Counting l.initial.w l.w l.at l.n l.i
-
-abbrev pub decreases-loop-i : goal.decreases-loop-i
-decreases-loop-i l = l.n - l.i

@@ -21,12 +21,6 @@ bounds-w-at c = omega arith
 pub returns-then-w-at : goal.returns-then-w-at
 returns-then-w-at c = λ r. absurd (false≢true r)
 
-pub overflow_add-t : goal.overflow_add-t
-overflow_add-t c = omega arith
-
-pub loop-t-smaller : goal.loop-t-smaller
-loop-t-smaller c = omega arith
-
 pub loop-t-preserved : goal.loop-t-preserved
 loop-t-preserved c =
     let l = c.loop-t in

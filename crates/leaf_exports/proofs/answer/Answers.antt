@@ -23,12 +23,6 @@ offset_bounds-found-i c = omega arith
 pub bounds-found-i : goal.bounds-found-i
 bounds-found-i c = omega arith
 
-pub overflow_add-i : goal.overflow_add-i
-overflow_add-i c = omega arith
-
-pub loop-i-smaller : goal.loop-i-smaller
-loop-i-smaller c = omega arith
-
 pub loop-i-preserved : goal.loop-i-preserved
 loop-i-preserved c =
     let l = c.loop-i in

@@ -33,12 +33,6 @@ bounds-out-i c =
     number_room [] a.m.now a.at a.n s.requires.n_in_bounds.0 a.out.now c.loop-i.out c.loop-i.i c.loop-i.invariant
     c.loop-i-test.true
 
-pub overflow_add-i : goal.overflow_add-i
-overflow_add-i c = omega arith
-
-pub loop-i-smaller : goal.loop-i-smaller
-loop-i-smaller c = omega arith
-
 pub loop-i-preserved : goal.loop-i-preserved
 loop-i-preserved c =
     let s = c in

@@ -33,12 +33,6 @@ write_point-requires c =
     vertex_room a.vertices.now a.m.now a.at a.n s.requires.n_in_bounds.0 a.out.now c.loop-k.out
     c.loop-k.k c.loop-k.invariant c.loop-k-test.true
 
-pub overflow_add-k : goal.overflow_add-k
-overflow_add-k c = omega arith
-
-pub loop-k-smaller : goal.loop-k-smaller
-loop-k-smaller c = omega arith
-
 pub loop-k-preserved : goal.loop-k-preserved
 loop-k-preserved c =
     let s = c in

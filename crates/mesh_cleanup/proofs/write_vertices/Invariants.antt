@@ -7,6 +7,3 @@ use Rattle.mesh_cleanup.proofs.write_vertices.Given as goal
 
 abbrev pub invariant-loop-k : goal.invariant-loop-k
 invariant-loop-k l = Writing (coordinates (map (vertex_of l.vertices) (view l.m l.at l.n))) l.initial.out l.out (3 * l.k)
-
-abbrev pub decreases-loop-k : goal.decreases-loop-k
-decreases-loop-k l = l.n - l.k

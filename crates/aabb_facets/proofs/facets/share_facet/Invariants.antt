@@ -4,6 +4,3 @@ use Rattle.aabb_facets.proofs.facets.share_facet.Given as goal
 
 abbrev pub invariant-loop-j : goal.invariant-loop-j
 invariant-loop-j l = Sharing l.vertices l.facets l.extents l.eps l.initial.to l.i l.initial.ids l.initial.out_vertices l.initial.out_facets l.ids l.out_vertices l.out_facets l.to l.j
-
-abbrev pub decreases-loop-j : goal.decreases-loop-j
-decreases-loop-j l = 3 - l.j

@@ -25,18 +25,6 @@ vertex_at-requires c =
 pub bounds-ids-v : goal.bounds-ids-v
 bounds-ids-v c = c.loop-v-test.true
 
-pub loop-v-smaller : goal.loop-v-smaller
-loop-v-smaller c =
-    let loop-test = c.loop-v-test in
-    let loop = c.loop-v in
-    let s = c in
-    omega (
-      arith,
-      loop-test.true,
-      marking_same s.args.vertices.now s.args.extents s.args.eps s.args.ids.now loop.ids loop.v loop.invariant.1
-          loop.invariant.0,
-    )
-
 pub loop-v-preserved : goal.loop-v-preserved
 loop-v-preserved c =
     let loop = c.loop-v in

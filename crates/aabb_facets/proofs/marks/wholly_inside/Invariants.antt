@@ -8,6 +8,3 @@ use Rattle.aabb_facets.proofs.marks.wholly_inside.Given as goal
 
 abbrev pub invariant-loop-k : goal.invariant-loop-k
 invariant-loop-k l = (l.k ≤ l.n) × (every (inside_box l.extents l.eps) (points_of l.vertices) ≡ every (inside_box l.extents l.eps) (drop l.k (points_of l.vertices)))
-
-abbrev pub decreases-loop-k : goal.decreases-loop-k
-decreases-loop-k l = l.n - l.k

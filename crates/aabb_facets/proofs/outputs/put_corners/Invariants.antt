@@ -11,6 +11,3 @@ invariant-loop-j l =
     (l.j ≤ l.n)
     × ((length l.out ≡ length l.initial.out)
     × (sets l.out (3 * (l.base.0 + l.j)) (coordinates (drop l.j (corners l.polygon l.n))) ≡ sets l.initial.out (3 * l.base.0) (coordinates (corners l.polygon l.n))))
-
-abbrev pub decreases-loop-j : goal.decreases-loop-j
-decreases-loop-j l = l.n - l.j

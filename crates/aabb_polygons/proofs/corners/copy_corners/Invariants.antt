@@ -6,6 +6,3 @@ use Rattle.aabb_polygons.proofs.corners.copy_corners.Given as goal
 
 abbrev pub invariant-loop-i : goal.invariant-loop-i
 invariant-loop-i l = (l.i ≤ l.n) × ((length l.to ≡ length l.initial.to) × (corners l.to l.i ≡ corners l.from l.i))
-
-abbrev pub decreases-loop-i : goal.decreases-loop-i
-decreases-loop-i l = l.n - l.i

@@ -11,6 +11,3 @@ abbrev pub invariant-loop-i : goal.invariant-loop-i
 invariant-loop-i l = (l.i ≤ l.n) × (every (λ p. not (inside l.extents l.eps (face_of l.plane) p)) (corners l.polygon l.n) ≡ every (λ p. not (inside l.extents l.eps
     (face_of l.plane) p)) (drop l.i (corners
     l.polygon l.n)))
-
-abbrev pub decreases-loop-i : goal.decreases-loop-i
-decreases-loop-i l = l.n - l.i

@@ -8,6 +8,3 @@ use Rattle.aabb_polygons.proofs.corners.snap_corners.Given as goal
 
 abbrev pub invariant-loop-i : goal.invariant-loop-i
 invariant-loop-i l = (l.i ≤ l.n) × ((length l.to ≡ length l.initial.to) × (corners l.to l.i ≡ map (snapped l.extents l.eps) (corners l.from l.i)))
-
-abbrev pub decreases-loop-i : goal.decreases-loop-i
-decreases-loop-i l = l.n - l.i

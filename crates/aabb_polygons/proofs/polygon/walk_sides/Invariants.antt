@@ -7,6 +7,3 @@ use Rattle.aabb_polygons.proofs.polygon.walk_sides.Given as goal
 
 abbrev pub invariant-loop-i : goal.invariant-loop-i
 invariant-loop-i l = (l.i ≤ l.n) × ((length l.out ≡ length l.initial.out) × Walked l.polygon l.n (face_of l.plane) l.extents l.eps l.out l.k l.prev l.i)
-
-abbrev pub decreases-loop-i : goal.decreases-loop-i
-decreases-loop-i l = l.n - l.i

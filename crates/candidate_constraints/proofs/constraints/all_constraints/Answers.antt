@@ -26,12 +26,6 @@ face_constraints-total-requires c =
       );
     }
 
-pub overflow_add-face : goal.overflow_add-face
-overflow_add-face c = omega (arith, c.loop-face-test.true)
-
-pub loop-face-smaller : goal.loop-face-smaller
-loop-face-smaller c = omega (arith, c.loop-face-test.true)
-
 pub loop-face-preserved : goal.loop-face-preserved
 loop-face-preserved c =
     let s = c in

@@ -5,6 +5,3 @@ use Rattle.candidate_constraints.proofs.constraints.all_constraints.Given as goa
 -- `all_constraints` meets its contract: after some turns the constraints are those of as many faces. Assumes nothing.
 abbrev pub invariant-loop-face : goal.invariant-loop-face
 invariant-loop-face l = Faced l.extents l.eps l.n l.nf l.k l.initial.w l.w l.total l.face
-
-abbrev pub decreases-loop-face : goal.decreases-loop-face
-decreases-loop-face l = 6 - l.face

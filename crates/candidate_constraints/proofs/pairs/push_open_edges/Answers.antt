@@ -29,14 +29,6 @@ push_open_edge-c-requires c =
       );
     }
 
-pub overflow_add-i : goal.overflow_add-i
-overflow_add-i c =
-    let s = c in
-    omega (arith, s.requires.roomy.small, s.requires.roomy.facets, s.requires.roomy.room, s.requires.face_bound, c.loop-i-test.true)
-
-pub loop-i-smaller : goal.loop-i-smaller
-loop-i-smaller c = omega (arith, c.loop-i-test.true)
-
 pub loop-i-preserved : goal.loop-i-preserved
 loop-i-preserved c =
     let s = c in

@@ -6,6 +6,3 @@ use Rattle.candidate_constraints.proofs.pairs.push_open_edges.Given as goal
 -- `push_open_edges` meets its contract: after i turns the pairs are those of the first i open edges. Assumes nothing.
 abbrev pub invariant-loop-i : goal.invariant-loop-i
 invariant-loop-i l = Edging l.n l.face (open_edges_at l.n l.nf) l.count l.initial.w l.k l.w l.c l.i
-
-abbrev pub decreases-loop-i : goal.decreases-loop-i
-decreases-loop-i l = l.k - l.i

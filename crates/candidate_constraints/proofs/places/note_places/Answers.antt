@@ -66,14 +66,6 @@ bounds-w-places c =
     let write-in = write-in (goal.at.bounds-w-places c).In-loop-i in
     omega (arith, write-in, c.candidate_of_place-id.ensures)
 
-pub overflow_add-i : goal.overflow_add-i
-overflow_add-i c =
-    let read-in = read-in (goal.at.overflow_add-i c).In-loop-i in
-    omega (arith, read-in)
-
-pub loop-i-smaller : goal.loop-i-smaller
-loop-i-smaller c = omega (arith, c.loop-i-test.true)
-
 pub loop-i-preserved : goal.loop-i-preserved
 loop-i-preserved c =
     let s = c in

@@ -8,6 +8,3 @@ use Rattle.candidate_constraints.proofs.places.note_places.Given as goal
 -- `note_places` meets its contract: after i turns the first i candidates of the list have their places noted. Assumes nothing.
 abbrev pub invariant-loop-i : goal.invariant-loop-i
 invariant-loop-i l = Noting l.n l.face l.initial.w l.w l.i × (l.list ≡ list_at l.n l.face) × (l.places ≡ places_at l.n) × (l.count ≡ get_or l.initial.w l.face 0)
-
-abbrev pub decreases-loop-i : goal.decreases-loop-i
-decreases-loop-i l = l.count - l.i

@@ -88,14 +88,6 @@ overflow_add-m c =
     let turn_in = turn_in (goal.at.overflow_add-m c).In-loop-i in
     omega (arith, c.note_fraction-m.ensures.few, turn_in)
 
-pub overflow_add-i : goal.overflow_add-i
-overflow_add-i c =
-    let turn_in = turn_in (goal.at.overflow_add-i c).In-loop-i in
-    omega (arith, turn_in)
-
-pub loop-i-smaller : goal.loop-i-smaller
-loop-i-smaller c = omega (arith, c.loop-i-test.true)
-
 pub loop-i-preserved : goal.loop-i-preserved
 loop-i-preserved c =
     let point-of' = c.point_of in

@@ -8,6 +8,3 @@ use Rattle.candidate_constraints.proofs.side.collect_side.Given as goal
 -- `collect_side` meets its contract: after i turns the records are those of the first i candidates of the list. Assumes nothing.
 abbrev pub invariant-loop-i : goal.invariant-loop-i
 invariant-loop-i l = Collecting l.eps l.n l.face l.side l.initial.w l.w l.m l.i × (l.list ≡ list_at l.n l.face) × (l.at ≡ side_at l.n) × (l.count ≡ get_or l.initial.w l.face 0)
-
-abbrev pub decreases-loop-i : goal.decreases-loop-i
-decreases-loop-i l = l.count - l.i

@@ -5,6 +5,3 @@ use Rattle.candidate_constraints.proofs.side.push_sides.Given as goal
 -- `push_sides` meets its contract: after k turns the pairs are those of the first k sides. Assumes nothing.
 abbrev pub invariant-loop-k : goal.invariant-loop-k
 invariant-loop-k l = Siding l.extents l.eps l.n l.face l.initial.w l.w l.c l.k
-
-abbrev pub decreases-loop-k : goal.decreases-loop-k
-decreases-loop-k l = 4 - l.k

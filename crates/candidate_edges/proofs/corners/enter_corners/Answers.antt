@@ -11,14 +11,6 @@ loop-v-init c =
 pub enter_corner-requires : goal.enter_corner-requires
 enter_corner-requires c = record { sources_ready = c.loop-v.invariant.ready; v_in_bounds = c.loop-v-test.true }
 
-pub overflow_add-v : goal.overflow_add-v
-overflow_add-v c =
-    let r = c.loop-v.invariant.ready in
-    omega (arith, c.loop-v-test.true, r.vertices, r.holds.table.small)
-
-pub loop-v-smaller : goal.loop-v-smaller
-loop-v-smaller c = omega (arith, c.loop-v-test.true)
-
 pub loop-v-preserved : goal.loop-v-preserved
 loop-v-preserved c =
     let s = c in

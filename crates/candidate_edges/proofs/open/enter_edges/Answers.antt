@@ -19,16 +19,6 @@ overflow_add-listed c =
     let h = c.loop-i-test.true in
     omega (arith, c.loop-i.invariant.few, c.enter_edge-listed.ensures.few)
 
-pub overflow_add-i : goal.overflow_add-i
-overflow_add-i c =
-    let f = c.requires.mesh_fits in
-    let k = c.requires.table_at.within in
-    let h = c.loop-i-test.true in
-    omega arith
-
-pub loop-i-smaller : goal.loop-i-smaller
-loop-i-smaller c = omega (arith, c.loop-i-test.true)
-
 pub loop-i-preserved : goal.loop-i-preserved
 loop-i-preserved c =
     let s = c in

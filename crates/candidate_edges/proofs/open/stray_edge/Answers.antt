@@ -74,12 +74,6 @@ returns-then-side_mask-eq0 c =
     loop'.invariant.1 (0, 0)
     (omega (arith, s.requires.table_at.count, c.loop-i-test.true)) (t ∙ eq-eqb c.side_mask.result 0 c.if-side_mask-eq0.true)
 
-pub overflow_add-i : goal.overflow_add-i
-overflow_add-i c = omega (arith, turn_in (goal.at.overflow_add-i c).In-loop-i)
-
-pub loop-i-smaller : goal.loop-i-smaller
-loop-i-smaller c = omega (arith, c.loop-i-test.true)
-
 pub loop-i-preserved : goal.loop-i-preserved
 loop-i-preserved c =
     let t = tested (goal.at.loop-i-preserved c).After-side_mask in

@@ -11,6 +11,3 @@ use Rattle.candidate_edges.proofs.open.stray_edge.Given as goal
 abbrev pub invariant-loop-i : goal.invariant-loop-i
 invariant-loop-i l = (l.i ≤ l.k) × (place (stray l.vertices l.facets l.extents l.eps) (open_edges (threes l.facets)) ≡ l.i + place (stray l.vertices l.facets
     l.extents l.eps) (drop l.i (open_edges (threes l.facets))))
-
-abbrev pub decreases-loop-i : goal.decreases-loop-i
-decreases-loop-i l = l.k - l.i

@@ -117,15 +117,6 @@ enter_grid_row-requires c =
     p.face_in p.box_in c.loop-i-test.true least.1 least.0 least-v.1 least-v.0 room at_in
     (along-u (goal.at.enter_grid_row-requires c).After-grid_line)
 
-pub overflow_add-i : goal.overflow_add-i
-overflow_add-i c =
-    let b = (last-in (goal.at.overflow_add-i c).After-segments_at).1 in
-    let l = c.loop-i-test.true in
-    omega arith
-
-pub loop-i-smaller : goal.loop-i-smaller
-loop-i-smaller c = let l = c.loop-i-test.true in omega arith
-
 pub loop-i-preserved : goal.loop-i-preserved
 loop-i-preserved c =
     let k = c in

@@ -9,6 +9,3 @@ abbrev pub invariant-loop-i : goal.invariant-loop-i
 invariant-loop-i l = (l.i ≤ l.last + 1)
     × PointsEntered l.eps l.n (flat_map (λ x. flat_map (row_cell (skips_near l.initial.w l.near) l.extents l.face (row_at l.extents l.face l.at l.last x) l.last_v)
     (up_to (l.last_v + 1))) (up_to l.i)) (l.i * (l.last_v + 1)) l.initial.w l.w
-
-abbrev pub decreases-loop-i : goal.decreases-loop-i
-decreases-loop-i l = l.last + 1 - l.i

@@ -48,16 +48,6 @@ enter_grid_point-requires c =
     row_point_ready _ _ _ _ _ _ _ _ _ p _ t.loop-j.invariant.1 t.loop-j-test.true _
     (point_in _ _ _ _ _ c.point_on_face-p.ensures (search rules) (search rules) (search rules))
 
-pub overflow_add-j : goal.overflow_add-j
-overflow_add-j c =
-    let t = c in
-    let f = c.requires.few_parts in
-    let l = t.loop-j-test.true in
-    omega arith
-
-pub loop-j-smaller : goal.loop-j-smaller
-loop-j-smaller c = let l = c.loop-j-test.true in omega arith
-
 pub loop-j-preserved : goal.loop-j-preserved
 loop-j-preserved c =
     let along-v : c.grid_line-v.result

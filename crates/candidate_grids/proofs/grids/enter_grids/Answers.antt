@@ -8,12 +8,6 @@ loop-face-init c = gridding_start _ _ _ _ _ _ _ _ c.requires
 pub enter_face_grid-requires : goal.enter_face_grid-requires
 enter_face_grid-requires c = gridding_ready _ _ _ _ _ _ _ _ c.requires _ _ c.loop-face.invariant c.loop-face-test.true
 
-pub overflow_add-face : goal.overflow_add-face
-overflow_add-face c = let l = c.loop-face-test.true in omega arith
-
-pub loop-face-smaller : goal.loop-face-smaller
-loop-face-smaller c = let l = c.loop-face-test.true in omega arith
-
 pub loop-face-preserved : goal.loop-face-preserved
 loop-face-preserved c =
     gridding_turn _ _ _ _ _ _ _ _ c.requires _ _ c.loop-face.invariant

@@ -4,6 +4,3 @@ use Rattle.candidate_grids.proofs.grids.enter_grids.Given as goal
 
 abbrev pub invariant-loop-face : goal.invariant-loop-face
 invariant-loop-face l = Gridding l.extents l.eps l.resolution l.skip l.n l.nf l.k l.initial.w l.w l.face
-
-abbrev pub decreases-loop-face : goal.decreases-loop-face
-decreases-loop-face l = 6 - l.face

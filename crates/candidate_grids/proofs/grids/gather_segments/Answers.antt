@@ -60,12 +60,6 @@ gather_segment-requires c =
 pub overflow_add-count : goal.overflow_add-count
 overflow_add-count c = omega arith
 
-pub overflow_add-i : goal.overflow_add-i
-overflow_add-i c = omega arith
-
-pub loop-i-smaller : goal.loop-i-smaller
-loop-i-smaller c = omega arith
-
 pub loop-i-preserved : goal.loop-i-preserved
 loop-i-preserved c =
     let bit : c.has_face.result

@@ -21,12 +21,6 @@ pub returns-then-is_on_segment : goal.returns-then-is_on_segment
 unfolding skips_at
 returns-then-is_on_segment c = one_there _ _ _ c.loop-i-test.true (sym c.is_on_segment.ensures ∙ c.if-is_on_segment.true)
 
-pub overflow_add-i : goal.overflow_add-i
-overflow_add-i c = omega arith
-
-pub loop-i-smaller : goal.loop-i-smaller
-loop-i-smaller c = omega arith
-
 pub loop-i-preserved : goal.loop-i-preserved
 loop-i-preserved c = (omega arith, none_more _ _ c.loop-i.invariant.1 (sym c.is_on_segment.ensures ∙ c.if-is_on_segment.false))
 

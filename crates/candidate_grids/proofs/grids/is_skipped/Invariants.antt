@@ -7,6 +7,3 @@ use Rattle.candidate_grids.proofs.grids.is_skipped.Given as goal
 
 abbrev pub invariant-loop-i : goal.invariant-loop-i
 invariant-loop-i l = (l.i ≤ l.near.count) × (some (λ j. hit_at l.w (l.near.at + 5 * j) l.near.tolerance l.p) (up_to l.i) ≡ false)
-
-abbrev pub decreases-loop-i : goal.decreases-loop-i
-decreases-loop-i l = l.near.count - l.i

@@ -5,6 +5,3 @@ use Rattle.candidate_outputs.proofs.outputs.write_constraints.Given as goal
 
 abbrev pub invariant-loop-i : goal.invariant-loop-i
 invariant-loop-i l = (l.i ≤ l.total) × BlocksStored (key_block l.w l.at) l.initial.out l.out 0 l.i l.o
-
-abbrev pub decreases-loop-i : goal.decreases-loop-i
-decreases-loop-i l = l.total - l.i

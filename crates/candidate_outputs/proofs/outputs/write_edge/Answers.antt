@@ -46,12 +46,6 @@ write_face-o-requires c =
     (omega (arith, l, c.requires.edge_in_bounds_2)) in
     (c.loop-face-test.true, r)
 
-pub overflow_add-face : goal.overflow_add-face
-overflow_add-face c = omega arith
-
-pub loop-face-smaller : goal.loop-face-smaller
-loop-face-smaller c = omega arith
-
 pub loop-face-preserved : goal.loop-face-preserved
 loop-face-preserved c =
     let a = c.args in (

@@ -6,6 +6,3 @@ use Rattle.candidate_outputs.proofs.outputs.write_edge.Given as goal
 
 abbrev pub invariant-loop-face : goal.invariant-loop-face
 invariant-loop-face l = (l.face ≤ 6) × BlocksStored (face_words l.mask (get_or l.w l.edge 0) (get_or l.w (l.edge + 1) 0)) l.initial.out l.out l.at l.face l.o
-
-abbrev pub decreases-loop-face : goal.decreases-loop-face
-decreases-loop-face l = 6 - l.face

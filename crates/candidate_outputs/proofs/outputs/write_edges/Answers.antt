@@ -21,12 +21,6 @@ write_edge-o-requires c =
     let r = blocks_room (edge_block a.w.now a.edges) a.out.now c.loop-i.out 0 c.loop-i.i c.loop-i.o
     c.loop-i.invariant.1 a.k c.loop-i-test.true (omega (arith, l, c.requires.k_in_bounds_2)) in record { edge_in_bounds = omega arith; edge_in_bounds_2 = r }
 
-pub overflow_add-i : goal.overflow_add-i
-overflow_add-i c = omega arith
-
-pub loop-i-smaller : goal.loop-i-smaller
-loop-i-smaller c = omega arith
-
 pub loop-i-preserved : goal.loop-i-preserved
 loop-i-preserved c =
     let a = c.args in (

@@ -76,12 +76,6 @@ overflow_add-at c =
       c.write_words.auto.out,
     )
 
-pub overflow_add-face : goal.overflow_add-face
-overflow_add-face c = omega arith
-
-pub loop-face-smaller : goal.loop-face-smaller
-loop-face-smaller c = omega arith
-
 pub loop-face-preserved : goal.loop-face-preserved
 loop-face-preserved c =
     let a = c.args in

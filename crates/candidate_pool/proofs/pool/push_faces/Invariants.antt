@@ -5,6 +5,3 @@ use Rattle.candidate_pool.proofs.pool.push_faces.Given as goal
 -- `push_faces` meets its contract: before face k those of the mask below k were added. Assumes nothing.
 abbrev pub invariant-loop-face : goal.invariant-loop-face
 invariant-loop-face l = (l.face ≤ 6) × Adding l.eps l.n l.id.0 l.mask l.face l.initial.w l.w
-
-abbrev pub decreases-loop-face : goal.decreases-loop-face
-decreases-loop-face l = 6 - l.face

@@ -43,18 +43,6 @@ overflow_add-left c =
     let x = E.caps in
     omega arith
 
-pub overflow_add-i : goal.overflow_add-i
-overflow_add-i c =
-    let s = c in
-    let a = s.args in
-    let E = s.requires.names_entering in
-    let h = c.loop-i-test.true in
-    let x = E.caps in
-    omega arith
-
-pub loop-i-smaller : goal.loop-i-smaller
-loop-i-smaller c = let h = c.loop-i-test.true in omega arith
-
 pub loop-i-preserved : goal.loop-i-preserved
 loop-i-preserved c =
     let s = c in

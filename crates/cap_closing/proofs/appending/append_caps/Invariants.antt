@@ -6,6 +6,3 @@ use Rattle.cap_closing.proofs.appending.append_caps.Given as goal
 -- `append_caps` meets its contract: one triangle more (`appending_turn`). Assumes nothing.
 abbrev pub invariant-loop-i : goal.invariant-loop-i
 invariant-loop-i l = Appending l.vertices (closing_at l.n l.nf l.nc) l.n l.nf l.nc l.positive l.i l.left l.initial.w l.w × (l.i ≤ l.nc)
-
-abbrev pub decreases-loop-i : goal.decreases-loop-i
-decreases-loop-i l = l.nc - l.i

@@ -96,30 +96,6 @@ bounds-w-given c =
     let x = c.entry_at.ensures in
     omega arith
 
-pub overflow_add-c : goal.overflow_add-c
-overflow_add-c c =
-    let s = c in
-    let a = s.args in
-    let R = s.requires in
-    let l = c.loop-c.invariant.0.long ∙ length-set a.w.now c.vertices_at.result a.nv in
-    let e = c.given_at-given.ensures in
-    let q = R.3 in
-    let z = R.4 in
-    let x = c.entry_at.ensures in
-    omega arith
-
-pub loop-c-smaller : goal.loop-c-smaller
-loop-c-smaller c =
-    let s = c in
-    let a = s.args in
-    let R = s.requires in
-    let l = c.loop-c.invariant.0.long ∙ length-set a.w.now c.vertices_at.result a.nv in
-    let e = c.given_at-given.ensures in
-    let q = R.3 in
-    let z = R.4 in
-    let x = c.entry_at.ensures in
-    omega arith
-
 pub loop-c-preserved : goal.loop-c-preserved
 loop-c-preserved c =
     let s = c in

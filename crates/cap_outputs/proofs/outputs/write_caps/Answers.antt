@@ -31,12 +31,6 @@ write_cap-o-requires c =
     let y' = ap (λ (k : ℕ). get_or a.w.now k 0) p in
     let z' = ap (λ (k : ℕ). get_or a.w.now k 0) q in record { facet_in_bounds = (omega arith, omega arith); facet_bound = (x, omega (arith, y, y'), omega (arith, z, z')); first_in_bounds = r }
 
-pub overflow_add-i : goal.overflow_add-i
-overflow_add-i c = omega arith
-
-pub loop-i-smaller : goal.loop-i-smaller
-loop-i-smaller c = omega arith
-
 pub loop-i-preserved : goal.loop-i-preserved
 loop-i-preserved c =
     let a = c.args in (

@@ -5,6 +5,3 @@ use Rattle.cap_outputs.proofs.outputs.write_caps.Given as goal
 
 abbrev pub invariant-loop-i : goal.invariant-loop-i
 invariant-loop-i l = (l.i ≤ l.left) × BlocksStored (cap_block l.w l.facets l.firsts) l.initial.out l.out l.at l.i l.o
-
-abbrev pub decreases-loop-i : goal.decreases-loop-i
-decreases-loop-i l = l.left - l.i

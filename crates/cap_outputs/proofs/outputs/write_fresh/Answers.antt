@@ -39,12 +39,6 @@ write_point-requires c =
     (omega (arith, l, m, c.requires.count_in_bounds.1)) in
     omega (arith, r)
 
-pub overflow_add-i : goal.overflow_add-i
-overflow_add-i c = omega arith
-
-pub loop-i-smaller : goal.loop-i-smaller
-loop-i-smaller c = omega arith
-
 pub loop-i-preserved : goal.loop-i-preserved
 loop-i-preserved c =
     let a = c.args in (

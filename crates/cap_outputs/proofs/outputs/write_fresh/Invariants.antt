@@ -5,6 +5,3 @@ use Rattle.cap_outputs.proofs.outputs.write_fresh.Given as goal
 
 abbrev pub invariant-loop-i : goal.invariant-loop-i
 invariant-loop-i l = (l.i ≤ l.count) × BlocksStored (fresh_block l.w l.fresh) l.initial.out l.out l.at l.i (l.at + 3 * l.i)
-
-abbrev pub decreases-loop-i : goal.decreases-loop-i
-decreases-loop-i l = l.count - l.i

@@ -23,9 +23,6 @@ bounds-facets-i c = omega arith
 pub overflow_mul-i-in-loop-i-2 : goal.overflow_mul-i-in-loop-i-2
 overflow_mul-i-in-loop-i-2 c = omega arith
 
-pub overflow_add-i : goal.overflow_add-i
-overflow_add-i c = omega arith
-
 pub offset_bounds-facets-i-in-loop-i : goal.offset_bounds-facets-i-in-loop-i
 offset_bounds-facets-i-in-loop-i c = omega arith
 
@@ -53,9 +50,6 @@ write_three-requires c =
 
 pub overflow_add-i-in-loop-i-2 : goal.overflow_add-i-in-loop-i-2
 overflow_add-i-in-loop-i-2 c = omega arith
-
-pub loop-i-smaller : goal.loop-i-smaller
-loop-i-smaller c = omega arith
 
 pub loop-i-preserved : goal.loop-i-preserved
 loop-i-preserved c =

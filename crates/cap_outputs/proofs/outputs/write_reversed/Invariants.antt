@@ -6,6 +6,3 @@ use Rattle.cap_outputs.proofs.outputs.write_reversed.Given as goal
 
 abbrev pub invariant-loop-i : goal.invariant-loop-i
 invariant-loop-i l = (l.i ≤ length l.facets / 3) × BlocksStored (reversed_block l.facets) l.initial.out l.out 0 l.i (3 * l.i)
-
-abbrev pub decreases-loop-i : goal.decreases-loop-i
-decreases-loop-i l = length l.facets / 3 - l.i

@@ -29,12 +29,6 @@ returns-then-is_missing c =
 pub overflow_add-count : goal.overflow_add-count
 overflow_add-count c = omega arith
 
-pub overflow_add-face : goal.overflow_add-face
-overflow_add-face c = omega arith
-
-pub loop-face-smaller : goal.loop-face-smaller
-loop-face-smaller c = omega arith
-
 pub loop-face-preserved : goal.loop-face-preserved
 loop-face-preserved c =
     let a = c.args in

@@ -204,12 +204,6 @@ returns-then-before-count_faces c =
     numbers-at'.result held-at'.result open-edges-at'.ensures numbers-at'.ensures held-at'.ensures held-before'.result count-faces'.result
     held-before'.ensures count-faces'.ensures branch.true
 
-pub overflow_add-i : goal.overflow_add-i
-overflow_add-i c = omega arith
-
-pub loop-i-smaller : goal.loop-i-smaller
-loop-i-smaller c = omega (arith, c.loop-i-test.true)
-
 pub loop-i-preserved : goal.loop-i-preserved
 loop-i-preserved c =
     let s = c in

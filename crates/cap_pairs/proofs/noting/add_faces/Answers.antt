@@ -19,12 +19,6 @@ add_face-requires c =
     let l = c.loop-face in
     (omega (arith, l.invariant.0.long, s.requires.0), l.invariant.0.small, omega arith)
 
-pub overflow_add-face : goal.overflow_add-face
-overflow_add-face c = omega arith
-
-pub loop-face-smaller : goal.loop-face-smaller
-loop-face-smaller c = omega arith
-
 pub loop-face-preserved : goal.loop-face-preserved
 loop-face-preserved c =
     let a = c.args in

@@ -6,6 +6,3 @@ use Rattle.cap_pairs.proofs.noting.add_faces.Given as goal
 -- `add_faces` meets its contract: the mask's faces below `face` are added. Assumes nothing.
 abbrev pub invariant-loop-face : goal.invariant-loop-face
 invariant-loop-face l = Added l.initial.w l.w l.at (Below l.mask l.face) × (l.face ≤ 6)
-
-abbrev pub decreases-loop-face : goal.decreases-loop-face
-decreases-loop-face l = 6 - l.face

@@ -149,12 +149,6 @@ add_faces-requires c =
     up-at'.result down-at'.result open-edges-at'.ensures numbers-at'.ensures up-at'.ensures down-at'.ensures (omega arith) way-at'.result
     (get_or l.w (numbers-at'.result + l.i) 0) way-at'.ensures refl
 
-pub overflow_add-i : goal.overflow_add-i
-overflow_add-i c = omega arith
-
-pub loop-i-smaller : goal.loop-i-smaller
-loop-i-smaller c = omega arith
-
 pub loop-i-preserved : goal.loop-i-preserved
 loop-i-preserved c =
     let s = c in

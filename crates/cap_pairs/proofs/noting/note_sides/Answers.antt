@@ -66,12 +66,6 @@ add_face-requires c =
     note_side_asks a.n a.nf a.k a.cap_list.now a.w.now s.requires.tables_for s.requires.by_index s.requires.by_index_2 l.w l.s l.invariant.0 (numbers-at'.result + a.k)
     held-at'.result (omega arith) held-at'.ensures (omega arith) (get_or l.w (numbers-at'.result + a.k + l.s) 0) refl s.requires.by_index_3
 
-pub overflow_add-s : goal.overflow_add-s
-overflow_add-s c = omega arith
-
-pub loop-s-smaller : goal.loop-s-smaller
-loop-s-smaller c = omega arith
-
 pub loop-s-preserved : goal.loop-s-preserved
 loop-s-preserved c =
     let s = c in

@@ -7,6 +7,3 @@ use Rattle.cap_pairs.proofs.noting.note_sides.Given as goal
 -- `note_sides` meets its contract: the faces of the first s sides are added to the words of their pairs. Assumes nothing.
 abbrev pub invariant-loop-s : goal.invariant-loop-s
 invariant-loop-s l = Noted (side_target l.n l.nf (length l.cap_list / 4) l.initial.w l.k) (λ t. eqb (side_face l.cap_list t)) l.initial.w l.w l.s × (l.s ≤ 3 * (length l.cap_list / 4))
-
-abbrev pub decreases-loop-s : goal.decreases-loop-s
-decreases-loop-s l = 3 * (length l.cap_list / 4) - l.s

@@ -62,12 +62,6 @@ offset_bounds-w-records-in-loop-i c = omega arith
 pub bounds-w-records-in-loop-i : goal.bounds-w-records-in-loop-i
 bounds-w-records-in-loop-i c = simp length-set (omega arith)
 
-pub overflow_add-i : goal.overflow_add-i
-overflow_add-i c = omega arith
-
-pub loop-i-smaller : goal.loop-i-smaller
-loop-i-smaller c = omega arith
-
 pub loop-i-preserved : goal.loop-i-preserved
 loop-i-preserved c =
     let s = c in

@@ -124,12 +124,6 @@ offset_bounds-w-records-in-loop-s c = omega arith
 pub bounds-w-records-in-loop-s : goal.bounds-w-records-in-loop-s
 bounds-w-records-in-loop-s c = simp length-set (omega arith)
 
-pub overflow_add-s : goal.overflow_add-s
-overflow_add-s c = omega arith
-
-pub loop-s-smaller : goal.loop-s-smaller
-loop-s-smaller c = omega arith
-
 pub loop-s-preserved : goal.loop-s-preserved
 loop-s-preserved c =
     let s = c in

@@ -37,12 +37,6 @@ offset_bounds-w-labels c = omega arith
 pub bounds-w-labels : goal.bounds-w-labels
 bounds-w-labels c = omega arith
 
-pub overflow_add-s : goal.overflow_add-s
-overflow_add-s c = omega arith
-
-pub loop-s-smaller : goal.loop-s-smaller
-loop-s-smaller c = omega arith
-
 pub loop-s-preserved : goal.loop-s-preserved
 loop-s-preserved c =
     let z = c in

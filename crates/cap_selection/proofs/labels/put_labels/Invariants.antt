@@ -6,6 +6,3 @@ use Rattle.cap_selection.proofs.labels.put_labels.Given as goal
 -- `labels::put_labels`. The loop's invariant: the labels of the sides before s are put. The measure is what is left. Assumes nothing.
 abbrev pub invariant-loop-s : goal.invariant-loop-s
 invariant-loop-s l = (l.s ≤ 3 * l.nc) × Filled (label_in l.n l.nf l.nc l.k l.initial.w) l.initial.w l.w l.labels l.s
-
-abbrev pub decreases-loop-s : goal.decreases-loop-s
-decreases-loop-s l = 3 * l.nc - l.s

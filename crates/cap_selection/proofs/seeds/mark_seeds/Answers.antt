@@ -31,12 +31,6 @@ mark_seed-requires c =
       component_low s.n s.nf (length s.cap_list.now / 4) s.k s.cap_list.now s.w.now z.requires l.w l.i (omega arith) l.invariant,
     )
 
-pub overflow_add-i : goal.overflow_add-i
-overflow_add-i c = omega arith
-
-pub loop-i-smaller : goal.loop-i-smaller
-loop-i-smaller c = omega arith
-
 pub loop-i-preserved : goal.loop-i-preserved
 loop-i-preserved c =
     let z = c in

@@ -45,12 +45,6 @@ returns-then-is_bad_cap c =
     passed_stop s.args.n s.args.w.now s.args.cap_list.now loop'.i loop'.last loop'.invariant c.loop-i-test.true
     s.requires.0 (sym by-words ∙ c.if-is_bad_cap.true)
 
-pub overflow_add-i : goal.overflow_add-i
-overflow_add-i c = omega (arith, c.loop-i-test.true)
-
-pub loop-i-smaller : goal.loop-i-smaller
-loop-i-smaller c = omega (arith, c.loop-i-test.true)
-
 pub loop-i-preserved : goal.loop-i-preserved
 loop-i-preserved c =
     let by-words = by-words (goal.at.loop-i-preserved c).After-is_bad_cap in

@@ -10,6 +10,3 @@ abbrev pub invariant-loop-i : goal.invariant-loop-i
 invariant-loop-i l = (l.i ≤ length l.front) × (every (λ (k : ℕ). same_bits (get_or l.list k nan) (get_or l.front k nan)) (up_to (length l.front)) ≡ every (λ (k :
     ℕ). same_bits (get_or l.list k nan) (get_or l.front k nan))
     (drop l.i (up_to (length l.front))))
-
-abbrev pub decreases-loop-i : goal.decreases-loop-i
-decreases-loop-i l = length l.front - l.i

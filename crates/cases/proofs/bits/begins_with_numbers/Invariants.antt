@@ -9,6 +9,3 @@ abbrev pub invariant-loop-i : goal.invariant-loop-i
 invariant-loop-i l = (l.i ≤ length l.front) × (every (λ (k : ℕ). eqb (get_or l.list k 0) (get_or l.front k 0)) (up_to (length l.front)) ≡ every (λ (k : ℕ). eqb
     (get_or l.list k 0) (get_or l.front k 0))
     (drop l.i (up_to (length l.front))))
-
-abbrev pub decreases-loop-i : goal.decreases-loop-i
-decreases-loop-i l = length l.front - l.i

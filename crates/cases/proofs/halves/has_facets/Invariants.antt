@@ -7,6 +7,3 @@ use Rattle.cases.proofs.halves.has_facets.Given as goal
 
 abbrev pub invariant-loop-i : goal.invariant-loop-i
 invariant-loop-i l = (l.i ≤ 36) × (has_facets l.vertices l.facets l.stated ≡ every (λ (k : ℕ). is_point l.vertices (get_or l.facets k 0) (get_or l.stated k 0)) (drop l.i (up_to 36)))
-
-abbrev pub decreases-loop-i : goal.decreases-loop-i
-decreases-loop-i l = 36 - l.i

@@ -6,6 +6,3 @@ use Rattle.cases.proofs.halves.list_triangles.Given as goal
 
 abbrev pub invariant-loop-i : goal.invariant-loop-i
 invariant-loop-i l = (l.i ≤ 80) × (length l.list ≡ 80) × ((k : ℕ) → k < l.i → get_or l.list k 0 ≡ cap_word l.candidates k)
-
-abbrev pub decreases-loop-i : goal.decreases-loop-i
-decreases-loop-i l = 80 - l.i

@@ -7,6 +7,3 @@ use Rattle.cases.proofs.listed.is_alone.Given as goal
 
 abbrev pub invariant-loop-i : goal.invariant-loop-i
 invariant-loop-i l = (l.i ≤ l.n) × (every (free l.candidates l.x l.at) (up_to l.n) ≡ every (free l.candidates l.x l.at) (drop l.i (up_to l.n)))
-
-abbrev pub decreases-loop-i : goal.decreases-loop-i
-decreases-loop-i l = l.n - l.i

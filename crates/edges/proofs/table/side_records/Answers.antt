@@ -30,12 +30,6 @@ offset_bounds-w-side-in-loop-side c = omega arith
 pub bounds-w-side-in-loop-side : goal.bounds-w-side-in-loop-side
 bounds-w-side-in-loop-side c = simp length-set (omega arith)
 
-pub overflow_add-side : goal.overflow_add-side
-overflow_add-side c = omega arith
-
-pub loop-side-smaller : goal.loop-side-smaller
-loop-side-smaller c = omega arith
-
 pub loop-side-preserved : goal.loop-side-preserved
 loop-side-preserved c =
     let l = c.loop-side in

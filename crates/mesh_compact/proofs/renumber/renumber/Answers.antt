@@ -28,12 +28,6 @@ number_if_kept-w-requires c =
       vertices_le_corners = (c.loop-i.invariant.0.few, c.loop-i.invariant.0.within);
     }
 
-pub overflow_add-i : goal.overflow_add-i
-overflow_add-i c = omega (arith, c.requires.small, c.loop-i-test.true)
-
-pub loop-i-smaller : goal.loop-i-smaller
-loop-i-smaller c = omega (arith, c.loop-i-test.true)
-
 pub loop-i-preserved : goal.loop-i-preserved
 loop-i-preserved c =
     let s = c in

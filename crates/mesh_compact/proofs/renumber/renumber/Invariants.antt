@@ -6,6 +6,3 @@ use Rattle.mesh_compact.proofs.renumber.renumber.Given as goal
 
 abbrev pub invariant-loop-i : goal.invariant-loop-i
 invariant-loop-i l = NumberedSoFar l.kept l.facets l.parts l.k l.at l.n l.least l.i l.w l.initial.m l.m × (length l.m ≡ length l.initial.m)
-
-abbrev pub decreases-loop-i : goal.decreases-loop-i
-decreases-loop-i l = l.k - l.i

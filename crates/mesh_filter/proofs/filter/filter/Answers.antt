@@ -37,17 +37,6 @@ filter_facet-count-requires c =
           a.eps c.loop-f.f c.loop-f.count c.loop-f.m c.loop-f.invariant.0.going;
     }
 
-pub overflow_add-f : goal.overflow_add-f
-overflow_add-f c =
-    omega (
-      arith,
-      c.requires.small,
-      c.loop-f-test.true,
-    )
-
-pub loop-f-smaller : goal.loop-f-smaller
-loop-f-smaller c = omega (arith, c.loop-f-test.true)
-
 pub loop-f-preserved : goal.loop-f-preserved
 loop-f-preserved c =
     let s = c in

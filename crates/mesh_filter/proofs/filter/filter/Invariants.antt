@@ -7,6 +7,3 @@ use Rattle.mesh_filter.proofs.filter.filter.Given as goal
 abbrev pub invariant-loop-f : goal.invariant-loop-f
 invariant-loop-f l = FacetFiltered l.eps (points_in_room l.welded l.vertices l.initial.m) (facets_in_room l.welded l.vertices l.facets l.initial.m) l.at l.n l.f
     l.count l.initial.m l.m × (length l.m ≡ length l.initial.m)
-
-abbrev pub decreases-loop-f : goal.decreases-loop-f
-decreases-loop-f l = l.n - l.f

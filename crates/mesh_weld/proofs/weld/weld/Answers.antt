@@ -24,17 +24,6 @@ loop-i-init c =
 pub weld_vertex-count-requires : goal.weld_vertex-count-requires
 weld_vertex-count-requires c = record { welded_so_far = c.loop-i.invariant.0; keys_in = c.requires.keys_in; v_lt_n = c.loop-i-test.true }
 
-pub overflow_add-i : goal.overflow_add-i
-overflow_add-i c =
-    omega (
-      arith,
-      c.requires.n_bound,
-      c.loop-i-test.true,
-    )
-
-pub loop-i-smaller : goal.loop-i-smaller
-loop-i-smaller c = omega (arith, c.loop-i-test.true)
-
 pub loop-i-preserved : goal.loop-i-preserved
 loop-i-preserved c = (c.weld_vertex-count.ensures, c.weld_vertex-count.auto.m ∙ c.loop-i.invariant.1)
 

@@ -6,6 +6,3 @@ use Rattle.mesh_weld.proofs.weld.weld.Given as goal
 
 abbrev pub invariant-loop-i : goal.invariant-loop-i
 invariant-loop-i l = WeldedSoFar l.vs l.eps l.n l.i l.count l.m × (length l.m ≡ length l.initial.m)
-
-abbrev pub decreases-loop-i : goal.decreases-loop-i
-decreases-loop-i l = l.n - l.i

@@ -62,12 +62,6 @@ bounds-m-to c =
     let room = room (goal.at.bounds-m-to c).In-loop-j in
     omega (arith, room)
 
-pub overflow_add-j : goal.overflow_add-j
-overflow_add-j c = omega arith
-
-pub loop-j-smaller : goal.loop-j-smaller
-loop-j-smaller c = omega arith
-
 pub loop-j-preserved : goal.loop-j-preserved
 loop-j-preserved c =
     let s = c in

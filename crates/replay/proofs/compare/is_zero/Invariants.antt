@@ -6,6 +6,3 @@ use Rattle.replay.proofs.compare.is_zero.Given as goal
 
 abbrev pub invariant-loop-i : goal.invariant-loop-i
 invariant-loop-i l = Passed (λ k. get_or l.room k 0 ≡ 0) (length l.room) l.i
-
-abbrev pub decreases-loop-i : goal.decreases-loop-i
-decreases-loop-i l = length l.room - l.i

@@ -7,6 +7,3 @@ use Rattle.replay.proofs.compare.same_doubles.Given as goal
 
 abbrev pub invariant-loop-i : goal.invariant-loop-i
 invariant-loop-i l = Passed (λ k. SameDouble (get_or l.output k nan) (get_or l.stored (l.from + k) 0)) (length l.output) l.i
-
-abbrev pub decreases-loop-i : goal.decreases-loop-i
-decreases-loop-i l = length l.output - l.i

@@ -7,6 +7,3 @@ use Rattle.replay.proofs.contents.old_doubles.Given as goal
 
 abbrev pub invariant-loop-i : goal.invariant-loop-i
 invariant-loop-i l = Filling old_double l.initial.output l.output l.i × (l.x ≡ old_double l.i)
-
-abbrev pub decreases-loop-i : goal.decreases-loop-i
-decreases-loop-i l = length l.initial.output - l.i

@@ -6,6 +6,3 @@ use Rattle.replay.proofs.contents.old_words.Given as goal
 
 abbrev pub invariant-loop-i : goal.invariant-loop-i
 invariant-loop-i l = Filling (λ k. 3000000000 + k) l.initial.room l.room l.i × (l.x ≡ 3000000000 + l.i)
-
-abbrev pub decreases-loop-i : goal.decreases-loop-i
-decreases-loop-i l = length l.initial.room - l.i

@@ -5,6 +5,3 @@ use Rattle.replay.proofs.contents.read_numbers.Given as goal
 
 abbrev pub invariant-loop-i : goal.invariant-loop-i
 invariant-loop-i l = Filling (λ k. get_or l.stored (l.from + k) 0 % 4294967296) l.initial.list l.list l.i
-
-abbrev pub decreases-loop-i : goal.decreases-loop-i
-decreases-loop-i l = length l.initial.list - l.i

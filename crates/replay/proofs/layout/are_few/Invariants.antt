@@ -5,6 +5,3 @@ use Rattle.replay.proofs.layout.are_few.Given as goal
 
 abbrev pub invariant-loop-i : goal.invariant-loop-i
 invariant-loop-i l = Passed (λ k. get_or l.stored (l.from + k) 0 ≤ l.most) l.n l.i
-
-abbrev pub decreases-loop-i : goal.decreases-loop-i
-decreases-loop-i l = l.n - l.i

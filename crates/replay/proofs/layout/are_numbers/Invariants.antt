@@ -8,6 +8,3 @@ use Rattle.replay.proofs.layout.are_numbers.Given as goal
 
 abbrev pub invariant-loop-i : goal.invariant-loop-i
 invariant-loop-i l = Passed (λ k. nan_bits binary64 (get_or l.stored (l.from + k) 0) ≡ false) l.n l.i
-
-abbrev pub decreases-loop-i : goal.decreases-loop-i
-decreases-loop-i l = l.n - l.i

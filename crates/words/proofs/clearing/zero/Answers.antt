@@ -13,12 +13,6 @@ offset_bounds-w-i c = omega arith
 pub bounds-w-i : goal.bounds-w-i
 bounds-w-i c = omega arith
 
-pub overflow_add-i : goal.overflow_add-i
-overflow_add-i c = omega arith
-
-pub loop-i-smaller : goal.loop-i-smaller
-loop-i-smaller c = omega arith
-
 pub loop-i-preserved : goal.loop-i-preserved
 loop-i-preserved c = zero_turn (length c.args.w.now) c.args.w.now c.loop-i.w c.loop-i.i c.loop-i.invariant (omega arith)
 

@@ -12,12 +12,6 @@ offset_bounds-w-k c = omega arith
 pub bounds-w-k : goal.bounds-w-k
 bounds-w-k c = omega arith
 
-pub overflow_add-k : goal.overflow_add-k
-overflow_add-k c = omega arith
-
-pub loop-k-smaller : goal.loop-k-smaller
-loop-k-smaller c = omega arith
-
 pub loop-k-preserved : goal.loop-k-preserved
 loop-k-preserved c = zero_turn c.args.n c.args.w.now c.loop-k.w c.loop-k.k c.loop-k.invariant (omega arith)
 

@@ -6,6 +6,3 @@ use Rattle.words.proofs.clearing.zero_front.Given as goal
 -- `zero_front` meets its contract: after k turns the first k words are zero. Assumes nothing.
 abbrev pub invariant-loop-k : goal.invariant-loop-k
 invariant-loop-k l = Writing (replicate (l.n) 0) l.initial.w l.w l.k
-
-abbrev pub decreases-loop-k : goal.decreases-loop-k
-decreases-loop-k l = l.n - l.k

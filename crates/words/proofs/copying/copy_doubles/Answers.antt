@@ -19,12 +19,6 @@ offset_bounds-to-k c = omega arith
 pub bounds-to-k : goal.bounds-to-k
 bounds-to-k c = omega arith
 
-pub overflow_add-k : goal.overflow_add-k
-overflow_add-k c = omega arith
-
-pub loop-k-smaller : goal.loop-k-smaller
-loop-k-smaller c = omega arith
-
 pub loop-k-preserved : goal.loop-k-preserved
 loop-k-preserved c =
     writing_turn c.args.from.now c.args.to.now c.loop-k.to c.loop-k.k nan _

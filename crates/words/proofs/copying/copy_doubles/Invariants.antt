@@ -6,6 +6,3 @@ use Rattle.words.proofs.copying.copy_doubles.Given as goal
 -- `copy_doubles` meets its contract: after k turns the first k doubles are written. Assumes nothing.
 abbrev pub invariant-loop-k : goal.invariant-loop-k
 invariant-loop-k l = Writing l.from l.initial.to l.to l.k
-
-abbrev pub decreases-loop-k : goal.decreases-loop-k
-decreases-loop-k l = length l.from - l.k

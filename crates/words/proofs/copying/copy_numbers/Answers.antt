@@ -18,12 +18,6 @@ offset_bounds-to-j c = omega arith
 pub bounds-to-j : goal.bounds-to-j
 bounds-to-j c = omega arith
 
-pub overflow_add-j : goal.overflow_add-j
-overflow_add-j c = omega arith
-
-pub loop-j-smaller : goal.loop-j-smaller
-loop-j-smaller c = omega arith
-
 pub loop-j-preserved : goal.loop-j-preserved
 loop-j-preserved c =
     writing_turn c.args.from.now c.args.to.now c.loop-j.to c.loop-j.j 0 _

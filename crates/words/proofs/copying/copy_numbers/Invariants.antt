@@ -6,6 +6,3 @@ use Rattle.words.proofs.copying.copy_numbers.Given as goal
 -- `copy_numbers` meets its contract: after j turns the first j numbers are written. Assumes nothing.
 abbrev pub invariant-loop-j : goal.invariant-loop-j
 invariant-loop-j l = Writing l.from l.initial.to l.to l.j
-
-abbrev pub decreases-loop-j : goal.decreases-loop-j
-decreases-loop-j l = length l.from - l.j

@@ -18,12 +18,6 @@ offset_bounds-to-i c = omega arith
 pub bounds-to-i : goal.bounds-to-i
 bounds-to-i c = omega arith
 
-pub overflow_add-i : goal.overflow_add-i
-overflow_add-i c = omega arith
-
-pub loop-i-smaller : goal.loop-i-smaller
-loop-i-smaller c = omega arith
-
 pub loop-i-preserved : goal.loop-i-preserved
 loop-i-preserved c =
     writing_turn c.args.from.now c.args.to.now c.loop-i.to c.loop-i.i 0 _

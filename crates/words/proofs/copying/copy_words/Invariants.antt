@@ -6,6 +6,3 @@ use Rattle.words.proofs.copying.copy_words.Given as goal
 -- `copy_words` meets its contract: after i turns the first i words are written. Assumes nothing.
 abbrev pub invariant-loop-i : goal.invariant-loop-i
 invariant-loop-i l = Writing l.from l.initial.to l.to l.i
-
-abbrev pub decreases-loop-i : goal.decreases-loop-i
-decreases-loop-i l = length l.from - l.i

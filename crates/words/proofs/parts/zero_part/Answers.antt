@@ -14,12 +14,6 @@ offset_bounds-w-at c = omega arith
 pub bounds-w-at : goal.bounds-w-at
 bounds-w-at c = omega arith
 
-pub overflow_add-i : goal.overflow_add-i
-overflow_add-i c = omega arith
-
-pub loop-i-smaller : goal.loop-i-smaller
-loop-i-smaller c = omega arith
-
 pub loop-i-preserved : goal.loop-i-preserved
 loop-i-preserved c = (omega arith, filled_more (λ j. 0) _ c.loop-i.w c.args.at c.loop-i.i (omega arith) c.loop-i.invariant.1)
 
