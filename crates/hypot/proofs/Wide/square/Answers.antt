@@ -1,7 +1,7 @@
 use Prim.Native.Nat.{◌*◌, ◌/◌, ◌%◌, ◌^◌}
 use native.Mathlib.Omega.{arith}
 use Rattle.hypot.proofs.Products.{bounds, halves, squared}
-use Rattle.hypot.proofs.square.Goals as goal
+use Rattle.hypot.proofs.Wide.square.Goals as goal
 
 pub overflow_mul-cross : goal.overflow_mul-cross
 overflow_mul-cross c = omega (arith, bounds c.args.v c.requires)
