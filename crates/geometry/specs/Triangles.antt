@@ -10,7 +10,6 @@
 use Rattle.std.specs.Prelude.{ℕ, ◌+◌, Bool, ◌&&◌, ◌||◌, eqb, ltb, get_or}
 use mathlib.Core.List.{List, [], ◌∷◌, flat_map}
 use Rattle.lists.specs.Lists.{sort_by}
-
 pub use Rattle.geometry.specs.declared.triangle.Triangle.{Triangle}
 
 abbrev pub tri : {A : Type 0} → A → A → A → Triangle A
