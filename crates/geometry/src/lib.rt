@@ -4,5 +4,7 @@
 pub mod aabb;
 pub mod numbers;
 pub mod point;
+#[cfg(test)]
+mod tests;
 pub mod triangle;
 pub mod vertices;
