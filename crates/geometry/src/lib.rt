@@ -6,3 +6,6 @@ pub mod numbers;
 pub mod point;
 pub mod triangle;
 pub mod vertices;
+
+#[cfg(test)]
+mod tests;

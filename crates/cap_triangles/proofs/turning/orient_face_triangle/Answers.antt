@@ -1,3 +1,4 @@
+use mathlib.Core.Path.{ap}
 use Rattle.cap_triangles.proofs.Turns.{turned_as, reversed_as}
 use Rattle.geometry.specs.Numbers.{candidates_of}
 use Rattle.cap_triangles.proofs.turning.orient_face_triangle.Goals as goal
@@ -28,4 +29,5 @@ returns-else-signed_area2-ccw_is_outward c =
     c.point_of-2.ensures c.point_of-3.ensures
     c.project-a.ensures c.project-b.ensures
     c.project-c.ensures c.signed_area2.ensures c.ccw_is_outward.ensures
-    c.if-signed_area2-ccw_is_outward.false (candidates_of c.reversed.result) c.reversed.ensures
+    c.if-signed_area2-ccw_is_outward.false (candidates_of c.reversed.result)
+    (ap candidates_of c.reversed.ensures)
