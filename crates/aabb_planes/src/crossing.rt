@@ -6,29 +6,28 @@ ghost use Rattle.aabb_planes.specs.Planes.{face_of, crossing, interpolated};
 
 use crate::plane::{BoxPlane, coordinate, plane_coord};
 use geometry::aabb::AABB;
-use geometry::fraction::Fraction;
 use geometry::point::Point;
 use rounding::within;
 
-fn crossing_at(coord: f64, a: f64, b: f64, eps: f64) -> Fraction
+fn crossing_at(coord: f64, a: f64, b: f64, eps: f64) -> Option<f64>
     ensures { result ≡ crossing eps coord a b }
 {
     let da = a - coord;
     let db = b - coord;
     if within(da, eps) {
-        return Fraction::At(0.0);
+        return Some(0.0);
     }
     if within(db, eps) {
-        return Fraction::At(1.0);
+        return Some(1.0);
     }
     if (da < 0.0) == (db < 0.0) {
-        return Fraction::Nothing;
+        return None;
     }
-    Fraction::At((coord - a) / (b - a))
+    Some((coord - a) / (b - a))
 }
 
 // `segment_plane_t`
-pub fn segment_plane_t(a: Point, b: Point, at: BoxPlane, extents: AABB, eps: f64) -> Fraction
+pub fn segment_plane_t(a: Point, b: Point, at: BoxPlane, extents: AABB, eps: f64) -> Option<f64>
     ensures { result ≡ crossing eps (plane extents (face_of at)) (along a (axis (face_of at))) (along b (axis (face_of at))) }
 {
     crossing_at(

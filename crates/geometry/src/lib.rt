@@ -2,7 +2,6 @@
 #![tactic(auto)]
 
 pub mod aabb;
-pub mod fraction;
 pub mod numbers;
 pub mod point;
 pub mod triangle;

@@ -3,21 +3,6 @@ use Rattle.geometry.specs.Numbers.{candidates_of}
 use Rattle.cap_triangles.proofs.turning.orient_face_triangle.Goals as goal
 
 -- `orient_face_triangle` meets its contract, by the side of the test. Assumes nothing.
-pub point_of-requires : goal.point_of-requires
-point_of-requires c =
-    let start = c in
-    ((start.requires.a, start.requires.a_low))
-
-pub point_of-requires-2 : goal.point_of-requires-2
-point_of-requires-2 c =
-    let start = c in
-    ((start.requires.b, start.requires.b_low))
-
-pub point_of-requires-3 : goal.point_of-requires-3
-point_of-requires-3 c =
-    let start = c in
-    ((start.requires.c, start.requires.c_low))
-
 pub returns-then-signed_area2-ccw_is_outward : goal.returns-then-signed_area2-ccw_is_outward
 returns-then-signed_area2-ccw_is_outward c =
     let start = c in
