@@ -4,7 +4,7 @@ ghost use Rattle.root.specs.Drawn.{Appended};
 
 use crate::spelling::print_row;
 use page::Page;
-use root::{Drawing, draw};
+use root::Drawing;
 use std::io::Write;
 
 // Four lines: the rest with the pair behind it, what is tried, what is left, the root so far.
@@ -16,7 +16,7 @@ fn print_step<W: Write>(
     before: Drawing,
     after: Drawing,
 )
-    requires { (before.root < 2 ^ 61) × (before.rest ≤ 2 * before.root) × (pair < 4) × (0 < width) }
+    requires { (before.root < 2 ^ 61) × (pair < 4) × (0 < width) }
 {
     write!(page, "step {step:>2}  {pair:02b}");
     let brought_down = (before.rest << 2) + pair;
@@ -64,13 +64,13 @@ pub fn print_steps<W: Write>(
     done: u64,
     width: usize,
 ) -> Drawing
-    requires { (pairs ≤ 32) × (word < 2 ^ (2 * pairs)) × (s.rest ≤ 2 * s.root) × (s.root < 2 ^ 30) × (done < 2 ^ 32) × (0 < width) }
+    requires { (pairs ≤ 32) × (word < 2 ^ (2 * pairs)) × (s.root < 2 ^ 30) × (done < 2 ^ 32) × (0 < width) }
     ensures { Appended pairs word s.root s.rest result.root result.rest }
 {
     let mut drawing = s;
     for left in (0..pairs).rev() {
         let pair = (word >> (2 * left)) & 3;
-        let next = draw(drawing, pair);
+        let next = drawing.draw(pair);
         print_step(page, done + pairs - left, pair, width, drawing, next);
         drawing = next;
     }
