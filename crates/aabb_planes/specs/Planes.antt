@@ -5,7 +5,7 @@
 --   snap_to, snapped   `snap_near_bbox`
 --   crossing      `segment_plane_t`: a fraction t, or nothing, from the plane's place and the two ends along its axis
 --   interpolated, on_plane   `interpolate_points` and `snap_to_plane`
-use Rattle.std.specs.Prelude.{ℕ, Bool, cond, eqb, Float, Option, Some, None}
+use Rattle.std.specs.Prelude.{ℕ, Bool, cond, eqb, Option, Some, None, Float}
 use Rattle.std.specs.Bool.{beq}
 use Rattle.std.specs.Float.Ieee.{lt, le}
 use Rattle.root.specs.Doubles.{◌⊕◌, ◌⊖◌, ◌⊗◌, ◌⊘◌, zero_f, one_f, within}

@@ -3,17 +3,11 @@ use Rattle.cap_pairs.specs.Steps.{missing_face}
 use native.Mathlib.Omega.{arith}
 use mathlib.Core.Path.{sym, subst, ◌∙◌}
 use Prim.Native.Nat.{ℕ, ◌+◌}
-use Rattle.cap_pairs.proofs.missing.held_before.Goals.{then-has_face+else-is_missing, else-has_face}
-use Rattle.cap_pairs.proofs.missing.held_before.Goals as goal
+use Rattle.cap_pairs.proofs.missing.first_missing.Goals.{then-has_face+else-is_missing, else-has_face}
+use Rattle.cap_pairs.proofs.missing.first_missing.Goals as goal
 
 pub loop-face-init : goal.loop-face-init
 loop-face-init c = walk_start (missing_face c.args.w.now c.args.held) c.args.mask
-
-pub has_face-requires : goal.has_face-requires
-has_face-requires c = omega arith
-
-pub is_missing-requires : goal.is_missing-requires
-is_missing-requires c = omega arith
 
 pub returns-then-is_missing : goal.returns-then-is_missing
 returns-then-is_missing c =
@@ -25,9 +19,6 @@ returns-then-is_missing c =
     let if2' = c.if-is_missing in
     walk_stop (missing_face a.w.now a.held) a.mask l.count l.face l.invariant (omega arith) (sym has-face'.ensures ∙ branch.true)
     (sym is-missing'.ensures ∙ if2'.true)
-
-pub overflow_add-count : goal.overflow_add-count
-overflow_add-count c = omega arith
 
 pub loop-face-preserved : goal.loop-face-preserved
 loop-face-preserved c =

@@ -1,6 +1,6 @@
 use Rattle.aabb_planes.specs.Planes.{snap_to}
 use mathlib.Core.Path.{sym, ◌∙◌}
-use Rattle.aabb_planes.proofs.snapping.snap_to.Goals as goal
+use Rattle.aabb_planes.proofs.clip.Clip.snap_to.Goals as goal
 
 pub returns-then-within : goal.returns-then-within
 unfolding snap_to

@@ -1,6 +1,6 @@
 use Rattle.aabb_planes.specs.Planes.{snapped}
 use Rattle.geometry.specs.Points.{along}
-use Rattle.aabb_planes.proofs.snapping.snap_near_bbox.Goals as goal
+use Rattle.aabb_planes.proofs.clip.Clip.snap_near_bbox.Goals as goal
 
 pub returns : goal.returns
 unfolding snapped along
