@@ -1,25 +1,21 @@
+use Rattle.lists.proofs.Bools.{or_stop}
+use mathlib.Core.Path.{sym, ◌∙◌}
 use Rattle.mesh_filter.specs.Filters.{has_repeated_corner}
-use borrow.Author.Tests.{eq-eqb, ne_eqb}
 use Rattle.mesh_filter.proofs.corners.has_repeated_corner.Goals as goal
+use Rattle.mesh_filter.proofs.corners.has_repeated_corner.Goals.{then-eq, else-eq}
 
-pub returns-then-t : goal.returns-then-t
+pub returns-then-eq-2 : goal.returns-then-eq-2
 unfolding has_repeated_corner
-returns-then-t c = rw (eq-eqb c.args.t.a.0 c.args.t.b.0 c.if-t.true)
+returns-then-eq-2 c =
+    elim c.if-eq.branch [
+      then-eq w ↦ w.value-is ∙ w.if-eq.true ∙ sym (or_stop _ _ (sym c.eq.ensures ∙ w.if-eq.true))
+      | else-eq w ↦ c.if-eq-2.true ∙ simp (sym c.eq.ensures ∙ w.if-eq.false, sym w.eq-else-eq.ensures ∙ (sym w.value-is ∙ c.if-eq-2.true))
+    ]
 
-pub returns-then-t-2 : goal.returns-then-t-2
+pub returns-else-eq-2 : goal.returns-else-eq-2
 unfolding has_repeated_corner
-returns-then-t-2 c =
-    rw (
-      ne_eqb c.args.t.a.0 c.args.t.b.0 c.if-t.false,
-      eq-eqb
-          c.args.t.b.0 c.args.t.c.0 c.if-t-2.true,
-    )
-
-pub returns : goal.returns
-unfolding has_repeated_corner
-returns c =
-    rw (
-      ne_eqb c.args.t.a.0 c.args.t.b.0 c.if-t.false,
-      ne_eqb
-          c.args.t.b.0 c.args.t.c.0 c.if-t-2.false,
-    )
+returns-else-eq-2 c =
+    elim c.if-eq.branch [
+      then-eq w ↦ cc (w.value-is, c.if-eq-2.false)
+      | else-eq w ↦ simp (sym c.eq.ensures ∙ w.if-eq.false, sym w.eq-else-eq.ensures ∙ (sym w.value-is ∙ c.if-eq-2.false)) c.eq-else-eq-2.ensures
+    ]
