@@ -10,8 +10,8 @@ overflow_add-result c =
     let z = c in
     let s = z.args in
     let e = ap (λ (x : ℕ). get_or s.w.now (x + s.i) 0) c.components_at.ensures in
-    let h = z.requires.3 in
-    let l = z.requires.4 in
+    let h = z.requires.0 in
+    let l = z.requires.1 in
     omega arith
 
 pub offset_bounds-w-seeded_at : goal.offset_bounds-w-seeded_at
@@ -19,8 +19,8 @@ offset_bounds-w-seeded_at c =
     let z = c in
     let s = z.args in
     let e = ap (λ (x : ℕ). get_or s.w.now (x + s.i) 0) c.components_at.ensures in
-    let h = z.requires.3 in
-    let l = z.requires.4 in
+    let h = z.requires.0 in
+    let l = z.requires.1 in
     omega arith
 
 pub bounds-w-seeded_at : goal.bounds-w-seeded_at
@@ -28,8 +28,8 @@ bounds-w-seeded_at c =
     let z = c in
     let s = z.args in
     let e = ap (λ (x : ℕ). get_or s.w.now (x + s.i) 0) c.components_at.ensures in
-    let h = z.requires.3 in
-    let l = z.requires.4 in
+    let h = z.requires.0 in
+    let l = z.requires.1 in
     omega arith
 
 pub returns : goal.returns

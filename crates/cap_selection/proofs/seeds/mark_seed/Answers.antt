@@ -9,7 +9,7 @@ pub returns-then-not-is_seed : goal.returns-then-not-is_seed
 returns-then-not-is_seed c =
     let s = c.args in
     let g = c.is_seed in
-    seed_skipped s.n s.nf s.nc s.k s.w.now s.i s.face g.result g.ensures c.if-not-is_seed.true-raw
+    seed_skipped s.room.n s.room.nf s.room.nc s.k s.w.now s.i s.face g.result g.ensures c.if-not-is_seed.true-raw
 
 pub overflow_add-w : goal.overflow_add-w
 overflow_add-w c =
@@ -44,5 +44,5 @@ returns c =
     let g = c.is_seed in
     let o = c.components_at in
     let m = c.seeded_at in
-    seed_marked s.n s.nf s.nc s.k s.w.now s.i s.face g.result g.ensures o.result m.result o.ensures m.ensures
+    seed_marked s.room.n s.room.nf s.room.nc s.k s.w.now s.i s.face g.result g.ensures o.result m.result o.ensures m.ensures
     c.if-not-is_seed.false-raw
