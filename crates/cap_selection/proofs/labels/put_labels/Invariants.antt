@@ -1,4 +1,4 @@
-use Prim.Native.Nat.{◌*◌, ◌-◌, ◌≤◌}
+use Prim.Native.Nat.{◌*◌, ◌≤◌}
 use Rattle.lists.proofs.Regions.{Filled}
 use Rattle.cap_selection.specs.Steps.{label_in}
 use Rattle.cap_selection.proofs.labels.put_labels.Given as goal

@@ -12,22 +12,6 @@ bounds-w-numbers_at c =
     let s = z.args in
     number_in s.room.n s.room.nf s.room.nc s.k s.w.now z.requires.0 s.s c.numbers_at.result z.requires.1 c.numbers_at.ensures
 
-pub overflow_add-turned-2 : goal.overflow_add-turned-2
-overflow_add-turned-2 c =
-    let z = c in
-    let s = z.args in
-    let g = next_low s.room.n s.room.nf s.room.nc s.k s.w.now z.requires.0 s.s z.requires.1 in
-    let l = z.requires.0.size in
-    omega arith
-
-pub offset_bounds-w-turned-2 : goal.offset_bounds-w-turned-2
-offset_bounds-w-turned-2 c =
-    let z = c in
-    let s = z.args in
-    let g = next_low s.room.n s.room.nf s.room.nc s.k s.w.now z.requires.0 s.s z.requires.1 in
-    let l = z.requires.0.size in
-    omega arith
-
 pub bounds-w-turned-2 : goal.bounds-w-turned-2
 bounds-w-turned-2 c =
     let z = c in
@@ -36,44 +20,12 @@ bounds-w-turned-2 c =
     let l = z.requires.0.size in
     omega arith
 
-pub overflow_add-down_at : goal.overflow_add-down_at
-overflow_add-down_at c =
-    let z = c in
-    let s = z.args in
-    let e = ap (λ (x : ℕ). get_or s.w.now (x + s.k + s.s) 0) c.numbers_at.ensures in
-    let d = down_in s.room.n s.room.nf s.room.nc s.k s.w.now z.requires.0 s.s z.requires.1 in
-    omega arith
-
-pub offset_bounds-w-down_at : goal.offset_bounds-w-down_at
-offset_bounds-w-down_at c =
-    let z = c in
-    let s = z.args in
-    let e = ap (λ (x : ℕ). get_or s.w.now (x + s.k + s.s) 0) c.numbers_at.ensures in
-    let d = down_in s.room.n s.room.nf s.room.nc s.k s.w.now z.requires.0 s.s z.requires.1 in
-    omega arith
-
 pub bounds-w-down_at : goal.bounds-w-down_at
 bounds-w-down_at c =
     let z = c in
     let s = z.args in
     let e = ap (λ (x : ℕ). get_or s.w.now (x + s.k + s.s) 0) c.numbers_at.ensures in
     let d = down_in s.room.n s.room.nf s.room.nc s.k s.w.now z.requires.0 s.s z.requires.1 in
-    omega arith
-
-pub overflow_add-up_at : goal.overflow_add-up_at
-overflow_add-up_at c =
-    let z = c in
-    let s = z.args in
-    let e = ap (λ (x : ℕ). get_or s.w.now (x + s.k + s.s) 0) c.numbers_at.ensures in
-    let u = up_in s.room.n s.room.nf s.room.nc s.k s.w.now z.requires.0 s.s z.requires.1 in
-    omega arith
-
-pub offset_bounds-w-up_at : goal.offset_bounds-w-up_at
-offset_bounds-w-up_at c =
-    let z = c in
-    let s = z.args in
-    let e = ap (λ (x : ℕ). get_or s.w.now (x + s.k + s.s) 0) c.numbers_at.ensures in
-    let u = up_in s.room.n s.room.nf s.room.nc s.k s.w.now z.requires.0 s.s z.requires.1 in
     omega arith
 
 pub bounds-w-up_at : goal.bounds-w-up_at

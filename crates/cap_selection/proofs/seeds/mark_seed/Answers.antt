@@ -11,24 +11,6 @@ returns-then-not-is_seed c =
     let g = c.is_seed in
     seed_skipped s.room.n s.room.nf s.room.nc s.k s.w.now s.i s.face g.result g.ensures c.if-not-is_seed.true-raw
 
-pub overflow_add-w : goal.overflow_add-w
-overflow_add-w c =
-    let z = c in
-    let s = z.args in
-    let e = ap (λ (x : ℕ). get_or s.w.now (x + s.i) 0) c.components_at.ensures in
-    let h = z.requires.3 in
-    let l = z.requires.0.size in
-    omega arith
-
-pub offset_bounds-w-seeded_at : goal.offset_bounds-w-seeded_at
-offset_bounds-w-seeded_at c =
-    let z = c in
-    let s = z.args in
-    let e = ap (λ (x : ℕ). get_or s.w.now (x + s.i) 0) c.components_at.ensures in
-    let h = z.requires.3 in
-    let l = z.requires.0.size in
-    omega arith
-
 pub bounds-w-seeded_at : goal.bounds-w-seeded_at
 bounds-w-seeded_at c =
     let z = c in
