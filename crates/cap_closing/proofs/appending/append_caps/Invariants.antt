@@ -1,4 +1,4 @@
-use Prim.Native.Nat.{◌-◌, ◌≤◌}
+use Prim.Native.Nat.{◌≤◌}
 use Rattle.cap_triangles.specs.Room.{closing_at}
 use Rattle.cap_closing.specs.Steps.{Appending}
 use Rattle.cap_closing.proofs.appending.append_caps.Given as goal

@@ -1,4 +1,4 @@
-use Prim.Native.Nat.{◌+◌, ◌-◌, ◌≤◌}
+use Prim.Native.Nat.{◌+◌, ◌≤◌}
 use Rattle.candidate_pool.specs.Offsets.{entry_at}
 use lib.ListN.{get_or}
 use Rattle.lists.proofs.Regions.{Filled}
