@@ -8,7 +8,7 @@ use geometry::point::Point;
 use rounding::quantized_key;
 
 // The three keys of a point, each as a word: 2^62 + 1 more than the key, so that the cells around one have words too.
-#[derive(Clone, Copy)]
+#[derive(Clone, Copy, PartialEq, Eq)]
 pub struct Cell {
     pub x: u64,
     pub y: u64,
