@@ -32,7 +32,6 @@ and_of false c s t = absurd s
 
 module _ {A : Type 0} (p : A → Bool) where
   pub some_of : {x : A} {l : List A} → Memᴰ x l → T (p x) → T (some p l)
-  unfolding some
   some_of (Memᴰ.head {x = y} {xs} e) t = or_left (p y) (some p xs) (subst (λ (z : A). T (p z)) e t)
   some_of (Memᴰ.tail {x = y} {xs} m) t = or_right (p y) (some p xs) (some_of m t)
 
@@ -40,7 +39,6 @@ module _ {A : Type 0} (p : A → Bool) where
   Found l = (x : A) × Memᴰ x l × T (p x)
 
   pub of_some : (l : List A) → T (some p l) → Found l
-  unfolding some
   of_some [] t = absurd t
   of_some (y ∷ l) t = go (p y) refl (of_some l) t
     where
@@ -49,7 +47,6 @@ module _ {A : Type 0} (p : A → Bool) where
       go false e f t = let r = f t in (r.0, Memᴰ.tail r.1, r.2)
 
   pub keep_of : {x : A} {l : List A} → Memᴰ x l → T (p x) → Memᴰ x (keep p l)
-  unfolding keep
   keep_of {x} (Memᴰ.head {x = y} {xs} e) t = go (p y) (subst (λ (z : A). T (p z)) e t)
     where
       go : (b : Bool) → T b → Memᴰ x (cond b (y ∷ keep p xs) (keep p xs))
@@ -62,7 +59,6 @@ module _ {A : Type 0} (p : A → Bool) where
       go false u = u
 
   pub of_keep : (l : List A) {x : A} → Memᴰ x (keep p l) → Memᴰ x l × T (p x)
-  unfolding keep
   of_keep [] m = (m, absurd (Memᴰ.not-nil m))
   of_keep (y ∷ l) {x} m = go (p y) refl (of_keep l {x = x}) m
     where
@@ -73,7 +69,6 @@ module _ {A : Type 0} (p : A → Bool) where
 
   -- what stands at the place of the first that passes passes
   pub place_some : (d : A) (l : List A) → T (some p l) → Memᴰ (get_or l (place p l) d) l × T (p (get_or l (place p l) d))
-  unfolding some place
   place_some d [] t = absurd t
   place_some d (x ∷ l) t = go (p x) refl (place_some d l) t
     where
@@ -83,7 +78,6 @@ module _ {A : Type 0} (p : A → Bool) where
       go false e f t = (Memᴰ.tail (f t).0, (f t).1)
 
   pub every_at : {x : A} {l : List A} → Memᴰ x l → T (every p l) → T (p x)
-  unfolding every
   every_at {x} (Memᴰ.head {x = y} {xs} e) t = subst (λ (z : A). T (p z)) (sym e) (and_parts (p y) (every p xs) t).0
   every_at {x} (Memᴰ.tail {x = y} {xs} m) t = every_at m (and_parts (p y) (every p xs) t).1
 
@@ -122,7 +116,6 @@ mem_get_d d (Memᴰ.tail m) = let r = mem_get_d d m in let h = r.1 in (suc r.0, 
 -- what stands before the place of the first that passes does not pass
 module _ {A : Type 0} (p : A → Bool) where
   pub place_le : (l : List A) → place p l ≤ length l
-  unfolding place
   place_le [] = omega arith
   place_le (x ∷ l) = go (p x) (place_le l)
     where
@@ -131,7 +124,6 @@ module _ {A : Type 0} (p : A → Bool) where
       go false h = omega arith
 
   pub place_before : (d : A) (l : List A) (i : ℕ) → i < place p l → T (p (get_or l i d)) → ⊥
-  unfolding place
   place_before d [] i h t = omega arith
   place_before d (x ∷ l) i h t = go (p x) refl i h t (λ j. place_before d l j)
     where
@@ -141,7 +133,6 @@ module _ {A : Type 0} (p : A → Bool) where
       go false e (suc i) h t f = f i (omega arith) t
 
   pub place_at : (d : A) (l : List A) → place p l < length l → T (p (get_or l (place p l) d))
-  unfolding place
   place_at d [] h = absurd (omega arith)
   place_at d (x ∷ l) h = go (p x) refl h (place_at d l)
     where

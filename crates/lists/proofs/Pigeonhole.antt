@@ -29,7 +29,6 @@ is_not m x = not (eqb m x)
 
 -- at most one of them is m
 one_less : (m : ℕ) (l : List ℕ) → Pairwise Differ l → length l ≤ suc (length (keep (is_not m) l))
-unfolding keep
 one_less m [] h = omega arith
 one_less m (x ∷ l) h =
     ⊎_elim

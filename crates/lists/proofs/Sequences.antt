@@ -70,7 +70,7 @@ module _ {A B : Type 0} (f : A → List B) where
   flat_flat g (x ∷ l) = flat_map_append (g x) (flat_map g l) ∙ ap (λ (r : List B). flat_map f (g x) ++ r) (flat_flat g l)
 
 pub flat_keep : {A B : Type 0} (p : A → Bool) (f : A → List B) (l : List A) → flat_map (λ x. cond (p x) (f x) []) l ≡ flat_map f (keep p l)
-unfolding flat_map keep
+unfolding flat_map
 flat_keep p f [] = refl
 flat_keep {A} {B} p f (x ∷ l) = go (p x) (flat_keep p f l)
   where
@@ -83,12 +83,11 @@ flat_keep {A} {B} p f (x ∷ l) = go (p x) (flat_keep p f l)
 
 module _ {A : Type 0} (p : A → Bool) where
   pub some_append : (l m : List A) → some p (l ++ m) ≡ (some p l || some p m)
-  unfolding some
   some_append [] m = refl
   some_append (x ∷ l) m = ap (λ (b : Bool). p x || b) (some_append l m) ∙ sym (or_assoc (p x) (some p l) (some p m))
 
   pub some_flat : {B : Type 0} (g : B → List A) (l : List B) → some p (flat_map g l) ≡ some (λ x. some p (g x)) l
-  unfolding some flat_map
+  unfolding flat_map
   some_flat g [] = refl
   some_flat g (x ∷ l) = some_append (g x) (flat_map g l) ∙ ap (λ (b : Bool). some p (g x) || b) (some_flat g l)
 
@@ -104,7 +103,6 @@ flat_same f g [] h = refl
 flat_same f g (x ∷ l) h = λ t. h x (Memᴰ.head refl) t ++ flat_same f g l (λ y m. h y (Memᴰ.tail m)) t
 
 pub some_same : {A : Type 0} (p q : A → Bool) (l : List A) → ((x : A) → Memᴰ x l → p x ≡ q x) → some p l ≡ some q l
-unfolding some
 some_same p q [] h = refl
 some_same p q (x ∷ l) h = λ t. h x (Memᴰ.head refl) t || some_same p q l (λ y m. h y (Memᴰ.tail m)) t
 
@@ -129,11 +127,9 @@ unfolding flat_map
 flat_up {B} f n = ap (flat_map f) (up_snoc n) ∙ flat_map_append f (up_to n) (n ∷ []) ∙ ap (λ (l : List B). flat_map f (up_to n) ++ l) (append-nil (f n))
 
 pub some_up : (p : ℕ → Bool) (n : ℕ) → some p (up_to (n + 1)) ≡ (some p (up_to n) || p n)
-unfolding some
 some_up p n = ap (some p) (up_snoc n) ∙ some_append p (up_to n) (n ∷ []) ∙ ap (λ (b : Bool). some p (up_to n) || b) (or-false (p n))
 
 pub keep_up : (p : ℕ → Bool) (n : ℕ) → keep p (up_to (n + 1)) ≡ keep p (up_to n) ++ cond (p n) (n ∷ []) []
-unfolding keep
 keep_up p n = ap (keep p) (up_snoc n) ∙ keep_append p (up_to n) (n ∷ [])
 
 pub flat_longer : {B : Type 0} (f : ℕ → List B) (i m : ℕ) → i ≤ m → length (flat_map f (up_to i)) ≤ length (flat_map f (up_to m))
@@ -178,7 +174,7 @@ module _ {A : Type 0} (p : A → Bool) where
   place_all d (x ∷ l) f = rw (f 0 (omega arith)) (ap suc (place_all d l (λ j k. f (suc j) (omega arith))))
 
   pub some_place : (l : List A) → T (some p l) → place p l < length l
-  unfolding some place
+  unfolding place
   some_place [] t = absurd t
   some_place (x ∷ l) t = go (p x) t (some_place l)
     where
@@ -188,7 +184,7 @@ module _ {A : Type 0} (p : A → Bool) where
 
 module _ {A : Type 0} (p : A → Bool) where
   pub place_front : (l m : List A) → some p l ≡ true → place p (l ++ m) ≡ place p l
-  unfolding place some
+  unfolding place
   place_front [] m e = absurd (let z : ◌≡◌ {A = ℕ} 0 1 = cc in omega arith)
   place_front (x ∷ l) m e = go (p x) (place_front l m) e
     where
@@ -197,7 +193,7 @@ module _ {A : Type 0} (p : A → Bool) where
       go false below e = ap suc (below e)
 
   pub place_behind : (l m : List A) → some p l ≡ false → place p (l ++ m) ≡ length l + place p m
-  unfolding place some
+  unfolding place
   place_behind [] m e = omega arith
   place_behind (x ∷ l) m e = go (p x) (place_behind l m) e
     where

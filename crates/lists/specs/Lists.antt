@@ -1,34 +1,27 @@
--- Lists: the few words about lists that the definitions use, beyond the library's (map, foldl, flat_map). A test is a function into Bool. Assumes nothing.
+-- Lists: the few words about lists that the definitions use, beyond the library's (map, foldl, flat_map), and four of the library's by the names that the
+-- definitions have for them (every, some, keep, first). A test is a function into Bool. Assumes nothing.
 --   every, some   all pass; one passes                has       a number stands in the list
 --   keep          those that pass, in order           count     how many pass
---   first         the first that passes, or none        is_none    it is none
+--   first         the first that passes, or none
 --   place         how many stand before the first that passes (all, if none does)
 --   insert_by, sort_by   an insertion sort: x goes behind y where `before y x` says so, else in front of it
 --   distinct      the first of each kind              up_to      0, 1, .. n - 1
 --   Decides       a Bool is true exactly if a proposition holds
-use Rattle.std.specs.Prelude.{ℕ, zero, suc, Bool, true, false, cond, ◌&&◌, ◌||◌, List, [], ◌∷◌, eqb, T, length}
-use Rattle.std.proofs.Math.Option.{Option, none, some as just}
+use Rattle.std.specs.Prelude.{ℕ, zero, suc, Bool, cond, List, [], ◌∷◌, eqb, T, length, filter, Option, find}
+use Rattle.std.specs.List.{list_any, list_all}
 
 module _ {A : Type 0} where
-  unfoldable pub every : (A → Bool) → List A → Bool
-  every p [] = true
-  every p (x ∷ xs) = p x && every p xs
+  abbrev pub every : (A → Bool) → List A → Bool
+  every p l = list_all p l
 
-  unfoldable pub some : (A → Bool) → List A → Bool
-  some p [] = false
-  some p (x ∷ xs) = p x || some p xs
+  abbrev pub some : (A → Bool) → List A → Bool
+  some p l = list_any p l
 
-  unfoldable pub keep : (A → Bool) → List A → List A
-  keep p [] = []
-  keep p (x ∷ xs) = let r = keep p xs in cond (p x) (x ∷ r) r
+  abbrev pub keep : (A → Bool) → List A → List A
+  keep p l = filter p l
 
-  unfoldable pub first : (A → Bool) → List A → Option A
-  first p [] = none
-  first p (x ∷ xs) = let r = first p xs in cond (p x) (just x) r
-
-  abbrev pub is_none : Option A → Bool
-  is_none none = true
-  is_none (just x) = false
+  abbrev pub first : (A → Bool) → List A → Option A
+  first p l = find p l
 
   unfoldable pub place : (A → Bool) → List A → ℕ
   place p [] = 0
