@@ -69,6 +69,7 @@ module _ {A : Type 0} (p : A → Bool) where
 
   -- what stands at the place of the first that passes passes
   pub place_some : (d : A) (l : List A) → T (some p l) → Memᴰ (get_or l (place p l) d) l × T (p (get_or l (place p l) d))
+  unfolding place
   place_some d [] t = absurd t
   place_some d (x ∷ l) t = go (p x) refl (place_some d l) t
     where
@@ -116,6 +117,7 @@ mem_get_d d (Memᴰ.tail m) = let r = mem_get_d d m in let h = r.1 in (suc r.0, 
 -- what stands before the place of the first that passes does not pass
 module _ {A : Type 0} (p : A → Bool) where
   pub place_le : (l : List A) → place p l ≤ length l
+  unfolding place
   place_le [] = omega arith
   place_le (x ∷ l) = go (p x) (place_le l)
     where
@@ -124,6 +126,7 @@ module _ {A : Type 0} (p : A → Bool) where
       go false h = omega arith
 
   pub place_before : (d : A) (l : List A) (i : ℕ) → i < place p l → T (p (get_or l i d)) → ⊥
+  unfolding place
   place_before d [] i h t = omega arith
   place_before d (x ∷ l) i h t = go (p x) refl i h t (λ j. place_before d l j)
     where
@@ -133,6 +136,7 @@ module _ {A : Type 0} (p : A → Bool) where
       go false e (suc i) h t f = f i (omega arith) t
 
   pub place_at : (d : A) (l : List A) → place p l < length l → T (p (get_or l (place p l) d))
+  unfolding place
   place_at d [] h = absurd (omega arith)
   place_at d (x ∷ l) h = go (p x) refl h (place_at d l)
     where
