@@ -5,14 +5,12 @@
 --   snap_to, snapped   `snap_near_bbox`
 --   crossing      `segment_plane_t`: a fraction t, or nothing, from the plane's place and the two ends along its axis
 --   interpolated, on_plane   `interpolate_points` and `snap_to_plane`
-use Rattle.std.specs.Prelude.{ℕ, Bool, cond, eqb, Float}
+use Rattle.std.specs.Prelude.{ℕ, Bool, cond, eqb, Option, Some, None, Float}
 use Rattle.std.specs.Bool.{beq}
 use Rattle.std.specs.Float.Ieee.{lt, le}
 use Rattle.root.specs.Doubles.{◌⊕◌, ◌⊖◌, ◌⊗◌, ◌⊘◌, zero_f, one_f, within}
 use Rattle.geometry.specs.declared.point.Point.{Point}
 use Rattle.geometry.specs.declared.aabb.AABB.{AABB}
-use Rattle.geometry.specs.declared.fraction.Fraction.{Fraction}
-use Rattle.geometry.specs.declared.fraction.Fraction.TheVariants.{At, Nothing}
 use Rattle.geometry.specs.Points.{along, on_axes}
 use Rattle.geometry.specs.Boxes.{lowest, highest, axis, is_min, plane}
 use Rattle.aabb_planes.specs.declared.plane.BoxPlane.{BoxPlane}
@@ -35,12 +33,12 @@ module _ (eps : Float) where
   snap_to at v = cond (within eps (v ⊖ at)) at v
 
   -- "0 if the first end is within eps of the plane, else 1 if the second is, else nothing if both lie on one side, else (coord - a)/(b - a)"
-  unfoldable pub crossing : Float → Float → Float → Fraction
+  unfoldable pub crossing : Float → Float → Float → Option Float
   crossing coord a b =
-      cond (within eps (a ⊖ coord)) (At zero_f)
-      (cond (within eps (b ⊖ coord)) (At one_f)
-      (cond (beq (lt (a ⊖ coord) zero_f) (lt (b ⊖ coord) zero_f)) Nothing
-      (At ((coord ⊖ a) ⊘ (b ⊖ a)))))
+      cond (within eps (a ⊖ coord)) (Some zero_f)
+      (cond (within eps (b ⊖ coord)) (Some one_f)
+      (cond (beq (lt (a ⊖ coord) zero_f) (lt (b ⊖ coord) zero_f)) None
+      (Some ((coord ⊖ a) ⊘ (b ⊖ a)))))
 
 -- ---- points
 

@@ -4,39 +4,32 @@ ghost use Rattle.geometry.specs.Points.{along};
 ghost use Rattle.geometry.specs.Boxes.{axis, plane};
 ghost use Rattle.aabb_planes.specs.Planes.{face_of, crossing, interpolated};
 
-use crate::plane::{BoxPlane, coordinate, plane_coord};
-use geometry::aabb::AABB;
-use geometry::fraction::Fraction;
+use crate::clip::Clip;
+use crate::plane::BoxPlane;
 use geometry::point::Point;
 use rounding::within;
 
-fn crossing_at(coord: f64, a: f64, b: f64, eps: f64) -> Fraction
-    ensures { result ≡ crossing eps coord a b }
-{
-    let da = a - coord;
-    let db = b - coord;
-    if within(da, eps) {
-        return Fraction::At(0.0);
+impl Clip {
+    // `segment_plane_t`
+    pub fn segment_plane_t(self, a: Point, b: Point, at: BoxPlane) -> Option<f64>
+        ensures { result ≡ crossing self.eps (plane self.extents (face_of at)) (along a (axis (face_of at))) (along b (axis (face_of at))) }
+    {
+        let coord = at.place(self.extents);
+        let start = at.coordinate(a);
+        let end = at.coordinate(b);
+        let da = start - coord;
+        let db = end - coord;
+        if within(da, self.eps) {
+            return Some(0.0);
+        }
+        if within(db, self.eps) {
+            return Some(1.0);
+        }
+        if (da < 0.0) == (db < 0.0) {
+            return None;
+        }
+        Some((coord - start) / (end - start))
     }
-    if within(db, eps) {
-        return Fraction::At(1.0);
-    }
-    if (da < 0.0) == (db < 0.0) {
-        return Fraction::Nothing;
-    }
-    Fraction::At((coord - a) / (b - a))
-}
-
-// `segment_plane_t`
-pub fn segment_plane_t(a: Point, b: Point, at: BoxPlane, extents: AABB, eps: f64) -> Fraction
-    ensures { result ≡ crossing eps (plane extents (face_of at)) (along a (axis (face_of at))) (along b (axis (face_of at))) }
-{
-    crossing_at(
-        plane_coord(extents, at),
-        coordinate(a, at),
-        coordinate(b, at),
-        eps,
-    )
 }
 
 // `interpolate_points`

@@ -15,8 +15,7 @@ use lib.Ieee.{Float}
 use borrow.Author.Tests.{not-true}
 use Rattle.geometry.specs.declared.point.Point.{Point}
 use Rattle.geometry.specs.declared.aabb.AABB.{AABB}
-use Rattle.geometry.specs.declared.fraction.Fraction.{Fraction}
-use Rattle.geometry.specs.declared.fraction.Fraction.TheVariants.{At, Nothing}
+use Rattle.std.specs.Prelude.{Option, Some, None}
 use Rattle.geometry.specs.Points.{along, origin}
 use Rattle.geometry.specs.Boxes.{axis, plane}
 use Rattle.lists.specs.Lists.{every}
@@ -37,10 +36,10 @@ last_of : Point → List Point → Point
 last_of p [] = p
 last_of p (q ∷ qs) = last_of q qs
 
-crossed_short : (x : Fraction) (a b : Point) (k : ℕ) (box : AABB) (eps : Float) → length (crossed box eps k a b x) ≤ 1
+crossed_short : (x : Option Float) (a b : Point) (k : ℕ) (box : AABB) (eps : Float) → length (crossed box eps k a b x) ≤ 1
 unfolding crossed
-crossed_short (At t) a b k box eps = omega arith
-crossed_short Nothing a b k box eps = omega arith
+crossed_short (Some t) a b k box eps = omega arith
+crossed_short None a b k box eps = omega arith
 
 parts_short : (i j : Bool) (x : List Point) (q : Point) → length x ≤ 1 → 2 * length (cond (beq i j) [] x ++ cond i (q ∷ []) []) + outside i ≤ 3 + outside j
 parts_short true true x q h = omega arith
@@ -84,10 +83,10 @@ module _ (box : AABB) (eps : Float) where
   snap_all_twice [] = refl
   snap_all_twice (p ∷ ps) = λ i. snap_twice box eps p i ∷ snap_all_twice ps i
 
-  crossed_snapped : (x : Fraction) (a b : Point) (k : ℕ) → map (snapped box eps) (crossed box eps k a b x) ≡ crossed box eps k a b x
+  crossed_snapped : (x : Option Float) (a b : Point) (k : ℕ) → map (snapped box eps) (crossed box eps k a b x) ≡ crossed box eps k a b x
   unfolding crossed
-  crossed_snapped (At t) a b k = ap (λ (p : Point). p ∷ []) (snap_twice box eps (on_plane box k (interpolated a b t)))
-  crossed_snapped Nothing a b k = refl
+  crossed_snapped (Some t) a b k = ap (λ (p : Point). p ∷ []) (snap_twice box eps (on_plane box k (interpolated a b t)))
+  crossed_snapped None a b k = refl
 
   parts_snapped : (s i : Bool) (x : List Point) (q : Point) → map (snapped box eps) x ≡ x
       → map (snapped box eps) (cond s [] x ++ cond i (q ∷ []) []) ≡ cond s [] x ++ cond i (snapped box eps q ∷ []) []

@@ -3,21 +3,19 @@
 --   crossed       the corner that a crossing makes, if it makes one
 --   side_clipped   what one side adds              walk           what the sides from a corner on add
 --   clip_to_plane   `clip_polygon_to_plane`         clip_polygon    the planes in turn, "stopping under three corners"
-use Rattle.std.specs.Prelude.{ℕ, ◌-◌, cond, List, [], ◌∷◌, ◌++◌, ltb, get_or, length, Float}
+use Rattle.std.specs.Prelude.{ℕ, ◌-◌, cond, List, [], ◌∷◌, ◌++◌, ltb, get_or, length, Float, Option, Some, None}
 use Rattle.std.specs.Bool.{beq}
 use Rattle.geometry.specs.declared.point.Point.{Point}
 use Rattle.geometry.specs.declared.aabb.AABB.{AABB}
-use Rattle.geometry.specs.declared.fraction.Fraction.{Fraction}
-use Rattle.geometry.specs.declared.fraction.Fraction.TheVariants.{At, Nothing}
 use Rattle.geometry.specs.Points.{along, origin}
 use Rattle.geometry.specs.Boxes.{axis, plane}
 use Rattle.aabb_planes.specs.Planes.{inside, snapped, crossing, interpolated, on_plane}
 
 module _ (box : AABB) (eps : Float) where
   -- "The crossing is a + t(b - a), set to the plane, then snapped"
-  unfoldable pub crossed : ℕ → Point → Point → Fraction → List Point
-  crossed f a b (At t) = snapped box eps (on_plane box f (interpolated a b t)) ∷ []
-  crossed f a b Nothing = []
+  unfoldable pub crossed : ℕ → Point → Point → Option Float → List Point
+  crossed f a b (Some t) = snapped box eps (on_plane box f (interpolated a b t)) ∷ []
+  crossed f a b None = []
 
   -- the side from a to b: "Where inside differs, a crossing"; then "An inside corner is copied snapped"
   unfoldable pub side_clipped : ℕ → Point → Point → List Point

@@ -15,7 +15,6 @@ use aabb_planes::crossing::{interpolate_points, segment_plane_t};
 use aabb_planes::plane::{BoxPlane, point_inside_plane, snap_to_plane};
 use aabb_planes::snapping::snap_near_bbox;
 use geometry::aabb::AABB;
-use geometry::fraction::Fraction;
 use geometry::point::Point;
 use geometry::vertices::point_at;
 
@@ -38,7 +37,7 @@ fn add_crossing(
         return n;
     }
     match segment_plane_t(prev, curr, plane, extents, eps) {
-        Fraction::At(t) => {
+        Some(t) => {
             push_corner(
                 out,
                 n,
@@ -50,7 +49,7 @@ fn add_crossing(
             );
             n + 1
         }
-        Fraction::Nothing => n,
+        None => n,
     }
 }
 

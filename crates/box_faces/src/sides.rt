@@ -7,7 +7,6 @@ ghost use Rattle.box_faces.specs.Sides.{side_from, face_sides, between_ends, alo
 use crate::faces::{u_axis, v_axis};
 use crate::uv::{Side, Uv};
 use geometry::aabb::AABB;
-use geometry::fraction::Fraction;
 use rounding::{abs, clamp01, max, within};
 
 // `face_boundary_sides`, the k-th
@@ -62,35 +61,31 @@ pub fn face_boundary_side(face: usize, k: usize, extents: AABB) -> Side
 }
 
 // The fraction t where it is no further than `slack` beyond the ends, 0 and 1.
-fn between_ends(t: f64, slack: f64) -> Fraction
+fn between_ends(t: f64, slack: f64) -> Option<f64>
     ensures { result ≡ between_ends t slack }
 {
-    if t >= -slack {
-        if t <= 1.0 + slack {
-            Fraction::At(clamp01(t))
-        } else {
-            Fraction::Nothing
-        }
+    if t >= -slack && t <= 1.0 + slack {
+        Some(clamp01(t))
     } else {
-        Fraction::Nothing
+        None
     }
 }
 
 // For a side of the extent d, and a point `from` its start along the side and w away from its line. The quotient may be infinite: then the answer is
-// `Nothing`.
-fn along_side(d: f64, from: f64, w: f64, eps: f64) -> Fraction
+// `None`.
+fn along_side(d: f64, from: f64, w: f64, eps: f64) -> Option<f64>
     ensures { result ≡ along_side eps d (from ⊘ d) w }
 {
     if within(w, eps) {
         let longest = max(abs(d), eps);
         between_ends(from / d, eps / longest)
     } else {
-        Fraction::Nothing
+        None
     }
 }
 
 // `candidate_on_face_side`, of a candidate at p
-pub fn candidate_on_face_side(side: Side, p: Uv, eps: f64) -> Fraction
+pub fn candidate_on_face_side(side: Side, p: Uv, eps: f64) -> Option<f64>
     ensures { result ≡ on_side eps side p }
 {
     let du = side.end.u - side.start.u;

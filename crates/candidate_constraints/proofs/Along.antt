@@ -28,8 +28,7 @@ use Rattle.records.specs.Buffer.{put_record, records_at}
 use Rattle.records.specs.Records.{record_before, sorted}
 use Rattle.records.proofs.Records.{records_at_split, put_same}
 use Rattle.geometry.specs.declared.point.Point.{Point}
-use Rattle.geometry.specs.declared.fraction.Fraction.{Fraction}
-use Rattle.geometry.specs.declared.fraction.Fraction.TheVariants.{At, Nothing}
+use Rattle.std.specs.Prelude.{Option, Some, None}
 use Rattle.box_faces.specs.declared.uv.Side.{Side}
 use Rattle.box_faces.specs.declared.uv.Uv.{Uv}
 use Rattle.box_faces.specs.Faces.{project}
@@ -69,30 +68,30 @@ clamped_number t n =
     (cases (lt t zero_f))
 
 -- what a choice between a fraction and nothing answered
-chosen : (b : Bool) (t x : Float) → cond b (At t) Nothing ≡ At x → (b ≡ true) × (t ≡ x)
+chosen : (b : Bool) (t x : Float) → cond b (Some t) None ≡ Some x → (b ≡ true) × (t ≡ x)
 chosen true t x e = (refl, cc)
 chosen false t x e = absurd (let z : ◌≡◌ {A = ℕ} 0 1 = cc in omega arith)
 
-passed : (b : Bool) (t : Fraction) (x : Float) → cond b t Nothing ≡ At x → t ≡ At x
+passed : (b : Bool) (t : Option Float) (x : Float) → cond b t None ≡ Some x → t ≡ Some x
 passed true t x e = e
 passed false t x e = absurd (let z : ◌≡◌ {A = ℕ} 0 1 = cc in omega arith)
 
-between_number : (t slack x : Float) → T (fits binary64 t) → between_ends t slack ≡ At x → Number x
+between_number : (t slack x : Float) → T (fits binary64 t) → between_ends t slack ≡ Some x → Number x
 unfolding between_ends
 between_number t slack x f e =
     let c = chosen (le (neg slack) t && le t (one_f ⊕ slack)) (clamped t) x e in
     subst Number c.1 (clamped_number t (record { held = f; number = le_right (neg slack) t (and_left (le (neg slack) t) (le t (one_f ⊕ slack)) c.0) }))
 
-along_number : (eps d t w x : Float) → T (fits binary64 t) → along_side eps d t w ≡ At x → Number x
+along_number : (eps d t w x : Float) → T (fits binary64 t) → along_side eps d t w ≡ Some x → Number x
 unfolding along_side
 along_number eps d t w x f e =
     between_number t (eps ⊘ larger (magnitude d) eps) x f (passed (within eps w) (between_ends t (eps ⊘ larger (magnitude d) eps)) x e)
 
-either : (b : Bool) (s t : Fraction) (x : Float) → cond b s t ≡ At x → (s ≡ At x → Number x) → (t ≡ At x → Number x) → Number x
+either : (b : Bool) (s t : Option Float) (x : Float) → cond b s t ≡ Some x → (s ≡ Some x → Number x) → (t ≡ Some x → Number x) → Number x
 either true s t x e f g = f e
 either false s t x e f g = g e
 
-pub on_side_number : (eps : Float) (s : Side) (p : Uv) (x : Float) → on_side eps s p ≡ At x → Number x
+pub on_side_number : (eps : Float) (s : Side) (p : Uv) (x : Float) → on_side eps s p ≡ Some x → Number x
 unfolding on_side
 on_side_number eps s p x e =
     let du = s.end.u ⊖ s.start.u in
@@ -102,23 +101,23 @@ on_side_number eps s p x e =
     (along_number eps du ((p.u ⊖ s.start.u) ⊘ du) (p.v ⊖ s.start.v) x (div-fits binary64 (p.u ⊖ s.start.u) du))
     (along_number eps dv ((p.v ⊖ s.start.v) ⊘ dv) (p.u ⊖ s.start.u) x (div-fits binary64 (p.v ⊖ s.start.v) dv))
 
-pub on_side_no_nan : (eps : Float) (s : Side) (p : Uv) (t : Fraction) → t ≡ on_side eps s p → NoNan t
+pub on_side_no_nan : (eps : Float) (s : Side) (p : Uv) (t : Option Float) → t ≡ on_side eps s p → NoNan t
 on_side_no_nan eps s p t e x q = (on_side_number eps s p x (sym e ∙ q)).number
 
 -- ---- note_fraction
-pub fraction_one : (at i : ℕ) (t : Fraction) (x : Float) (k : ℕ) (w : List ℕ) → t ≡ At x → k ≡ order_key x → at + 1 < length w → Fractioned at t i 1 w (put_record w at (k, i))
+pub fraction_one : (at i : ℕ) (t : Option Float) (x : Float) (k : ℕ) (w : List ℕ) → t ≡ Some x → k ≡ order_key x → at + 1 < length w → Fractioned at t i 1 w (put_record w at (k, i))
 unfolding records_at
 fraction_one at i t x k w e f h =
     record {
       few = omega arith;
-      records = (λ s. put_same w at (k, i) h s ∷ []) ∙ (λ s. (f s, i) ∷ []) ∙ ap (λ (u : Fraction). map keyed (standing i u)) (sym e);
+      records = (λ s. put_same w at (k, i) h s ∷ []) ∙ (λ s. (f s, i) ∷ []) ∙ ap (λ (u : Option Float). map keyed (standing i u)) (sym e);
       kept = kept_put at (at + 2) at (k, i) w (omega arith) (omega arith);
     }
 
-pub fraction_none : (at i : ℕ) (t : Fraction) (w : List ℕ) → t ≡ Nothing → Fractioned at t i 0 w w
+pub fraction_none : (at i : ℕ) (t : Option Float) (w : List ℕ) → t ≡ None → Fractioned at t i 0 w w
 unfolding records_at
 fraction_none at i t w e =
-    record { few = omega arith; records = ap (λ (u : Fraction). map keyed (standing i u)) (sym e); kept = kept_same at (at + 2) w }
+    record { few = omega arith; records = ap (λ (u : Option Float). map keyed (standing i u)) (sym e); kept = kept_same at (at + 2) w }
 
 -- ---- collect_side
 pub records_add : (w : List ℕ) (at m r : ℕ) → records_at w at (m + r) ≡ records_at w at m ++ records_at w (at + 2 * m) r
@@ -158,7 +157,7 @@ module _ (eps : Float) (n f : ℕ) (s : Side) (w₀ : List ℕ) where
         (λ t. record { x = of_bits binary64 (e0 t); y = of_bits binary64 (e1 t); z = of_bits binary64 (e2 t) })
         ∙ sym (pool_point n w₀ d l) ∙ ap (point_of (pool_at n w₀)) (collected_id h ∙ sym (list_at_lem n w₀ f i hf h))
 
-    pub collecting_turn : (w' : List ℕ) (t : Fraction) (r : ℕ) → i < get_or w₀ f 0
+    pub collecting_turn : (w' : List ℕ) (t : Option Float) (r : ℕ) → i < get_or w₀ f 0
         → t ≡ on_side eps s (project f (point_of (pool_at n w₀) (get_or (face_list (pool_at n w₀) f) i 0)))
         → Fractioned (side_at n + 2 * m) t i r w w' → Collecting w' (m + r) (i + 1)
     collecting_turn w' t r h e g =
@@ -188,7 +187,7 @@ module _ (eps : Float) (n f : ℕ) (s : Side) (w₀ : List ℕ) where
             omega (arith, o.few, o.size, c.kept.long),
           )
 
-      pub collecting_named : (at : ℕ) (w' : List ℕ) (q : Point) (p : Uv) (t : Fraction) (r : ℕ) → at ≡ side_at n → i < get_or w₀ f 0 → q ≡ point_at w (entry_at (get_or w (list + i) 0))
+      pub collecting_named : (at : ℕ) (w' : List ℕ) (q : Point) (p : Uv) (t : Option Float) (r : ℕ) → at ≡ side_at n → i < get_or w₀ f 0 → q ≡ point_at w (entry_at (get_or w (list + i) 0))
           → p ≡ project f q → t ≡ on_side eps s p → Fractioned (at + 2 * m) t i r w w' → Collecting w' (m + r) (i + 1)
       collecting_named at w' q p t r b h eq ep et g =
           collecting_turn w' t r h
@@ -219,7 +218,7 @@ entry_agree k x y e a b =
     ∙ sym (last_false (ltb (order_key y.0) (order_key x.0)) (eqb (order_key y.0) (order_key x.0)) (ltb y.1 x.1) (le-ltb y.1 x.1 (omega (arith, b.above))))
 
 module _ (eps : Float) (p : Pool) (f : ℕ) (s : Side) where
-  abbrev there : ℕ → Fraction
+  abbrev there : ℕ → Option Float
   there i = on_side eps s (project f (point_of p (get_or (face_list p f) i 0)))
 
   entries_from : (k n : ℕ) → Each (Entry k) (flat_map (stands eps p f s) (up_from k n))
@@ -231,10 +230,10 @@ module _ (eps : Float) (p : Pool) (f : ℕ) (s : Side) where
       lower [] h = tt
       lower (x ∷ l) h = (record { above = omega (arith, h.0.above); number = h.0.number }, lower l h.1)
 
-      go : (t : Fraction) → there k ≡ t → Each (Entry k) (flat_map (stands eps p f s) (up_from (suc k) n)) → Each (Entry k)
+      go : (t : Option Float) → there k ≡ t → Each (Entry k) (flat_map (stands eps p f s) (up_from (suc k) n)) → Each (Entry k)
           (standing k t ++ flat_map (stands eps p f s) (up_from (suc k) n))
-      go (At x) e h = (record { above = omega arith; number = on_side_number eps s (project f (point_of p (get_or (face_list p f) k 0))) x e }, h)
-      go Nothing e h = h
+      go (Some x) e h = (record { above = omega arith; number = on_side_number eps s (project f (point_of p (get_or (face_list p f) k 0))) x e }, h)
+      go None e h = h
 
   agree_from : (k n : ℕ) → Pairwise (Agree keyed by_fraction record_before) (flat_map (stands eps p f s) (up_from k n))
   unfolding flat_map up_from
@@ -245,11 +244,11 @@ module _ (eps : Float) (p : Pool) (f : ℕ) (s : Side) where
       first x a [] h = tt
       first x a (y ∷ l) h = (entry_agree k (x, k) y refl a h.0, first x a l h.1)
 
-      go : (t : Fraction) → there k ≡ t → Pairwise (Agree keyed by_fraction record_before) (flat_map (stands eps p f s) (up_from (suc k) n))
+      go : (t : Option Float) → there k ≡ t → Pairwise (Agree keyed by_fraction record_before) (flat_map (stands eps p f s) (up_from (suc k) n))
           → Pairwise (Agree keyed by_fraction record_before) (standing k t ++ flat_map (stands eps p f s) (up_from (suc k) n))
-      go (At x) e h =
+      go (Some x) e h =
           (first x (on_side_number eps s (project f (point_of p (get_or (face_list p f) k 0))) x e) (flat_map (stands eps p f s) (up_from (suc k) n)) (entries_from (suc k) n), h)
-      go Nothing e h = h
+      go None e h = h
 
   pub stable_is_sorted : map keyed (sort_by by_fraction (on_side_all eps p f s)) ≡ sorted (map keyed (on_side_all eps p f s))
   stable_is_sorted = map_sort_by keyed by_fraction record_before (on_side_all eps p f s) (agree_from 0 (length (face_list p f)))

@@ -19,8 +19,7 @@ use Rattle.records.specs.Records.{record_before, sorted}
 use Rattle.records.proofs.Records.{length_records_at, records_at_get, records_at_take}
 use Rattle.sorting.proofs.Sorting.{SortedPart}
 use Rattle.geometry.specs.declared.aabb.AABB.{AABB}
-use Rattle.geometry.specs.declared.fraction.Fraction.{Fraction}
-use Rattle.geometry.specs.declared.fraction.Fraction.TheVariants.{At, Nothing}
+use Rattle.std.specs.Prelude.{Option, Some, None}
 use Rattle.box_faces.specs.declared.uv.Side.{Side}
 use Rattle.box_faces.specs.Faces.{project}
 use Rattle.box_faces.specs.Sides.{face_sides, on_side}
@@ -42,10 +41,10 @@ module _ (eps : Float) (p : Pool) (f : ℕ) (s : Side) where
   low_from k zero b h = tt
   low_from k (suc n) b h = go (on_side eps s (project f (point_of p (get_or (face_list p f) k 0)))) (low_from (suc k) n b (omega arith))
     where
-      go : (t : Fraction) → Each (λ (x : Float × ℕ). x.1 < b) (flat_map (stands eps p f s) (up_from (suc k) n))
+      go : (t : Option Float) → Each (λ (x : Float × ℕ). x.1 < b) (flat_map (stands eps p f s) (up_from (suc k) n))
           → Each (λ (x : Float × ℕ). x.1 < b) (standing k t ++ flat_map (stands eps p f s) (up_from (suc k) n))
-      go (At x) g = (omega arith, g)
-      go Nothing g = g
+      go (Some x) g = (omega arith, g)
+      go None g = g
 
   pub all_low : Each (λ (x : Float × ℕ). x.1 < length (face_list p f)) (on_side_all eps p f s)
   all_low = low_from 0 (length (face_list p f)) (length (face_list p f)) (omega arith)

@@ -5,13 +5,11 @@
 --   side_order         the places on a side, "sorted by clamped t in `total_cmp` order, stable"
 --   edge_places        the places of an open edge's two candidates
 --   face_constraints   "smaller place first, listed ascending, once"
-use Rattle.std.specs.Prelude.{ℕ, cond, eqb, ltb, get_or, length, Float}
+use Rattle.std.specs.Prelude.{ℕ, cond, eqb, ltb, get_or, length, Float, Option, Some, None}
 use mathlib.Core.List.{List, [], ◌∷◌, ◌++◌, map, flat_map}
 use Rattle.lists.specs.Lists.{keep, place, sort_by, distinct, up_to}
 use Rattle.root.specs.Doubles.{before}
 use Rattle.geometry.specs.declared.aabb.AABB.{AABB}
-use Rattle.geometry.specs.declared.fraction.Fraction.{Fraction}
-use Rattle.geometry.specs.declared.fraction.Fraction.TheVariants.{At, Nothing}
 use Rattle.box_faces.specs.declared.uv.Side.{Side}
 use Rattle.box_faces.specs.Faces.{project}
 use Rattle.box_faces.specs.Sides.{face_sides, on_side}
@@ -35,9 +33,9 @@ consecutive [] = []
 consecutive (a ∷ []) = []
 consecutive (a ∷ b ∷ l) = (a, b) ∷ consecutive (b ∷ l)
 
-abbrev pub standing : ℕ → Fraction → List (Float × ℕ)
-standing i (At t) = (t, i) ∷ []
-standing i Nothing = []
+abbrev pub standing : ℕ → Option Float → List (Float × ℕ)
+standing i (Some t) = (t, i) ∷ []
+standing i None = []
 
 module _ (box : AABB) (eps : Float) (edges : List OpenEdge) (pool : Pool) (f : ℕ) where
   unfoldable pub side_order : Side → List ℕ

@@ -13,7 +13,7 @@
 --   keyed         a fraction by its order;   pair_key, pair_record   a pair of places in one word; with nothing beside it
 --   side_pairs, all_pairs   the neighbours along the four sides; all pairs of a face
 --   Fractioned, Collected, Pushed, Distinct, FaceListed   what the functions inside leave
-use Rattle.std.specs.Prelude.{ℕ, ◌+◌, ◌*◌, ◌≤◌, ◌<◌, ◌≡◌, Bool, true, not, T, eqb, length, get_or, Float}
+use Rattle.std.specs.Prelude.{ℕ, ◌+◌, ◌*◌, ◌≤◌, ◌<◌, ◌≡◌, Bool, true, not, T, eqb, length, get_or, Float, Option, Some}
 use mathlib.Core.List.{List, ◌++◌, map, flat_map}
 use Rattle.std.specs.Float.Ieee.{is_nan}
 use Rattle.lists.specs.Lists.{keep, has, place, sort_by, up_to}
@@ -24,8 +24,6 @@ use Rattle.words.specs.Packed.{triple, triple_first, triple_second, triple_third
 use Rattle.records.specs.Buffer.{records_at}
 use Rattle.records.specs.Runs.{runs, first_key}
 use Rattle.geometry.specs.declared.aabb.AABB.{AABB}
-use Rattle.geometry.specs.declared.fraction.Fraction.{Fraction}
-use Rattle.geometry.specs.declared.fraction.Fraction.TheVariants.{At}
 use Rattle.geometry.specs.Boxes.{faces}
 use Rattle.box_faces.specs.declared.uv.Side.{Side}
 use Rattle.box_faces.specs.Faces.{project}
@@ -84,10 +82,10 @@ abbrev pub keyed : Float × ℕ → ℕ × ℕ
 keyed x = (order_key x.0, x.1)
 
 -- a fraction, if it is one, is a number
-abbrev pub NoNan : Fraction → Type 0
-NoNan t = (x : Float) → t ≡ At x → T (not (is_nan x))
+abbrev pub NoNan : Option Float → Type 0
+NoNan t = (x : Float) → t ≡ Some x → T (not (is_nan x))
 
-pub record Fractioned (at : ℕ) (t : Fraction) (i r : ℕ) (w w' : List ℕ) : Type 0 where
+pub record Fractioned (at : ℕ) (t : Option Float) (i r : ℕ) (w w' : List ℕ) : Type 0 where
   pub few : r ≤ 1
   pub records : records_at w' at r ≡ map keyed (standing i t)
   pub kept : Kept at (at + 2) w w'

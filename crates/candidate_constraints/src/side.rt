@@ -15,23 +15,22 @@ use box_faces::uv::Side;
 use candidate_pool::pool::point_of;
 use candidate_pool::room::{list_at, pairs_at, side_at};
 use geometry::aabb::AABB;
-use geometry::fraction::Fraction;
 use geometry::numbers::FacePlace;
 use rounding::order_key;
 use sorting::sort_records;
 
 // 1 where the fraction is one, and its record is stored at `at`; else 0.
-fn note_fraction(w: &mut [u64], at: usize, t: Fraction, place: FacePlace) -> usize
+fn note_fraction(w: &mut [u64], at: usize, t: Option<f64>, place: FacePlace) -> usize
     requires { (at + 1 < length w.old) × NoNan t }
     ensures { Fractioned at t place.0 result w.old w.new }
 {
     match t {
-        Fraction::At(t) => {
+        Some(t) => {
             w[at] = order_key(t);
             w[at + 1] = place.0 as u64;
             1
         }
-        Fraction::Nothing => 0,
+        None => 0,
     }
 }
 

@@ -132,12 +132,14 @@ module _ (n : ℕ) (w cap_list : List ℕ) where
     up_is : (j : ℕ) → j < length caps → bad_cap (pool_at n w) caps (get_or (up_to (length caps)) j 0) ≡ bad_cap (pool_at n w) caps j
     up_is j l = ap (bad_cap (pool_at n w) caps) (at_up 0 (length caps) j l ∙ omega arith)
 
-    pub passed_stop : Pooled n w → bad_words w last (word (4 * i)) (word (4 * i + 1)) (word (4 * i + 2)) (word (4 * i + 3)) ≡ true → i ≡ bad_cap_place (pool_at n w) caps
+    pub passed_stop : Pooled n w → bad_words w last (word (4 * i)) (word (4 * i + 1)) (word (4 * i + 2)) (word (4 * i + 3)) ≡ true
+        → (i ≡ bad_cap_place (pool_at n w) caps) × (i < length caps)
     unfolding bad_cap_place
     passed_stop pooled e =
         let l = caps_length cap_list in
         let u = length_up 0 (length caps) in
-        sym (place_is (bad_cap (pool_at n w) caps) 0 (up_to (length caps)) i (omega arith) (λ j k. up_is j (omega arith) ∙ s.none j k) (up_is i (omega arith) ∙ bad_is pooled ∙ e))
+        (sym (place_is (bad_cap (pool_at n w) caps) 0 (up_to (length caps)) i (omega arith) (λ j k. up_is j (omega arith) ∙ s.none j k) (up_is i (omega arith) ∙ bad_is pooled ∙ e)),
+        omega arith)
 
     pub passed_more : Pooled n w → bad_words w last (word (4 * i)) (word (4 * i + 1)) (word (4 * i + 2)) (word (4 * i + 3)) ≡ false → Passed n w cap_list (i + 1) (word (4 * i))
     passed_more pooled e =
@@ -152,10 +154,10 @@ module _ (n : ℕ) (w cap_list : List ℕ) where
         go j k (yes q) = ap (bad_cap (pool_at n w) caps) q ∙ bad_is pooled ∙ e
         go j k (no d) = s.none j (omega arith)
 
-  pub passed_end : (i last : ℕ) → Passed n w cap_list i last → length cap_list / 4 ≤ i → length cap_list / 4 ≡ bad_cap_place (pool_at n w) caps
+  pub passed_end : (i last : ℕ) → Passed n w cap_list i last → length cap_list / 4 ≤ i → bad_cap_place (pool_at n w) caps ≡ length caps
   unfolding bad_cap_place
   passed_end i last s h =
       let l = caps_length cap_list in
       let u = length_up 0 (length caps) in
-      sym (place_all (bad_cap (pool_at n w) caps) 0 (up_to (length caps))
-      (λ j k. ap (bad_cap (pool_at n w) caps) (at_up 0 (length caps) j (omega arith) ∙ omega arith) ∙ s.none j (omega arith)) ∙ u ∙ l)
+      place_all (bad_cap (pool_at n w) caps) 0 (up_to (length caps))
+      (λ j k. ap (bad_cap (pool_at n w) caps) (at_up 0 (length caps) j (omega arith) ∙ omega arith) ∙ s.none j (omega arith)) ∙ u

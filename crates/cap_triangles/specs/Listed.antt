@@ -1,7 +1,8 @@
 -- Tests 10 and 11: what makes a supplied list of cap triangles faulty (document 01, "Refusals"). Assumes nothing.
 --   bad_cap, bad_cap_place           a triangle that 10 names; and the place of the first, or how many there are if there is none
 --   missing_edge, missing_place     an open edge that 11 names; and the place of the first
-use Rattle.std.specs.Prelude.{ℕ, ◌-◌, Bool, not, ◌&&◌, ◌||◌, List, eqb, leb, ltb, length}
+--   FirstPlace      such a place as an answer: none where it is how many there are
+use Rattle.std.specs.Prelude.{ℕ, ◌-◌, ◌<◌, ◌≡◌, Bool, not, ◌&&◌, ◌||◌, List, Option, MatchOption, eqb, leb, ltb, length}
 use Rattle.lists.specs.Lists.{some, place, has, up_to}
 use Rattle.geometry.specs.Triangles.{vertices, edges}
 use Rattle.edges.specs.Edges.{same_pair}
@@ -29,3 +30,6 @@ module _ (pool : Pool) (caps : List Cap) where
 
   unfoldable pub missing_place : List OpenEdge → ℕ
   missing_place boundary = place missing_edge boundary
+
+abbrev pub FirstPlace : ℕ → ℕ → Option ℕ → Type 0
+FirstPlace at count answer = MatchOption answer (at ≡ count) (λ i. (i ≡ at) × (i < count))

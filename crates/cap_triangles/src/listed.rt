@@ -5,7 +5,7 @@ ghost use Rattle.geometry.specs.Numbers.{candidates_of};
 ghost use Rattle.candidate_pool.specs.Offsets.{entry_at};
 ghost use Rattle.candidate_pool.specs.Standing.{count_at, pool_at};
 ghost use Rattle.cap_triangles.specs.Selection.{caps_of};
-ghost use Rattle.cap_triangles.specs.Listed.{bad_cap_place};
+ghost use Rattle.cap_triangles.specs.Listed.{bad_cap_place, FirstPlace};
 ghost use Rattle.cap_triangles.specs.Room.{Pooled};
 ghost use Rattle.cap_triangles.specs.Steps.{listed_in, bad_words};
 
@@ -27,77 +27,49 @@ pub fn supplied(cap_list: &[u64], i: usize) -> CandidateTriangle
 }
 
 // A candidate is in a face's list exactly if it has the face's bit.
+#[tactic(auto, unfolding(crate::specs::Steps::listed_in))]
 fn is_listed(w: &[u64], face: usize, id: CandidateVertexId) -> bool
     requires { (face < 6) × (entry_at (count_at w.now) ≤ length w.now) }
     ensures { result ≡ listed_in w.now face id.0 }
 {
-    if id.0 < w[6] as usize {
-        has_face(w[entry_at(id) + 4], face)
-    } else {
-        false
-    }
+    id.0 < w[6] as usize && has_face(w[entry_at(id) + 4], face)
 }
 
 fn all_listed(w: &[u64], face: usize, t: CandidateTriangle) -> bool
     requires { (face < 6) × (entry_at (count_at w.now) ≤ length w.now) }
     ensures { result ≡ (listed_in w.now face t.a.0 && (listed_in w.now face t.b.0 && listed_in w.now face t.c.0)) }
 {
-    if is_listed(w, face, t.a) {
-        if is_listed(w, face, t.b) {
-            is_listed(w, face, t.c)
-        } else {
-            false
-        }
-    } else {
-        false
-    }
+    is_listed(w, face, t.a) && is_listed(w, face, t.b) && is_listed(w, face, t.c)
 }
 
 fn has_repeat(t: CandidateTriangle) -> bool
     ensures { result ≡ (eqb t.a.0 t.b.0 || (eqb t.b.0 t.c.0 || eqb t.c.0 t.a.0)) }
 {
-    let a = t.a.0;
-    let b = t.b.0;
-    let c = t.c.0;
-    if a == b {
-        return true;
-    }
-    if b == c {
-        return true;
-    }
-    c == a
+    t.a.0 == t.b.0 || t.b.0 == t.c.0 || t.c.0 == t.a.0
 }
 
 // "face above 5 or descending, a repeated candidate, or one not in that face's list": `last` is the face of the triangle before.
+#[tactic(auto, unfolding(crate::specs::Steps::bad_words))]
 fn is_bad_cap(w: &[u64], last: u64, face: u64, t: CandidateTriangle) -> bool
     requires { entry_at (count_at w.now) ≤ length w.now }
     ensures { result ≡ bad_words w.now last face t.a.0 t.b.0 t.c.0 }
 {
-    if 5 < face {
-        return true;
-    }
-    if face < last {
-        return true;
-    }
-    if has_repeat(t) {
-        return true;
-    }
-    !all_listed(w, face as usize, t)
+    5 < face || face < last || has_repeat(t) || !all_listed(w, face as usize, t)
 }
 
-// 10: the place of the first such triangle, or how many there are.
-pub fn bad_cap_place(w: &[u64], n: usize, cap_list: &[u64]) -> usize
+// 10: the place of the first such triangle, if there is one.
+pub fn bad_cap_place(w: &[u64], n: usize, cap_list: &[u64]) -> Option<usize>
     requires { Pooled n w.now × (length cap_list.now % 4 ≡ 0) }
-    ensures { result ≡ bad_cap_place (pool_at n w.now) (caps_of cap_list.now) }
+    ensures { FirstPlace (bad_cap_place (pool_at n w.now) (caps_of cap_list.now)) (length (caps_of cap_list.now)) result }
 {
     let nc = cap_list.len() / 4;
     let mut last = 0;
     for i in 0..nc {
         let face = cap_list[4 * i];
         if is_bad_cap(w, last, face, supplied(cap_list, i)) {
-            return i;
+            return Some(i);
         }
         last = face;
     }
-    nc
+    None
 }

@@ -16,78 +16,110 @@
 //   27 nf + 46 nc + 2 n   nc               of a facet left 1 if it is the first of its three corners
 //   27 nf + 47 nc + 2 n   1                how many vertices there are so far
 // In all 9 + 65 (vertices + G) + 93 facets + 47 triangles, of the 128 (vertices + facets + triangles + G) + 1,024 that are lent.
-ghost use Rattle.std.specs.Prelude.{◌≡◌, ◌<◌};
+ghost use Rattle.std.specs.Prelude.{◌≡◌, ◌+◌, ◌*◌, ◌<◌};
 ghost use Rattle.cap_triangles.specs.Room.{turned_at, pair_records_at, numbers_at, up_at, down_at, held_at, labels_at, components_at, seeded_at, closing_at};
 
 use candidate_pool::room::room_end;
 
-pub fn turned_at(n: usize, nf: usize) -> usize
-    requires { (n < 268435456) × (nf < 268435456) }
-    ensures { result ≡ turned_at n nf }
-{
-    room_end(n, nf)
+// How many of each the tables have room for.
+#[derive(Clone, Copy)]
+pub struct CapRoom {
+    pub n: usize,
+    pub nf: usize,
+    pub nc: usize,
+    pub ghost small: { (n < 268435456) × (nf < 268435456) × (nc < 268435456) },
 }
 
-pub fn records_at(n: usize, nf: usize, nc: usize) -> usize
-    requires { (n < 268435456) × (nf < 268435456) × (nc < 268435456) }
-    ensures { result ≡ pair_records_at n nf nc }
-{
-    turned_at(n, nf) + 3 * nc
-}
+impl CapRoom {
+    pub fn turned_at(self) -> usize
+        ensures { result ≡ turned_at self.n self.nf }
+    {
+        room_end(self.n, self.nf)
+    }
 
-pub fn numbers_at(n: usize, nf: usize, nc: usize) -> usize
-    requires { (n < 268435456) × (nf < 268435456) × (nc < 268435456) }
-    ensures { result ≡ numbers_at n nf nc }
-{
-    turned_at(n, nf) + 12 * nf + 15 * nc
-}
+    pub fn records_at(self) -> usize
+        ensures { result ≡ pair_records_at self.n self.nf self.nc }
+    {
+        self.turned_at() + 3 * self.nc
+    }
 
-pub fn up_at(n: usize, nf: usize, nc: usize) -> usize
-    requires { (n < 268435456) × (nf < 268435456) × (nc < 268435456) }
-    ensures { result ≡ up_at n nf nc }
-{
-    turned_at(n, nf) + 15 * nf + 18 * nc
-}
+    pub fn numbers_at(self) -> usize
+        ensures { result ≡ numbers_at self.n self.nf self.nc }
+    {
+        self.turned_at() + 12 * self.nf + 15 * self.nc
+    }
 
-pub fn down_at(n: usize, nf: usize, nc: usize) -> usize
-    requires { (n < 268435456) × (nf < 268435456) × (nc < 268435456) }
-    ensures { result ≡ down_at n nf nc }
-{
-    turned_at(n, nf) + 18 * nf + 21 * nc
-}
+    pub fn up_at(self) -> usize
+        ensures { result ≡ up_at self.n self.nf self.nc }
+    {
+        self.turned_at() + 15 * self.nf + 18 * self.nc
+    }
 
-pub fn held_at(n: usize, nf: usize, nc: usize) -> usize
-    requires { (n < 268435456) × (nf < 268435456) × (nc < 268435456) }
-    ensures { result ≡ held_at n nf nc }
-{
-    turned_at(n, nf) + 21 * nf + 24 * nc
-}
+    pub fn down_at(self) -> usize
+        ensures { result ≡ down_at self.n self.nf self.nc }
+    {
+        self.turned_at() + 18 * self.nf + 21 * self.nc
+    }
 
-pub fn labels_at(n: usize, nf: usize, nc: usize) -> usize
-    requires { (n < 268435456) × (nf < 268435456) × (nc < 268435456) }
-    ensures { result ≡ labels_at n nf nc }
-{
-    turned_at(n, nf) + 24 * nf + 27 * nc
-}
+    pub fn held_at(self) -> usize
+        ensures { result ≡ held_at self.n self.nf self.nc }
+    {
+        self.turned_at() + 21 * self.nf + 24 * self.nc
+    }
 
-pub fn components_at(n: usize, nf: usize, nc: usize) -> usize
-    requires { (n < 268435456) × (nf < 268435456) × (nc < 268435456) }
-    ensures { result ≡ components_at n nf nc }
-{
-    turned_at(n, nf) + 24 * nf + 30 * nc
-}
+    pub fn labels_at(self) -> usize
+        ensures { result ≡ labels_at self.n self.nf self.nc }
+    {
+        self.turned_at() + 24 * self.nf + 27 * self.nc
+    }
 
-pub fn seeded_at(n: usize, nf: usize, nc: usize) -> usize
-    requires { (n < 268435456) × (nf < 268435456) × (nc < 268435456) }
-    ensures { result ≡ seeded_at n nf nc }
-{
-    turned_at(n, nf) + 27 * nf + 38 * nc
-}
+    pub fn components_at(self) -> usize
+        ensures { result ≡ components_at self.n self.nf self.nc }
+    {
+        self.turned_at() + 24 * self.nf + 30 * self.nc
+    }
 
-// behind the tables of the selection
-pub fn closing_at(n: usize, nf: usize, nc: usize) -> usize
-    requires { (n < 268435456) × (nf < 268435456) × (nc < 268435456) }
-    ensures { result ≡ closing_at n nf nc }
-{
-    turned_at(n, nf) + 27 * nf + 39 * nc
+    pub fn seeded_at(self) -> usize
+        ensures { result ≡ seeded_at self.n self.nf self.nc }
+    {
+        self.turned_at() + 27 * self.nf + 38 * self.nc
+    }
+
+    // behind the tables of the selection: of a candidate its vertex + 1, or 0 while it has none
+    pub fn given_at(self) -> usize
+        ensures { result ≡ closing_at self.n self.nf self.nc }
+    {
+        self.turned_at() + 27 * self.nf + 39 * self.nc
+    }
+
+    pub fn fresh_at(self) -> usize
+        ensures { result ≡ closing_at self.n self.nf self.nc + self.n }
+    {
+        self.given_at() + self.n
+    }
+
+    pub fn left_at(self) -> usize
+        ensures { result ≡ closing_at self.n self.nf self.nc + 2 * self.n }
+    {
+        self.given_at() + 2 * self.n
+    }
+
+    pub fn threes_at(self) -> usize
+        ensures { result ≡ closing_at self.n self.nf self.nc + 2 * self.n + 3 * self.nc }
+    {
+        self.given_at() + 2 * self.n + 3 * self.nc
+    }
+
+    pub fn firsts_at(self) -> usize
+        ensures { result ≡ closing_at self.n self.nf self.nc + 2 * self.n + 7 * self.nc }
+    {
+        self.given_at() + 2 * self.n + 7 * self.nc
+    }
+
+    // how many vertices there are so far
+    pub fn vertices_at(self) -> usize
+        ensures { result ≡ closing_at self.n self.nf self.nc + 2 * self.n + 8 * self.nc }
+    {
+        self.given_at() + 2 * self.n + 8 * self.nc
+    }
 }

@@ -10,7 +10,7 @@ ghost use Rattle.cap_triangles.specs.Room.{turned_at, Supplied, TurnedReady};
 ghost use Rattle.cap_triangles.specs.Steps.{Standing, area_of, turned_by};
 
 use crate::listed::supplied;
-use crate::room::turned_at;
+use crate::room::CapRoom;
 use box_faces::faces::{ccw_is_outward, project};
 use box_faces::uv::Uv;
 use candidate_pool::pool::point_of;
@@ -18,6 +18,7 @@ use geometry::numbers::CandidateVertexId;
 use geometry::triangle::CandidateTriangle;
 
 // "signed projected area", twice
+#[tactic(auto, unfolding(crate::specs::Steps::area_of))]
 fn signed_area2(a: Uv, b: Uv, c: Uv) -> f64
     ensures { result ≡ area_of (tri a b c) }
 {
@@ -45,7 +46,7 @@ pub fn turn_caps(w: &mut [u64], n: usize, nf: usize, cap_list: &[u64])
     ensures { Above (turned_at n nf) w.old w.new × TurnedReady n nf cap_list.now w.new }
 {
     let nc = cap_list.len() / 4;
-    let turned = turned_at(n, nf);
+    let turned = CapRoom { n, nf, nc }.turned_at();
     for i in 0..nc {
         let t = orient_face_triangle(w, cap_list[4 * i] as usize, supplied(cap_list, i));
         w[turned + 3 * i] = t.a.0 as u64;
@@ -55,12 +56,12 @@ pub fn turn_caps(w: &mut [u64], n: usize, nf: usize, cap_list: &[u64])
 }
 
 // The triangle i, turned.
-pub fn turned_cap(w: &[u64], n: usize, nf: usize, i: usize) -> CandidateTriangle
-    requires { (n < 268435456) × (nf < 268435456) × (turned_at n nf + 3 * i + 2 < length w.now) }
-    ensures { candidates_of result ≡ tri (get_or w.now (turned_at n nf + 3 * i) 0) (get_or w.now (turned_at n nf + 3 * i + 1) 0)
-        (get_or w.now (turned_at n nf + 3 * i + 2) 0) }
+pub fn turned_cap(w: &[u64], room: CapRoom, i: usize) -> CandidateTriangle
+    requires { turned_at room.n room.nf + 3 * i + 2 < length w.now }
+    ensures { candidates_of result ≡ tri (get_or w.now (turned_at room.n room.nf + 3 * i) 0) (get_or w.now (turned_at room.n room.nf + 3 * i + 1) 0)
+        (get_or w.now (turned_at room.n room.nf + 3 * i + 2) 0) }
 {
-    let at = turned_at(n, nf) + 3 * i;
+    let at = room.turned_at() + 3 * i;
     CandidateTriangle {
         a: CandidateVertexId(w[at] as usize),
         b: CandidateVertexId(w[at + 1] as usize),

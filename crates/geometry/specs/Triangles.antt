@@ -10,11 +10,7 @@
 use Rattle.std.specs.Prelude.{ℕ, ◌+◌, Bool, ◌&&◌, ◌||◌, eqb, ltb, get_or}
 use mathlib.Core.List.{List, [], ◌∷◌, flat_map}
 use Rattle.lists.specs.Lists.{sort_by}
-
-pub record Triangle (A : Type 0) : Type 0 where
-  pub a : A
-  pub b : A
-  pub c : A
+pub use Rattle.geometry.specs.declared.triangle.Triangle.{Triangle}
 
 abbrev pub tri : {A : Type 0} → A → A → A → Triangle A
 tri a b c = record { a = a; b = b; c = c }
@@ -31,8 +27,15 @@ edges t = (t.a, t.b) ∷ (t.b, t.c) ∷ (t.c, t.a) ∷ []
 abbrev pub reversed : {A : Type 0} → Triangle A → Triangle A
 reversed t = tri t.a t.c t.b
 
+-- a side runs from x to y, by a test of equality
+abbrev pub has_edge : {A : Type 0} → (A → A → Bool) → Triangle A → A → A → Bool
+has_edge eq t x y = (eq t.a x && eq t.b y) || ((eq t.b x && eq t.c y) || (eq t.c x && eq t.a y))
+
 unfoldable pub contains_oriented_edge : Triangle ℕ → ℕ → ℕ → Bool
 contains_oriented_edge t x y = (eqb t.a x && eqb t.b y) || ((eqb t.b x && eqb t.c y) || (eqb t.c x && eqb t.a y))
+
+abbrev pub ascending : {A : Type 0} → (A → A → Bool) → Triangle A → List A
+ascending before t = sort_by before (vertices t)
 
 unfoldable pub sorted_vertices : Triangle ℕ → List ℕ
 sorted_vertices t = sort_by ltb (vertices t)

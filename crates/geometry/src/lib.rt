@@ -2,8 +2,9 @@
 #![tactic(auto)]
 
 pub mod aabb;
-pub mod fraction;
 pub mod numbers;
 pub mod point;
+#[cfg(test)]
+mod tests;
 pub mod triangle;
 pub mod vertices;

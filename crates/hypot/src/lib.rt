@@ -9,7 +9,7 @@ ghost use Rattle.root.specs.Patterns.{pattern_units};
 ghost use Rattle.hypot.specs.Length.{Measured};
 ghost use Rattle.hypot.specs.Placing.{Parts, Squared, Divided, Summed, LengthAt, Placed, RootOf};
 
-use root::{Drawing, bring_down};
+use root::Drawing;
 
 // 2^27, 2^52, 2^54 and 2^63
 const HALF: u64 = 134217728;
@@ -20,41 +20,12 @@ const WORD: u64 = 18014398509481984;
 
 const SIGN: u64 = 9223372036854775808;
 
-// high * 2^54 + low
-#[derive(Clone, Copy)]
-struct Wide {
-    high: u64,
-    low: u64,
-}
-
 // high * 2^54 + low, and a part of one
 #[derive(Clone, Copy)]
 struct Parted {
     high: u64,
     low: u64,
     more: u64,
-}
-
-// A root in half units of the last place, and whether it is more than that.
-#[derive(Clone, Copy)]
-struct Halves {
-    root: u64,
-    more: u64,
-}
-
-// The square of v, from the halves of v.
-fn square(v: u64) -> Wide
-    requires { v < 2 ^ 54 }
-    ensures { Squared v result.high result.low }
-{
-    let a: u64 = v / HALF;
-    let b: u64 = v % HALF;
-    let cross: u64 = 2 * (a * b);
-    let low: u64 = cross % HALF * HALF + b * b;
-    Wide {
-        high: a * a + cross / HALF + low / WORD,
-        low: low % WORD,
-    }
 }
 
 // 4^d
@@ -65,16 +36,40 @@ fn power(d: u64) -> u64
     1 << (2 * d)
 }
 
-// (h * 2^54 + l) / 4^d, and the part that is left. 4^d divides 2^54.
-fn divided(h: u64, l: u64, d: u64) -> Parted
-    requires { (h < 2 ^ 54) × (l < 2 ^ 54) × (d < 27) }
-    ensures { Divided h l d result.high result.low result.more }
-{
-    let p: u64 = power(d);
-    Parted {
-        high: h / p,
-        low: h % p * (WORD / p) + l / p,
-        more: l % p,
+// high * 2^54 + low
+#[derive(Clone, Copy)]
+struct Wide {
+    high: u64,
+    low: u64,
+}
+
+impl Wide {
+    // The square of v, from the halves of v.
+    fn square(v: u64) -> Wide
+        requires { v < 2 ^ 54 }
+        ensures { Squared v result.high result.low }
+    {
+        let a: u64 = v / HALF;
+        let b: u64 = v % HALF;
+        let cross: u64 = 2 * (a * b);
+        let low: u64 = cross % HALF * HALF + b * b;
+        Wide {
+            high: a * a + cross / HALF + low / WORD,
+            low: low % WORD,
+        }
+    }
+
+    // The number divided by 4^d, and the part that is left. 4^d divides 2^54.
+    fn divided(self, d: u64) -> Parted
+        requires { (self.high < 2 ^ 54) × (self.low < 2 ^ 54) × (d < 27) }
+        ensures { Divided self.high self.low d result.high result.low result.more }
+    {
+        let p: u64 = power(d);
+        Parted {
+            high: self.high / p,
+            low: self.high % p * (WORD / p) + self.low / p,
+            more: self.low % p,
+        }
     }
 }
 
@@ -83,14 +78,52 @@ fn sum_squares(m: u64, l: u64, d: u64) -> Parted
     requires { (m < 2 ^ 53) × (l < 2 ^ 53) × (d < 27) }
     ensures { Summed m l d result.high result.low result.more }
 {
-    let a: Wide = square(2 * m);
-    let b: Wide = square(2 * l);
-    let c: Parted = divided(b.high, b.low, d);
+    let a: Wide = Wide::square(2 * m);
+    let b: Wide = Wide::square(2 * l);
+    let c: Parted = b.divided(d);
     let low: u64 = a.low + c.low;
     Parted {
         high: a.high + c.high + low / WORD,
         low: low % WORD,
         more: c.more,
+    }
+}
+
+// A root in half units of the last place, and whether it is more than that.
+#[derive(Clone, Copy)]
+struct Halves {
+    root: u64,
+    more: u64,
+}
+
+impl Halves {
+    // The pattern of the root in half units of 2^j, rounded to a whole one: up from a half if there is more, and where there is no more, to the even one.
+    // A carry goes into the exponent's field.
+    fn placed(self, j: u64) -> u64
+        requires { (j < 2045) × (self.root < 2 ^ 54) × (0 < j → 2 ^ 53 ≤ self.root) }
+        ensures { Placed j self.root self.more result }
+    {
+        let q: u64 = self.root;
+        let p: u64 = j * LEAD + q / 2;
+        if q % 2 == 0 {
+            return p;
+        }
+        if self.more == 0 { p + p % 2 } else { p + 1 }
+    }
+
+    // The same for a root that may have a digit too many.
+    fn settled(self, j: u64) -> u64
+        requires { (j < 2044) × (self.root < 2 ^ 55) × (0 < j → 2 ^ 53 ≤ self.root) × (self.more < 2 ^ 60) }
+        ensures { Placed j self.root self.more result }
+    {
+        if self.root < WORD {
+            return self.placed(j);
+        }
+        let half = Halves {
+            root: self.root / 2,
+            more: self.more + self.root % 2,
+        };
+        half.placed(j + 1)
     }
 }
 
@@ -100,36 +133,11 @@ fn drawn_root(m: u64, l: u64, d: u64) -> Halves
     ensures { RootOf m l d result.root result.more }
 {
     let t: Parted = sum_squares(m, l, d);
-    let upper: Drawing = bring_down(Drawing { root: 0, rest: 0 }, t.high, 28);
-    let lower: Drawing = bring_down(upper, t.low, 27);
+    let upper: Drawing = Drawing { root: 0, rest: 0 }.bring_down(t.high, 28);
+    let lower: Drawing = upper.bring_down(t.low, 27);
     Halves {
         root: lower.root,
         more: lower.rest + t.more,
-    }
-}
-
-// The pattern of q half units of 2^j, rounded to a whole one: up from a half if there is more, and where there is no more, to the even one.
-// A carry goes into the exponent's field.
-fn place(j: u64, q: u64, more: u64) -> u64
-    requires { (j < 2045) × (q < 2 ^ 54) × (0 < j → 2 ^ 53 ≤ q) }
-    ensures { Placed j q more result }
-{
-    let p: u64 = j * LEAD + q / 2;
-    if q % 2 == 0 {
-        return p;
-    }
-    if more == 0 { p + p % 2 } else { p + 1 }
-}
-
-// The same for a root that may have a digit too many.
-fn settle(j: u64, q: u64, more: u64) -> u64
-    requires { (j < 2044) × (q < 2 ^ 55) × (0 < j → 2 ^ 53 ≤ q) × (more < 2 ^ 60) }
-    ensures { Placed j q more result }
-{
-    if q < WORD {
-        place(j, q, more)
-    } else {
-        place(j + 1, q / 2, more + q % 2)
     }
 }
 
@@ -153,8 +161,7 @@ fn hypot_bits(a: u64, b: u64) -> u64
     if 26 < d {
         return a;
     }
-    let s: Halves = drawn_root(a - j * LEAD, b - k * LEAD, d);
-    settle(j, s.root, s.more)
+    drawn_root(a - j * LEAD, b - k * LEAD, d).settled(j)
 }
 
 // The length of a segment with the extents x and y.

@@ -55,7 +55,7 @@ pub extern "C" fn export_hypot(x: f64, y: f64) -> f64
 pub extern "C" fn export_whole_root(n: u64) -> u64
     ensures { WholeRoot n result }
 {
-    let drawing = root::bring_down(Drawing { root: 0, rest: 0 }, n, 32);
+    let drawing = Drawing { root: 0, rest: 0 }.bring_down(n, 32);
     drawing.root
 }
 

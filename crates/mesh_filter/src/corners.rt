@@ -40,13 +40,7 @@ pub fn corners_of(m: &[u64], numbers: usize, facets: &[u32], f: usize) -> MeshTr
 pub fn has_repeated_corner(t: MeshTriangle) -> bool
     ensures { result ≡ has_repeated_corner (mesh_vertices_of t) }
 {
-    if t.a.0 == t.b.0 {
-        return true;
-    }
-    if t.b.0 == t.c.0 {
-        return true;
-    }
-    t.a.0 == t.c.0
+    t.a == t.b || t.b == t.c || t.a == t.c
 }
 
 // The point of the welded vertex v.
@@ -89,5 +83,5 @@ pub fn corners_key(t: MeshTriangle) -> u64
     ensures { result ≡ corners_key (mesh_vertices_of t) }
 {
     let s = t.sorted_vertices();
-    pack_triple(s.a.0 as u64, s.b.0 as u64, s.c.0 as u64)
+    pack_triple(s[0].0 as u64, s[1].0 as u64, s[2].0 as u64)
 }

@@ -1,5 +1,4 @@
 pub mod Words
-pub mod Signs
 pub mod Squares
 pub mod Rule
 pub mod Apart

@@ -1,13 +1,15 @@
--- The search of a cell: what a chain's walk asks, what a test tells, and the way from words back to keys. Assumes nothing.
+-- The search of a cell: what a chain's walk asks, what a test tells; a block's cells one after the other; and the way from words back to keys. Assumes nothing.
 use Prim.Native.Nat.{ℕ, ◌+◌, ◌*◌, ◌-◌, ◌/◌, ◌≤◌, ◌<◌}
 use native.Mathlib.Omega.{arith}
-use mathlib.Core.Path.{◌≡◌, sym, ap, subst, ◌∙◌}
-use mathlib.Core.Bool.{Bool, true, false, ◌&&◌}
-use mathlib.Core.List.{List, [], ◌∷◌, ◌++◌, flat_map}
+use mathlib.Core.Path.{◌≡◌, refl, sym, ap, subst, ◌∙◌}
+use mathlib.Core.Bool.{Bool, true, false, cond, ◌&&◌}
+use mathlib.Core.List.{List, [], ◌∷◌, ◌++◌, flat_map, append-nil}
+use mathlib.Core.Option.{Option as Place, some}
+use Rattle.std.specs.Prelude.{Option, Some, None}
 use lib.Dec.{eqb}
 use lib.ListN.{length, get_or, length-map}
 use lib.Ieee.{Float}
-use borrow.Author.Tests.{eqb-true, ne_eqb, eq-eqb}
+use borrow.Author.Tests.{eqb-true}
 use Rattle.lists.specs.Lists.{first, keep, up_to}
 use Rattle.lists.specs.Regions.{view}
 use Rattle.lists.proofs.Regions.{view_length, view_at}
@@ -22,28 +24,15 @@ use Rattle.geometry.specs.Meshes.{vertex, vertex_of}
 use Rattle.chains.specs.Links.{link_of, link_to}
 use Rattle.chains.specs.Chains.{Filed}
 use Rattle.chains.specs.Hash.{bucket_at}
-use Rattle.chains.proofs.Firsts.{ids_same}
-use Rattle.chains.proofs.Cells.{cell_link, cells_hit, cells_miss, cells_one}
+use Rattle.chains.proofs.Firsts.{ids_same, link_none, link_some}
+use Rattle.chains.proofs.Cells.{cell_link, cells_one}
 use Rattle.chains.proofs.Walking.{filed_by_key}
 use Rattle.mesh_weld.specs.declared.cells.Cell.{Cell}
 use Rattle.mesh_weld.specs.Cells.{Key, key_of, near, in_cell, around, same_key, cells}
-use Rattle.mesh_weld.specs.Room.{cell_word, words_of, cell_at, same_cell, kept_points, in_cell_at, found_in, cell_bucket, HashOf, Index, KeysIn, CellOf, block}
-use Rattle.mesh_weld.proofs.Words.{same_words, ReachKey, key_reach, around_reach, block_is}
+use Rattle.mesh_weld.specs.Room.{words_of, cell_at, same_cell, kept_points, in_cell_at, answer, found_in, cell_bucket, HashOf, Index, KeyIn, KeysIn, up, block}
+use Rattle.mesh_weld.proofs.Words.{same_words, FitKey, key_fits, inner_key, around_fits, corner_of, block_is, from_cell, cell_turn}
 
 -- ---- tests of cells
-
-module _ (a b : Cell) (t : Bool) where
-  pub differ_x : (a.x ≡ b.x → ⊥) → false ≡ (same_cell a b && t)
-  differ_x h = rw (ne_eqb a.x b.x h)
-
-  pub differ_y : a.x ≡ b.x → (a.y ≡ b.y → ⊥) → false ≡ (same_cell a b && t)
-  differ_y ex h = rw (eq-eqb a.x b.x ex, ne_eqb a.y b.y h)
-
-  pub differ_z : a.x ≡ b.x → a.y ≡ b.y → (a.z ≡ b.z → ⊥) → false ≡ (same_cell a b && t)
-  differ_z ex ey h = rw (eq-eqb a.x b.x ex, eq-eqb a.y b.y ey, ne_eqb a.z b.z h)
-
-  pub differ_no : a.x ≡ b.x → a.y ≡ b.y → a.z ≡ b.z → t ≡ (same_cell a b && t)
-  differ_no ex ey ez = rw (eq-eqb a.x b.x ex, eq-eqb a.y b.y ey, eq-eqb a.z b.z ez)
 
 cell_eq : (a b : Cell) → a.x ≡ b.x → a.y ≡ b.y → a.z ≡ b.z → a ≡ b
 cell_eq a b ex ey ez = λ i. record { x = ex i; y = ey i; z = ez i }
@@ -61,7 +50,25 @@ same_cell_lem a b e =
 abbrev pub meets_at : List Float → Float → ℕ → List ℕ → Cell → Point → ℕ → Bool
 meets_at vs eps n m c p k = same_cell (cell_at m (11 * n + 3 * k)) c && near eps p (vertex_of vs (get_or m (9 * n + k) 0))
 
+or_else : Option ℕ → Option ℕ → Option ℕ
+or_else None v = v
+or_else (Some k) v = Some k
+
+answer_append : (t : ℕ → Bool) (l r : List ℕ) → answer (first t (l ++ r)) ≡ or_else (answer (first t l)) (answer (first t r))
+unfolding first or_else
+answer_append t [] r = refl
+answer_append t (x ∷ l) r = go (t x) (answer_append t l r)
+  where
+    go : (b : Bool) → answer (first t (l ++ r)) ≡ or_else (answer (first t l)) (answer (first t r))
+        → answer (cond b (some x) (first t (l ++ r))) ≡ or_else (answer (cond b (some x) (first t l))) (answer (first t r))
+    go true e = refl
+    go false e = e
+
 module _ (vs : List Float) (eps : Float) (n count : ℕ) (m : List ℕ) (I : Index vs eps n count m) where
+  -- what is found in some cells, as the definition has it
+  abbrev in_cells : Point → List Cell → Place ℕ
+  in_cells p cs = first (λ k. near eps p (vertex (kept_points vs n count m) k)) (flat_map (in_cell_at n count m) cs)
+
   pub kept_long : length (view m (9 * n) count) ≡ count
   kept_long = view_length m (9 * n) count (omega (arith, I.room, I.few))
 
@@ -78,8 +85,8 @@ module _ (vs : List Float) (eps : Float) (n count : ℕ) (m : List ℕ) (I : Ind
       (λ k h x. same_cell_lem (cell_at m (11 * n + 3 * k)) c
       (and_left (same_cell (cell_at m (11 * n + 3 * k)) c) (near eps p (vertex_of vs (get_or m (9 * n + k) 0))) (is_true (meets_at vs eps n m c p k) x)))
 
-  pub met : (c : Cell) (p : Point) (r : ℕ) → r ≡ link_to (meets_at vs eps n m c p) (up_to count) → r ≡ found_in vs eps n count m p (c ∷ [])
-  unfolding found_in
+  -- what a walk that ends with the link r tells of the cell
+  met : (c : Cell) (p : Point) (r : ℕ) → r ≡ link_to (meets_at vs eps n m c p) (up_to count) → r ≡ link_of (in_cells p (c ∷ []))
   met c p r e =
       let inside : ℕ → Bool = λ k. same_cell (cell_at m (11 * n + 3 * k)) c in
       let near_at : ℕ → Bool = λ k. near eps p (vertex (kept_points vs n count m) k) in
@@ -87,21 +94,54 @@ module _ (vs : List Float) (eps : Float) (n count : ℕ) (m : List ℕ) (I : Ind
       (e ∙ ids_same (meets_at vs eps n m c p) (λ k. inside k && near_at k) count (λ k h. ap (λ (q : Point). inside k && near eps p q) (kept_at k h))
       ∙ cell_link inside near_at count)
 
+  pub met_some : (c : Cell) (p : Point) (r : ℕ) → r ≡ link_to (meets_at vs eps n m c p) (up_to count) → (r ≡ 0 → ⊥) → Some (r - 1) ≡ found_in vs eps n count m p (c ∷ [])
+  unfolding found_in
+  met_some c p r e h = sym (ap answer (link_some (in_cells p (c ∷ [])) r (met c p r e) h))
+
+  pub met_none : (c : Cell) (p : Point) → 0 ≡ link_to (meets_at vs eps n m c p) (up_to count) → None ≡ found_in vs eps n count m p (c ∷ [])
+  unfolding found_in
+  met_none c p e = sym (ap answer (link_none (in_cells p (c ∷ [])) 0 (met c p 0 e) refl))
+
   -- ---- cell after cell
 
-  pub found_hit : (p : Point) (cs ds : List Cell) (r : ℕ) → r ≡ found_in vs eps n count m p cs → (r ≡ 0 → ⊥) → r ≡ found_in vs eps n count m p (cs ++ ds)
-  unfolding found_in
-  found_hit p cs ds r e h = cells_hit (λ k. near eps p (vertex (kept_points vs n count m) k)) (in_cell_at n count m) cs ds r e h
+  found_next : (p : Point) (c : Cell) (ds : List Cell) → found_in vs eps n count m p (c ∷ ds) ≡ or_else (found_in vs eps n count m p (c ∷ [])) (found_in vs eps n count m p ds)
+  unfolding found_in flat_map or_else
+  found_next p c ds =
+      let t : ℕ → Bool = λ k. near eps p (vertex (kept_points vs n count m) k) in
+      answer_append t (in_cell_at n count m c) (flat_map (in_cell_at n count m) ds)
+      ∙ ap (λ (l : List ℕ). or_else (answer (first t l)) (found_in vs eps n count m p ds)) (sym (append-nil (in_cell_at n count m c)))
 
-  pub found_miss : (p : Point) (cs ds : List Cell) (r u : ℕ) → u ≡ found_in vs eps n count m p cs → u ≡ 0 → r ≡ found_in vs eps n count m p ds
-      → r ≡ found_in vs eps n count m p (cs ++ ds)
-  unfolding found_in
-  found_miss p cs ds r u e z h = cells_miss (λ k. near eps p (vertex (kept_points vs n count m) k)) (in_cell_at n count m) cs ds r u e z h
+  -- what is found from the i-th cell of a block on, where the search of that cell is known
+  module _ (p : Point) (c : Cell) (x y z : ℕ) (hx : x < 3) (hy : y < 3) (hz : z < 3) where
+    pub found_hit : (k : ℕ) → Some k ≡ found_in vs eps n count m p (up c x y z ∷ []) → Some k ≡ found_in vs eps n count m p (from_cell c (9 * x + 3 * y + z))
+    unfolding or_else
+    found_hit k e =
+        ap (λ (o : Option ℕ). or_else o (found_in vs eps n count m p (from_cell c (9 * x + 3 * y + z + 1)))) e
+        ∙ sym (found_next p (up c x y z) (from_cell c (9 * x + 3 * y + z + 1)))
+        ∙ ap (found_in vs eps n count m p) (sym (cell_turn c x y z hx hy hz))
+
+    pub found_miss : None ≡ found_in vs eps n count m p (up c x y z ∷ [])
+        → found_in vs eps n count m p (from_cell c (9 * x + 3 * y + z)) ≡ found_in vs eps n count m p (from_cell c (9 * x + 3 * y + z + 1))
+    unfolding or_else
+    found_miss e =
+        ap (found_in vs eps n count m p) (cell_turn c x y z hx hy hz)
+        ∙ found_next p (up c x y z) (from_cell c (9 * x + 3 * y + z + 1))
+        ∙ ap (λ (o : Option ℕ). or_else o (found_in vs eps n count m p (from_cell c (9 * x + 3 * y + z + 1)))) (sym e)
+
+  -- nothing before the i-th cell: the same place otherwise written, and the end
+  pub found_from : (p : Point) (c : Cell) (i j : ℕ) → i ≡ j → found_in vs eps n count m p (block c) ≡ found_in vs eps n count m p (from_cell c i)
+      → found_in vs eps n count m p (block c) ≡ found_in vs eps n count m p (from_cell c j)
+  found_from p c i j e h = h ∙ ap (λ (k : ℕ). found_in vs eps n count m p (from_cell c k)) e
+
+  pub found_end : (p : Point) (c : Cell) (i : ℕ) → i ≡ 27 → found_in vs eps n count m p (block c) ≡ found_in vs eps n count m p (from_cell c i)
+      → None ≡ found_in vs eps n count m p (block c)
+  unfolding found_in block flat_map first
+  found_end p c i e h = sym (found_from p c i 27 e h)
 
   -- ---- from words to keys
 
   -- the kept vertices of a cell, by its words and by its key
-  same_entries : KeysIn vs eps n → (c : Key) → ReachKey c → in_cell_at n count m (words_of c) ≡ in_cell eps (kept_points vs n count m) c
+  same_entries : KeysIn vs eps n → (c : Key) → FitKey c → in_cell_at n count m (words_of c) ≡ in_cell eps (kept_points vs n count m) c
   same_entries K c r =
       keep_same (λ k. same_cell (cell_at m (11 * n + 3 * k)) (words_of c)) (λ k. same_key (key_of eps (vertex (kept_points vs n count m) k)) c) (up_to count)
       (λ k x. let h : k < count = omega (arith, (of_up 0 count x).1) in agree k h)
@@ -111,23 +151,20 @@ module _ (vs : List Float) (eps : Float) (n count : ℕ) (m : List ℕ) (I : Ind
       agree : (k : ℕ) → k < count → same_cell (cell_at m (11 * n + 3 * k)) (words_of c) ≡ same_key (key_of eps (vertex (kept_points vs n count m) k)) c
       agree k h =
           ap (λ (d : Cell). same_cell d (words_of c)) (I.stands k h)
-          ∙ sym (same_words (key_of eps (vertex_of vs (get_or m (9 * n + k) 0))) c (key_reach eps (vertex_of vs (get_or m (9 * n + k) 0)) (K (get_or m (9 * n + k) 0) (I.low k h))) r)
+          ∙ sym (same_words (key_of eps (vertex_of vs (get_or m (9 * n + k) 0))) c (key_fits eps (vertex_of vs (get_or m (9 * n + k) 0)) (K (get_or m (9 * n + k) 0) (I.low k h))) r)
           ∙ ap (λ (q : Point). same_key (key_of eps q) c) (kept_at k h)
 
-  found_is : (p : Point) → KeysIn vs eps n → 1 ≤ cell_word (key_of eps p).x → 1 ≤ cell_word (key_of eps p).y → 1 ≤ cell_word (key_of eps p).z
-      → found_in vs eps n count m p (block (record { x = cell_word (key_of eps p).x - 1; y = cell_word (key_of eps p).y - 1; z = cell_word (key_of eps p).z - 1 }))
-      ≡ link_of ((cells eps).find p (kept_points vs n count m))
+  found_is : (p : Point) → KeysIn vs eps n → KeyIn eps p
+      → found_in vs eps n count m p (block (corner_of (words_of (key_of eps p)))) ≡ answer ((cells eps).find p (kept_points vs n count m))
   unfolding cells found_in
-  found_is p K hx hy hz =
-      ap (λ (l : List ℕ). link_of (first (λ k. near eps p (vertex (kept_points vs n count m) k)) l))
-      (ap (flat_map (in_cell_at n count m)) (block_is (key_of eps p) hx hy hz)
+  found_is p K h =
+      let i = inner_key eps p h in
+      ap (λ (l : List ℕ). answer (first (λ k. near eps p (vertex (kept_points vs n count m) k)) l))
+      (ap (flat_map (in_cell_at n count m)) (block_is (key_of eps p) i)
       ∙ flat_map_lem (in_cell_at n count m) words_of (around (key_of eps p))
       ∙ flat_same (λ c. in_cell_at n count m (words_of c)) (in_cell eps (kept_points vs n count m)) (around (key_of eps p))
-      (λ c x. same_entries K c (of_each ReachKey x (around_reach (key_of eps p) hx hy hz))))
+      (λ c x. same_entries K c (of_each FitKey x (around_fits (key_of eps p) i))))
 
-  pub found_cell : (c : Cell) (p : Point) → KeysIn vs eps n → CellOf eps p c
-      → found_in vs eps n count m p (block (record { x = c.x - 1; y = c.y - 1; z = c.z - 1 })) ≡ link_of ((cells eps).find p (kept_points vs n count m))
-  found_cell c p K h =
-      ap (λ (d : Cell). found_in vs eps n count m p (block (record { x = d.x - 1; y = d.y - 1; z = d.z - 1 }))) h.is
-      ∙ found_is p K (subst (λ (d : Cell). 1 ≤ d.x) h.is h.inner.x.low) (subst (λ (d : Cell). 1 ≤ d.y) h.is h.inner.y.low)
-      (subst (λ (d : Cell). 1 ≤ d.z) h.is h.inner.z.low)
+  pub found_cell : (c : Cell) (p : Point) → KeysIn vs eps n → KeyIn eps p → c ≡ words_of (key_of eps p)
+      → found_in vs eps n count m p (block (corner_of c)) ≡ answer ((cells eps).find p (kept_points vs n count m))
+  found_cell c p K h e = ap (λ (d : Cell). found_in vs eps n count m p (block (corner_of d))) e ∙ found_is p K h

@@ -5,41 +5,48 @@ use native.Mathlib.Numerals.{add-one}
 use native.Mathlib.Omega.{arith}
 use mathlib.Core.Path.{◌≡◌, refl, sym, ap, subst, ◌∙◌}
 use mathlib.Core.List.{List, [], ◌∷◌, ◌++◌, map}
-use mathlib.Core.Option.{Option, none, some}
+use mathlib.Core.Option.{Option as Place, none, some}
+use Rattle.std.specs.Prelude.{Option, Some, None}
 use lib.ListN.{length, get_or, set, length-set}
 use lib.Seq.{get_or-set_same, get_or-set_other}
 use lib.Ieee.{Float}
 use Rattle.lists.specs.Regions.{PartZeroed}
 use Rattle.lists.proofs.Regions.{view_same, view_more}
 use Rattle.chains.specs.Chains.{Linked, linked_in}
-use Rattle.chains.specs.Links.{link_of}
 use Rattle.chains.specs.Hash.{mixed, InBucket}
-use Rattle.chains.proofs.Firsts.{link_none, link_some}
 use Rattle.chains.proofs.Entering.{linked_none, linked_cong, linked_same, linked_more, tail_le, entered_length, entered_rest}
 use Rattle.mesh_weld.specs.declared.cells.Cell.{Cell}
 use Rattle.mesh_weld.specs.Weld.{Welded, welding, weld_next, weld}
 use Rattle.mesh_weld.specs.Cells.{key_of, cells}
 use Rattle.geometry.specs.Meshes.{vertex_of}
-use Rattle.mesh_weld.specs.Room.{words_of, cell_at, kept_points, cell_bucket, Index, CellOf, WeldedSoFar, Welds}
+use Rattle.mesh_weld.specs.Room.{words_of, cell_at, kept_points, answer, cell_bucket, Index, WeldedSoFar, Welds}
 use Rattle.mesh_weld.proofs.Searching.{kept_long}
 
 pub cell_same : (m v : List ℕ) (o : ℕ) → get_or v o 0 ≡ get_or m o 0 → get_or v (o + 1) 0 ≡ get_or m (o + 1) 0 → get_or v (o + 2) 0 ≡ get_or m (o + 2) 0 → cell_at v o ≡ cell_at m o
 cell_same m v o a b c = λ i. record { x = a i; y = b i; z = c i }
+
+answer_some : (o : Place ℕ) (k : ℕ) → Some k ≡ answer o → o ≡ some k
+answer_some none k e = cc
+answer_some (some j) k e = cc
+
+answer_none : (o : Place ℕ) → None ≡ answer o → o ≡ none
+answer_none none e = refl
+answer_none (some j) e = cc
 
 module _ (vs : List Float) (eps : Float) (n i count : ℕ) (m : List ℕ) (G : WeldedSoFar vs eps n i count m) (h : i < n) where
   abbrev I : Index vs eps n count m
   I = G.index
 
   -- what the search found
-  abbrev pub Answers : ℕ → Type 0
-  Answers r = r ≡ link_of ((cells eps).find (vertex_of vs i) (kept_points vs n count m))
+  abbrev pub Answers : Option ℕ → Type 0
+  Answers r = r ≡ answer ((cells eps).find (vertex_of vs i) (kept_points vs n count m))
 
-  step_is : (r : Option ℕ) → (cells eps).find (vertex_of vs i) (kept_points vs n count m) ≡ r
+  step_is : (r : Place ℕ) → (cells eps).find (vertex_of vs i) (kept_points vs n count m) ≡ r
       → weld (cells eps) (vertex_of vs) (i + 1) ≡ welding r i (weld (cells eps) (vertex_of vs) i)
   unfolding weld weld_next
   step_is r e =
       ap (weld (cells eps) (vertex_of vs)) (add-one i)
-      ∙ ap (λ (f : Option ℕ). welding f i (weld (cells eps) (vertex_of vs) i))
+      ∙ ap (λ (f : Place ℕ). welding f i (weld (cells eps) (vertex_of vs) i))
       (ap (λ (l : List ℕ). (cells eps).find (vertex_of vs i) (map (vertex_of vs) l)) (sym G.kept) ∙ e)
 
   few : count < n
@@ -47,8 +54,8 @@ module _ (vs : List Float) (eps : Float) (n i count : ℕ) (m : List ℕ) (G : W
 
   -- ---- the vertex is taken for a kept one
 
-  pub taken : (r : ℕ) → Answers r → (r ≡ 0 → ⊥) → WeldedSoFar vs eps n (i + 1) count (set m (10 * n + i) (r - 1))
-  taken r e nz =
+  pub taken : (r : ℕ) → Answers (Some r) → WeldedSoFar vs eps n (i + 1) count (set m (10 * n + i) r)
+  taken r e =
       record {
         index =
             record {
@@ -67,25 +74,25 @@ module _ (vs : List Float) (eps : Float) (n i count : ℕ) (m : List ℕ) (G : W
         within = omega (arith, G.within);
         kept = view_same m v (9 * n) count (omega (arith, I.room, few)) len (λ k lt. off (9 * n + k) (λ q. omega (arith, few)))
             ∙ G.kept ∙ sym (ap (λ (w : Welded). w.kept) step);
-        old_to_new = view_more m v (10 * n) i (r - 1) (omega (arith, I.room)) len (λ k lt. off (10 * n + k) (λ q. omega arith))
-            (get_or-set_same m (10 * n + i) (r - 1) 0 (omega (arith, I.room)))
-            ∙ ap (λ (l : List ℕ). l ++ ((r - 1) ∷ [])) G.old_to_new ∙ sym (ap (λ (w : Welded). w.old_to_new) step);
+        old_to_new = view_more m v (10 * n) i r (omega (arith, I.room)) len (λ k lt. off (10 * n + k) (λ q. omega arith))
+            (get_or-set_same m (10 * n + i) r 0 (omega (arith, I.room)))
+            ∙ ap (λ (l : List ℕ). l ++ (r ∷ [])) G.old_to_new ∙ sym (ap (λ (w : Welded). w.old_to_new) step);
       }
     where
       v : List ℕ
-      v = set m (10 * n + i) (r - 1)
+      v = set m (10 * n + i) r
 
       len : length v ≡ length m
-      len = length-set m (10 * n + i) (r - 1)
+      len = length-set m (10 * n + i) r
 
       off : (x : ℕ) → (x ≡ 10 * n + i → ⊥) → get_or v x 0 ≡ get_or m x 0
-      off x ne = get_or-set_other m (10 * n + i) x (r - 1) 0 ne
+      off x ne = get_or-set_other m (10 * n + i) x r 0 ne
 
       cell : (k : ℕ) → cell_at v (11 * n + 3 * k) ≡ cell_at m (11 * n + 3 * k)
       cell k = cell_same m v (11 * n + 3 * k) (off (11 * n + 3 * k) (λ q. omega arith)) (off (11 * n + 3 * k + 1) (λ q. omega arith)) (off (11 * n + 3 * k + 2) (λ q. omega arith))
 
-      step : weld (cells eps) (vertex_of vs) (i + 1) ≡ welding (some (r - 1)) i (weld (cells eps) (vertex_of vs) i)
-      step = step_is (some (r - 1)) (link_some ((cells eps).find (vertex_of vs i) (kept_points vs n count m)) r e nz)
+      step : weld (cells eps) (vertex_of vs) (i + 1) ≡ welding (some r) i (weld (cells eps) (vertex_of vs) i)
+      step = step_is (some r) (answer_some ((cells eps).find (vertex_of vs i) (kept_points vs n count m)) r e)
 
   -- ---- the vertex is kept
 
@@ -97,7 +104,7 @@ module _ (vs : List Float) (eps : Float) (n i count : ℕ) (m : List ℕ) (G : W
   abbrev pub stored : List ℕ → Cell → List ℕ
   stored m₁ c = set (set (set (set (set m₁ (9 * n + count) i) (11 * n + 3 * count) c.x) (11 * n + 3 * count + 1) c.y) (11 * n + 3 * count + 2) c.z) (10 * n + i) count
 
-  module _ (b : ℕ) (c : Cell) (C : CellOf eps (vertex_of vs i) c) (B : InBucket (mixed c.x c.y c.z) (4 * n) b) where
+  module _ (b : ℕ) (c : Cell) (C : c ≡ words_of (key_of eps (vertex_of vs i))) (B : InBucket (mixed c.x c.y c.z) (4 * n) b) where
     m₁ : List ℕ
     m₁ = linked_in m 0 (4 * n) count b
 
@@ -225,9 +232,9 @@ module _ (vs : List Float) (eps : Float) (n i count : ℕ) (m : List ℕ) (G : W
             linked_more hash m 0 (4 * n) count b (B.is ∙ ap (cell_bucket n) (sym cell_new)) B.low (omega (arith, I.room, few))
             (linked_cong (λ k. cell_bucket n (cell_at m (11 * n + 3 * k))) hash m 0 (4 * n) count (λ k lt. ap (cell_bucket n) (sym (cell_old k lt))) I.linked)
 
-    pub kept_new : (r : ℕ) → Answers r → r ≡ 0 → WeldedSoFar vs eps n (i + 1) (count + 1) (stored (linked_in m 0 (4 * n) count b) c)
+    pub kept_new : Answers None → WeldedSoFar vs eps n (i + 1) (count + 1) (stored (linked_in m 0 (4 * n) count b) c)
     unfolding v s₄ s₃ s₂ s₁ m₁
-    kept_new r e z =
+    kept_new e =
         record {
           index =
               record {
@@ -254,7 +261,7 @@ module _ (vs : List Float) (eps : Float) (n i count : ℕ) (m : List ℕ) (G : W
         }
       where
         step : weld (cells eps) (vertex_of vs) (i + 1) ≡ welding none i (weld (cells eps) (vertex_of vs) i)
-        step = step_is none (link_none ((cells eps).find (vertex_of vs i) (kept_points vs n count m)) r e z)
+        step = step_is none (answer_none ((cells eps).find (vertex_of vs i) (kept_points vs n count m)) e)
 
         low : (k : ℕ) → k < count + 1 → Dec (k < count) → get_or v (9 * n + k) 0 < n
         low k lt (yes g) = rw (id_old k g) (I.low k g)
@@ -265,7 +272,7 @@ module _ (vs : List Float) (eps : Float) (n i count : ℕ) (m : List ℕ) (G : W
         stands k lt (no g) =
             let t : k ≡ count = omega arith in
             subst (λ (j : ℕ). cell_at v (11 * n + 3 * j) ≡ words_of (key_of eps (vertex_of vs (get_or v (9 * n + j) 0)))) (sym t)
-            (cell_new ∙ C.is ∙ ap (λ (x : ℕ). words_of (key_of eps (vertex_of vs x))) (sym id_new))
+            (cell_new ∙ C ∙ ap (λ (x : ℕ). words_of (key_of eps (vertex_of vs x))) (sym id_new))
 
 -- ---- the first vertex and the last
 

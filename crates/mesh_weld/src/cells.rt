@@ -1,13 +1,12 @@
 // The cell of a point, each key as a word; and the distance test.
-ghost use Rattle.std.specs.Prelude.{◌≡◌, false};
-ghost use Rattle.rounding.specs.Rounding.{beyond};
-ghost use Rattle.mesh_weld.specs.Cells.{near};
-ghost use Rattle.mesh_weld.specs.Room.{WordOfKey, KeyIn, CellOf};
+ghost use Rattle.std.specs.Prelude.{◌≡◌, ◌+◌, ◌<◌, length};
+ghost use Rattle.mesh_weld.specs.Cells.{key_of, near};
+ghost use Rattle.mesh_weld.specs.Room.{cell_at, words_of};
 
 use geometry::point::Point;
-use rounding::quantized_key;
+use rounding::{key_word, quantized_key};
 
-// The three keys of a point, each as a word: 2^62 + 1 more than the key, so that the cells around one have words too.
+// The three keys of a point, each as a word.
 #[derive(Clone, Copy, PartialEq, Eq)]
 pub struct Cell {
     pub x: u64,
@@ -15,27 +14,26 @@ pub struct Cell {
     pub z: u64,
 }
 
-// 2^62 + 1 is 4611686018427387905
-fn word_of_key(k: i64) -> u64
-    requires { beyond k ≡ false }
-    ensures { WordOfKey k result }
+// `quantized_point_key`
+pub fn cell_of(p: Point, eps: f64) -> Cell
+    ensures { result ≡ words_of (key_of eps p) }
 {
-    if k < 0 {
-        4611686018427387905 - (0 - k) as u64
-    } else {
-        4611686018427387905 + k as u64
+    Cell {
+        x: key_word(quantized_key(p.x, eps)),
+        y: key_word(quantized_key(p.y, eps)),
+        z: key_word(quantized_key(p.z, eps)),
     }
 }
 
-// `quantized_point_key`
-pub fn cell_of(p: Point, eps: f64) -> Cell
-    requires { KeyIn eps p }
-    ensures { CellOf eps p result }
+// The cell whose words stand in the room from `at` on.
+pub fn cell_at(room: &[u64], at: usize) -> Cell
+    requires { at + 2 < length room.now }
+    ensures { result ≡ cell_at room.now at }
 {
     Cell {
-        x: word_of_key(quantized_key(p.x, eps)),
-        y: word_of_key(quantized_key(p.y, eps)),
-        z: word_of_key(quantized_key(p.z, eps)),
+        x: room[at],
+        y: room[at + 1],
+        z: room[at + 2],
     }
 }
 

@@ -1,187 +1,84 @@
-// The search of the 27 cells around a point, by the chains of their buckets (`push_dedup_point` of mesh_cleanup.rs). The room of n vertices stands in m from 0 on: 4 n heads,
-// 4 n tails and n nexts (crate chains), the kept vertices from 9 n on, the new numbers from 10 n on, and the cells of the kept from 11 n on, three words each.
-ghost use Rattle.std.specs.Prelude.{◌≡◌, ◌&&◌, [], ◌∷◌, ◌+◌, ◌*◌, ◌≤◌, ◌<◌, length, get_or};
-ghost use Rattle.chains.specs.Links.{link_of};
-ghost use Rattle.mesh_weld.specs.Joining.{Joining};
-ghost use Rattle.mesh_weld.specs.Cells.{near, cells};
+// The search of the 27 cells around a point, by the chains of their buckets (`push_dedup_point` of mesh_cleanup.rs). The room of n vertices stands in the work room from 0 on:
+// 4 n heads, 4 n tails and n nexts (crate chains), the kept vertices from 9 n on, the new numbers from 10 n on, and the cells of the kept from 11 n on, three words each.
+ghost use Rattle.std.specs.Prelude.{◌≡◌, ◌&&◌, [], ◌∷◌, ◌+◌, ◌*◌, ◌<◌, get_or};
 ghost use Rattle.geometry.specs.Meshes.{vertex_of};
-ghost use Rattle.mesh_weld.specs.Room.{cell_at, same_cell, kept_points, found_in, row, layer, block, HashOf, Index, KeysIn, CellOf};
+ghost use Rattle.mesh_weld.specs.Joining.{Joining};
+ghost use Rattle.mesh_weld.specs.Cells.{key_of, near, cells};
+ghost use Rattle.mesh_weld.specs.Room.{answer, cell_at, same_cell, words_of, kept_points, found_in, HashOf, Index, KeyIn, KeysIn};
 
-use crate::cells::{Cell, is_near};
+use crate::cells::{Cell, cell_at, is_near};
 use chains::{bucket_at, first, mix, next};
 use geometry::point::Point;
 use geometry::vertices::{vertex_at, vertex_in};
 
-// Whether the kept vertex at k is in the cell c and near p.
-fn holds(m: &[u64], vs: &[f64], n: usize, k: usize, c: Cell, p: Point, eps: f64) -> bool
-    requires { (14 * n ≤ length m.now) × (k < n) × (get_or m.now (9 * n + k) 0 < n) × (3 * n ≤ length vs.now) }
-    ensures { result ≡ (same_cell (cell_at m.now (11 * n + 3 * k)) c && near eps p (vertex_of vs.now (get_or m.now (9 * n + k) 0))) }
-{
-    let at = 11 * n + 3 * k;
-    if m[at] != c.x {
-        return false;
-    }
-    if m[at + 1] != c.y {
-        return false;
-    }
-    if m[at + 2] != c.z {
-        return false;
-    }
-    let v = vertex_in(m, 9 * n + k);
-    let q = vertex_at(vs, v);
-    is_near(p, q, eps)
+// The first `count` kept of the n vertices, as they stand in the room.
+#[derive(Clone, Copy)]
+pub struct Kept<'a> {
+    pub room: &'a [u64],
+    pub vertices: &'a [f64],
+    pub n: usize,
+    pub count: usize,
+    pub eps: f64,
+    pub ghost index: { Index vertices.now eps n count room.now },
+    pub ghost keys_in: { KeysIn vertices.now eps n },
 }
 
-// The first kept vertex in the cell c and near p, by the chain of the cell's bucket.
-fn search_cell(
-    m: &[u64],
-    vs: &[f64],
-    n: usize,
-    count: usize,
-    s: u64,
-    c: Cell,
-    p: Point,
-    eps: f64,
-) -> u64
-    requires index { Index vs.now eps n count m.now }
-    requires hash_of { HashOf c s }
-    ensures { result ≡ found_in vs.now eps n count m.now p (c ∷ []) }
-{
-    let b = bucket_at(s, (4 * n) as u64) as usize;
-    let mut l = first(m, 0, b);
-    while l != 0 {
-        let i = (l - 1) as usize;
-        if holds(m, vs, n, i, c, p, eps) {
-            return l;
+impl Kept<'_> {
+    // Whether the kept vertex at k is in the cell c and near p.
+    fn holds(&self, k: usize, c: Cell, p: Point) -> bool
+        requires { k < self.now.count }
+        ensures { result ≡ (same_cell (cell_at self.now.room.now (11 * self.now.n + 3 * k)) c
+            && near self.now.eps p (vertex_of self.now.vertices.now (get_or self.now.room.now (9 * self.now.n + k) 0))) }
+    {
+        let v = vertex_in(self.room, 9 * self.n + k);
+        let q = vertex_at(self.vertices, v);
+        cell_at(self.room, 11 * self.n + 3 * k) == c && is_near(p, q, self.eps)
+    }
+
+    // The first kept vertex in the cell c and near p, by the chain of the cell's bucket.
+    fn search_cell(&self, s: u64, c: Cell, p: Point) -> Option<usize>
+        requires { HashOf c s }
+        ensures { result ≡ found_in self.now.vertices.now self.now.eps self.now.n self.now.count self.now.room.now p (c ∷ []) }
+    {
+        let b = bucket_at(s, (4 * self.n) as u64) as usize;
+        let mut l = first(self.room, 0, b);
+        while l != 0 {
+            let i = (l - 1) as usize;
+            if self.holds(i, c, p) {
+                return Some(i);
+            }
+            l = next(self.room, 0, 4 * self.n, i);
         }
-        l = next(m, 0, 4 * n, i);
+        None
     }
-    0
-}
 
-// Three cells along z, from c up.
-fn search_row(
-    m: &[u64],
-    vs: &[f64],
-    n: usize,
-    count: usize,
-    s: u64,
-    c: Cell,
-    p: Point,
-    eps: f64,
-) -> u64
-    requires index { Index vs.now eps n count m.now }
-    requires hash_of { HashOf c s }
-    requires s_bound { (s ≤ 9223372036854775808) × (c.z ≤ 9223372036854775809) }
-    ensures { result ≡ found_in vs.now eps n count m.now p (row c) }
-{
-    let r0 = search_cell(m, vs, n, count, s, c, p, eps);
-    if r0 != 0 {
-        return r0;
+    // The kept vertex that the vertex p in the cell c is taken for: the first in the 27 cells around c, "dx, dy, dz from -1 to 1 in that nesting".
+    pub fn search(&self, c: Cell, p: Point) -> Option<usize>
+        requires key_in { KeyIn self.now.eps p }
+        requires cell_of { c ≡ words_of (key_of self.now.eps p) }
+        ensures { result ≡ answer ((cells self.now.eps).find p (kept_points self.now.vertices.now self.now.n self.now.count self.now.room.now)) }
+    {
+        let corner = Cell {
+            x: c.x - 1,
+            y: c.y - 1,
+            z: c.z - 1,
+        };
+        let s = mix(corner.x, corner.y, corner.z);
+        for x in 0..3 {
+            for y in 0..3 {
+                for z in 0..3 {
+                    let cell = Cell {
+                        x: corner.x + x,
+                        y: corner.y + y,
+                        z: corner.z + z,
+                    };
+                    let hash = s + x * 561705629 + y * 816622479 + z * 167066315;
+                    if let Some(k) = self.search_cell(hash, cell, p) {
+                        return Some(k);
+                    }
+                }
+            }
+        }
+        None
     }
-    let c1 = Cell {
-        x: c.x,
-        y: c.y,
-        z: c.z + 1,
-    };
-    let r1 = search_cell(m, vs, n, count, s + 167066315, c1, p, eps);
-    if r1 != 0 {
-        return r1;
-    }
-    let c2 = Cell {
-        x: c.x,
-        y: c.y,
-        z: c.z + 2,
-    };
-    search_cell(m, vs, n, count, s + 334132630, c2, p, eps)
-}
-
-// Three rows along y, from c up.
-fn search_layer(
-    m: &[u64],
-    vs: &[f64],
-    n: usize,
-    count: usize,
-    s: u64,
-    c: Cell,
-    p: Point,
-    eps: f64,
-) -> u64
-    requires index { Index vs.now eps n count m.now }
-    requires hash_of { HashOf c s }
-    requires s_bound { (s ≤ 8000000000000000000) × (c.y ≤ 9223372036854775809) × (c.z ≤ 9223372036854775809) }
-    ensures { result ≡ found_in vs.now eps n count m.now p (layer c) }
-{
-    let r0 = search_row(m, vs, n, count, s, c, p, eps);
-    if r0 != 0 {
-        return r0;
-    }
-    let c1 = Cell {
-        x: c.x,
-        y: c.y + 1,
-        z: c.z,
-    };
-    let r1 = search_row(m, vs, n, count, s + 816622479, c1, p, eps);
-    if r1 != 0 {
-        return r1;
-    }
-    let c2 = Cell {
-        x: c.x,
-        y: c.y + 2,
-        z: c.z,
-    };
-    search_row(m, vs, n, count, s + 1633244958, c2, p, eps)
-}
-
-// Three layers along x, from c up: 27 cells.
-fn search_block(
-    m: &[u64],
-    vs: &[f64],
-    n: usize,
-    count: usize,
-    s: u64,
-    c: Cell,
-    p: Point,
-    eps: f64,
-) -> u64
-    requires index { Index vs.now eps n count m.now }
-    requires hash_of { HashOf c s }
-    requires s_bound { (s ≤ 7000000000000000000) × (c.x ≤ 9223372036854775809) × (c.y ≤ 9223372036854775809) × (c.z ≤ 9223372036854775809) }
-    ensures { result ≡ found_in vs.now eps n count m.now p (block c) }
-{
-    let r0 = search_layer(m, vs, n, count, s, c, p, eps);
-    if r0 != 0 {
-        return r0;
-    }
-    let c1 = Cell {
-        x: c.x + 1,
-        y: c.y,
-        z: c.z,
-    };
-    let r1 = search_layer(m, vs, n, count, s + 561705629, c1, p, eps);
-    if r1 != 0 {
-        return r1;
-    }
-    let c2 = Cell {
-        x: c.x + 2,
-        y: c.y,
-        z: c.z,
-    };
-    search_layer(m, vs, n, count, s + 1123411258, c2, p, eps)
-}
-
-// The kept vertex that the vertex p in the cell c is taken for, as a link.
-pub fn search(m: &[u64], vs: &[f64], n: usize, count: usize, c: Cell, p: Point, eps: f64) -> u64
-    requires index { Index vs.now eps n count m.now }
-    requires keys_in { KeysIn vs.now eps n }
-    requires cell_of { CellOf eps p c }
-    ensures { result ≡ link_of ((cells eps).find p (kept_points vs.now n count m.now)) }
-{
-    let corner = Cell {
-        x: c.x - 1,
-        y: c.y - 1,
-        z: c.z - 1,
-    };
-    let s = mix(corner.x, corner.y, corner.z);
-    search_block(m, vs, n, count, s, corner, p, eps)
 }

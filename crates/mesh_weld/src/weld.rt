@@ -3,7 +3,7 @@ ghost use Rattle.std.specs.Prelude.{◌≡◌, ◌+◌, ◌*◌, ◌≤◌, ◌<
 ghost use Rattle.mesh_weld.specs.Room.{KeysIn, WeldedSoFar, Welds};
 
 use crate::cells::{Cell, cell_of};
-use crate::search::search;
+use crate::search::Kept;
 use chains::{bucket, enter};
 use geometry::numbers::MeshVertexId;
 use geometry::vertices::vertex_at;
@@ -39,9 +39,15 @@ fn weld_vertex(
     let i = v.0;
     let p = vertex_at(vs, v);
     let c = cell_of(p, eps);
-    let found = search(m, vs, n, count, c, p, eps);
-    if found != 0 {
-        m[10 * n + i] = found - 1;
+    let kept = Kept {
+        room: m,
+        vertices: vs,
+        n,
+        count,
+        eps,
+    };
+    if let Some(k) = kept.search(c, p) {
+        m[10 * n + i] = k as u64;
         return count;
     }
     let b = bucket(c.x, c.y, c.z, (4 * n) as u64) as usize;

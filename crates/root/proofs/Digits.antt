@@ -121,10 +121,10 @@ pair_is : (word left : ℕ) → bit_and (word / 2 ^ (2 * left)) 3 ≡ word / 2 ^
 pair_is word left = and_mask (word / 2 ^ (2 * left)) 2
 
 -- what a step asks
-pub down_asks : {root rest word pairs left r y : ℕ} → Down root rest word pairs left r y → rest ≤ 2 * root → root < 2 ^ 30 → pairs ≤ 32 → 0 < left
-    → (r < 2 ^ 61) × (y ≤ 2 * r) × (bit_and (word / 2 ^ (2 * (left - 1))) 3 < 4)
-down_asks {root} {rest} {word} {pairs} {left} {r} {y} d b h l m =
-    (lt_of_lt_of_le (appended_room d.digits) (mul-le-mul up (pow_mono few)), appended_below b d.digits, omega (arith, pair_is word (left - 1)))
+pub down_asks : {root rest word pairs left r y : ℕ} → Down root rest word pairs left r y → root < 2 ^ 30 → pairs ≤ 32 → 0 < left
+    → (r < 2 ^ 61) × (bit_and (word / 2 ^ (2 * (left - 1))) 3 < 4)
+down_asks {root} {rest} {word} {pairs} {left} {r} {y} d h l m =
+    (lt_of_lt_of_le (appended_room d.digits) (mul-le-mul up (pow_mono few)), omega (arith, pair_is word (left - 1)))
   where
     up : root + 1 ≤ 2 ^ 30
     up = omega arith

@@ -11,41 +11,42 @@ ghost use Rattle.root.specs.Digits.{Digits, RootAt};
 // 2^52: the weight of a pattern's exponent field, and of the leading digit of a significand
 const LEAD: u64 = 4503599627370496;
 
-// What is drawn of a root so far, and what its square leaves of the digits brought down so far.
+// What is drawn of a root so far, and what its square leaves of the digits brought down so far: never more than twice the root.
 #[derive(Clone, Copy)]
 pub struct Drawing {
     pub root: u64,
     pub rest: u64,
+    ghost left_over: { rest ≤ 2 * root },
 }
 
-// One step of a root on paper, in base two: the next two digits of the number are brought down behind the rest, 4 * root + 1 is tried, taken off if it goes,
-// and the digit is appended to the root. The digits of a root are as good as random, and a branch on them is mispredicted every other time: so the digit is a
-// truth value as a number, and the rest is chosen from two.
-pub fn draw(s: Drawing, pair: u64) -> Drawing
-    requires { (s.root < 2 ^ 61) × (s.rest ≤ 2 * s.root) × (pair < 4) }
-    ensures { Appended 1 pair s.root s.rest result.root result.rest }
-{
-    let rest: u64 = (s.rest << 2) + pair;
-    let trial: u64 = (s.root << 2) + 1;
-    let goes: bool = trial <= rest;
-    Drawing {
-        root: (s.root << 1) + goes as u64,
-        rest: if goes { rest - trial } else { rest },
+impl Drawing {
+    // One step of a root on paper, in base two: the next two digits of the number are brought down behind the rest, 4 * root + 1 is tried, taken off if it goes,
+    // and the digit is appended to the root. The digits of a root are as good as random, and a branch on them is mispredicted every other time: so the digit is a
+    // truth value as a number, and the rest is chosen from two.
+    pub fn draw(self, pair: u64) -> Drawing
+        requires { (self.root < 2 ^ 61) × (pair < 4) }
+        ensures { Appended 1 pair self.root self.rest result.root result.rest }
+    {
+        let rest: u64 = (self.rest << 2) + pair;
+        let trial: u64 = (self.root << 2) + 1;
+        let goes: bool = trial <= rest;
+        Drawing {
+            root: (self.root << 1) + goes as u64,
+            rest: if goes { rest - trial } else { rest },
+        }
     }
-}
 
-// The digits of a word brought down, two by two: a digit of the root for each pair.
-pub fn bring_down(s: Drawing, word: u64, pairs: u64) -> Drawing
-    requires { (pairs ≤ 32) × (word < 2 ^ (2 * pairs)) × (s.rest ≤ 2 * s.root) × (s.root < 2 ^ 30) }
-    ensures { Appended pairs word s.root s.rest result.root result.rest }
-{
-    let mut drawing: Drawing = s;
-    let mut left: u64 = pairs;
-    while 0 < left {
-        left = left - 1;
-        drawing = draw(drawing, (word >> (2 * left)) & 3);
+    // The digits of a word brought down, two by two: a digit of the root for each pair.
+    pub fn bring_down(self, word: u64, pairs: u64) -> Drawing
+        requires { (pairs ≤ 32) × (word < 2 ^ (2 * pairs)) × (self.root < 2 ^ 30) }
+        ensures { Appended pairs word self.root self.rest result.root result.rest }
+    {
+        let mut drawing: Drawing = self;
+        for left in (0..pairs).rev() {
+            drawing = drawing.draw((word >> (2 * left)) & 3);
+        }
+        drawing
     }
-    drawing
 }
 
 // The whole number nearest to the root of m * 2^52, for m from 2^52 up to 2^54. Of the root of m * 2^54, which is twice as large, 54 digits are drawn;
@@ -54,8 +55,8 @@ fn root_digits(m: u64) -> u64
     requires { (2 ^ 52 ≤ m) × (m < 2 ^ 54) }
     ensures { Digits (m * 2 ^ 52) result }
 {
-    let upper: Drawing = bring_down(Drawing { root: 0, rest: 0 }, m, 27);
-    let lower: Drawing = bring_down(upper, 0, 27);
+    let upper: Drawing = Drawing { root: 0, rest: 0 }.bring_down(m, 27);
+    let lower: Drawing = upper.bring_down(0, 27);
     (lower.root + 1) >> 1
 }
 

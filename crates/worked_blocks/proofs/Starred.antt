@@ -13,8 +13,7 @@ use Rattle.root.specs.Root.{root, root_of_square, whole_root}
 use Rattle.rounding.specs.Rounding as rounding
 use Rattle.rounding.specs.Rounding.{ceil, whole_up, half_up, rounded, key, beyond, far_key}
 use Rattle.geometry.specs.declared.aabb.AABB.{AABB}
-use Rattle.geometry.specs.declared.fraction.Fraction.{Fraction}
-use Rattle.geometry.specs.declared.fraction.Fraction.TheVariants.{Nothing}
+use Rattle.std.specs.Prelude.{Option, None}
 use Rattle.geometry.specs.Points.{pt, along, difference, dot, cross, norm}
 use Rattle.geometry.specs.Triangles.{threes, sorted_vertices}
 use Rattle.geometry.specs.Meshes.{Mesh, mesh_of, mesh_lengths}
@@ -144,9 +143,9 @@ box4 = record { min_corner = +1 ∷ +1 ∷ +1 ∷ []; max_corner = +2 ∷ +2 ∷
 
 abbrev pub c4 : Row
 c4 =
-    row {A = Bool × Bool × Fraction}
+    row {A = Bool × Bool × Option Float}
     (inside box4 0·75×2^-53 0 (pt 1-2^-53 +1 +1), inside box4 0·75×2^-53 0 (pt +0 +1 +1), crossing 0·75×2^-53 +1 1-2^-53 +0)
-    (true, false, Nothing)
+    (true, false, None)
 
 -- C5: "facet (0,0,0), (4,0,0), (0,4,0), box (-1,-1,-1) to (2,8,8), eps 2^-20: vertices (0,0,0), (2,0,0), (2,2,0), (0,4,0); facets 0 1 2 and 0 2 3".
 -- The operation's reply, with just enough room, and its result

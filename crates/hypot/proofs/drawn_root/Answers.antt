@@ -1,5 +1,5 @@
 use native.Mathlib.Omega.{arith}
-use Rattle.root.proofs.Digits.{appended_below, appended_room}
+use Rattle.root.proofs.Digits.{appended_room}
 use Rattle.hypot.proofs.Sums.{root_of}
 use Rattle.hypot.proofs.drawn_root.Goals as goal
 
@@ -16,7 +16,7 @@ bring_down-upper-requires c = omega (arith, c.sum_squares-t.ensures.high)
 
 pub bring_down-lower-requires : goal.bring_down-lower-requires
 bring_down-lower-requires c =
-    omega (arith, c.sum_squares-t.ensures.low, appended_room c.bring_down-upper.ensures, appended_below (omega arith) c.bring_down-upper.ensures)
+    omega (arith, c.sum_squares-t.ensures.low, appended_room c.bring_down-upper.ensures)
 
 pub overflow_add-result : goal.overflow_add-result
 overflow_add-result c =

@@ -9,15 +9,15 @@ returns c =
     let a = c in
     let p = a.exponent-j.ensures.0 in
     let q = c.exponent-k.ensures.0 in
-    near_length p q (order p q a.requires.0) c.drawn_root-s.ensures c.settle.ensures
+    near_length p q (order p q a.requires.0) c.drawn_root.ensures c.settled.ensures
 
 pub overflow_sub-d : goal.overflow_sub-d
 overflow_sub-d c = order c.exponent-j.ensures.0 c.exponent-k.ensures.0 c.requires.0
 
-pub settle-requires : goal.settle-requires
-settle-requires c =
+pub settled-requires : goal.settled-requires
+settled-requires c =
     let a = c in
     let p = a.exponent-j.ensures.0 in
     let q = c.exponent-k.ensures.0 in
-    let r = c.drawn_root-s.ensures in
+    let r = c.drawn_root.ensures in
     (a.exponent-j.ensures.1, r.few, root_lead p q (order p q a.requires.0) r, r.little)

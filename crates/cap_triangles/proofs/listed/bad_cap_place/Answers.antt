@@ -20,23 +20,6 @@ loop-i-init c =
     let s = c in
     passed_start s.args.n s.args.w.now s.args.cap_list.now
 
-pub overflow_mul-face : goal.overflow_mul-face
-overflow_mul-face c = omega (arith, c.loop-i-test.true)
-
-pub offset_bounds-cap_list-i : goal.offset_bounds-cap_list-i
-offset_bounds-cap_list-i c = omega (arith, c.loop-i-test.true)
-
-pub bounds-cap_list-i : goal.bounds-cap_list-i
-bounds-cap_list-i c = omega (arith, c.loop-i-test.true)
-
-pub supplied-requires : goal.supplied-requires
-supplied-requires c = omega (arith, c.loop-i-test.true)
-
-pub is_bad_cap-requires : goal.is_bad_cap-requires
-is_bad_cap-requires c =
-    let s = c in
-    omega (arith, s.requires.0.size, s.requires.0.few)
-
 pub returns-then-is_bad_cap : goal.returns-then-is_bad_cap
 returns-then-is_bad_cap c =
     let by-words = by-words (goal.at.returns-then-is_bad_cap c).After-is_bad_cap in

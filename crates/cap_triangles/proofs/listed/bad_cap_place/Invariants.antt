@@ -1,4 +1,3 @@
-use Prim.Native.Nat.{◌-◌}
 use Rattle.cap_triangles.proofs.Passing.{Passed}
 use Rattle.cap_triangles.proofs.listed.bad_cap_place.Given as goal
 

@@ -1,23 +1,9 @@
+use mathlib.Core.Path.{ap}
 use Rattle.cap_triangles.proofs.Turns.{turned_as, reversed_as}
 use Rattle.geometry.specs.Numbers.{candidates_of}
 use Rattle.cap_triangles.proofs.turning.orient_face_triangle.Goals as goal
 
 -- `orient_face_triangle` meets its contract, by the side of the test. Assumes nothing.
-pub point_of-requires : goal.point_of-requires
-point_of-requires c =
-    let start = c in
-    ((start.requires.a, start.requires.a_low))
-
-pub point_of-requires-2 : goal.point_of-requires-2
-point_of-requires-2 c =
-    let start = c in
-    ((start.requires.b, start.requires.b_low))
-
-pub point_of-requires-3 : goal.point_of-requires-3
-point_of-requires-3 c =
-    let start = c in
-    ((start.requires.c, start.requires.c_low))
-
 pub returns-then-signed_area2-ccw_is_outward : goal.returns-then-signed_area2-ccw_is_outward
 returns-then-signed_area2-ccw_is_outward c =
     let start = c in
@@ -43,4 +29,5 @@ returns-else-signed_area2-ccw_is_outward c =
     c.point_of-2.ensures c.point_of-3.ensures
     c.project-a.ensures c.project-b.ensures
     c.project-c.ensures c.signed_area2.ensures c.ccw_is_outward.ensures
-    c.if-signed_area2-ccw_is_outward.false (candidates_of c.reversed.result) c.reversed.ensures
+    c.if-signed_area2-ccw_is_outward.false (candidates_of c.reversed.result)
+    (ap candidates_of c.reversed.ensures)

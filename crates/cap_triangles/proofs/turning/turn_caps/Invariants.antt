@@ -1,5 +1,4 @@
 use Rattle.cap_triangles.proofs.Turns.{Turning}
-use Prim.Native.Nat.{◌-◌}
 use Rattle.cap_triangles.proofs.turning.turn_caps.Given as goal
 
 -- `turn_caps` meets its contract. The invariant: the first i triangles stand turned in the room. Assumes nothing.

@@ -1,28 +1,18 @@
-use Rattle.mesh_weld.proofs.Signs.{asked, told, cell_is}
+use mir.ValLaws.{to_z-of_z}
+use mir.Syntax.{w64}
+use Rattle.rounding.specs.Rounding.{key_word}
+use Rattle.mesh_weld.specs.Cells.{key_of}
+use Rattle.mesh_weld.proofs.Words.{cell_is}
+use mathlib.Core.Path.{ap, ◌∙◌}
 use Rattle.mesh_weld.proofs.cells.cell_of.Goals as goal
 
-pub word_of_key-requires : goal.word_of_key-requires
-word_of_key-requires c = asked c.args.eps c.args.p.x c.quantized_key.result c.quantized_key.ensures c.requires.x
-
-pub word_of_key-requires-2 : goal.word_of_key-requires-2
-word_of_key-requires-2 c =
-    asked c.args.eps c.args.p.y c.quantized_key-2.result c.quantized_key-2.ensures
-    c.requires.y
-
-pub word_of_key-requires-3 : goal.word_of_key-requires-3
-word_of_key-requires-3 c =
-    asked c.args.eps c.args.p.z c.quantized_key-3.result c.quantized_key-3.ensures
-    c.requires.z
-
 pub returns : goal.returns
+unfolding key_of
 returns c =
-    cell_is c.args.eps c.args.p
-    c.word_of_key.result c.word_of_key-2.result c.word_of_key-3.result
-    (told c.args.eps c.args.p.x
-    c.quantized_key.result c.quantized_key.ensures
-    c.requires.x c.word_of_key.result c.word_of_key.ensures)
-    (told c.args.eps c.args.p.y
-    c.quantized_key-2.result c.quantized_key-2.ensures c.requires.y
-    c.word_of_key-2.result c.word_of_key-2.ensures)
-    (told c.args.eps c.args.p.z c.quantized_key-3.result
-    c.quantized_key-3.ensures c.requires.z c.word_of_key-3.result c.word_of_key-3.ensures)
+    cell_is (c.key_word.ensures ∙ ap key_word
+    (to_z-of_z w64 c.quantized_key.result (record { sfits = c.quantized_key.type_inv })) ∙ ap key_word
+    c.quantized_key.ensures)
+    (c.key_word-2.ensures ∙ ap key_word (to_z-of_z w64 c.quantized_key-2.result
+    (record { sfits = c.quantized_key-2.type_inv })) ∙ ap key_word c.quantized_key-2.ensures)
+    (c.key_word-3.ensures ∙ ap key_word (to_z-of_z w64 c.quantized_key-3.result (record { sfits = c.quantized_key-3.type_inv })) ∙ ap key_word
+    c.quantized_key-3.ensures)
