@@ -5,6 +5,7 @@
 --   answer_done        an answer whose number is 0
 --   answered, called   the work room cleared at the end; a reply reported to C
 --   meshes_alike       the same tests, mesh, outputs and work room: two calls end alike
+use Rattle.std.specs.Prelude.{Result, Ok, Err}
 use Prim.Native.Nat.{ℕ, ◌≤◌, ◌<◌}
 use mathlib.Core.Path.{◌≡◌, sym, ap, ◌∙◌, subst}
 use mathlib.Core.List.{List, [], ◌∷◌, ◌++◌, append_assoc}

@@ -1,4 +1,5 @@
 -- Laws of the tests and of what an output ends as: "exactly when" and "in the order tested" are read off one list.
+use Rattle.std.specs.Prelude.{Ok, Err}
 use Prim.Native.Nat.{ℕ}
 use mathlib.Core.Path.{◌≡◌, refl}
 use mathlib.Core.Bool.{Bool, true, false, cond}

@@ -2,6 +2,7 @@
 --   reply_refused, reply_passed    a row of tests in front, that refused or passed
 --   not_done, reply_done           a reply whose number is 0 is no refusal
 --   head_passed, tail_passed, row_front, row_rest   what is known once a row of tests has passed
+use Rattle.std.specs.Prelude.{Result, Ok, Err}
 use Prim.Native.Nat.{ℕ}
 use mathlib.Core.Path.{◌≡◌, refl, ap, ◌∙◌}
 use mathlib.Core.Bool.{Bool, true, false, cond}

@@ -42,7 +42,7 @@ pub fn report_refusal(values: &mut [u64; 4], refusal: Refusal) -> u32
 
 // Of more than four lengths the first four.
 pub fn report_reply<const N: usize>(values: &mut [u64; 4], reply: Reply<N>) -> u32
-    ensures { Reported (documented_reply reply) result values.new }
+    ensures { Reported (documented_reply reply.entry) result values.new }
 {
     match reply {
         Ok(lengths) => report_lengths(values, &lengths),
@@ -53,9 +53,7 @@ pub fn report_reply<const N: usize>(values: &mut [u64; 4], reply: Reply<N>) -> u
 fn report_lengths(values: &mut [u64; 4], lengths: &[usize]) -> u32
     ensures { Reported (0 ∷ lengths.now) result values.new }
 {
-    *values = [0; 4];
-    for (value, length) in values.iter_mut().zip(lengths) {
-        *value = *length as u64;
-    }
+    let length = |i: usize| lengths.get(i).copied().unwrap_or(0) as u64;
+    *values = [length(0), length(1), length(2), length(3)];
     0
 }

@@ -4,7 +4,7 @@
 --   sets_overlay                                 stores one after the other from 0 on make it
 --   overlay_zeros                                clearing the used front of a list that is zero beyond clears all of it
 --   take_zeros, drop_zeros                       parts of a list of zeros
---   cleared_front, cleared_part                  a lent part that came back cleared
+--   cleared_front, cleared_part, part_zeroed     a lent part that came back cleared
 --   Writing                                      the loop: the first i elements of `new` are written; start, turn, end
 use Prim.Native.Nat.{ℕ, zero, suc, ◌+◌, ◌-◌, ◌≤◌, ◌<◌, zero-le}
 use mathlib.Core.List.{List, [], ◌∷◌, ◌++◌, append-nil}
@@ -13,8 +13,12 @@ use native.Mathlib.Nat.{not-suc-le-zero, le_of_suc-le-suc}
 use native.Mathlib.Numerals.{add-one}
 use native.Mathlib.Omega.{arith}
 use borrow.Rule.Slice.PartMut.{put_mid, mid_len, Post-is}
-use lib.ListN.{length, take, drop, set, get_or, replicate, length-append, length-drop, length-set, length-replicate, get_or-replicate, drop_of_length-le, replicate-append-replicate}
-use lib.Seq.{length-take-le, take-append_seam, drop-append_seam, drop_at, take_all, sets, sets-eq}
+use lib.ListN.{length, take, drop, set, get_or, replicate, length-append, length-drop, length-set, length-replicate, get_or-replicate, drop_of_length-le, replicate-append-replicate, get_or-append}
+use Rattle.std.proofs.lemmas.List.{get_or-append-add, get_or-append_right}
+use Rattle.lists.specs.Regions.{Outside, PartZeroed}
+use mathlib.Core.Logic.{◌⊎◌, inl, inr, ⊎_elim}
+use Rattle.words.proofs.Packed.{less_equal_more}
+use lib.Seq.{get_or-take, get_or-drop, length-take-le, take-append_seam, drop-append_seam, drop_at, take_all, sets, sets-eq}
 use Rattle.words.specs.Overlay.{overlay}
 
 module _ {A : Type 0} where
@@ -103,3 +107,36 @@ pub cleared_part : (w z : List ℕ) (a e : ℕ) → a ≤ e → e ≤ length w �
 cleared_part w z a e h k q =
     ap (λ (l : List ℕ). take a w ++ (l ++ drop (e - a) (drop a w))) (q ∙ ap (λ (n : ℕ). replicate n 0) (mid_len a e w k))
     ∙ ap (λ (l : List ℕ). take a w ++ (replicate (e - a) 0 ++ l)) (Post-is a e w h)
+
+-- a part that came back cleared: what a caller of `zero_part` is told
+pub part_zeroed : (w z : List ℕ) (a n : ℕ) → a + n ≤ length w → z ≡ replicate (length (take (a + n - a) (drop a w))) 0 → PartZeroed w (put_mid a (a + n - a) w z) a n
+part_zeroed w z a n h q =
+    let m : a + n - a ≡ n = omega arith in
+    let e = cleared_part w z a (a + n) (omega arith) h q ∙ ap (λ (k : ℕ). take a w ++ (replicate k 0 ++ drop (a + n) w)) m in
+    let la = length-take-le a w (omega arith) in
+    let lr = length-replicate {A = ℕ} n 0 in
+    record {
+      long = ap length e ∙ simp (length-append, length-drop, length-replicate) (omega (arith, la));
+      zero = λ i k. ap (λ (l : List ℕ). get_or l (a + i) 0) e
+          ∙ (let p : a + i ≡ length (take a w) + i = omega (arith, la) in
+          ap (λ (x : ℕ). get_or (take a w ++ (replicate n 0 ++ drop (a + n) w)) x 0) p)
+          ∙ get_or-append-add (take a w) (replicate n 0 ++ drop (a + n) w) i 0
+          ∙ get_or-append (replicate n 0) (drop (a + n) w) 0 i (omega (arith, lr)) ∙ get_or-replicate n i 0 0 k;
+      rest = λ x f. ap (λ (l : List ℕ). get_or l x 0) e ∙ ⊎_elim (before x) (λ k. behind x (past x f k)) (lt_or_le x a);
+    }
+  where
+    lt_or_le : (x y : ℕ) → (x < y) ⊎ (y ≤ x)
+    lt_or_le x y = ⊎_elim inl (⊎_elim (λ (h : x ≡ y). inr (omega arith)) (λ (h : y < x). inr (omega arith))) (less_equal_more x y)
+
+    before : (x : ℕ) → x < a → get_or (take a w ++ (replicate n 0 ++ drop (a + n) w)) x 0 ≡ get_or w x 0
+    before x k =
+        get_or-append (take a w) (replicate n 0 ++ drop (a + n) w) 0 x (omega (arith, length-take-le a w (omega arith))) ∙ get_or-take a w x 0 k
+
+    past : (x : ℕ) → Outside x a n → a ≤ x → a + n ≤ x
+    past x f k = ⊎_elim (λ (j : x < a + n). absurd (f (x - a) (omega arith) (omega arith))) (λ j. j) (lt_or_le x (a + n))
+
+    behind : (x : ℕ) → a + n ≤ x → get_or (take a w ++ (replicate n 0 ++ drop (a + n) w)) x 0 ≡ get_or w x 0
+    behind x k =
+        get_or-append_right (take a w) (replicate n 0 ++ drop (a + n) w) a x 0 (length-take-le a w (omega arith)) (omega arith)
+        ∙ get_or-append_right (replicate n 0) (drop (a + n) w) n (x - a) 0 (length-replicate {A = ℕ} n 0) (omega arith)
+        ∙ get_or-drop (a + n) w (x - a - n) 0 ∙ (let e : a + n + (x - a - n) ≡ x = omega arith in ap (λ (i : ℕ). get_or w i 0) e)

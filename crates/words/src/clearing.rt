@@ -1,13 +1,11 @@
-// Clearing of lent words. Both loops compile to the C library's memset.
+// Clearing of lent words.
 ghost use Rattle.std.specs.Prelude.{◌≡◌, ◌≤◌, length, replicate};
 ghost use Rattle.words.specs.Overlay.{overlay};
 
 pub fn zero(w: &mut [u64])
     ensures { w.new ≡ replicate (length w.old) 0 }
 {
-    for i in 0..w.len() {
-        w[i] = 0;
-    }
+    w.fill(0);
 }
 
 // Clears the first n words: an operation clears its whole room once, and afterwards only what it used.
@@ -15,7 +13,5 @@ pub fn zero_front(w: &mut [u64], n: usize)
     requires { n ≤ length w.old }
     ensures { w.new ≡ overlay (replicate n 0) w.old }
 {
-    for k in 0..n {
-        w[k] = 0;
-    }
+    w[..n].fill(0);
 }

@@ -1,37 +1,18 @@
-// Copies to the front of an output, and stores that happen only where there is room. A function for each element type, one law for all.
-ghost use Rattle.std.specs.Prelude.{◌≡◌, ◌≤◌, length, set};
+// Copies to the front of an output, and stores that happen only where there is room.
+ghost use Rattle.std.specs.Prelude.{◌≡◌, [], ◌∷◌, ◌+◌, ◌<◌, ◌≤◌, length, set};
+ghost use Rattle.std.proofs.lemmas.List.Edits.{sets};
 ghost use Rattle.words.specs.Overlay.{overlay};
 
-pub fn copy_words(from: &[u64], to: &mut [u64])
+pub fn copy_front<T: Copy>(from: &[T], to: &mut [T])
     requires { length from.now ≤ length to.old }
     ensures { to.new ≡ overlay from.now to.old }
 {
-    for i in 0..from.len() {
-        to[i] = from[i];
-    }
+    to[..from.len()].copy_from_slice(from);
 }
 
-pub fn copy_numbers(from: &[u32], to: &mut [u32])
-    requires { length from.now ≤ length to.old }
-    ensures { to.new ≡ overlay from.now to.old }
-{
-    for j in 0..from.len() {
-        to[j] = from[j];
-    }
-}
-
-pub fn copy_doubles(from: &[f64], to: &mut [f64])
-    requires { length from.now ≤ length to.old }
-    ensures { to.new ≡ overlay from.now to.old }
-{
-    for k in 0..from.len() {
-        to[k] = from[k];
-    }
-}
-
-// `set` leaves a list alone at an index beyond its end, so one pass that stores by these serves for counting, where it is lent no room,
+// `set` leaves a list alone at an index beyond its end, so one pass that stores by this serves for counting, where it is lent no room,
 // and for writing.
-pub fn put_word(out: &mut [u64], at: usize, x: u64)
+pub fn put<T: Copy>(out: &mut [T], at: usize, x: T)
     ensures { out.new ≡ set out.old at x }
 {
     if at < out.len() {
@@ -39,18 +20,11 @@ pub fn put_word(out: &mut [u64], at: usize, x: u64)
     }
 }
 
-pub fn put_number(out: &mut [u32], at: usize, x: u32)
-    ensures { out.new ≡ set out.old at x }
+pub fn write_three<T: Copy>(out: &mut [T], at: usize, a: T, b: T, c: T)
+    requires { at + 2 < length out.old }
+    ensures { out.new ≡ sets out.old at (a ∷ b ∷ c ∷ []) }
 {
-    if at < out.len() {
-        out[at] = x;
-    }
-}
-
-pub fn put_double(out: &mut [f64], at: usize, x: f64)
-    ensures { out.new ≡ set out.old at x }
-{
-    if at < out.len() {
-        out[at] = x;
-    }
+    out[at] = a;
+    out[at + 1] = b;
+    out[at + 2] = c;
 }

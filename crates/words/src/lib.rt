@@ -7,7 +7,7 @@ mod packing;
 mod parts;
 
 pub use clearing::{zero, zero_front};
-pub use copying::{copy_doubles, copy_numbers, copy_words, put_double, put_number, put_word};
+pub use copying::{copy_front, put, write_three};
 pub use packing::{
     pack_edge, pack_pair, pack_triple, pair_first, pair_second, triple_first, triple_second,
     triple_third,

@@ -6,7 +6,5 @@ pub fn zero_part(w: &mut [u64], at: usize, n: usize)
     requires { at + n ≤ length w.old }
     ensures { PartZeroed w.old w.new at n }
 {
-    for i in 0..n {
-        w[at + i] = 0;
-    }
+    w[at..at + n].fill(0);
 }

@@ -1,24 +1,6 @@
-use native.Mathlib.Omega.{arith}
-use Rattle.lists.proofs.Regions.{filled_none, filled_more}
+use Rattle.std.proofs.Common.{rules}
+use Rattle.words.proofs.Overlay.{part_zeroed}
 use Rattle.words.proofs.parts.zero_part.Goals as goal
 
-pub loop-i-init : goal.loop-i-init
-loop-i-init c = (omega arith, filled_none (λ j. 0) _ _)
-
-pub overflow_add-w : goal.overflow_add-w
-overflow_add-w c = omega arith
-
-pub offset_bounds-w-at : goal.offset_bounds-w-at
-offset_bounds-w-at c = omega arith
-
-pub bounds-w-at : goal.bounds-w-at
-bounds-w-at c = omega arith
-
-pub loop-i-preserved : goal.loop-i-preserved
-loop-i-preserved c = (omega arith, filled_more (λ j. 0) _ c.loop-i.w c.args.at c.loop-i.i (omega arith) c.loop-i.invariant.1)
-
-pub shape_of-w : goal.shape_of-w
-shape_of-w c = omega arith
-
 pub returns : goal.returns
-returns c = let l = c.loop-i in let f = l.invariant.1 in record { long = f.long; zero = λ j h. f.at j (omega arith); rest = λ x h. f.rest x (λ j a e. h j (omega arith) e) }
+returns c = part_zeroed c.args.w.now c.fill.new.self c.args.at c.args.n c.requires (search rules)
