@@ -50,12 +50,10 @@ fn is_far(x: f64, eps: f64) -> bool
 pub fn has_far_key(coordinates: &[f64], eps: f64) -> bool
     ensures { result ≡ far_keys eps coordinates.now }
 {
-    let mut i = 0;
-    while i < coordinates.len() {
+    for i in 0..coordinates.len() {
         if is_far(coordinates[i], eps) {
             return true;
         }
-        i += 1;
     }
     false
 }

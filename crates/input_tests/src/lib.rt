@@ -51,12 +51,10 @@ fn is_over(ceiling: u64, length: usize) -> bool
 pub fn has_bad_index(facets: &[u32], count: usize) -> bool
     ensures { result ≡ bad_index count facets.now }
 {
-    let mut i = 0;
-    while i < facets.len() {
+    for i in 0..facets.len() {
         if facets[i] as usize >= count {
             return true;
         }
-        i += 1;
     }
     false
 }
@@ -118,12 +116,10 @@ pub fn in_range(x: f64) -> bool
 pub fn all_in_range(vertices: &[f64]) -> bool
     ensures { result ≡ every in_range vertices.now }
 {
-    let mut i = 0;
-    while i < vertices.len() {
+    for i in 0..vertices.len() {
         if !in_range(vertices[i]) {
             return false;
         }
-        i += 1;
     }
     true
 }

@@ -5,6 +5,7 @@
 --   answer_done        an answer whose number is 0
 --   answered, called   the work room cleared at the end; a reply reported to C
 --   meshes_alike       the same tests, mesh, outputs and work room: two calls end alike
+use Rattle.std.specs.Prelude.{Result, Ok, Err}
 use Prim.Native.Nat.{ℕ, ◌≤◌, ◌<◌}
 use mathlib.Core.Path.{◌≡◌, sym, ap, ◌∙◌, subst}
 use mathlib.Core.List.{List, [], ◌∷◌, ◌++◌, append_assoc}
@@ -18,10 +19,6 @@ use Rattle.geometry.specs.Triangles.{flat}
 use Rattle.geometry.specs.Meshes.{Mesh, coordinates}
 use Rattle.refusals.specs.declared.refusal.Refusal.{Refusal}
 use Rattle.refusals.specs.declared.refusal.Refusal.TheVariants.{NoRoom}
-use Rattle.refusals.specs.declared.refusal.Checked.{Checked}
-use Rattle.refusals.specs.declared.refusal.Checked.TheVariants.{Refused}
-use Rattle.refusals.specs.declared.reply.Reply.TheVariants.{DoneTwo, DoneThree, DoneFour}
-use Rattle.refusals.specs.declared.reply.Reply.TheVariants as reply
 use Rattle.refusals.specs.Refusals.{documented, documented_reply, Test, first_refusal, Passes, numbered, reply_to, settle}
 use Rattle.refusals.specs.Reports.{Reported}
 use Rattle.refusals.specs.Answers.{room_tests, Output, mesh_outputs, result_lengths, output_lengths, AllSettled, reply_with, Answer, Answered, Called, MeshesAlike}
@@ -56,7 +53,7 @@ all_laid l (o ∷ outs) h = (h.0 ∙ sym (laid_over l o.result o.before), all_la
 
 -- ---- replies
 
-pub refused : (ts : List Test) (outs : List Output) (r : Refusal) → first_refusal ts ≡ Refused r → Same outs → Answer ts outs (documented_reply (reply.Refused r))
+pub refused : (ts : List Test) (outs : List Output) (r : Refusal) → first_refusal ts ≡ Err r → Same outs → Answer ts outs (documented_reply (Err r))
 unfolding documented_reply
 refused ts outs r e h =
     record { replied = sym (reply_refused ts (rooms outs) (result_lengths outs) r e); settled = all_untouched r outs h }
@@ -75,7 +72,7 @@ behind ts outs reply e a = record { replied = a.replied ∙ sym (reply_passed ts
 
 -- the first output without room is o: those before it, os, have it
 room_short : (os : List Output) (o : Output) (outs : List Output) → Fits os → length o.before < length o.result
-    → first_refusal (rooms (os ++ o ∷ outs)) ≡ Refused (NoRoom (length o.result))
+    → first_refusal (rooms (os ++ o ∷ outs)) ≡ Err (NoRoom (length o.result))
 unfolding room_tests
 room_short [] o outs f h = holds (ltb (length o.before) (length o.result)) (NoRoom (length o.result)) (rooms outs) (lt-ltb _ _ h)
 room_short (p ∷ os) o outs f h =
@@ -90,37 +87,22 @@ room_enough (o ∷ outs) f =
 
 -- n is the length of its result, as it was computed
 pub short : (os : List Output) (o : Output) (outs : List Output) (n : ℕ) → n ≡ length o.result → Fits os → length o.before < n → Same (os ++ o ∷ outs)
-    → Answer [] (os ++ o ∷ outs) (documented_reply (reply.Refused (NoRoom n)))
+    → Answer [] (os ++ o ∷ outs) (documented_reply (Err (NoRoom n)))
 unfolding documented_reply
 short os o outs n e f h s =
     record {
       replied = ap (λ (k : ℕ). documented (NoRoom k)) e
-          ∙ sym (ap (λ (c : Checked). numbered c (result_lengths (os ++ o ∷ outs))) (room_short os o outs f (omega (arith, e, h))));
+          ∙ sym (ap (λ (c : Result (Unit {0}) Refusal). numbered c (result_lengths (os ++ o ∷ outs))) (room_short os o outs f (omega (arith, e, h))));
       settled = all_untouched (NoRoom n) (os ++ o ∷ outs) s;
     }
 
-done : (outs : List Output) (lengths : List ℕ) → lengths ≡ result_lengths outs → Fits outs → Laid outs → Answer [] outs (0 ∷ lengths)
+pub done : (outs : List Output) (lengths : List ℕ) → lengths ≡ result_lengths outs → Fits outs → Laid outs → Answer [] outs (documented_reply (Ok lengths))
+unfolding documented_reply
 done outs lengths e f l =
     record {
-      replied = ap (λ (k : List ℕ). 0 ∷ k) e ∙ sym (ap (λ (c : Checked). numbered c (result_lengths outs)) (room_enough outs f));
+      replied = ap (λ (k : List ℕ). 0 ∷ k) e ∙ sym (ap (λ (c : Result (Unit {0}) Refusal). numbered c (result_lengths outs)) (room_enough outs f));
       settled = all_laid lengths outs l;
     }
-
-pub done_two : (o p : Output) (a b : ℕ) → a ≡ length o.result → b ≡ length p.result → Fits (o ∷ p ∷ []) → Laid (o ∷ p ∷ [])
-    → Answer [] (o ∷ p ∷ []) (documented_reply (DoneTwo a b))
-unfolding documented_reply
-done_two o p a b ea eb f l = done (o ∷ p ∷ []) (a ∷ b ∷ []) (λ t. ea t ∷ eb t ∷ []) f l
-
-pub done_three : (o p q : Output) (a b c : ℕ) → a ≡ length o.result → b ≡ length p.result → c ≡ length q.result
-    → Fits (o ∷ p ∷ q ∷ []) → Laid (o ∷ p ∷ q ∷ []) → Answer [] (o ∷ p ∷ q ∷ []) (documented_reply (DoneThree a b c))
-unfolding documented_reply
-done_three o p q a b c ea eb ec f l = done (o ∷ p ∷ q ∷ []) (a ∷ b ∷ c ∷ []) (λ t. ea t ∷ eb t ∷ ec t ∷ []) f l
-
-pub done_four : (o p q s : Output) (a b c d : ℕ) → a ≡ length o.result → b ≡ length p.result → c ≡ length q.result → d ≡ length s.result
-    → Fits (o ∷ p ∷ q ∷ s ∷ []) → Laid (o ∷ p ∷ q ∷ s ∷ []) → Answer [] (o ∷ p ∷ q ∷ s ∷ []) (documented_reply (DoneFour a b c d))
-unfolding documented_reply
-done_four o p q s a b c d ea eb ec ed f l =
-    done (o ∷ p ∷ q ∷ s ∷ []) (a ∷ b ∷ c ∷ d ∷ []) (λ t. ea t ∷ eb t ∷ ec t ∷ ed t ∷ []) f l
 
 -- an answer whose number is 0 tells the lengths written, and the outputs hold the results
 pub answer_done : (ts : List Test) (outs : List Output) (reply : List ℕ) → Answer ts outs reply → get_or reply 0 0 ≡ 0 → (reply ≡ 0 ∷ result_lengths outs) × Laid outs

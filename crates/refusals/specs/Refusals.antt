@@ -1,20 +1,15 @@
 -- Refusals, replies and outputs (document 01, "Refusals, in the order tested"). Assumes nothing.
 --   documented        "this paper's number and values for each of its cases"
 --   documented_reply   the same of an operation's reply: 0 and the lengths written, or the refusal's
---   turned_down        the reply is a refusal
 --   Test              a row of the table: when it refuses, and as what
 --   first_refusal      the first test that holds        unless    tests that are passed over
 --   Passes            no test of a row holds
 --   reply_to           the reply as numbers: the first refusal's, else 0 and the values of what was done
 --   settle            what an output ends as           Zeroed    what the work room does
+use Rattle.std.specs.Prelude.{Result, Ok, Err}
 use Rattle.std.specs.Prelude.{ℕ, zero, suc, ◌≡◌, Bool, true, false, cond, List, [], ◌∷◌, length, replicate}
 use Rattle.words.specs.Overlay.{overlay}
 use Rattle.refusals.specs.declared.refusal.Refusal.{Refusal}
-use Rattle.refusals.specs.declared.refusal.Checked.{Checked}
-use Rattle.refusals.specs.declared.refusal.Checked.TheVariants.{Passed, Refused}
-use Rattle.refusals.specs.declared.reply.Reply.{Reply}
-use Rattle.refusals.specs.declared.reply.Reply.TheVariants.{DoneTwo, DoneThree, DoneFour}
-use Rattle.refusals.specs.declared.reply.Reply.TheVariants as reply
 use Rattle.refusals.specs.declared.refusal.Refusal.TheVariants.{Ragged, TooMany, BadIndex, BadNumber, BadBox, GridTooFine, NoWorkRoom, KeyRange, OpenEdge, BadCap, MissingEdge, NoRoom}
 
 unfoldable pub documented : Refusal → List ℕ
@@ -32,33 +27,25 @@ documented (MissingEdge place) = 11 ∷ place ∷ []
 documented (NoRoom need) = 12 ∷ need ∷ []
 
 -- "counts returned are the lengths written"
-unfoldable pub documented_reply : Reply → List ℕ
-documented_reply (DoneTwo a b) = 0 ∷ a ∷ b ∷ []
-documented_reply (DoneThree a b c) = 0 ∷ a ∷ b ∷ c ∷ []
-documented_reply (DoneFour a b c d) = 0 ∷ a ∷ b ∷ c ∷ d ∷ []
-documented_reply (reply.Refused r) = documented r
-
-abbrev pub turned_down : Reply → Bool
-turned_down (DoneTwo a b) = false
-turned_down (DoneThree a b c) = false
-turned_down (DoneFour a b c d) = false
-turned_down (reply.Refused r) = true
+unfoldable pub documented_reply : Result (List ℕ) Refusal → List ℕ
+documented_reply (Ok lengths) = 0 ∷ lengths
+documented_reply (Err r) = documented r
 
 abbrev pub Test : Type 0
 Test = Bool × Refusal
 
 -- "Exactly when", "in the order tested"
-unfoldable pub first_refusal : List Test → Checked
-first_refusal [] = Passed
-first_refusal (t ∷ ts) = let r = first_refusal ts in cond t.0 (Refused t.1) r
+unfoldable pub first_refusal : List Test → Result (Unit {0}) Refusal
+first_refusal [] = Ok tt
+first_refusal (t ∷ ts) = let r = first_refusal ts in cond t.0 (Err t.1) r
 
 -- no test of the row holds
 abbrev pub Passes : List Test → Type 0
-Passes tests = first_refusal tests ≡ Passed
+Passes tests = first_refusal tests ≡ Ok tt
 
-abbrev pub numbered : Checked → List ℕ → List ℕ
-numbered Passed done = 0 ∷ done
-numbered (Refused r) done = documented r
+abbrev pub numbered : Result (Unit {0}) Refusal → List ℕ → List ℕ
+numbered (Ok x) done = 0 ∷ done
+numbered (Err r) done = documented r
 
 abbrev pub reply_to : List Test → List ℕ → List ℕ
 reply_to tests done = numbered (first_refusal tests) done

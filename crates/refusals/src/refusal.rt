@@ -26,10 +26,3 @@ pub enum Refusal {
     // an output is shorter than its result, which has this many elements
     NoRoom(usize),
 }
-
-// What a row of tests found.
-#[derive(Clone, Copy)]
-pub enum Checked {
-    Passed,
-    Refused(Refusal),
-}

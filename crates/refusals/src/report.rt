@@ -40,15 +40,20 @@ pub fn report_refusal(values: &mut [u64; 4], refusal: Refusal) -> u32
     }
 }
 
-pub fn report_reply(values: &mut [u64; 4], reply: Reply) -> u32
-    ensures { Reported (documented_reply reply) result values.new }
+// Of more than four lengths the first four.
+pub fn report_reply<const N: usize>(values: &mut [u64; 4], reply: Reply<N>) -> u32
+    ensures { Reported (documented_reply reply.entry) result values.new }
 {
     match reply {
-        Reply::DoneTwo(a, b) => report_done(values, a as u64, b as u64, 0, 0),
-        Reply::DoneThree(a, b, c) => report_done(values, a as u64, b as u64, c as u64, 0),
-        Reply::DoneFour(a, b, c, d) => {
-            report_done(values, a as u64, b as u64, c as u64, d as u64)
-        }
-        Reply::Refused(refusal) => report_refusal(values, refusal),
+        Ok(lengths) => report_lengths(values, &lengths),
+        Err(refusal) => report_refusal(values, refusal),
     }
+}
+
+fn report_lengths(values: &mut [u64; 4], lengths: &[usize]) -> u32
+    ensures { Reported (0 ∷ lengths.now) result values.new }
+{
+    let length = |i: usize| lengths.get(i).copied().unwrap_or(0) as u64;
+    *values = [length(0), length(1), length(2), length(3)];
+    0
 }

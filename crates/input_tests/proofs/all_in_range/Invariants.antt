@@ -7,6 +7,3 @@ use Rattle.input_tests.proofs.all_in_range.Given as goal
 
 abbrev pub invariant-loop-i : goal.invariant-loop-i
 invariant-loop-i l = (l.i ≤ length l.vertices) × (every in_range l.vertices ≡ every in_range (drop l.i l.vertices))
-
-abbrev pub decreases-loop-i : goal.decreases-loop-i
-decreases-loop-i l = length l.vertices - l.i

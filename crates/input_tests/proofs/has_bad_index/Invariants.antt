@@ -8,6 +8,3 @@ use Rattle.input_tests.proofs.has_bad_index.Given as goal
 
 abbrev pub invariant-loop-i : goal.invariant-loop-i
 invariant-loop-i l = (l.i ≤ length l.facets) × (some (λ k. not (ltb k l.count)) l.facets ≡ some (λ k. not (ltb k l.count)) (drop l.i l.facets))
-
-abbrev pub decreases-loop-i : goal.decreases-loop-i
-decreases-loop-i l = length l.facets - l.i

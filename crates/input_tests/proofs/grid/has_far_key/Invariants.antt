@@ -7,6 +7,3 @@ use Rattle.input_tests.proofs.grid.has_far_key.Given as goal
 
 abbrev pub invariant-loop-i : goal.invariant-loop-i
 invariant-loop-i l = (l.i ≤ length l.coordinates) × (some (far_key l.eps) l.coordinates ≡ some (far_key l.eps) (drop l.i l.coordinates))
-
-abbrev pub decreases-loop-i : goal.decreases-loop-i
-decreases-loop-i l = length l.coordinates - l.i
