@@ -24,7 +24,7 @@ module _ (p : ℕ → Bool) where
 
   pub mask_of : (r0 r1 r2 r3 r4 r5 : ℕ) → r0 ≡ cond (p 0) 1 0 → r1 ≡ cond (p 1) 2 0 → r2 ≡ cond (p 2) 4 0 → r3 ≡ cond (p 3) 8 0 → r4 ≡ cond (p 4) 16 0 → r5 ≡ cond (p 5) 32 0
       → r0 + (r1 + (r2 + (r3 + (r4 + r5)))) ≡ face_bits (keep p faces)
-  unfolding keep face_bits
+  unfolding face_bits
   mask_of r0 r1 r2 r3 r4 r5 e0 e1 e2 e3 e4 e5 =
       let b5 : r5 ≡ face_bits (keep p (5 ∷ [])) = e5 ∙ sym (add-zero (cond (p 5) 32 0)) ∙ bits_step 5 [] (p 5) in
       let b4 : r4 + r5 ≡ face_bits (keep p (4 ∷ 5 ∷ [])) = ap (λ k. k + r5) e4 ∙ ap (λ k. cond (p 4) 16 0 + k) b5 ∙ bits_step 4 (5 ∷ []) (p 4) in
@@ -37,7 +37,6 @@ module _ (p : ℕ → Bool) where
 
   pub count_of : (r0 r1 r2 r3 r4 r5 : ℕ) → r0 ≡ cond (p 0) 1 0 → r1 ≡ cond (p 1) 1 0 → r2 ≡ cond (p 2) 1 0 → r3 ≡ cond (p 3) 1 0 → r4 ≡ cond (p 4) 1 0 → r5 ≡ cond (p 5) 1 0
       → r0 + (r1 + (r2 + (r3 + (r4 + r5)))) ≡ length (keep p faces)
-  unfolding keep
   count_of r0 r1 r2 r3 r4 r5 e0 e1 e2 e3 e4 e5 =
       let b5 : r5 ≡ length (keep p (5 ∷ [])) = e5 ∙ sym (add-zero (cond (p 5) 1 0)) ∙ count_step 5 [] (p 5) in
       let b4 : r4 + r5 ≡ length (keep p (4 ∷ 5 ∷ [])) = ap (λ k. k + r5) e4 ∙ ap (λ k. cond (p 4) 1 0 + k) b5 ∙ count_step 4 (5 ∷ []) (p 4) in

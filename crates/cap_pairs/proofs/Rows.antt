@@ -1,7 +1,7 @@
 -- Test 11 over the rows of open edges: the loop of missing_place. Assumes nothing.
 --   list_long       a face's list is as long as the room says
 --   row_place       of one open edge, the place of the first face that is missing
---   RowWalk         none of the edges before i is missing, and `place` is how many entries they have
+--   RowWalk         none of the edges before i is missing, and `found` is how many entries they have
 --   row_start, row_stop, row_more, row_end
 use Prim.Native.Nat.{ℕ, suc, ◌+◌, ◌*◌, ◌-◌, ◌/◌, ◌≤◌, ◌<◌, min}
 use mathlib.Core.Bool.{Bool, true, not, ◌&&◌}
@@ -9,10 +9,10 @@ use mathlib.Core.List.{List, ◌++◌, flat_map}
 use mathlib.Core.Path.{◌≡◌, refl, sym, ap, ◌∙◌}
 use native.Mathlib.Omega.{arith}
 use lib.Dec.{eqb, leb}
-use lib.ListN.{length, get_or, length-take, length-drop, length-map, drop}
+use lib.ListN.{length, get_or, length-append, length-take, length-drop, length-map, drop}
 use Rattle.lists.specs.Lists.{some, place, up_from}
 use Rattle.lists.proofs.Counts.{count_le}
-use Rattle.lists.proofs.Members.{of_keep, place_le}
+use Rattle.lists.proofs.Members.{of_keep}
 use Rattle.lists.proofs.Stores.{up_from_cons}
 use Rattle.lists.proofs.Sequences.{some_same}
 use Rattle.lists.proofs.Bools.{is_true}
@@ -54,6 +54,7 @@ pub record RowWalk (n nf k : ℕ) (cap_list w : List ℕ) (found i : ℕ) : Type
   pub few : found ≤ 6 * i
   pub so : missing_place (pool_at n w) (caps_of cap_list) (edges_at w (open_edges_at n nf) k)
       ≡ found + place (missing_edge (pool_at n w) (caps_of cap_list)) (flat_map (λ j. edge_at w (open_edges_at n nf + 3 * j)) (up_from i (k - i)))
+  pub long : length (edges_at w (open_edges_at n nf) k) ≡ found + length (flat_map (λ j. edge_at w (open_edges_at n nf + 3 * j)) (up_from i (k - i)))
 
 module _ (n nf k : ℕ) (cap_list w : List ℕ) (ready : CapReady n nf k cap_list w) (K : PairsKnown n nf k cap_list w) where
   abbrev nc : ℕ
@@ -130,7 +131,13 @@ module _ (n nf k : ℕ) (cap_list w : List ℕ) (ready : CapReady n nf k cap_lis
 
   pub row_start : RowWalk n nf k cap_list w 0 0
   unfolding missing_place edges_at
-  row_start = record { within = omega arith; few = omega arith; so = ap (λ (l : List ℕ). place Q (flat_map part l)) (ap (up_from 0) (less k)) ∙ omega arith }
+  row_start =
+      record {
+        within = omega arith;
+        few = omega arith;
+        so = ap (λ (l : List ℕ). place Q (flat_map part l)) (ap (up_from 0) (less k)) ∙ omega arith;
+        long = ap (λ (l : List ℕ). length (flat_map part l)) (ap (up_from 0) (less k)) ∙ omega arith;
+      }
     where
       less : (k : ℕ) → k ≡ k - 0
       less k = omega arith
@@ -152,6 +159,9 @@ module _ (n nf k : ℕ) (cap_list w : List ℕ) (ready : CapReady n nf k cap_lis
           next : (i : ℕ) → suc i ≡ i + 1
           next i = omega arith
 
+      more_long : length (flat_map part (up_from i (k - i))) ≡ length (part i) + length (flat_map part (up_from (i + 1) (k - (i + 1))))
+      more_long = ap length more ∙ length-append (part i) (flat_map part (up_from (i + 1) (k - (i + 1))))
+
       long : length (part i) ≡ count
       unfolding bit_count
       long = row_long i h ∙ sym c
@@ -159,47 +169,43 @@ module _ (n nf k : ℕ) (cap_list w : List ℕ) (ready : CapReady n nf k cap_lis
       here : before ≡ place Q (part i)
       here = e ∙ sym (row_place i h)
 
-      before_low : before ≤ count
-      before_low = let a = place_le Q (part i) in let b = here in let d = long in omega arith
-
       count_low : count ≤ 6
       unfolding bit_count
       count_low = let a = count_le (has_bit (mask i)) faces in omega (arith, c)
 
-      row_few : found + before ≤ 6 * (i + 1)
-      row_few = let a = before_low in let b = count_low in omega (arith, s.few)
-
-      pub row_fits : found + before < 18446744073709551616
-      row_fits = let a = row_few in bounded (found + before) i k nf a h ready.edges ready.ready.supplied.few
+      pub row_fits : found + count < 18446744073709551616
+      row_fits = let b = count_low in bounded (found + count) i k nf (omega (arith, s.few)) h ready.edges ready.ready.supplied.few
         where
           bounded : (x i k nf : ℕ) → x ≤ 6 * (i + 1) → i < k → k ≤ 3 * nf → nf < 268435456 → x < 18446744073709551616
           bounded x i k nf a b c d = omega arith
 
-      pub row_stop : before < count → found + before ≡ missing_place pool caps (edges_at w at k)
+      pub row_stop : before < count → (found + before ≡ missing_place pool caps (edges_at w at k)) × (found + before < length (edges_at w at k))
       row_stop l =
           let a = here in
           let b = long in
           let d = place_stops Q (part i) (flat_map part (up_from (i + 1) (k - (i + 1)))) (omega arith) in
           let f = ap (place Q) more in
-          omega (arith, s.so)
+          let g = more_long in
+          (omega (arith, s.so), omega (arith, s.long))
 
-      pub row_more : count ≤ before → RowWalk n nf k cap_list w (found + before) (i + 1)
+      pub row_more : before ≡ count → RowWalk n nf k cap_list w (found + count) (i + 1)
       row_more l =
+          let b = long in
           record {
             within = omega arith;
-            few = row_few;
+            few = let c = count_low in omega (arith, s.few);
             so =
                 let a = here in
-                let b = long in
-                let g = before_low in
                 let d = place_goes Q (part i) (flat_map part (up_from (i + 1) (k - (i + 1)))) (omega arith) in
                 let f = ap (place Q) more in
                 omega (arith, s.so);
+            long = let g = more_long in omega (arith, s.long);
           }
 
-    pub row_end : k ≤ i → found ≡ missing_place pool caps (edges_at w at k)
+    pub row_end : k ≤ i → missing_place pool caps (edges_at w at k) ≡ length (edges_at w at k)
     unfolding place flat_map up_from
     row_end h =
         let z : k - i ≡ 0 = omega arith in
         let e : place Q (flat_map part (up_from i (k - i))) ≡ 0 = ap (λ (m : ℕ). place Q (flat_map part (up_from i m))) z in
-        omega (arith, s.so)
+        let l : length (flat_map part (up_from i (k - i))) ≡ 0 = ap (λ (m : ℕ). length (flat_map part (up_from i m))) z in
+        omega (arith, s.so, s.long)

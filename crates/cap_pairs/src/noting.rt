@@ -8,7 +8,7 @@ ghost use Rattle.cap_pairs.specs.Steps.{Added, Noted, edge_mask, edge_target, si
 
 use box_faces::faces::has_face;
 use candidate_pool::room::open_edges_at;
-use cap_triangles::room::{down_at, held_at, numbers_at, up_at};
+use cap_triangles::room::CapRoom;
 use words::zero_part;
 
 fn add_face(w: &mut [u64], at: usize, face: usize)
@@ -50,16 +50,17 @@ fn edge_faces(w: &[u64], at: usize) -> u64
 }
 
 // Of each pair the faces of its open edges, by the way that they run. An edge that kept one end has no face, and its pair no triangle.
-fn note_edges(w: &mut [u64], n: usize, nf: usize, nc: usize, k: usize)
-    requires tables_for { TablesFor n nf nc w.old k }
-    requires by_index { (i : ℕ) → i < k → get_or w.old (numbers_at n nf nc + i) 0 < k + 3 * nc }
-    requires by_index_2 { (r : ℕ) → r < k + 3 * nc → (get_or w.old (up_at n nf nc + r) 0 ≡ 0) × (get_or w.old (down_at n nf nc + r) 0 ≡ 0) }
-    ensures { Noted (edge_target n nf nc w.old) (λ j. has_bit (edge_mask n nf nc w.old j)) w.old w.new k }
+fn note_edges(w: &mut [u64], room: CapRoom, k: usize)
+    requires tables_for { TablesFor room.n room.nf room.nc w.old k }
+    requires by_index { (i : ℕ) → i < k → get_or w.old (numbers_at room.n room.nf room.nc + i) 0 < k + 3 * room.nc }
+    requires by_index_2 { (r : ℕ) → r < k + 3 * room.nc
+        → (get_or w.old (up_at room.n room.nf room.nc + r) 0 ≡ 0) × (get_or w.old (down_at room.n room.nf room.nc + r) 0 ≡ 0) }
+    ensures { Noted (edge_target room.n room.nf room.nc w.old) (λ j. has_bit (edge_mask room.n room.nf room.nc w.old j)) w.old w.new k }
 {
-    let edges = open_edges_at(n, nf);
-    let numbers = numbers_at(n, nf, nc);
-    let up = up_at(n, nf, nc);
-    let down = down_at(n, nf, nc);
+    let edges = open_edges_at(room.n, room.nf);
+    let numbers = room.numbers_at();
+    let up = room.up_at();
+    let down = room.down_at();
     for i in 0..k {
         let table = way_at(w, edges + 3 * i, up, down);
         let pair = w[numbers + i] as usize;
@@ -78,8 +79,9 @@ fn note_sides(w: &mut [u64], n: usize, nf: usize, k: usize, cap_list: &[u64])
         w.old w.new (3 * (length cap_list.now / 4)) }
 {
     let nc = cap_list.len() / 4;
-    let numbers = numbers_at(n, nf, nc) + k;
-    let held = held_at(n, nf, nc);
+    let room = CapRoom { n, nf, nc };
+    let numbers = room.numbers_at() + k;
+    let held = room.held_at();
     for s in 0..3 * nc {
         let pair = w[numbers + s] as usize;
         let face = cap_list[s / 3 * 4] as usize;
@@ -93,9 +95,10 @@ pub fn note_faces(w: &mut [u64], n: usize, nf: usize, k: usize, cap_list: &[u64]
     ensures { Above (up_at n nf (length cap_list.now / 4)) w.old w.new × PairsKnown n nf k cap_list.now w.new }
 {
     let nc = cap_list.len() / 4;
-    zero_part(w, up_at(n, nf, nc), k + 3 * nc);
-    zero_part(w, down_at(n, nf, nc), k + 3 * nc);
-    zero_part(w, held_at(n, nf, nc), k + 3 * nc);
-    note_edges(w, n, nf, nc, k);
+    let room = CapRoom { n, nf, nc };
+    zero_part(w, room.up_at(), k + 3 * nc);
+    zero_part(w, room.down_at(), k + 3 * nc);
+    zero_part(w, room.held_at(), k + 3 * nc);
+    note_edges(w, room, k);
     note_sides(w, n, nf, k, cap_list);
 }

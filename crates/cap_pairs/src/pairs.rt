@@ -9,7 +9,7 @@ ghost use Rattle.cap_pairs.specs.Steps.{SmallEdge, side_words, Recorded, FirstsP
 ghost use Rattle.candidate_pool.specs.Offsets.{open_edges_at};
 
 use candidate_pool::room::open_edges_at;
-use cap_triangles::room::{numbers_at, records_at, turned_at};
+use cap_triangles::room::CapRoom;
 use edges::next_side;
 use records::{put_by_payload, run_end};
 use sorting::sort_records;
@@ -34,13 +34,13 @@ fn edge_word(w: &[u64], at: usize) -> u64
 }
 
 // Records of the k open edges.
-fn put_edges(w: &mut [u64], n: usize, nf: usize, nc: usize, k: usize)
-    requires tables_for { TablesFor n nf nc w.old k }
-    requires by_index { (i : ℕ) → i < k → SmallEdge w.old (open_edges_at n nf + 3 * i) }
-    ensures { Recorded (λ i. edge_pair w.old (open_edges_at n nf + 3 * i)) w.old w.new (pair_records_at n nf nc) 0 k }
+fn put_edges(w: &mut [u64], room: CapRoom, k: usize)
+    requires tables_for { TablesFor room.n room.nf room.nc w.old k }
+    requires by_index { (i : ℕ) → i < k → SmallEdge w.old (open_edges_at room.n room.nf + 3 * i) }
+    ensures { Recorded (λ i. edge_pair w.old (open_edges_at room.n room.nf + 3 * i)) w.old w.new (pair_records_at room.n room.nf room.nc) 0 k }
 {
-    let edges = open_edges_at(n, nf);
-    let records = records_at(n, nf, nc);
+    let edges = open_edges_at(room.n, room.nf);
+    let records = room.records_at();
     for i in 0..k {
         w[records + 2 * i] = edge_word(w, edges + 3 * i);
         w[records + 2 * i + 1] = i as u64;
@@ -48,14 +48,14 @@ fn put_edges(w: &mut [u64], n: usize, nf: usize, nc: usize, k: usize)
 }
 
 // Behind them, records of the sides of the turned triangles.
-fn put_sides(w: &mut [u64], n: usize, nf: usize, nc: usize, k: usize)
-    requires tables_for { TablesFor n nf nc w.old k }
-    requires by_index { (s : ℕ) → s < 3 * nc → get_or w.old (turned_at n nf + s) 0 < 4294967296 }
-    ensures { Recorded (side_words w.old (turned_at n nf)) w.old w.new (pair_records_at n nf nc + 2 * k) k (3 * nc) }
+fn put_sides(w: &mut [u64], room: CapRoom, k: usize)
+    requires tables_for { TablesFor room.n room.nf room.nc w.old k }
+    requires by_index { (s : ℕ) → s < 3 * room.nc → get_or w.old (turned_at room.n room.nf + s) 0 < 4294967296 }
+    ensures { Recorded (side_words w.old (turned_at room.n room.nf)) w.old w.new (pair_records_at room.n room.nf room.nc + 2 * k) k (3 * room.nc) }
 {
-    let turned = turned_at(n, nf);
-    let records = records_at(n, nf, nc) + 2 * k;
-    for s in 0..3 * nc {
+    let turned = room.turned_at();
+    let records = room.records_at() + 2 * k;
+    for s in 0..3 * room.nc {
         w[records + 2 * s] = pair_word(w[turned + s], w[turned + next_side(s)]);
         w[records + 2 * s + 1] = (k + s) as u64;
     }
@@ -80,10 +80,11 @@ pub fn number_pairs(w: &mut [u64], n: usize, nf: usize, k: usize, cap_list: &[u6
     ensures { Numbered n nf k cap_list.now w.old w.new }
 {
     let nc = cap_list.len() / 4;
-    put_edges(w, n, nf, nc, k);
-    put_sides(w, n, nf, nc, k);
-    let records = records_at(n, nf, nc);
+    let room = CapRoom { n, nf, nc };
+    put_edges(w, room, k);
+    put_sides(w, room, k);
+    let records = room.records_at();
     let p = k + 3 * nc;
     sort_records(&mut w[records..records + 4 * p], p);
-    number_records(w, records, numbers_at(n, nf, nc), p);
+    number_records(w, records, room.numbers_at(), p);
 }

@@ -14,7 +14,7 @@ use lib.Dec.{eqb}
 use lib.ListN.{length, get_or, set, length-set, length-map, length-append}
 use lib.Seq.{get_or-set_same, get_or-set_other}
 use borrow.Author.Tests.{eqb-true, eq-eqb, ne_eqb}
-use Rattle.lists.specs.Lists.{some, has, place, keep, distinct, distinct_from}
+use Rattle.lists.specs.Lists.{has, place, keep, distinct, distinct_from}
 use Rattle.lists.proofs.Mapped.{Each, each_map}
 use Rattle.lists.proofs.Sequences.{some_append, place_front, place_behind}
 use Rattle.geometry.specs.declared.point.Point.{Point}
@@ -99,7 +99,7 @@ module _ (at : ℕ → Point) (given : List ℕ) (points : List Point) where
       enter_old at n x (omega arith)
 
   tells_new : (n : Named) (new : List ℕ) (x : ℕ) → Tells n new → x < length given → bare x ≡ true → has new x ≡ false → Tells (enter at n x) (new ++ (x ∷ []))
-  unfolding some place
+  unfolding place
   tells_new n new x t h b e =
       subst (λ (q : Named). Tells q (new ++ (x ∷ []))) (sym (enter_new at n x none))
       (record {
@@ -147,7 +147,7 @@ module _ (at : ℕ → Point) (given : List ℕ) (points : List Point) where
       → Tells (foldl (enter at) n cs) (new ++ distinct_from eqb seen (keep bare cs))
 
   tells_all : (cs : List ℕ) → TellsAll cs
-  unfolding keep distinct_from some
+  unfolding distinct_from
   tells_all [] seen new n t same low = subst (Tells n) (sym (append-nil new)) t
   tells_all (x ∷ cs) seen new n t same low = by (tells_all cs) (bare x) refl
     where
@@ -186,7 +186,6 @@ module _ (at : ℕ → Point) (given : List ℕ) (points : List Point) where
 
   module _ (cs : List ℕ) (low : Each (λ v. v < length given) cs) where
     told : Tells (foldl (enter at) start cs) (news cs)
-    unfolding some
     told =
         tells_all cs [] [] start
         (record { long = refl; points_are = sym (append-nil points); given_at_lem = λ v h. first (get_or given v 0) })

@@ -10,8 +10,11 @@
 use Rattle.std.specs.Prelude.{ℕ, ◌+◌, Bool, ◌&&◌, ◌||◌, eqb, ltb, get_or}
 use mathlib.Core.List.{List, [], ◌∷◌, flat_map}
 use Rattle.lists.specs.Lists.{sort_by}
+use Rattle.geometry.specs.declared.triangle.Triangle as declared
 
-pub use Rattle.geometry.specs.declared.triangle.Triangle.{Triangle}
+-- the code's own
+abbrev pub Triangle : Type 0 → Type 0
+Triangle A = declared.Triangle A
 
 abbrev pub tri : {A : Type 0} → A → A → A → Triangle A
 tri a b c = record { a = a; b = b; c = c }

@@ -4,8 +4,7 @@
 pub mod aabb;
 pub mod numbers;
 pub mod point;
-pub mod triangle;
-pub mod vertices;
-
 #[cfg(test)]
 mod tests;
+pub mod triangle;
+pub mod vertices;

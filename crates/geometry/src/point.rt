@@ -14,6 +14,7 @@ pub struct Point {
 }
 
 impl Point {
+    #[tactic(auto, unfolding(crate::specs::Points::difference))]
     pub fn sub(self, other: Point) -> Point
         ensures { result ≡ difference self other }
     {
@@ -24,12 +25,14 @@ impl Point {
         }
     }
 
+    #[tactic(auto, unfolding(crate::specs::Points::dot))]
     pub fn dot(self, other: Point) -> f64
         ensures { result ≡ dot self other }
     {
         self.x * other.x + self.y * other.y + self.z * other.z
     }
 
+    #[tactic(auto, unfolding(crate::specs::Points::cross))]
     pub fn cross(self, other: Point) -> Point
         ensures { result ≡ cross self other }
     {

@@ -26,7 +26,7 @@ pub record NotTooFine (b : AABB) (eps : Float) (resolution : ℕ → Float) : Ty
   pub z : segments b eps resolution 2 ≤ 256
 
 pub not_too_fine : (b : AABB) (eps : Float) (resolution : ℕ → Float) → grid_too_fine b eps resolution ≡ false → NotTooFine b eps resolution
-unfolding grid_too_fine some
+unfolding grid_too_fine
 not_too_fine b eps resolution e =
     let s0 = segments b eps resolution 0 in
     let s1 = segments b eps resolution 1 in

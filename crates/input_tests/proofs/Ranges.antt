@@ -37,7 +37,7 @@ corners b k e =
     }
 
 pub box_within : (b : AABB) → box_in_range b ≡ true → BoxWithin b
-unfolding box_in_range every
+unfolding box_in_range
 box_within b e =
     let rest = and_right (in_range (lowest b 0) && in_range (highest b 0)) _ e in
     let last = and_right (in_range (lowest b 1) && in_range (highest b 1)) _ rest in

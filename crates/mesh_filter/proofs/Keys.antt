@@ -3,14 +3,15 @@ use Prim.Native.Nat.{ℕ}
 use native.Mathlib.Omega.{arith}
 use mathlib.Core.Path.{◌≡◌, sym, ap, ◌∙◌}
 use mathlib.Core.Bool.{Bool, true, ◌&&◌}
-use mathlib.Core.List.{List}
+use mathlib.Core.List.{List, map}
 use lib.Dec.{eqb}
-use lib.ListN.{get_or}
+use lib.ListN.{get_or, get_or-map}
 use borrow.Author.Tests.{eqb-true, eq-eqb}
 use Rattle.lists.proofs.Bools.{and_left, and_right, both_ways}
 use Rattle.words.specs.Packed.{triple}
 use Rattle.words.proofs.Packed.{triple_injective}
-use Rattle.geometry.specs.Triangles.{Triangle, tri, vertices, sorted_vertices}
+use Rattle.geometry.specs.declared.numbers.MeshVertexId.{MeshVertexId}
+use Rattle.geometry.specs.Triangles.{Triangle, tri, sorted_vertices}
 use Rattle.geometry.proofs.Triangles.{sorted_three}
 use Rattle.mesh_filter.specs.Filters.{same_corners}
 use Rattle.mesh_filter.specs.Room.{in_order, corners_key, Below}
@@ -68,8 +69,15 @@ same_key_lem t u h k =
 
 -- ---- what `corners_key` packs
 
-module _ (t s : Triangle ℕ) (e : vertices s ≡ sorted_vertices t) where
-  pub sorted_is : s ≡ in_order t
+module _ (r : List MeshVertexId) (t : Triangle ℕ) (e : map (λ v. v.0) r ≡ sorted_vertices t) where
+  abbrev none : MeshVertexId
+  none = record { 0 = 0 }
+
+  abbrev at : ℕ → ℕ
+  at k = (get_or r k none).0
+
+  pub sorted_is : tri (at 0) (at 1) (at 2) ≡ in_order t
   sorted_is =
       let q = e ∙ sym (sorted_three t.a t.b t.c) in
-      λ i. tri (get_or (q i) 0 0) (get_or (q i) 1 0) (get_or (q i) 2 0)
+      let w : (k : ℕ) → at k ≡ get_or (map (λ (v : MeshVertexId). v.0) r) k 0 = λ k. sym (get_or-map (λ (v : MeshVertexId). v.0) r k none) in
+      (λ i. tri (w 0 i) (w 1 i) (w 2 i)) ∙ (λ i. tri (get_or (q i) 0 0) (get_or (q i) 1 0) (get_or (q i) 2 0))

@@ -1,10 +1,11 @@
-// A page that a program writes on, text and numbers one after another. The first write that fails is kept, and nothing is written after it: `finish` answers it.
+// A page that a program writes on by `write!`, one text after another. The first write that fails is kept, and nothing is written after it: `finish` answers it.
 #![tactic(auto)]
 
-ghost use Rattle.std.specs.Prelude.{◌≡◌, IsOk, OnOk};
+ghost use Rattle.std.specs.Prelude.{◌≡◌, IsOk, IfSome, OnOk};
 ghost use Rattle.std.specs.Fmt.{decimal};
 ghost use Rattle.std.specs.Io.KnownBytes.{Appends};
 
+use std::fmt::Display;
 use std::io;
 use std::io::Write;
 
@@ -25,32 +26,24 @@ impl<W: Write> Page<W> {
         }
     }
 
-    pub fn text(&mut self, text: &[u8])
+    // What `write!` calls. It answers nothing, so that what prints need not answer a `Result`.
+    pub fn write_fmt<D: Display>(&mut self, text: D)
+    where
+        D: Drop,
         ensures before { OnOk self.new.written (IsOk self.old.written) }
-        ensures appends { OnOk self.new.written (Appends (W.contents self.old.writer) (W.contents self.new.writer) text.now) }
+        ensures appends { OnOk self.new.written (IfSome (D.output text) (Appends (W.contents self.old.writer) (W.contents self.new.writer))) }
     {
         if self.written.is_ok() {
-            self.written = self.writer.write_all(text);
+            self.written = self.writer.write_fmt(text);
         }
     }
 
-    // In decimal.
+    // A number alone, in decimal.
     pub fn number(&mut self, n: u64)
         ensures before { OnOk self.new.written (IsOk self.old.written) }
         ensures appends { OnOk self.new.written (Appends (W.contents self.old.writer) (W.contents self.new.writer) (decimal n)) }
     {
-        if self.written.is_ok() {
-            self.written = write!(self.writer, "{n}");
-        }
-    }
-
-    // The 16 hexadecimal digits of a double's bits.
-    pub fn bits(&mut self, bits: u64)
-        ensures before { OnOk self.new.written (IsOk self.old.written) }
-    {
-        if self.written.is_ok() {
-            self.written = write!(self.writer, "{bits:016x}");
-        }
+        write!(self, "{n}");
     }
 
     pub fn finish(self) -> io::Result<()>

@@ -9,14 +9,12 @@ pub fn run_end(m: &[u64], at: usize, n: usize, i: usize) -> usize
     ensures { Run m.now at n i result }
 {
     let key = m[at + 2 * i];
-    let mut e = i + 1;
-    while e < n {
+    for e in i + 1..n {
         if m[at + 2 * e] != key {
             return e;
         }
-        e += 1;
     }
-    e
+    n
 }
 
 // Writes a word behind `to` by the payload of each record from number i up to e.

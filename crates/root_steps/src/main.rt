@@ -4,7 +4,7 @@
 mod spelling;
 mod steps;
 
-ghost use Rattle.std.specs.Prelude.{◌≡◌, ◌^◌, ◌≤◌, ◌<◌};
+ghost use Rattle.std.specs.Prelude.{◌≡◌, ◌^◌, ◌<◌};
 ghost use Rattle.std.specs.Float.{binary64};
 ghost use Rattle.std.specs.Float.Ieee.{to_bits};
 ghost use Rattle.root.specs.Doubles.{bits};
@@ -13,7 +13,7 @@ ghost use Rattle.root.specs.Root.{root};
 
 use page::Page;
 use root::Drawing;
-use spelling::spell;
+use spelling::print_row;
 use std::io;
 use std::io::Write;
 use steps::print_steps;
@@ -21,30 +21,12 @@ use steps::print_steps;
 // 2^52: the weight of a pattern's exponent field, and of the leading digit of a significand
 const LEAD: u64 = 4503599627370496;
 
-// Writes n in base two between two texts, in a field of 57 places without the first `from` of them.
-fn print_row<W: Write>(page: &mut Page<W>, label: &[u8], n: u64, from: usize, end: &[u8])
-    requires { from ≤ 57 }
-{
-    let mut text = [0u8; 57];
-    spell(&mut text, n);
-    page.text(label);
-    page.text(&text[from..]);
-    page.text(end);
-}
-
 // The root of a whole number of four pairs of digits.
 fn print_whole<W: Write>(page: &mut Page<W>, n: u64)
     requires { n < 2 ^ 8 }
 {
-    let end = print_steps(page, Drawing { root: 0, rest: 0 }, n, 4, 0, 48);
-    page.number(n);
-    page.text(b" = ");
-    page.number(end.root);
-    page.text(b" x ");
-    page.number(end.root);
-    page.text(b" + ");
-    page.number(end.rest);
-    page.text(b"\n");
+    let Drawing { root, rest } = print_steps(page, Drawing { root: 0, rest: 0 }, n, 4, 0, 9);
+    writeln!(page, "{n} = {root} x {root} + {rest}");
 }
 
 // The bit pattern of the root of 2 as the library answers it.
@@ -58,47 +40,47 @@ fn root_of_two() -> u64
 fn print_digits_of_two<W: Write>(page: &mut Page<W>) -> Drawing
     ensures { Drawn (2 ^ 107) result.root result.rest × (result.root < 2 ^ 54) }
 {
-    let upper = print_steps(page, Drawing { root: 0, rest: 0 }, 2 * LEAD, 27, 0, 0);
-    print_steps(page, upper, 0, 27, 27, 0)
+    let upper = print_steps(page, Drawing { root: 0, rest: 0 }, 2 * LEAD, 27, 0, 57);
+    print_steps(page, upper, 0, 27, 27, 57)
 }
 
 // The root of 2 to the last digit of a double: 54 digits are drawn, one more than a double has, which rounds.
 fn print_two<W: Write>(page: &mut Page<W>) {
     let end = print_digits_of_two(page);
     if end.root & 1 == 1 {
-        page.text(
-            b"\nThe last digit is 1: the root lies above the middle of two doubles, and is rounded up.\n",
+        writeln!(
+            page,
+            "\nThe last digit is 1: the root lies above the middle of two doubles, and is rounded up."
         );
     } else {
-        page.text(
-            b"\nThe last digit is 0: the root lies below the middle of two doubles, and is rounded down.\n",
+        writeln!(
+            page,
+            "\nThe last digit is 0: the root lies below the middle of two doubles, and is rounded down."
         );
     }
     print_row(
         page,
-        b"rounded to 53 digits          ",
+        "rounded to 53 digits          ",
         (end.root + 1) >> 1,
-        0,
-        b"\n",
+        57,
+        "\n",
     );
     let bits = root_of_two();
     print_row(
         page,
-        b"the digits of sqrt(2.0)       ",
+        "the digits of sqrt(2.0)       ",
         LEAD + bits % LEAD,
-        0,
-        b"\n",
+        57,
+        "\n",
     );
-    page.text(b"sqrt(2.0) has the bit pattern ");
-    page.bits(bits);
-    page.text(b"\n");
+    writeln!(page, "sqrt(2.0) has the bit pattern {bits:016x}");
 }
 
 fn main(rt: HostRuntime) -> io::Result<()> {
     let mut page = Page::new(io::writer(&rt));
-    page.text(b"The root of 169, in base two 10 10 10 01\n\n");
+    writeln!(page, "The root of 169, in base two 10 10 10 01\n");
     print_whole(&mut page, 169);
-    page.text(b"\nThe root of 2, in base two 10.00 00 00 ..\n\n");
+    writeln!(page, "\nThe root of 2, in base two 10.00 00 00 ..\n");
     print_two(&mut page);
     page.finish()
 }

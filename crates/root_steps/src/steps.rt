@@ -2,73 +2,56 @@
 ghost use Rattle.std.specs.Prelude.{◌≡◌, ◌+◌, ◌*◌, ◌^◌, ◌≤◌, ◌<◌};
 ghost use Rattle.root.specs.Drawn.{Appended};
 
-use crate::print_row;
+use crate::spelling::print_row;
 use page::Page;
-use root::{Drawing, draw};
+use root::Drawing;
 use std::io::Write;
-
-fn print_heading<W: Write>(page: &mut Page<W>, step: u64, pair: u64)
-    requires { pair < 4 }
-{
-    page.text(b"step ");
-    if step < 10 {
-        page.text(b" ");
-    }
-    page.number(step);
-    print_row(page, b"  ", pair >> 1, 56, b"");
-    print_row(page, b"", pair & 1, 56, b"");
-}
 
 // Four lines: the rest with the pair behind it, what is tried, what is left, the root so far.
 fn print_step<W: Write>(
     page: &mut Page<W>,
     step: u64,
     pair: u64,
-    from: usize,
+    width: usize,
     before: Drawing,
     after: Drawing,
 )
-    requires { (before.root < 2 ^ 61) × (before.rest ≤ 2 * before.root) × (pair < 4) × (from ≤ 57) }
+    requires { (before.root < 2 ^ 61) × (pair < 4) × (0 < width) }
 {
-    print_heading(page, step, pair);
-    print_row(
-        page,
-        b" brought down       ",
-        (before.rest << 2) + pair,
-        from,
-        b"\n",
-    );
-    let trial: u64 = (before.root << 2) + 1;
+    write!(page, "step {step:>2}  {pair:02b}");
+    let brought_down = (before.rest << 2) + pair;
+    print_row(page, " brought down       ", brought_down, width, "\n");
+    let trial = (before.root << 2) + 1;
     if after.root & 1 == 1 {
         print_row(
             page,
-            b"         4 x root + 1       - ",
+            "         4 x root + 1       - ",
             trial,
-            from,
-            b"  goes: 1\n",
+            width,
+            "  goes: 1\n",
         );
     } else {
         print_row(
             page,
-            b"         4 x root + 1         ",
+            "         4 x root + 1         ",
             trial,
-            from,
-            b"  does not go: 0\n",
+            width,
+            "  does not go: 0\n",
         );
     }
     print_row(
         page,
-        b"         left                 ",
+        "         left                 ",
         after.rest,
-        from,
-        b"\n",
+        width,
+        "\n",
     );
     print_row(
         page,
-        b"         root so far          ",
+        "         root so far          ",
         after.root,
-        from,
-        b"\n",
+        width,
+        "\n",
     );
 }
 
@@ -79,18 +62,16 @@ pub fn print_steps<W: Write>(
     word: u64,
     pairs: u64,
     done: u64,
-    from: usize,
+    width: usize,
 ) -> Drawing
-    requires { (pairs ≤ 32) × (word < 2 ^ (2 * pairs)) × (s.rest ≤ 2 * s.root) × (s.root < 2 ^ 30) × (done < 2 ^ 32) × (from ≤ 57) }
+    requires { (pairs ≤ 32) × (word < 2 ^ (2 * pairs)) × (s.root < 2 ^ 30) × (done < 2 ^ 32) × (0 < width) }
     ensures { Appended pairs word s.root s.rest result.root result.rest }
 {
-    let mut drawing: Drawing = s;
-    let mut left: u64 = pairs;
-    while 0 < left {
-        left = left - 1;
-        let pair: u64 = (word >> (2 * left)) & 3;
-        let next: Drawing = draw(drawing, pair);
-        print_step(page, done + pairs - left, pair, from, drawing, next);
+    let mut drawing = s;
+    for left in (0..pairs).rev() {
+        let pair = (word >> (2 * left)) & 3;
+        let next = drawing.draw(pair);
+        print_step(page, done + pairs - left, pair, width, drawing, next);
         drawing = next;
     }
     drawing

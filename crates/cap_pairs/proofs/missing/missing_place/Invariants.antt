@@ -1,5 +1,4 @@
 use Rattle.cap_pairs.proofs.Rows.{RowWalk}
-use Prim.Native.Nat.{◌-◌}
 use Rattle.cap_pairs.proofs.missing.missing_place.Given as goal
 
 -- `missing_place` meets its contract: none of the first i open edges is missing, and `place` is how many entries they have. Assumes nothing.

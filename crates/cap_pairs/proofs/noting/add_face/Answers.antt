@@ -1,5 +1,4 @@
-use Rattle.cap_pairs.proofs.Adding.{added_there, fits_sum, added_new}
-use native.Mathlib.Omega.{arith}
+use Rattle.cap_pairs.proofs.Adding.{added_there, added_new}
 use mathlib.Core.Path.{refl, sym, ◌∙◌}
 use Rattle.cap_pairs.proofs.noting.add_face.Goals as goal
 
@@ -10,14 +9,6 @@ returns-then-has_face c =
     let has-face' = c.has_face in
     let branch = c.if-has_face in
     added_there a.w.now a.at a.face s.requires.0 s.requires.1 s.requires.2 (sym has-face'.ensures ∙ branch.true)
-
-pub overflow_add-w : goal.overflow_add-w
-overflow_add-w c =
-    let s = c in
-    let a = s.args in
-    let has-face' = c.has_face in
-    let branch = c.if-has_face in
-    omega (arith, fits_sum a.w.now a.at a.face s.requires.0 s.requires.1 s.requires.2 (sym has-face'.ensures ∙ branch.false))
 
 pub returns : goal.returns
 returns c =

@@ -10,9 +10,6 @@ use Rattle.cap_pairs.proofs.noting.add_faces.Goals as goal
 pub loop-face-init : goal.loop-face-init
 loop-face-init c = (adding_start c.args.w.now c.args.at c.args.mask c.requires.1, omega arith)
 
-pub has_face-requires : goal.has_face-requires
-has_face-requires c = omega arith
-
 pub add_face-requires : goal.add_face-requires
 add_face-requires c =
     let s = c in

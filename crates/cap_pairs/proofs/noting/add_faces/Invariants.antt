@@ -1,4 +1,4 @@
-use Prim.Native.Nat.{◌-◌, ◌≤◌}
+use Prim.Native.Nat.{◌≤◌}
 use Rattle.cap_pairs.proofs.Adding.{Below}
 use Rattle.cap_pairs.specs.Steps.{Added}
 use Rattle.cap_pairs.proofs.noting.add_faces.Given as goal

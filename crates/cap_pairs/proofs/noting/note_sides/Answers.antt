@@ -1,4 +1,4 @@
-use Rattle.cap_pairs.proofs.Targets.{note_side_low, note_side_asks, note_side_turn}
+use Rattle.cap_pairs.proofs.Targets.{note_side_asks, note_side_turn}
 use Rattle.cap_pairs.proofs.Adding.{noted_start}
 use Rattle.cap_pairs.specs.Steps.{Noted, side_target, side_face}
 use native.Mathlib.Omega.{arith}
@@ -8,53 +8,10 @@ use mathlib.Core.Path.{refl, subst}
 use Prim.Native.Nat.{ℕ, ◌+◌, ◌/◌}
 use Rattle.cap_pairs.proofs.noting.note_sides.Goals as goal
 
-pub numbers_at-requires : goal.numbers_at-requires
-numbers_at-requires c = omega arith
-
-pub overflow_add-numbers : goal.overflow_add-numbers
-overflow_add-numbers c = omega arith
-
-pub held_at-held-requires : goal.held_at-held-requires
-held_at-held-requires c = omega arith
-
 pub loop-s-init : goal.loop-s-init
 loop-s-init c =
     let a = c.args in
     (noted_start (side_target a.n a.nf (length a.cap_list.now / 4) a.w.now a.k) (λ s. eqb (side_face a.cap_list.now s)) a.w.now, omega arith)
-
-pub overflow_mul-nc : goal.overflow_mul-nc
-overflow_mul-nc c = omega arith
-
-pub overflow_add-pair : goal.overflow_add-pair
-overflow_add-pair c = omega arith
-
-pub offset_bounds-w-numbers : goal.offset_bounds-w-numbers
-offset_bounds-w-numbers c = omega arith
-
-pub bounds-w-numbers : goal.bounds-w-numbers
-bounds-w-numbers c = omega arith
-
-pub overflow_mul-face : goal.overflow_mul-face
-overflow_mul-face c = omega arith
-
-pub offset_bounds-cap_list-s : goal.offset_bounds-cap_list-s
-offset_bounds-cap_list-s c = omega arith
-
-pub bounds-cap_list-s : goal.bounds-cap_list-s
-bounds-cap_list-s c = omega arith
-
-pub overflow_add-held : goal.overflow_add-held
-overflow_add-held c =
-    let s = c in
-    let a = s.args in
-    let numbers-at' = c.numbers_at in
-    let held-at' = c.held_at-held in
-    let l = c.loop-s in
-    omega (
-      arith,
-      note_side_low a.n a.nf a.k a.cap_list.now a.w.now s.requires.tables_for s.requires.by_index s.requires.by_index_2 l.w l.s l.invariant.0
-          (numbers-at'.result + a.k) held-at'.result (omega arith) held-at'.ensures (omega arith) (get_or l.w (numbers-at'.result + a.k + l.s) 0) refl,
-    )
 
 pub add_face-requires : goal.add_face-requires
 add_face-requires c =

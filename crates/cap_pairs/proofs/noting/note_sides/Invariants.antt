@@ -1,7 +1,7 @@
 use Rattle.cap_pairs.specs.Steps.{Noted, side_target, side_face}
 use lib.ListN.{length}
 use lib.Dec.{eqb}
-use Prim.Native.Nat.{◌*◌, ◌/◌, ◌-◌, ◌≤◌}
+use Prim.Native.Nat.{◌*◌, ◌/◌, ◌≤◌}
 use Rattle.cap_pairs.proofs.noting.note_sides.Given as goal
 
 -- `note_sides` meets its contract: the faces of the first s sides are added to the words of their pairs. Assumes nothing.

@@ -2,15 +2,8 @@ use Rattle.cap_pairs.proofs.Writing.{edge_asks, edge_turn, edge_end}
 use Rattle.cap_pairs.proofs.Recording.{recording_start}
 use Rattle.cap_pairs.specs.Pairs.{edge_pair}
 use native.Mathlib.Omega.{arith}
-use lib.ListN.{length-set}
 use Prim.Native.Nat.{◌+◌, ◌*◌}
 use Rattle.cap_pairs.proofs.pairs.put_edges.Goals as goal
-
-pub open_edges_at-edges-requires : goal.open_edges_at-edges-requires
-open_edges_at-edges-requires c = omega arith
-
-pub records_at-records-requires : goal.records_at-records-requires
-records_at-records-requires c = omega arith
 
 pub loop-i-init : goal.loop-i-init
 loop-i-init c =
@@ -19,12 +12,6 @@ loop-i-init c =
     let records-at' = c.records_at-records in
     (recording_start (λ j. edge_pair a.w.now (open-edges-at'.result + 3 * j)) a.w.now records-at'.result 0, omega arith)
 
-pub overflow_mul-i : goal.overflow_mul-i
-overflow_mul-i c = omega arith
-
-pub overflow_add-edges : goal.overflow_add-edges
-overflow_add-edges c = omega arith
-
 pub edge_word-requires : goal.edge_word-requires
 edge_word-requires c =
     let s = c in
@@ -32,35 +19,8 @@ edge_word-requires c =
     let open-edges-at' = c.open_edges_at-edges in
     let records-at' = c.records_at-records in
     let l = c.loop-i in
-    edge_asks a.w.now l.w a.n a.nf a.nc a.k open-edges-at'.result records-at'.result l.i s.requires.tables_for open-edges-at'.ensures records-at'.ensures
+    edge_asks a.w.now l.w a.room.n a.room.nf a.room.nc a.k open-edges-at'.result records-at'.result l.i s.requires.tables_for open-edges-at'.ensures records-at'.ensures
     l.invariant.0 (omega arith) s.requires.by_index
-
-pub overflow_mul-w : goal.overflow_mul-w
-overflow_mul-w c = omega arith
-
-pub overflow_add-w : goal.overflow_add-w
-overflow_add-w c = omega arith
-
-pub offset_bounds-w-records : goal.offset_bounds-w-records
-offset_bounds-w-records c = omega arith
-
-pub bounds-w-records : goal.bounds-w-records
-bounds-w-records c = omega arith
-
-pub overflow_mul-w-in-loop-i : goal.overflow_mul-w-in-loop-i
-overflow_mul-w-in-loop-i c = omega arith
-
-pub overflow_add-w-in-loop-i : goal.overflow_add-w-in-loop-i
-overflow_add-w-in-loop-i c = omega arith
-
-pub overflow_add-w-in-loop-i-2 : goal.overflow_add-w-in-loop-i-2
-overflow_add-w-in-loop-i-2 c = omega arith
-
-pub offset_bounds-w-records-in-loop-i : goal.offset_bounds-w-records-in-loop-i
-offset_bounds-w-records-in-loop-i c = omega arith
-
-pub bounds-w-records-in-loop-i : goal.bounds-w-records-in-loop-i
-bounds-w-records-in-loop-i c = simp length-set (omega arith)
 
 pub loop-i-preserved : goal.loop-i-preserved
 loop-i-preserved c =
@@ -70,7 +30,7 @@ loop-i-preserved c =
     let records-at' = c.records_at-records in
     let l = c.loop-i in
     let edge-word' = c.edge_word in (
-      edge_turn a.w.now l.w a.n a.nf a.nc a.k open-edges-at'.result records-at'.result l.i s.requires.tables_for open-edges-at'.ensures records-at'.ensures
+      edge_turn a.w.now l.w a.room.n a.room.nf a.room.nc a.k open-edges-at'.result records-at'.result l.i s.requires.tables_for open-edges-at'.ensures records-at'.ensures
           l.invariant.0 (omega arith) edge-word'.result edge-word'.ensures,
       omega arith,
     )
@@ -85,5 +45,5 @@ returns c =
     let open-edges-at' = c.open_edges_at-edges in
     let records-at' = c.records_at-records in
     let l = c.loop-i in
-    edge_end a.w.now l.w a.n a.nf a.nc a.k open-edges-at'.result records-at'.result l.i s.requires.tables_for open-edges-at'.ensures records-at'.ensures
+    edge_end a.w.now l.w a.room.n a.room.nf a.room.nc a.k open-edges-at'.result records-at'.result l.i s.requires.tables_for open-edges-at'.ensures records-at'.ensures
     l.invariant.0 l.invariant.1 (omega arith)

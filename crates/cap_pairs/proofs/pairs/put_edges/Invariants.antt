@@ -1,6 +1,6 @@
 use Rattle.cap_pairs.specs.Steps.{Recorded}
 use Rattle.cap_pairs.specs.Pairs.{edge_pair}
-use Prim.Native.Nat.{◌-◌, ◌+◌, ◌*◌, ◌≤◌}
+use Prim.Native.Nat.{◌+◌, ◌*◌, ◌≤◌}
 use Rattle.cap_pairs.proofs.pairs.put_edges.Given as goal
 
 -- `put_edges` meets its contract: after some turns the records of as many open edges are written. Assumes nothing.

@@ -1,36 +1,17 @@
-use native.Mathlib.Omega.{arith}
 use Rattle.root.proofs.Digits.{down_start, down_asks, down_step, down_end}
 use Rattle.root_steps.proofs.steps.print_steps.Goals as goal
 
 pub loop-left-init : goal.loop-left-init
 loop-left-init o c = down_start c.args.s.root c.args.s.rest c.requires.1
 
-pub overflow_sub-left : goal.overflow_sub-left
-overflow_sub-left o c = omega arith
-
-pub overflow_mul-pair : goal.overflow_mul-pair
-overflow_mul-pair o c = omega (arith, c.loop-left.invariant.turns)
-
-pub overflow_shr-pair : goal.overflow_shr-pair
-overflow_shr-pair o c = omega (arith, c.loop-left.invariant.turns)
-
 pub draw-next-requires : goal.draw-next-requires
-draw-next-requires o c = down_asks c.loop-left.invariant c.requires.2 c.requires.3 c.requires.0 c.loop-left-test.true
-
-pub overflow_add-done : goal.overflow_add-done
-overflow_add-done o c = omega arith
-
-pub overflow_sub-done : goal.overflow_sub-done
-overflow_sub-done o c = omega (arith, c.loop-left.invariant.turns)
+draw-next-requires o c = down_asks c.loop-left.invariant c.requires.2 c.requires.0 c.loop-left-test.true
 
 pub print_step-requires : goal.print_step-requires
 print_step-requires o c =
     let p = c.requires in
-    let a = down_asks c.loop-left.invariant p.2 p.3 p.0 c.loop-left-test.true in
-    (a.0, a.1, a.2, p.5)
-
-pub loop-left-smaller : goal.loop-left-smaller
-loop-left-smaller o c = omega arith
+    let a = down_asks c.loop-left.invariant p.2 p.0 c.loop-left-test.true in
+    (a.0, a.1, p.4)
 
 pub loop-left-preserved : goal.loop-left-preserved
 loop-left-preserved o c = down_step c.loop-left.invariant c.loop-left-test.true c.draw-next.ensures

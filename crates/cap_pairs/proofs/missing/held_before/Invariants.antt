@@ -1,8 +1,0 @@
-use Rattle.cap_pairs.proofs.Walking.{FaceWalk}
-use Rattle.cap_pairs.specs.Steps.{missing_face}
-use Prim.Native.Nat.{◌-◌}
-use Rattle.cap_pairs.proofs.missing.held_before.Given as goal
-
--- `held_before` meets its contract: none of the faces before `face` is missing, and `count` of them are the mask's. Assumes nothing.
-abbrev pub invariant-loop-face : goal.invariant-loop-face
-invariant-loop-face l = FaceWalk (missing_face l.w l.held) l.mask l.count l.face
