@@ -7,6 +7,7 @@ ghost use Rattle.cap_closing.specs.Entering.{Closed, MeshWords};
 use crate::appending::append_caps;
 use crate::entering::start_entering;
 use crate::firsts::find_firsts;
+use cap_triangles::room::CapRoom;
 
 // How many facets are left after the area test, and how many of them are the first of their three corners.
 #[derive(Clone, Copy)]
@@ -30,11 +31,9 @@ pub fn close_caps(
     ensures { Closed vertices.now n nf cap_list.now positive result.left result.caps w.old w.new }
 {
     let nc = cap_list.len() / 4;
-    start_entering(w, n, nf, nc, vertices.len() / 3);
-    let left = append_caps(w, vertices, n, nf, nc, positive);
-    let caps = find_firsts(w, n, nf, nc, left);
-    CapCount {
-        left: left,
-        caps: caps,
-    }
+    let room = CapRoom { n, nf, nc };
+    start_entering(w, room, vertices.len() / 3);
+    let left = append_caps(w, vertices, room, positive);
+    let caps = find_firsts(w, room, left);
+    CapCount { left, caps }
 }

@@ -5,7 +5,7 @@ ghost use Rattle.sorting.specs.Sorting.{SortedPlaces};
 ghost use Rattle.cap_triangles.specs.Room.{closing_at};
 ghost use Rattle.cap_closing.specs.Steps.{FirstsMarked, Found};
 
-use crate::room::{firsts_at, threes_at};
+use cap_triangles::room::CapRoom;
 use records::{put_by_payload, run_end};
 use sorting::sort_records;
 
@@ -27,13 +27,13 @@ fn mark_firsts(w: &mut [u64], records: usize, firsts: usize, left: usize) -> usi
     count
 }
 
-pub fn find_firsts(w: &mut [u64], n: usize, nf: usize, nc: usize, left: usize) -> usize
-    requires n_bound { (n < 268435456) × (nf < 268435456) × (nc < 268435456) × (left ≤ nc) × (closing_at n nf nc + 2 * n + 8 * nc ≤ length w.old) }
-    requires by_index { (j : ℕ) → j < left → payload_in w.old (closing_at n nf nc + 2 * n + 3 * nc) j ≡ j }
-    ensures { Found (closing_at n nf nc + 2 * n + 3 * nc) (closing_at n nf nc + 2 * n + 7 * nc) left result w.old w.new }
+pub fn find_firsts(w: &mut [u64], room: CapRoom, left: usize) -> usize
+    requires left_below { (left ≤ room.nc) × (closing_at room.n room.nf room.nc + 2 * room.n + 8 * room.nc ≤ length w.old) }
+    requires by_index { (j : ℕ) → j < left → payload_in w.old (closing_at room.n room.nf room.nc + 2 * room.n + 3 * room.nc) j ≡ j }
+    ensures { Found (closing_at room.n room.nf room.nc + 2 * room.n + 3 * room.nc) (closing_at room.n room.nf room.nc + 2 * room.n + 7 * room.nc) left result w.old w.new }
 {
-    let records = threes_at(n, nf, nc);
+    let records = room.threes_at();
     let end = records + 4 * left;
     sort_records(&mut w[records..end], left);
-    mark_firsts(w, records, firsts_at(n, nf, nc), left)
+    mark_firsts(w, records, room.firsts_at(), left)
 }

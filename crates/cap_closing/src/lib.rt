@@ -5,4 +5,3 @@ mod appending;
 pub mod closing;
 mod entering;
 mod firsts;
-pub mod room;

@@ -7,48 +7,45 @@ ghost use Rattle.cap_selection.specs.Steps.{against_in, seed_in, marked_seed, Si
 
 use crate::labels::join_caps;
 use box_faces::faces::has_face;
-use cap_triangles::room::{components_at, down_at, numbers_at, seeded_at, turned_at, up_at};
+use cap_triangles::room::CapRoom;
 use edges::next_side;
 use words::zero_part;
 
 // An open edge of the face runs against side s.
-fn is_against(w: &[u64], n: usize, nf: usize, nc: usize, k: usize, s: usize, face: usize) -> bool
-    requires { SidesNumbered n nf nc k w.now × (s < 3 * nc) × (face < 6) }
-    ensures { result ≡ against_in n nf nc k w.now s face }
+fn is_against(w: &[u64], room: CapRoom, k: usize, s: usize, face: usize) -> bool
+    requires { SidesNumbered room.n room.nf room.nc k w.now × (s < 3 * room.nc) × (face < 6) }
+    ensures { result ≡ against_in room.n room.nf room.nc k w.now s face }
 {
-    let turned = turned_at(n, nf);
-    let pair = w[numbers_at(n, nf, nc) + k + s] as usize;
+    let turned = room.turned_at();
+    let pair = w[room.numbers_at() + k + s] as usize;
     if w[turned + s] < w[turned + next_side(s)] {
-        has_face(w[down_at(n, nf, nc) + pair], face)
+        has_face(w[room.down_at() + pair], face)
     } else {
-        has_face(w[up_at(n, nf, nc) + pair], face)
+        has_face(w[room.up_at() + pair], face)
     }
 }
 
 // "A seed lies on an open edge's face and, so turned, holds that edge backwards"
-fn is_seed(w: &[u64], n: usize, nf: usize, nc: usize, k: usize, i: usize, face: usize) -> bool
-    requires { SidesNumbered n nf nc k w.now × (i < nc) × (face < 6) }
-    ensures { result ≡ seed_in n nf nc k w.now i face }
+#[tactic(auto, unfolding(crate::specs::Steps::seed_in))]
+fn is_seed(w: &[u64], room: CapRoom, k: usize, i: usize, face: usize) -> bool
+    requires { SidesNumbered room.n room.nf room.nc k w.now × (i < room.nc) × (face < 6) }
+    ensures { result ≡ seed_in room.n room.nf room.nc k w.now i face }
 {
-    if is_against(w, n, nf, nc, k, 3 * i, face) {
-        return true;
-    }
-    if is_against(w, n, nf, nc, k, 3 * i + 1, face) {
-        return true;
-    }
-    is_against(w, n, nf, nc, k, 3 * i + 2, face)
+    is_against(w, room, k, 3 * i, face)
+        || is_against(w, room, k, 3 * i + 1, face)
+        || is_against(w, room, k, 3 * i + 2, face)
 }
 
 // If triangle i is a seed, its component is marked.
-fn mark_seed(w: &mut [u64], n: usize, nf: usize, nc: usize, k: usize, i: usize, face: usize)
-    requires { SidesNumbered n nf nc k w.old × (i < nc) × (face < 6) × (get_or w.old (components_at n nf nc + i) 0 < nc) }
-    ensures { w.new ≡ marked_seed n nf nc k w.old i face }
+fn mark_seed(w: &mut [u64], room: CapRoom, k: usize, i: usize, face: usize)
+    requires { SidesNumbered room.n room.nf room.nc k w.old × (i < room.nc) × (face < 6) × (get_or w.old (components_at room.n room.nf room.nc + i) 0 < room.nc) }
+    ensures { w.new ≡ marked_seed room.n room.nf room.nc k w.old i face }
 {
-    if !is_seed(w, n, nf, nc, k, i, face) {
+    if !is_seed(w, room, k, i, face) {
         return;
     }
-    let component = w[components_at(n, nf, nc) + i] as usize;
-    w[seeded_at(n, nf, nc) + component] = 1;
+    let component = w[room.components_at() + i] as usize;
+    w[room.seeded_at() + component] = 1;
 }
 
 // Of each component 1 if a seed has it.
@@ -57,8 +54,9 @@ fn mark_seeds(w: &mut [u64], n: usize, nf: usize, k: usize, cap_list: &[u64])
     ensures { SeedsMarked n nf (length cap_list.now / 4) k cap_list.now w.old w.new }
 {
     let nc = cap_list.len() / 4;
+    let room = CapRoom { n, nf, nc };
     for i in 0..nc {
-        mark_seed(w, n, nf, nc, k, i, cap_list[4 * i] as usize);
+        mark_seed(w, room, k, i, cap_list[4 * i] as usize);
     }
 }
 
@@ -69,17 +67,18 @@ pub fn select_caps(w: &mut [u64], n: usize, nf: usize, k: usize, cap_list: &[u64
     ensures { Chosen n nf k cap_list.now w.old w.new }
 {
     let nc = cap_list.len() / 4;
-    join_caps(w, n, nf, nc, k);
-    zero_part(w, seeded_at(n, nf, nc), nc);
+    let room = CapRoom { n, nf, nc };
+    join_caps(w, room, k);
+    zero_part(w, room.seeded_at(), nc);
     mark_seeds(w, n, nf, k, cap_list);
 }
 
 // Triangle i is a seed, or joined to one.
-pub fn is_selected(w: &[u64], n: usize, nf: usize, nc: usize, i: usize) -> bool
-    requires { (n < 268435456) × (nf < 268435456) × (nc < 268435456) × (components_at n nf nc + i < length w.now) ×
-        (seeded_at n nf nc + get_or w.now (components_at n nf nc + i) 0 < length w.now) }
-    ensures { result ≡ eqb (get_or w.now (seeded_at n nf nc + get_or w.now (components_at n nf nc + i) 0) 0) 1 }
+pub fn is_selected(w: &[u64], room: CapRoom, i: usize) -> bool
+    requires { (components_at room.n room.nf room.nc + i < length w.now) ×
+        (seeded_at room.n room.nf room.nc + get_or w.now (components_at room.n room.nf room.nc + i) 0 < length w.now) }
+    ensures { result ≡ eqb (get_or w.now (seeded_at room.n room.nf room.nc + get_or w.now (components_at room.n room.nf room.nc + i) 0) 0) 1 }
 {
-    let component = w[components_at(n, nf, nc) + i] as usize;
-    w[seeded_at(n, nf, nc) + component] == 1
+    let component = w[room.components_at() + i] as usize;
+    w[room.seeded_at() + component] == 1
 }

@@ -1,13 +1,14 @@
 -- One facet more is numbered, or dropped; the first facet and the last. Assumes nothing.
 use Prim.Native.Nat.{ℕ, zero, suc, ◌+◌, ◌*◌, ◌≤◌, ◌<◌}
+use Rattle.std.proofs.Common.{add-zero, append_assoc}
 use native.Mathlib.Numerals.{add-one}
 use native.Mathlib.Omega.{arith}
 use mathlib.Core.Path.{◌≡◌, refl, sym, ap, subst, ◌∙◌}
 use mathlib.Core.Bool.{Bool, true, false, cond}
 use mathlib.Core.List.Memᴰ
-use mathlib.Core.List.{List, [], ◌∷◌, ◌++◌, map, map-append, flat_map, Memᴰ}
+use mathlib.Core.List.{List, [], ◌∷◌, ◌++◌, append-nil, map, map-append, flat_map, Memᴰ}
 use lib.Dec.{leb}
-use lib.ListN.{length, get_or, replicate, length-replicate, get_or-replicate}
+use lib.ListN.{length, get_or, take, length-append, replicate, length-replicate, get_or-replicate}
 use lib.Seq.{ext_get_or}
 use Rattle.lists.specs.Lists.{keep, up_from, up_to}
 use Rattle.lists.specs.Regions.{view, PartZeroed}
@@ -15,7 +16,7 @@ use Rattle.lists.proofs.Regions.{view_length, view_at}
 use Rattle.lists.proofs.Counts.{keep_append}
 use Rattle.lists.proofs.Sequences.{up_snoc}
 use Rattle.geometry.specs.declared.point.Point.{Point}
-use Rattle.geometry.specs.Triangles.{tri, vertices, flat, corners_at}
+use Rattle.geometry.specs.Triangles.{Triangle, tri, vertices, flat, corners_at}
 use Rattle.geometry.proofs.Threes.{flat_append}
 use Rattle.mesh_compact.specs.declared.renumber.Numbered.{Numbered}
 use Rattle.mesh_compact.specs.Room.{numbering, is_large_at, kept_corners, Pointed, Naming, Cornered, Faceted, RenumberRoom, FacetNumbered, NumberedSoFar}
@@ -26,25 +27,62 @@ pub pointed_same : (point : ℕ → Point) (points : List Point) (top kept u : �
     Pointed point points top kept u v
 pointed_same point points top kept u m v e P = record { is = P.is ∙ ap point (sym e); low = rw e P.low }
 
-module _ (kept at n k : ℕ) (a b c : ℕ) (w x y z : Numbered) (m m₁ m₂ m₃ : List ℕ) (below : kept + n ≤ at) (an : a < n) (bn : b < n) (cn : c < n)
-    (A : Cornered kept at n k a w x m m₁) (B : Cornered kept at n k b x y m₁ m₂) (C : Cornered kept at n k c y z m₂ m₃) where
-  pub faceted : Faceted kept at n k (tri a b c) w z m m₃
-  faceted =
-      record {
-        corners = let p = A.corners in let q = B.corners in let r = C.corners in omega arith;
-        few = C.few;
-        rest = λ i q. C.rest i q ∙ B.rest i q ∙ A.rest i q;
-        naming = λ point points top cs P N.
-            let N₁ = A.naming point points top cs (P a an) N in
-            let N₂ = B.naming point points top (cs ++ (a ∷ [])) (pointed_same point points top kept b m m₁ (A.rest (kept + b) (omega arith)) (P b bn)) N₁ in
-            let N₃ = C.naming point points top ((cs ++ (a ∷ [])) ++ (b ∷ []))
-            (pointed_same point points top kept c m m₂ (B.rest (kept + c) (omega arith) ∙ A.rest (kept + c) (omega arith)) (P c cn)) N₂ in
-            subst (λ (l : List ℕ). Naming point points top at n k z.vertices z.corners l m₃) (joined cs a b c) N₃;
-      }
+pub none_yet : (kept at n k : ℕ) (w : Numbered) (m : List ℕ) → w.vertices ≤ w.corners → Faceted kept at n k [] w w m m
+none_yet kept at n k w m few =
+    record {
+      corners = omega arith;
+      few = few;
+      rest = λ i q. refl;
+      naming = λ point points top cs P N. rw (append-nil cs) N;
+    }
+
+one_corner : (kept at n k v : ℕ) (l : List ℕ) (w x y : Numbered) (m m₁ m₂ : List ℕ) → kept + n ≤ at → v < n
+    → Faceted kept at n k l w x m m₁ → Cornered kept at n k v x y m₁ m₂ → Faceted kept at n k (l ++ (v ∷ [])) w y m m₂
+one_corner kept at n k v l w x y m m₁ m₂ below vn A B =
+    record {
+      corners = let p = A.corners in let q = B.corners in omega (arith, length-append l (v ∷ []));
+      few = B.few;
+      rest = λ i q. B.rest i q ∙ A.rest i q;
+      naming = λ point points top cs P N.
+          subst (λ (r : List ℕ). Naming point points top at n k y.vertices y.corners r m₂) (append_assoc cs l (v ∷ []))
+          (B.naming point points top (cs ++ l) (pointed_same point points top kept v m m₁ (A.rest (kept + v) (omega arith)) (P v vn)) (A.naming point points top cs P N));
+    }
+
+-- the corners of a facet, one after the other
+next_corner : (m : List ℕ) (o j : ℕ) → j < 3 → take j (vertices (corners_at m o)) ++ (get_or m (o + j) 0 ∷ []) ≡ take (j + 1) (vertices (corners_at m o))
+next_corner m o zero h = rw (add-zero o) refl
+next_corner m o (suc zero) h = refl
+next_corner m o (suc (suc zero)) h = refl
+next_corner m o (suc (suc (suc j))) h = absurd (omega arith)
+
+-- the corner at j, read from a room in which those before it were numbered
+module _ (kept facets parts k at n : ℕ) (m v : List ℕ) (R : RenumberRoom kept facets parts k at n m) (i j : ℕ) (ik : i < k) (jk : j < 3) (w x : Numbered)
+    (F : Faceted kept at n k (take j (vertices (corners_at m (facets + 3 * i)))) w x m v) (u : ℕ) (e : u ≡ get_or v (facets + 3 * i + j) 0) where
+  same_corner : u ≡ get_or m (facets + 3 * i + j) 0
+  same_corner = e ∙ F.rest (facets + 3 * i + j) (let p = R.facets_in in omega arith)
+
+  pub corner_low : u < n
+  corner_low =
+      let z : facets + 3 * i + j ≡ facets + (3 * i + j) = omega arith in
+      rw (same_corner, z) (R.corner (3 * i + j) (omega arith))
+
+  pub corners_so_far : x.corners ≡ w.corners + j
+  corners_so_far = F.corners ∙ ap (λ (d : ℕ). w.corners + d) (three_long j jk)
     where
-      joined : (l : List ℕ) (x y z : ℕ) → ((l ++ (x ∷ [])) ++ (y ∷ [])) ++ (z ∷ []) ≡ l ++ (x ∷ y ∷ z ∷ [])
-      joined [] x y z = refl
-      joined (u ∷ l) x y z = ap (λ (r : List ℕ). u ∷ r) (joined l x y z)
+      three_long : (j : ℕ) → j < 3 → length (take j (vertices (corners_at m (facets + 3 * i)))) ≡ j
+      three_long zero h = refl
+      three_long (suc zero) h = refl
+      three_long (suc (suc zero)) h = refl
+      three_long (suc (suc (suc j))) h = absurd (omega arith)
+
+  pub facet_more : (y : Numbered) (t : List ℕ) → Cornered kept at n k u x y v t → Faceted kept at n k (take (j + 1) (vertices (corners_at m (facets + 3 * i)))) w y m t
+  facet_more y t C =
+      subst (λ (l : List ℕ). Faceted kept at n k l w y m t) (ap (λ (q : ℕ). take j (vertices (corners_at m (facets + 3 * i))) ++ (q ∷ [])) same_corner ∙ next_corner m (facets + 3 * i) j jk)
+      (one_corner kept at n k u (take j (vertices (corners_at m (facets + 3 * i)))) w x y m v t R.kept_in corner_low F C)
+
+pub three_done : (kept at n k : ℕ) (t : Triangle ℕ) (j : ℕ) (w x : Numbered) (m v : List ℕ) → j ≡ 3 → Faceted kept at n k (take j (vertices t)) w x m v
+    → Faceted kept at n k (vertices t) w x m v
+three_done kept at n k t j w x m v e F = subst (λ (i : ℕ). Faceted kept at n k (take i (vertices t)) w x m v) e F
 
 -- ---- a facet dropped, or numbered
 
@@ -64,7 +102,7 @@ module _ (kept facets parts k at n least i : ℕ) (w : Numbered) (m : List ℕ) 
       append_nil [] = refl
       append_nil (x ∷ l) = ap (λ (r : List ℕ). x ∷ r) (append_nil l)
 
-  pub numbered : is_large_at m parts k least i ≡ true → (r : Numbered) (v : List ℕ) → Faceted kept at n k (corners_at m (facets + 3 * i)) w r m v → FacetNumbered kept facets parts k
+  pub numbered : is_large_at m parts k least i ≡ true → (r : Numbered) (v : List ℕ) → Faceted kept at n k (vertices (corners_at m (facets + 3 * i))) w r m v → FacetNumbered kept facets parts k
       at n least i w r m v
   numbered e r v F =
       record {
@@ -202,15 +240,3 @@ going_start kept facets parts k at n least m v room z =
 pub going_end : (kept facets parts k at n least i : ℕ) (w : Numbered) (m u : List ℕ) → NumberedSoFar kept facets parts k at n least i w m u → k ≤ i → NumberedSoFar kept facets
     parts k at n least k w m u
 going_end kept facets parts k at n least i w m u G h = let e : i ≡ k = omega (arith, G.done) in subst (λ (j : ℕ). NumberedSoFar kept facets parts k at n least j w m u) e G
-
--- ---- the corners that a facet's three words are
-
-module _ (facets i n : ℕ) (m : List ℕ) where
-  pub corner0 : get_or m (facets + 3 * i) 0 < n → get_or m (facets + 3 * i) 0 < n
-  corner0 h = h
-
-  pub corner1 : get_or m (facets + (3 * i + 1)) 0 < n → get_or m (facets + 3 * i + 1) 0 < n
-  corner1 h = let e : facets + 3 * i + 1 ≡ facets + (3 * i + 1) = omega arith in rw e h
-
-  pub corner2 : get_or m (facets + (3 * i + 2)) 0 < n → get_or m (facets + 3 * i + 2) 0 < n
-  corner2 h = let e : facets + 3 * i + 2 ≡ facets + (3 * i + 2) = omega arith in rw e h

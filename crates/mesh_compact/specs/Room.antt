@@ -6,7 +6,7 @@
 --   numbering                      the numbers given to the corners cs in turn, as a table
 --   Naming                         the corners cs have been numbered, among the points
 --   RenumberRoom                   where the tables stand, and what renumbering reads there
---   Cornered, Faceted              one corner more, one facet more
+--   Cornered, Faceted              one corner more, several in turn
 --   NumberedSoFar, FacetNumbered   the first i facets have been numbered or dropped; one more
 --   StagedMesh                     a mesh stands in the room, to be written
 --   Source, Lent                   what the last step is given, and asks
@@ -62,12 +62,12 @@ pub record Cornered (kept at n k v : ℕ) (w r : Numbered) (old new : List ℕ) 
   pub naming : (point : ℕ → Point) (points : List Point) (top : ℕ) (cs : List ℕ) → Pointed point points top kept v old
       → Naming point points top at n k w.vertices w.corners cs old → Naming point points top at n k r.vertices r.corners (cs ++ (v ∷ [])) new
 
-pub record Faceted (kept at n k : ℕ) (t : Triangle ℕ) (w r : Numbered) (old new : List ℕ) : Type 0 where
-  pub corners : r.corners ≡ w.corners + 3
+pub record Faceted (kept at n k : ℕ) (l : List ℕ) (w r : Numbered) (old new : List ℕ) : Type 0 where
+  pub corners : r.corners ≡ w.corners + length l
   pub few : r.vertices ≤ r.corners
   pub rest : (x : ℕ) → x < at → get_or new x 0 ≡ get_or old x 0
   pub naming : (point : ℕ → Point) (points : List Point) (top : ℕ) (cs : List ℕ) → ((u : ℕ) → u < n → Pointed point points top kept u old)
-      → Naming point points top at n k w.vertices w.corners cs old → Naming point points top at n k r.vertices r.corners (cs ++ vertices t) new
+      → Naming point points top at n k w.vertices w.corners cs old → Naming point points top at n k r.vertices r.corners (cs ++ l) new
 
 -- the corners of the facets kept, of the first i that passed
 abbrev pub kept_corners : List ℕ → ℕ → ℕ → ℕ → ℕ → ℕ → List ℕ

@@ -1,7 +1,7 @@
 // The facets that are kept, and their vertices (`remove_small_disconnected_components` of mesh_cleanup.rs).
 ghost use Rattle.mesh_compact.specs.Room.{Lent, MeshCompacted};
 
-use crate::renumber::renumber;
+use crate::renumber::Renumbering;
 use components::components;
 
 // A mesh to be written, as it stands in the work room: the old numbers of its vertices from `order` on, the numbers of its facets' corners from `corners` on.
@@ -27,15 +27,7 @@ pub fn remove_small_disconnected_components(
     requires { Lent kept n facets k at m.old }
     ensures { MeshCompacted kept n facets k least result m.old m.new }
 {
-    if k == 0 {
-        return Staged {
-            order: kept,
-            vertices: n,
-            corners: facets,
-            numbers: 3 * k,
-        };
-    }
-    if least <= 1 {
+    if k == 0 || least <= 1 {
         return Staged {
             order: kept,
             vertices: n,
@@ -45,13 +37,20 @@ pub fn remove_small_disconnected_components(
     }
     components(m, facets, k, 3, n, at);
     let table = at + 2 * k + n;
-    let w = renumber(m, kept, facets, at, k, table, n, least);
-    let used = w.vertices;
-    let numbers = w.corners;
+    let renumbering = Renumbering {
+        kept,
+        n,
+        facets,
+        k,
+        parts: at,
+        at: table,
+        least,
+    };
+    let used = renumbering.renumber(m);
     Staged {
         order: table + n,
-        vertices: used,
+        vertices: used.vertices,
         corners: table + n + 3 * k,
-        numbers: numbers,
+        numbers: used.corners,
     }
 }

@@ -1,10 +1,10 @@
 // Numbers by first use (`compact_kept_facets` of mesh_cleanup.rs). specs/Room.antt says what stands where in m.
-ghost use Rattle.std.specs.Prelude.{◌≡◌, ◌+◌, ◌*◌, ◌≤◌, ◌<◌, length, get_or};
-ghost use Rattle.geometry.specs.Triangles.{corners_at};
+ghost use Rattle.std.specs.Prelude.{◌≡◌, ◌+◌, ◌*◌, ◌≤◌, ◌<◌, length};
+ghost use Rattle.geometry.specs.Triangles.{vertices, corners_at};
 ghost use Rattle.mesh_compact.specs.Room.{is_large_at, Vertexed, Cornered, Faceted, RenumberRoom, FacetNumbered, NumberedSoFar};
 
 use geometry::numbers::MeshVertexId;
-use geometry::vertices::facet_in;
+use geometry::vertices::vertex_in;
 use words::zero_part;
 
 // How many vertices and how many corners have been numbered.
@@ -14,129 +14,100 @@ pub struct Numbered {
     pub corners: usize,
 }
 
-// Gives the welded vertex v a number if this is its first use; how many have one then.
-fn number_vertex(
-    m: &mut [u64],
-    kept: usize,
-    at: usize,
-    n: usize,
-    count: usize,
-    v: MeshVertexId,
-) -> usize
-    requires v_lt_n { (v.0 < n) × (kept + n ≤ at) }
-    requires count_in_bounds { at + n + count < length m.old }
-    ensures { Vertexed kept at n count v.0 result m.old m.new }
-{
-    if m[at + v.0] != 0 {
-        return count;
+// Where renumbering finds and leaves what: the old numbers of the n welded vertices from `kept` on, the corners of the k facets that passed from `facets` on, their components
+// from `parts` on; its own tables from `at` on. Facets of components of fewer than `least` are left out.
+#[derive(Clone, Copy)]
+pub struct Renumbering {
+    pub kept: usize,
+    pub n: usize,
+    pub facets: usize,
+    pub k: usize,
+    pub parts: usize,
+    pub at: usize,
+    pub least: u64,
+}
+
+impl Renumbering {
+    // Gives the welded vertex v a number if this is its first use; how many have one then.
+    fn number_vertex(&self, m: &mut [u64], count: usize, v: MeshVertexId) -> usize
+        requires v_lt_n { (v.0 < self.now.n) × (self.now.kept + self.now.n ≤ self.now.at) }
+        requires count_in_bounds { self.now.at + self.now.n + count < length m.old }
+        ensures { Vertexed self.now.kept self.now.at self.now.n count v.0 result m.old m.new }
+    {
+        if m[self.at + v.0] != 0 {
+            return count;
+        }
+        m[self.at + self.n + count] = m[self.kept + v.0];
+        m[self.at + v.0] = count as u64 + 1;
+        count + 1
     }
-    m[at + n + count] = m[kept + v.0];
-    m[at + v.0] = count as u64 + 1;
-    count + 1
-}
 
-// A corner of a kept facet: the welded vertex v.
-fn number_corner(
-    m: &mut [u64],
-    kept: usize,
-    at: usize,
-    n: usize,
-    k: usize,
-    w: Numbered,
-    v: MeshVertexId,
-) -> Numbered
-    requires v_lt_n { (v.0 < n) × (kept + n ≤ at) }
-    requires k_in_bounds { at + n + 6 * k ≤ length m.old }
-    requires corners_bound { (w.corners < 3 * k) × (w.vertices ≤ w.corners) }
-    ensures { Cornered kept at n k v.0 w result m.old m.new }
-{
-    let count = w.vertices;
-    let corners = w.corners;
-    let vertices = number_vertex(m, kept, at, n, count, v);
-    m[at + n + 3 * k + corners] = m[at + v.0] - 1;
-    Numbered {
-        vertices: vertices,
-        corners: corners + 1,
+    // A corner of a kept facet: the welded vertex v.
+    fn number_corner(&self, m: &mut [u64], w: Numbered, v: MeshVertexId) -> Numbered
+        requires v_lt_n { (v.0 < self.now.n) × (self.now.kept + self.now.n ≤ self.now.at) }
+        requires k_in_bounds { self.now.at + self.now.n + 6 * self.now.k ≤ length m.old }
+        requires corners_bound { (w.corners < 3 * self.now.k) × (w.vertices ≤ w.corners) }
+        ensures { Cornered self.now.kept self.now.at self.now.n self.now.k v.0 w result m.old m.new }
+    {
+        let vertices = self.number_vertex(m, w.vertices, v);
+        m[self.at + self.n + 3 * self.k + w.corners] = m[self.at + v.0] - 1;
+        Numbered {
+            vertices,
+            corners: w.corners + 1,
+        }
     }
-}
 
-// The corners of a kept facet, which stand from `facet` on.
-fn number_facet(
-    m: &mut [u64],
-    kept: usize,
-    at: usize,
-    n: usize,
-    k: usize,
-    w: Numbered,
-    facet: usize,
-) -> Numbered
-    requires n_bound { (kept + n ≤ at) × (facet + 3 ≤ at) }
-    requires k_in_bounds { at + n + 6 * k ≤ length m.old }
-    requires corners_bound { (w.corners + 3 ≤ 3 * k) × (w.vertices ≤ w.corners) }
-    requires facet_bound { (get_or m.old facet 0 < n) × ((get_or m.old (facet + 1) 0 < n) × (get_or m.old (facet + 2) 0 < n)) }
-    ensures { Faceted kept at n k (corners_at m.old facet) w result m.old m.new }
-{
-    let t = facet_in(m, facet);
-    let w1 = number_corner(m, kept, at, n, k, w, t.a);
-    let w2 = number_corner(m, kept, at, n, k, w1, t.b);
-    number_corner(m, kept, at, n, k, w2, t.c)
-}
-
-// Whether the component of item i, of k items whose components stand from `parts` on, has at least `least` items.
-fn is_large(m: &[u64], parts: usize, k: usize, i: usize, least: u64) -> bool
-    requires i_lt_k { (i < k) × (parts + k + k ≤ length m.now) }
-    requires i_bound { get_or m.now (parts + i) 0 < k }
-    ensures { result ≡ is_large_at m.now parts k least i }
-{
-    let part = m[parts + i] as usize;
-    m[parts + k + part] >= least
-}
-
-// Facet i of the k that passed, whose corners stand from `facets` on.
-fn number_if_kept(
-    m: &mut [u64],
-    kept: usize,
-    facets: usize,
-    parts: usize,
-    k: usize,
-    at: usize,
-    n: usize,
-    least: u64,
-    w: Numbered,
-    i: usize,
-) -> Numbered
-    requires i_lt_k { i < k }
-    requires renumber_room { RenumberRoom kept facets parts k at n m.old }
-    requires vertices_le_corners { (w.vertices ≤ w.corners) × (w.corners ≤ 3 * i) }
-    ensures { FacetNumbered kept facets parts k at n least i w result m.old m.new }
-{
-    if !is_large(m, parts, k, i, least) {
-        return w;
+    // The corners of facet i, which is kept.
+    fn number_facet(&self, m: &mut [u64], mut w: Numbered, i: usize) -> Numbered
+        requires i_lt_k { i < self.now.k }
+        requires room { RenumberRoom self.now.kept self.now.facets self.now.parts self.now.k self.now.at self.now.n m.old }
+        requires corners_bound { (w.corners ≤ 3 * i) × (w.vertices ≤ w.corners) }
+        ensures { Faceted self.now.kept self.now.at self.now.n self.now.k (vertices (corners_at m.old (self.now.facets + 3 * i))) w result m.old m.new }
+    {
+        for j in 0..3 {
+            let v = vertex_in(m, self.facets + 3 * i + j);
+            w = self.number_corner(m, w, v);
+        }
+        w
     }
-    number_facet(m, kept, at, n, k, w, facets + 3 * i)
-}
 
-// Numbers the vertices of the facets that are kept, of the k that passed.
-pub fn renumber(
-    m: &mut [u64],
-    kept: usize,
-    facets: usize,
-    parts: usize,
-    k: usize,
-    at: usize,
-    n: usize,
-    least: u64,
-) -> Numbered
-    requires { RenumberRoom kept facets parts k at n m.old }
-    ensures { NumberedSoFar kept facets parts k at n least k result m.old m.new }
-{
-    zero_part(m, at, n);
-    let mut w = Numbered {
-        vertices: 0,
-        corners: 0,
-    };
-    for i in 0..k {
-        w = number_if_kept(m, kept, facets, parts, k, at, n, least, w, i);
+    // Whether the component of facet i has at least `least` facets.
+    fn is_large(&self, m: &[u64], i: usize) -> bool
+        requires i_lt_k { i < self.now.k }
+        requires room { RenumberRoom self.now.kept self.now.facets self.now.parts self.now.k self.now.at self.now.n m.now }
+        ensures { result ≡ is_large_at m.now self.now.parts self.now.k self.now.least i }
+    {
+        let part = m[self.parts + i] as usize;
+        m[self.parts + self.k + part] >= self.least
     }
-    w
+
+    // Facet i of the k that passed.
+    fn number_if_kept(&self, m: &mut [u64], w: Numbered, i: usize) -> Numbered
+        requires i_lt_k { i < self.now.k }
+        requires room { RenumberRoom self.now.kept self.now.facets self.now.parts self.now.k self.now.at self.now.n m.old }
+        requires corners_bound { (w.corners ≤ 3 * i) × (w.vertices ≤ w.corners) }
+        ensures { FacetNumbered self.now.kept self.now.facets self.now.parts self.now.k self.now.at self.now.n self.now.least i w result m.old m.new }
+    {
+        if self.is_large(m, i) {
+            self.number_facet(m, w, i)
+        } else {
+            w
+        }
+    }
+
+    // Numbers the vertices of the facets that are kept, of the k that passed.
+    pub fn renumber(&self, m: &mut [u64]) -> Numbered
+        requires { RenumberRoom self.now.kept self.now.facets self.now.parts self.now.k self.now.at self.now.n m.old }
+        ensures { NumberedSoFar self.now.kept self.now.facets self.now.parts self.now.k self.now.at self.now.n self.now.least self.now.k result m.old m.new }
+    {
+        zero_part(m, self.at, self.n);
+        let mut w = Numbered {
+            vertices: 0,
+            corners: 0,
+        };
+        for i in 0..self.k {
+            w = self.number_if_kept(m, w, i);
+        }
+        w
+    }
 }

@@ -303,8 +303,3 @@ filtered eps points facets at n f count m v U e h =
     let z : f ≡ n = omega (arith, U.going.done) in
     let g = subst (λ (k : ℕ). FilteredSoFar eps points facets at n k count v) z U.going in
     record { few = g.within; numbers = g.numbers; corners = g.corners; long = e; rest = U.rest }
-
-pub none_filtered : (eps : Float) (points : List Point) (facets : List (Triangle ℕ)) (at n : ℕ) (m : List ℕ) → n ≡ 0 → Filtered eps points facets at n 0 m m
-unfolding passed flat_map
-none_filtered eps points facets at n m e =
-    subst (λ (k : ℕ). Filtered eps points facets at k 0 m m) (sym e) (record { few = omega arith; numbers = refl; corners = refl; long = refl; rest = λ x q. refl })

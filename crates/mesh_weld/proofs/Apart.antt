@@ -5,7 +5,7 @@ use native.Mathlib.Omega.{arith}
 use mathlib.Core.Path.{◌≡◌, refl, subst}
 use mathlib.Core.Bool.{false}
 use mathlib.Core.List.{List, [], ◌∷◌, ◌++◌, map}
-use mathlib.Core.Option.{Option, none, some}
+use Rattle.std.specs.Prelude.{Option, None, Some}
 use lib.ListN.{length, get_or, length-map, length-append, get_or-append}
 use lib.Seq.{get_or_at}
 use Rattle.mesh_weld.specs.Joining.{Joining, Lawful}
@@ -21,7 +21,7 @@ module _ {Vertex : Type 0} (J : Joining Vertex) (L : Lawful Vertex J) (at : ℕ 
   get_d_map (x ∷ l) d zero h = refl
   get_d_map (x ∷ l) d (suc j) h = get_d_map l d j (omega arith)
 
-  one_more : (l : List ℕ) (n : ℕ) → Apart l → J.find (at n) (map at l) ≡ none → Apart (l ++ (n ∷ []))
+  one_more : (l : List ℕ) (n : ℕ) → Apart l → J.find (at n) (map at l) ≡ None → Apart (l ++ (n ∷ []))
   one_more l n a e j k jk kl = go (dec_lt k (length l))
     where
       long : k < length l + 1
@@ -38,8 +38,8 @@ module _ {Vertex : Type 0} (J : Joining Vertex) (L : Lawful Vertex J) (at : ℕ 
           (subst (λ (q : Vertex). J.joins (at n) q ≡ false) (get_d_map l (at n) j jl) (L.none (at n) (map at l) e j (rw (length-map l at) jl)))
 
   placed : (r : Option ℕ) (n : ℕ) (w : Welded) → Apart w.kept → J.find (at n) (map at w.kept) ≡ r → Apart (welding r n w).kept
-  placed none n w a e = one_more w.kept n a e
-  placed (some k) n w a e = a
+  placed None n w a e = one_more w.kept n a e
+  placed (Some k) n w a e = a
 
   pub kept_apart : (n : ℕ) → Apart (weld J at n).kept
   unfolding weld weld_next

@@ -4,7 +4,7 @@ use native.Mathlib.Decide.{dec_lt}
 use native.Mathlib.Omega.{arith}
 use mathlib.Core.Path.{◌≡◌, refl, ◌∙◌}
 use mathlib.Core.List.{List, [], ◌∷◌, ◌++◌, map}
-use mathlib.Core.Option.{Option, none, some}
+use Rattle.std.specs.Prelude.{Option, None, Some}
 use lib.ListN.{length, get_or, length-map, length-append, get_or-append}
 use lib.Seq.{get_or_at}
 use Rattle.mesh_weld.specs.Joining.{Joining, Lawful}
@@ -30,7 +30,7 @@ snoc_at P l x i n e h f g = go (dec_lt i n)
 
 module _ {Vertex : Type 0} (J : Joining Vertex) (L : Lawful Vertex J) (at : ℕ → Vertex) where
   placed : (r : Option ℕ) (n : ℕ) (w : Welded) → Numbers n w → J.find (at n) (map at w.kept) ≡ r → Numbers (suc n) (welding r n w)
-  placed none n w N e =
+  placed None n w N e =
       record {
         long = snoc_long w.old_to_new (length w.kept) ∙ (let l = N.long in omega arith);
         few = rw (snoc_long w.kept n) (let f = N.few in omega arith);
@@ -38,7 +38,7 @@ module _ {Vertex : Type 0} (J : Joining Vertex) (L : Lawful Vertex J) (at : ℕ 
         number = λ i h. snoc_at (λ x. x < length (w.kept ++ (n ∷ []))) w.old_to_new (length w.kept) i n N.long (omega arith)
             (λ j q. rw (snoc_long w.kept n) (let l = N.number j q in omega arith)) (rw (snoc_long w.kept n) (omega arith));
       }
-  placed (some k) n w N e =
+  placed (Some k) n w N e =
       record {
         long = snoc_long w.old_to_new k ∙ (let l = N.long in omega arith);
         few = let f = N.few in omega arith;

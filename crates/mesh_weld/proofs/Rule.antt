@@ -5,7 +5,7 @@ use mathlib.Core.Path.{◌≡◌, refl, sym, ap, subst, ◌∙◌}
 use mathlib.Core.Bool.{Bool, true, false, ◌&&◌, ◌||◌, true≢false}
 use mathlib.Core.List.{List, [], ◌∷◌, ◌++◌, flat_map}
 use mathlib.Core.Logic.{◌⊎◌, inl, inr, ⊎_elim}
-use mathlib.Core.Option.{none, some}
+use Rattle.std.specs.Prelude.{None, Some}
 use lib.Dec.{T}
 use lib.IntN.{ℤ, pos, negsuc, suc_ℤ, pred_ℤ, suc-pred, pred-suc}
 use lib.Ieee.{Float}
@@ -173,7 +173,7 @@ module _ (eps : Float) (p : Point) (l : List Point) where
   abbrev Joins : Point → Bool
   Joins q = neighbours here (key_of eps q) && near eps p q
 
-  found_joins : (k : ℕ) → first near_at held ≡ some k → (k < length l) × (Joins (get_or l k p) ≡ true)
+  found_joins : (k : ℕ) → first near_at held ≡ Some k → (k < length l) × (Joins (get_or l k p) ≡ true)
   found_joins k e =
       let r = first_found near_at held k e in
       let s = of_flat_map (in_cell eps l) (around here) r.0 in
@@ -187,7 +187,7 @@ module _ (eps : Float) (p : Point) (l : List Point) where
             r.1),
       )
 
-  none_joins : first near_at held ≡ none → (k : ℕ) → k < length l → Joins (get_or l k p) ≡ false
+  none_joins : first near_at held ≡ None → (k : ℕ) → k < length l → Joins (get_or l k p) ≡ false
   none_joins e k h =
       subst (λ (q : Point). Joins q ≡ false) (get_d_any l k origin p h)
       (not_true (Joins (vertex l k)) (λ j.

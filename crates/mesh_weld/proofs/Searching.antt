@@ -4,8 +4,8 @@ use native.Mathlib.Omega.{arith}
 use mathlib.Core.Path.{◌≡◌, refl, sym, ap, subst, ◌∙◌}
 use mathlib.Core.Bool.{Bool, true, false, cond, ◌&&◌}
 use mathlib.Core.List.{List, [], ◌∷◌, ◌++◌, flat_map, append-nil}
-use mathlib.Core.Option.{Option as Place, some}
 use Rattle.std.specs.Prelude.{Option, Some, None}
+use Rattle.std.specs.Option.{option_or}
 use lib.Dec.{eqb}
 use lib.ListN.{length, get_or, length-map}
 use lib.Ieee.{Float}
@@ -21,15 +21,15 @@ use Rattle.lists.proofs.Sequences.{flat_map_lem, flat_same, at_map}
 use Rattle.geometry.specs.declared.point.Point.{Point}
 use Rattle.geometry.specs.Points.{origin}
 use Rattle.geometry.specs.Meshes.{vertex, vertex_of}
-use Rattle.chains.specs.Links.{link_of, link_to}
+use Rattle.chains.specs.Links.{link_of, link_to, id_in}
 use Rattle.chains.specs.Chains.{Filed}
 use Rattle.chains.specs.Hash.{bucket_at}
-use Rattle.chains.proofs.Firsts.{ids_same, link_none, link_some}
-use Rattle.chains.proofs.Cells.{cell_link, cells_one}
+use Rattle.chains.proofs.Firsts.{ids_same}
+use Rattle.chains.proofs.Cells.{cell_link}
 use Rattle.chains.proofs.Walking.{filed_by_key}
 use Rattle.mesh_weld.specs.declared.cells.Cell.{Cell}
 use Rattle.mesh_weld.specs.Cells.{Key, key_of, near, in_cell, around, same_key, cells}
-use Rattle.mesh_weld.specs.Room.{words_of, cell_at, same_cell, kept_points, in_cell_at, answer, found_in, cell_bucket, HashOf, Index, KeyIn, KeysIn, up, block}
+use Rattle.mesh_weld.specs.Room.{words_of, cell_at, same_cell, kept_points, in_cell_at, found_in, cell_bucket, HashOf, Index, KeyIn, KeysIn, up, block}
 use Rattle.mesh_weld.proofs.Words.{same_words, FitKey, key_fits, inner_key, around_fits, corner_of, block_is, from_cell, cell_turn}
 
 -- ---- tests of cells
@@ -50,25 +50,20 @@ same_cell_lem a b e =
 abbrev pub meets_at : List Float → Float → ℕ → List ℕ → Cell → Point → ℕ → Bool
 meets_at vs eps n m c p k = same_cell (cell_at m (11 * n + 3 * k)) c && near eps p (vertex_of vs (get_or m (9 * n + k) 0))
 
-or_else : Option ℕ → Option ℕ → Option ℕ
-or_else None v = v
-or_else (Some k) v = Some k
+id_link : (o : Option ℕ) → id_in (link_of o) ≡ o
+id_link None = refl
+id_link (Some k) = refl
 
-answer_append : (t : ℕ → Bool) (l r : List ℕ) → answer (first t (l ++ r)) ≡ or_else (answer (first t l)) (answer (first t r))
-unfolding first or_else
-answer_append t [] r = refl
-answer_append t (x ∷ l) r = go (t x) (answer_append t l r)
+first_append : (t : ℕ → Bool) (l r : List ℕ) → first t (l ++ r) ≡ option_or (first t l) (first t r)
+first_append t [] r = refl
+first_append t (x ∷ l) r = go (t x) (first_append t l r)
   where
-    go : (b : Bool) → answer (first t (l ++ r)) ≡ or_else (answer (first t l)) (answer (first t r))
-        → answer (cond b (some x) (first t (l ++ r))) ≡ or_else (answer (cond b (some x) (first t l))) (answer (first t r))
+    go : (b : Bool) → first t (l ++ r) ≡ option_or (first t l) (first t r)
+        → cond b (Some x) (first t (l ++ r)) ≡ option_or (cond b (Some x) (first t l)) (first t r)
     go true e = refl
     go false e = e
 
 module _ (vs : List Float) (eps : Float) (n count : ℕ) (m : List ℕ) (I : Index vs eps n count m) where
-  -- what is found in some cells, as the definition has it
-  abbrev in_cells : Point → List Cell → Place ℕ
-  in_cells p cs = first (λ k. near eps p (vertex (kept_points vs n count m) k)) (flat_map (in_cell_at n count m) cs)
-
   pub kept_long : length (view m (9 * n) count) ≡ count
   kept_long = view_length m (9 * n) count (omega (arith, I.room, I.few))
 
@@ -85,48 +80,42 @@ module _ (vs : List Float) (eps : Float) (n count : ℕ) (m : List ℕ) (I : Ind
       (λ k h x. same_cell_lem (cell_at m (11 * n + 3 * k)) c
       (and_left (same_cell (cell_at m (11 * n + 3 * k)) c) (near eps p (vertex_of vs (get_or m (9 * n + k) 0))) (is_true (meets_at vs eps n m c p k) x)))
 
-  -- what a walk that ends with the link r tells of the cell
-  met : (c : Cell) (p : Point) (r : ℕ) → r ≡ link_to (meets_at vs eps n m c p) (up_to count) → r ≡ link_of (in_cells p (c ∷ []))
+  -- what a walk tells of the cell
+  pub met : (c : Cell) (p : Point) (r : Option ℕ) → r ≡ id_in (link_to (meets_at vs eps n m c p) (up_to count)) → r ≡ found_in vs eps n count m p (c ∷ [])
+  unfolding found_in flat_map
   met c p r e =
       let inside : ℕ → Bool = λ k. same_cell (cell_at m (11 * n + 3 * k)) c in
       let near_at : ℕ → Bool = λ k. near eps p (vertex (kept_points vs n count m) k) in
-      cells_one near_at (in_cell_at n count m) c r
-      (e ∙ ids_same (meets_at vs eps n m c p) (λ k. inside k && near_at k) count (λ k h. ap (λ (q : Point). inside k && near eps p q) (kept_at k h))
+      e
+      ∙ ap id_in
+      (ids_same (meets_at vs eps n m c p) (λ k. inside k && near_at k) count (λ k h. ap (λ (q : Point). inside k && near eps p q) (kept_at k h))
       ∙ cell_link inside near_at count)
-
-  pub met_some : (c : Cell) (p : Point) (r : ℕ) → r ≡ link_to (meets_at vs eps n m c p) (up_to count) → (r ≡ 0 → ⊥) → Some (r - 1) ≡ found_in vs eps n count m p (c ∷ [])
-  unfolding found_in
-  met_some c p r e h = sym (ap answer (link_some (in_cells p (c ∷ [])) r (met c p r e) h))
-
-  pub met_none : (c : Cell) (p : Point) → 0 ≡ link_to (meets_at vs eps n m c p) (up_to count) → None ≡ found_in vs eps n count m p (c ∷ [])
-  unfolding found_in
-  met_none c p e = sym (ap answer (link_none (in_cells p (c ∷ [])) 0 (met c p 0 e) refl))
+      ∙ id_link (first near_at (in_cell_at n count m c))
+      ∙ ap (first near_at) (sym (append-nil (in_cell_at n count m c)))
 
   -- ---- cell after cell
 
-  found_next : (p : Point) (c : Cell) (ds : List Cell) → found_in vs eps n count m p (c ∷ ds) ≡ or_else (found_in vs eps n count m p (c ∷ [])) (found_in vs eps n count m p ds)
-  unfolding found_in flat_map or_else
+  found_next : (p : Point) (c : Cell) (ds : List Cell) → found_in vs eps n count m p (c ∷ ds) ≡ option_or (found_in vs eps n count m p (c ∷ [])) (found_in vs eps n count m p ds)
+  unfolding found_in flat_map
   found_next p c ds =
       let t : ℕ → Bool = λ k. near eps p (vertex (kept_points vs n count m) k) in
-      answer_append t (in_cell_at n count m c) (flat_map (in_cell_at n count m) ds)
-      ∙ ap (λ (l : List ℕ). or_else (answer (first t l)) (found_in vs eps n count m p ds)) (sym (append-nil (in_cell_at n count m c)))
+      first_append t (in_cell_at n count m c) (flat_map (in_cell_at n count m) ds)
+      ∙ ap (λ (l : List ℕ). option_or (first t l) (found_in vs eps n count m p ds)) (sym (append-nil (in_cell_at n count m c)))
 
   -- what is found from the i-th cell of a block on, where the search of that cell is known
   module _ (p : Point) (c : Cell) (x y z : ℕ) (hx : x < 3) (hy : y < 3) (hz : z < 3) where
     pub found_hit : (k : ℕ) → Some k ≡ found_in vs eps n count m p (up c x y z ∷ []) → Some k ≡ found_in vs eps n count m p (from_cell c (9 * x + 3 * y + z))
-    unfolding or_else
     found_hit k e =
-        ap (λ (o : Option ℕ). or_else o (found_in vs eps n count m p (from_cell c (9 * x + 3 * y + z + 1)))) e
+        ap (λ (o : Option ℕ). option_or o (found_in vs eps n count m p (from_cell c (9 * x + 3 * y + z + 1)))) e
         ∙ sym (found_next p (up c x y z) (from_cell c (9 * x + 3 * y + z + 1)))
         ∙ ap (found_in vs eps n count m p) (sym (cell_turn c x y z hx hy hz))
 
     pub found_miss : None ≡ found_in vs eps n count m p (up c x y z ∷ [])
         → found_in vs eps n count m p (from_cell c (9 * x + 3 * y + z)) ≡ found_in vs eps n count m p (from_cell c (9 * x + 3 * y + z + 1))
-    unfolding or_else
     found_miss e =
         ap (found_in vs eps n count m p) (cell_turn c x y z hx hy hz)
         ∙ found_next p (up c x y z) (from_cell c (9 * x + 3 * y + z + 1))
-        ∙ ap (λ (o : Option ℕ). or_else o (found_in vs eps n count m p (from_cell c (9 * x + 3 * y + z + 1)))) (sym e)
+        ∙ ap (λ (o : Option ℕ). option_or o (found_in vs eps n count m p (from_cell c (9 * x + 3 * y + z + 1)))) (sym e)
 
   -- nothing before the i-th cell: the same place otherwise written, and the end
   pub found_from : (p : Point) (c : Cell) (i j : ℕ) → i ≡ j → found_in vs eps n count m p (block c) ≡ found_in vs eps n count m p (from_cell c i)
@@ -135,7 +124,7 @@ module _ (vs : List Float) (eps : Float) (n count : ℕ) (m : List ℕ) (I : Ind
 
   pub found_end : (p : Point) (c : Cell) (i : ℕ) → i ≡ 27 → found_in vs eps n count m p (block c) ≡ found_in vs eps n count m p (from_cell c i)
       → None ≡ found_in vs eps n count m p (block c)
-  unfolding found_in block flat_map first
+  unfolding found_in block flat_map
   found_end p c i e h = sym (found_from p c i 27 e h)
 
   -- ---- from words to keys
@@ -155,16 +144,16 @@ module _ (vs : List Float) (eps : Float) (n count : ℕ) (m : List ℕ) (I : Ind
           ∙ ap (λ (q : Point). same_key (key_of eps q) c) (kept_at k h)
 
   found_is : (p : Point) → KeysIn vs eps n → KeyIn eps p
-      → found_in vs eps n count m p (block (corner_of (words_of (key_of eps p)))) ≡ answer ((cells eps).find p (kept_points vs n count m))
+      → found_in vs eps n count m p (block (corner_of (words_of (key_of eps p)))) ≡ (cells eps).find p (kept_points vs n count m)
   unfolding cells found_in
   found_is p K h =
       let i = inner_key eps p h in
-      ap (λ (l : List ℕ). answer (first (λ k. near eps p (vertex (kept_points vs n count m) k)) l))
+      ap (first (λ k. near eps p (vertex (kept_points vs n count m) k)))
       (ap (flat_map (in_cell_at n count m)) (block_is (key_of eps p) i)
       ∙ flat_map_lem (in_cell_at n count m) words_of (around (key_of eps p))
       ∙ flat_same (λ c. in_cell_at n count m (words_of c)) (in_cell eps (kept_points vs n count m)) (around (key_of eps p))
       (λ c x. same_entries K c (of_each FitKey x (around_fits (key_of eps p) i))))
 
   pub found_cell : (c : Cell) (p : Point) → KeysIn vs eps n → KeyIn eps p → c ≡ words_of (key_of eps p)
-      → found_in vs eps n count m p (block (corner_of c)) ≡ answer ((cells eps).find p (kept_points vs n count m))
+      → found_in vs eps n count m p (block (corner_of c)) ≡ (cells eps).find p (kept_points vs n count m)
   found_cell c p K h e = ap (λ (d : Cell). found_in vs eps n count m p (block (corner_of d))) e ∙ found_is p K h

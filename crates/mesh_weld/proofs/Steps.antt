@@ -5,7 +5,6 @@ use native.Mathlib.Numerals.{add-one}
 use native.Mathlib.Omega.{arith}
 use mathlib.Core.Path.{◌≡◌, refl, sym, ap, subst, ◌∙◌}
 use mathlib.Core.List.{List, [], ◌∷◌, ◌++◌, map}
-use mathlib.Core.Option.{Option as Place, none, some}
 use Rattle.std.specs.Prelude.{Option, Some, None}
 use lib.ListN.{length, get_or, set, length-set}
 use lib.Seq.{get_or-set_same, get_or-set_other}
@@ -19,19 +18,11 @@ use Rattle.mesh_weld.specs.declared.cells.Cell.{Cell}
 use Rattle.mesh_weld.specs.Weld.{Welded, welding, weld_next, weld}
 use Rattle.mesh_weld.specs.Cells.{key_of, cells}
 use Rattle.geometry.specs.Meshes.{vertex_of}
-use Rattle.mesh_weld.specs.Room.{words_of, cell_at, kept_points, answer, cell_bucket, Index, WeldedSoFar, Welds}
+use Rattle.mesh_weld.specs.Room.{words_of, cell_at, kept_points, cell_bucket, Index, WeldedSoFar, Welds}
 use Rattle.mesh_weld.proofs.Searching.{kept_long}
 
 pub cell_same : (m v : List ℕ) (o : ℕ) → get_or v o 0 ≡ get_or m o 0 → get_or v (o + 1) 0 ≡ get_or m (o + 1) 0 → get_or v (o + 2) 0 ≡ get_or m (o + 2) 0 → cell_at v o ≡ cell_at m o
 cell_same m v o a b c = λ i. record { x = a i; y = b i; z = c i }
-
-answer_some : (o : Place ℕ) (k : ℕ) → Some k ≡ answer o → o ≡ some k
-answer_some none k e = cc
-answer_some (some j) k e = cc
-
-answer_none : (o : Place ℕ) → None ≡ answer o → o ≡ none
-answer_none none e = refl
-answer_none (some j) e = cc
 
 module _ (vs : List Float) (eps : Float) (n i count : ℕ) (m : List ℕ) (G : WeldedSoFar vs eps n i count m) (h : i < n) where
   abbrev I : Index vs eps n count m
@@ -39,14 +30,14 @@ module _ (vs : List Float) (eps : Float) (n i count : ℕ) (m : List ℕ) (G : W
 
   -- what the search found
   abbrev pub Answers : Option ℕ → Type 0
-  Answers r = r ≡ answer ((cells eps).find (vertex_of vs i) (kept_points vs n count m))
+  Answers r = r ≡ (cells eps).find (vertex_of vs i) (kept_points vs n count m)
 
-  step_is : (r : Place ℕ) → (cells eps).find (vertex_of vs i) (kept_points vs n count m) ≡ r
+  step_is : (r : Option ℕ) → (cells eps).find (vertex_of vs i) (kept_points vs n count m) ≡ r
       → weld (cells eps) (vertex_of vs) (i + 1) ≡ welding r i (weld (cells eps) (vertex_of vs) i)
   unfolding weld weld_next
   step_is r e =
       ap (weld (cells eps) (vertex_of vs)) (add-one i)
-      ∙ ap (λ (f : Place ℕ). welding f i (weld (cells eps) (vertex_of vs) i))
+      ∙ ap (λ (f : Option ℕ). welding f i (weld (cells eps) (vertex_of vs) i))
       (ap (λ (l : List ℕ). (cells eps).find (vertex_of vs i) (map (vertex_of vs) l)) (sym G.kept) ∙ e)
 
   few : count < n
@@ -91,8 +82,8 @@ module _ (vs : List Float) (eps : Float) (n i count : ℕ) (m : List ℕ) (G : W
       cell : (k : ℕ) → cell_at v (11 * n + 3 * k) ≡ cell_at m (11 * n + 3 * k)
       cell k = cell_same m v (11 * n + 3 * k) (off (11 * n + 3 * k) (λ q. omega arith)) (off (11 * n + 3 * k + 1) (λ q. omega arith)) (off (11 * n + 3 * k + 2) (λ q. omega arith))
 
-      step : weld (cells eps) (vertex_of vs) (i + 1) ≡ welding (some r) i (weld (cells eps) (vertex_of vs) i)
-      step = step_is (some r) (answer_some ((cells eps).find (vertex_of vs i) (kept_points vs n count m)) r e)
+      step : weld (cells eps) (vertex_of vs) (i + 1) ≡ welding (Some r) i (weld (cells eps) (vertex_of vs) i)
+      step = step_is (Some r) (sym e)
 
   -- ---- the vertex is kept
 
@@ -260,8 +251,8 @@ module _ (vs : List Float) (eps : Float) (n i count : ℕ) (m : List ℕ) (G : W
               ∙ sym (ap (λ (w : Welded). w.old_to_new) step);
         }
       where
-        step : weld (cells eps) (vertex_of vs) (i + 1) ≡ welding none i (weld (cells eps) (vertex_of vs) i)
-        step = step_is none (answer_none ((cells eps).find (vertex_of vs i) (kept_points vs n count m)) e)
+        step : weld (cells eps) (vertex_of vs) (i + 1) ≡ welding None i (weld (cells eps) (vertex_of vs) i)
+        step = step_is None (sym e)
 
         low : (k : ℕ) → k < count + 1 → Dec (k < count) → get_or v (9 * n + k) 0 < n
         low k lt (yes g) = rw (id_old k g) (I.low k g)

@@ -2,8 +2,7 @@
 -- one rule, by cells (Cells.antt). Assumes nothing.
 --   Joining   what a rule is: `joins p q`, the two are close enough to be one; `find p kept`, the place of the kept vertex that p is taken for, or none
 --   Lawful    what a rule must satisfy: it is symmetric, what is found joins, and where nothing is found none joins
-use Rattle.std.specs.Prelude.{ℕ, ◌<◌, ◌≡◌, Bool, true, false, List, length, get_or}
-use Rattle.std.proofs.Math.Option.{Option, none, some}
+use Rattle.std.specs.Prelude.{ℕ, ◌<◌, ◌≡◌, Bool, true, false, List, length, get_or, Option, None, Some}
 
 pub record Joining (Vertex : Type 0) : Type 0 where
   pub joins : Vertex → Vertex → Bool
@@ -11,5 +10,5 @@ pub record Joining (Vertex : Type 0) : Type 0 where
 
 pub record Lawful (Vertex : Type 0) (J : Joining Vertex) : Type 0 where
   pub symmetric : (p q : Vertex) → J.joins p q ≡ J.joins q p
-  pub found : (p : Vertex) (kept : List Vertex) (k : ℕ) → J.find p kept ≡ some k → (k < length kept) × (J.joins p (get_or kept k p) ≡ true)
-  pub none : (p : Vertex) (kept : List Vertex) → J.find p kept ≡ none → (k : ℕ) → k < length kept → J.joins p (get_or kept k p) ≡ false
+  pub found : (p : Vertex) (kept : List Vertex) (k : ℕ) → J.find p kept ≡ Some k → (k < length kept) × (J.joins p (get_or kept k p) ≡ true)
+  pub none : (p : Vertex) (kept : List Vertex) → J.find p kept ≡ None → (k : ℕ) → k < length kept → J.joins p (get_or kept k p) ≡ false

@@ -2,15 +2,13 @@
 -- vertices from 9 n on, the new numbers from 10 n on, and the cells of the kept from 11 n on, three words each. A key stands as a word, 2 ^ 63 more than it (`key_word`). Assumes nothing.
 --   words_of              the cell of three keys, in words      cell_at    three words of the room as a cell
 --   same_cell             two cells are one                             kept_points   the points of the vertices kept
---   answer                a place or none, as the code answers it
 --   found_in              the first kept vertex of some cells that is near p
 --   up, block             the cell so many steps up on each axis; the 27 cells from one up
 --   HashOf, cell_bucket   what the hash of a cell is congruent to, and its bucket
 --   KeyIn, KeysIn         "Rounded keys at most 2^62 in magnitude"
 --   Index                the table of the vertices kept             WeldedSoFar     the first i vertices are welded
 --   Welds                what welding leaves
-use Rattle.std.specs.Prelude.{ℕ, ◌+◌, ◌*◌, ◌%◌, ◌≤◌, ◌<◌, ◌≡◌, Bool, false, ◌&&◌, eqb, length, get_or, Float, Option, Some, None}
-use Rattle.std.proofs.Math.Option.{Option as Place, none, some}
+use Rattle.std.specs.Prelude.{ℕ, ◌+◌, ◌*◌, ◌%◌, ◌≤◌, ◌<◌, ◌≡◌, Bool, false, ◌&&◌, eqb, length, get_or, Float, Option}
 use mathlib.Core.List.{List, [], ◌∷◌, map, flat_map}
 use Rattle.lists.specs.Lists.{first, keep, up_to}
 use Rattle.lists.specs.Regions.{view}
@@ -41,12 +39,8 @@ kept_points vs n count m = map (vertex_of vs) (view m (9 * n) count)
 abbrev pub in_cell_at : ℕ → ℕ → List ℕ → Cell → List ℕ
 in_cell_at n count m c = keep (λ k. same_cell (cell_at m (11 * n + 3 * k)) c) (up_to count)
 
-abbrev pub answer : Place ℕ → Option ℕ
-answer none = None
-answer (some k) = Some k
-
 unfoldable pub found_in : List Float → Float → ℕ → ℕ → List ℕ → Point → List Cell → Option ℕ
-found_in vs eps n count m p cs = answer (first (λ k. near eps p (vertex (kept_points vs n count m) k)) (flat_map (in_cell_at n count m) cs))
+found_in vs eps n count m p cs = first (λ k. near eps p (vertex (kept_points vs n count m) k)) (flat_map (in_cell_at n count m) cs)
 
 abbrev pub up : Cell → ℕ → ℕ → ℕ → Cell
 up c x y z = record { x = c.x + x; y = c.y + y; z = c.z + z }

@@ -4,7 +4,7 @@ ghost use Rattle.std.specs.Prelude.{◌≡◌, ◌&&◌, [], ◌∷◌, ◌+◌,
 ghost use Rattle.geometry.specs.Meshes.{vertex_of};
 ghost use Rattle.mesh_weld.specs.Joining.{Joining};
 ghost use Rattle.mesh_weld.specs.Cells.{key_of, near, cells};
-ghost use Rattle.mesh_weld.specs.Room.{answer, cell_at, same_cell, words_of, kept_points, found_in, HashOf, Index, KeyIn, KeysIn};
+ghost use Rattle.mesh_weld.specs.Room.{cell_at, same_cell, words_of, kept_points, found_in, HashOf, Index, KeyIn, KeysIn};
 
 use crate::cells::{Cell, cell_at, is_near};
 use chains::{bucket_at, first, mix, next};
@@ -41,13 +41,12 @@ impl Kept<'_> {
         ensures { result ≡ found_in self.now.vertices.now self.now.eps self.now.n self.now.count self.now.room.now p (c ∷ []) }
     {
         let b = bucket_at(s, (4 * self.n) as u64) as usize;
-        let mut l = first(self.room, 0, b);
-        while l != 0 {
-            let i = (l - 1) as usize;
+        let mut at = first(self.room, 0, b);
+        while let Some(i) = at {
             if self.holds(i, c, p) {
                 return Some(i);
             }
-            l = next(self.room, 0, 4 * self.n, i);
+            at = next(self.room, 0, 4 * self.n, i);
         }
         None
     }
@@ -56,7 +55,7 @@ impl Kept<'_> {
     pub fn search(&self, c: Cell, p: Point) -> Option<usize>
         requires key_in { KeyIn self.now.eps p }
         requires cell_of { c ≡ words_of (key_of self.now.eps p) }
-        ensures { result ≡ answer ((cells self.now.eps).find p (kept_points self.now.vertices.now self.now.n self.now.count self.now.room.now)) }
+        ensures { result ≡ (cells self.now.eps).find p (kept_points self.now.vertices.now self.now.n self.now.count self.now.room.now) }
     {
         let corner = Cell {
             x: c.x - 1,

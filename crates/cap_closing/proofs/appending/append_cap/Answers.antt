@@ -17,11 +17,11 @@ turned_cap-t-requires c =
     let s = c in
     let a = s.args in
     let E = s.requires.names_entering in
-    let R = s.requires.nf_bound in
+    let R = s.requires.left_below in
     let x = E.small in
     let z = E.size in
-    let i = R.1 in
-    ((omega arith, R.0, omega arith))
+    let i = R.0 in
+    omega arith
 
 pub materialize_triangle-ids-requires : goal.materialize_triangle-ids-requires
 materialize_triangle-ids-requires c =
@@ -29,38 +29,38 @@ materialize_triangle-ids-requires c =
     let a = s.args in
     let E = s.requires.names_entering in
     let K = s.requires.taking in
-    let R = s.requires.nf_bound in
-    let low = subst (Below (count_at a.w.now)) (sym c.turned_cap-t.ensures) (K.corners a.i R.1) in record { nf_bound = (R.0, low); names_entering = E }
+    let R = s.requires.left_below in
+    let low = subst (Below (count_at a.w.now)) (sym c.turned_cap-t.ensures) (K.corners a.i R.0) in record { below = low; names_entering = E }
 
 pub is_large-requires : goal.is_large-requires
 is_large-requires c =
     let s = c in
     let a = s.args in
-    let b = closing_at a.n a.nf a.nc in
+    let b = closing_at a.room.n a.room.nf a.room.nc in
     let E = s.requires.names_entering in
     let H = s.requires.shaped in
     let K = s.requires.taking in
-    let R = s.requires.nf_bound in
-    let low = subst (Below (count_at a.w.now)) (sym c.turned_cap-t.ensures) (K.corners a.i R.1) in
+    let R = s.requires.left_below in
+    let low = subst (Below (count_at a.w.now)) (sym c.turned_cap-t.ensures) (K.corners a.i R.0) in
     let e = c.materialize_triangle-ids.ensures.0 in
     let N = c.materialize_triangle-ids.ensures.1 in
     let t = candidates_of c.turned_cap-t.result in
     let r = mesh_vertices_of c.materialize_triangle-ids.result in
     let w₁ = c.materialize_triangle-ids.new.w in record {
-      nf_bound = (R.0, append_below a.vertices.now b a.n a.nc a.left t r a.w.now w₁ R.2 low e N);
+      below = (append_below a.vertices.now b a.room.n a.room.nc a.left t r a.w.now w₁ R.1 low e N);
       names_entering = e.entering;
-      shaped = shaped_kept a.n a.nf a.nc a.w.now w₁ (record { long = e.long; below = e.below }) a.vertices.now E.count H;
+      shaped = shaped_kept a.room.n a.room.nf a.room.nc a.w.now w₁ (record { long = e.long; below = e.below }) a.vertices.now E.count H;
     }
 
 pub put_left-requires : goal.put_left-requires
 put_left-requires c =
     let s = c in
     let a = s.args in
-    let b = closing_at a.n a.nf a.nc in
+    let b = closing_at a.room.n a.room.nf a.room.nc in
     let E = s.requires.names_entering in
     let K = s.requires.taking in
-    let R = s.requires.nf_bound in
-    let low = subst (Below (count_at a.w.now)) (sym c.turned_cap-t.ensures) (K.corners a.i R.1) in
+    let R = s.requires.left_below in
+    let low = subst (Below (count_at a.w.now)) (sym c.turned_cap-t.ensures) (K.corners a.i R.0) in
     let e = c.materialize_triangle-ids.ensures.0 in
     let N = c.materialize_triangle-ids.ensures.1 in
     let t = candidates_of c.turned_cap-t.result in
@@ -68,43 +68,43 @@ put_left-requires c =
     let w₁ = c.materialize_triangle-ids.new.w in
     let F = e.entering in
     let x = F.small in
-    let y = F.caps in record { n_bound = (omega arith, R.0, omega arith, R.2, F.size); below = append_small a.vertices.now b a.n a.nc a.left t r a.w.now w₁ R.2 low e N }
+    let y = F.caps in record { left_below = (R.1, F.size); below = append_small a.vertices.now b a.room.n a.room.nc a.left t r a.w.now w₁ R.1 low e N }
 
 pub returns-then-is_large : goal.returns-then-is_large
 returns-then-is_large c =
     let s = c in
     let a = s.args in
-    let b = closing_at a.n a.nf a.nc in
+    let b = closing_at a.room.n a.room.nf a.room.nc in
     let E = s.requires.names_entering in
     let K = s.requires.taking in
-    let R = s.requires.nf_bound in
+    let R = s.requires.left_below in
     let low = subst (Below (count_at a.w.now)) (sym c.turned_cap-t.ensures)
-    (K.corners a.i R.1) in
+    (K.corners a.i R.0) in
     let e = c.materialize_triangle-ids.ensures.0 in
     let N = c.materialize_triangle-ids.ensures.1 in
     let t = candidates_of c.turned_cap-t.result in
     let r = mesh_vertices_of c.materialize_triangle-ids.result in
     let w₁ = c.materialize_triangle-ids.new.w in
-    subst (Appended a.vertices.now b a.n a.nc (cap_at_room a.n a.nf a.nc a.w.now a.i) a.left 1 a.w.now) (sym c.put_left.ensures)
-    (subst (λ (u : Triangle ℕ). Appended a.vertices.now b a.n a.nc u a.left 1 a.w.now (put_left b a.n a.nc a.left r w₁))
+    subst (Appended a.vertices.now b a.room.n a.room.nc (cap_at_room a.room.n a.room.nf a.room.nc a.w.now a.i) a.left 1 a.w.now) (sym c.put_left.ensures)
+    (subst (λ (u : Triangle ℕ). Appended a.vertices.now b a.room.n a.room.nc u a.left 1 a.w.now (put_left b a.room.n a.room.nc a.left r w₁))
     c.turned_cap-t.ensures
-    (appended_large a.vertices.now b a.n a.nc a.left t r a.w.now w₁ R.2 low e N
+    (appended_large a.vertices.now b a.room.n a.room.nc a.left t r a.w.now w₁ R.1 low e N
     (sym c.is_large.ensures ∙ c.if-is_large.true)))
 
 pub returns : goal.returns
 returns c =
     let s = c in
     let a = s.args in
-    let b = closing_at a.n a.nf a.nc in
+    let b = closing_at a.room.n a.room.nf a.room.nc in
     let E = s.requires.names_entering in
     let K = s.requires.taking in
-    let R = s.requires.nf_bound in
-    let low = subst (Below (count_at a.w.now)) (sym c.turned_cap-t.ensures) (K.corners a.i R.1) in
+    let R = s.requires.left_below in
+    let low = subst (Below (count_at a.w.now)) (sym c.turned_cap-t.ensures) (K.corners a.i R.0) in
     let e = c.materialize_triangle-ids.ensures.0 in
     let N = c.materialize_triangle-ids.ensures.1 in
     let t = candidates_of c.turned_cap-t.result in
     let r = mesh_vertices_of c.materialize_triangle-ids.result in
     let w₁ = c.materialize_triangle-ids.new.w in
-    subst (λ (u : Triangle ℕ). Appended a.vertices.now b a.n a.nc u a.left 0 a.w.now w₁)
+    subst (λ (u : Triangle ℕ). Appended a.vertices.now b a.room.n a.room.nc u a.left 0 a.w.now w₁)
     c.turned_cap-t.ensures
-    (appended_small a.vertices.now b a.n a.nc a.left t r a.w.now w₁ R.2 low e N (sym c.is_large.ensures ∙ c.if-is_large.false))
+    (appended_small a.vertices.now b a.room.n a.room.nc a.left t r a.w.now w₁ R.1 low e N (sym c.is_large.ensures ∙ c.if-is_large.false))

@@ -1,10 +1,17 @@
-use Prim.Native.Nat.{ℕ}
+use Prim.Native.Nat.{ℕ, ◌≤◌}
+use mathlib.Core.Bool.{Bool, true, false}
 use mathlib.Core.Path.{◌≡◌, subst}
+use mir.Val.{bool_byte}
 use native.Mathlib.Omega.{arith}
 use Rattle.cap_triangles.specs.Room.{closing_at}
-use Rattle.cap_closing.specs.Steps.{Appending}
+use Rattle.cap_closing.specs.Steps.{Turned, Appending, bit}
 use Rattle.cap_closing.proofs.Turns.{appending_none, appending_turn, taking_kept, shaped_kept}
 use Rattle.cap_closing.proofs.appending.append_caps.Goals as goal
+
+-- a truth value counted, as the code has it
+by_byte : (b : Bool) (P : ℕ → Type 0) → P (bit b) → P (bool_byte b)
+by_byte true P h = h
+by_byte false P h = h
 
 pub loop-i-init : goal.loop-i-init
 loop-i-init c =
@@ -12,10 +19,10 @@ loop-i-init c =
     let a = s.args in
     let E = s.requires.names_entering in
     let K = s.requires.taking in
-    (appending_none a.vertices.now a.n a.nf a.nc a.positive a.w.now E K, omega arith)
+    (appending_none a.vertices.now a.room.n a.room.nf a.room.nc a.positive a.w.now E K, omega arith)
 
-pub append_if_taken-left-requires : goal.append_if_taken-left-requires
-append_if_taken-left-requires c =
+pub append_if_taken-requires : goal.append_if_taken-requires
+append_if_taken-requires c =
     let s = c in
     let a = s.args in
     let E = s.requires.names_entering in
@@ -24,11 +31,11 @@ append_if_taken-left-requires c =
     let P = c.loop-i.invariant.0 in
     let h = c.loop-i-test.true in
     let f = P.few in record {
-      nf_bound = (s.requires.nf_bound, h, omega arith);
+      left_below = (h, omega arith);
       names_entering = P.entering;
-      shaped = shaped_kept a.n a.nf a.nc a.w.now c.loop-i.w P.above a.vertices.now E.count H;
+      shaped = shaped_kept a.room.n a.room.nf a.room.nc a.w.now c.loop-i.w P.above a.vertices.now E.count H;
       taking = taking_kept
-          a.n a.nf a.nc a.w.now c.loop-i.w P.above K;
+          a.room.n a.room.nf a.room.nc a.w.now c.loop-i.w P.above K;
     }
 
 pub overflow_add-left : goal.overflow_add-left
@@ -39,7 +46,7 @@ overflow_add-left c =
     let P = c.loop-i.invariant.0 in
     let h = c.loop-i-test.true in
     let f = P.few in
-    let q = c.append_if_taken-left.ensures.few in
+    let q = by_byte c.append_if_taken.result (λ r. r ≤ 1) c.append_if_taken.ensures.few in
     let x = E.caps in
     omega arith
 
@@ -49,10 +56,12 @@ loop-i-preserved c =
     let a = s.args in
     let E = s.requires.names_entering in
     let K = s.requires.taking in (
-      appending_turn a.vertices.now a.n a.nf a.nc a.positive a.w.now E K c.loop-i.i
+      appending_turn a.vertices.now a.room.n a.room.nf a.room.nc a.positive a.w.now E K c.loop-i.i
           c.loop-i.left c.loop-i.w c.loop-i-test.true
-          c.loop-i.invariant.0 c.append_if_taken-left.result c.append_if_taken-left.new.w
-          c.append_if_taken-left.ensures,
+          c.loop-i.invariant.0 (bool_byte c.append_if_taken.result) c.append_if_taken.new.w
+          (by_byte c.append_if_taken.result
+          (λ r. Turned a.vertices.now (closing_at a.room.n a.room.nf a.room.nc) a.room.n a.room.nf a.room.nc a.positive c.loop-i.i c.loop-i.left r c.loop-i.w c.append_if_taken.new.w)
+          c.append_if_taken.ensures),
       omega (arith, c.loop-i-test.true),
     )
 
@@ -63,7 +72,7 @@ pub returns : goal.returns
 returns c =
     let s = c in
     let a = s.args in
-    let b = closing_at a.n a.nf a.nc in
+    let b = closing_at a.room.n a.room.nf a.room.nc in
     let E = s.requires.names_entering in
-    let l : c.loop-i.i ≡ a.nc = (let x = c.loop-i.invariant.1 in let y = c.loop-i-test.false in omega arith) in
-    subst (λ (k : ℕ). Appending a.vertices.now b a.n a.nf a.nc a.positive k c.loop-i.left a.w.now c.loop-i.w) l c.loop-i.invariant.0
+    let l : c.loop-i.i ≡ a.room.nc = (let x = c.loop-i.invariant.1 in let y = c.loop-i-test.false in omega arith) in
+    subst (λ (k : ℕ). Appending a.vertices.now b a.room.n a.room.nf a.room.nc a.positive k c.loop-i.left a.w.now c.loop-i.w) l c.loop-i.invariant.0

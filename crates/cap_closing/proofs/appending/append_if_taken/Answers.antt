@@ -10,13 +10,13 @@ is_selected-chosen-requires c =
     let a = s.args in
     let E = s.requires.names_entering in
     let K = s.requires.taking in
-    let R = s.requires.nf_bound in
+    let R = s.requires.left_below in
     let x = E.small in
     let y = E.caps in
     let z = E.size in
-    let i = R.1 in
+    let i = R.0 in
     let q = K.parts a.i i in
-    ((omega arith, R.0, omega arith, omega arith, omega arith))
+    (omega arith, omega arith)
 
 pub append_cap-requires : goal.append_cap-requires
 append_cap-requires c =
@@ -25,14 +25,14 @@ append_cap-requires c =
     let E = s.requires.names_entering in
     let H = s.requires.shaped in
     let K = s.requires.taking in
-    let R = s.requires.nf_bound in record { nf_bound = R; names_entering = E; shaped = H; taking = K }
+    let R = s.requires.left_below in record { left_below = R; names_entering = E; shaped = H; taking = K }
 
 pub returns-then-chosen-positive : goal.returns-then-chosen-positive
 returns-then-chosen-positive c =
     let s = c in
     let a = s.args in
     let E = s.requires.names_entering in
-    let R = s.requires.nf_bound in
+    let R = s.requires.left_below in
     let t : beq c.is_selected-chosen.result a.positive ≡ true = c.if-chosen-positive.true in
     let u = ap (λ (x : Bool). beq x a.positive) (sym c.is_selected-chosen.ensures) ∙ t in
     record { skipped = λ e. absurd (true≢false (sym u ∙ e)); appended = λ e. c.append_cap.ensures; few = c.append_cap.ensures.few }
@@ -42,7 +42,7 @@ returns c =
     let s = c in
     let a = s.args in
     let E = s.requires.names_entering in
-    let R = s.requires.nf_bound in
+    let R = s.requires.left_below in
     let t : beq c.is_selected-chosen.result a.positive ≡ false = c.if-chosen-positive.false in
     let u = ap (λ (x : Bool). beq x a.positive) (sym c.is_selected-chosen.ensures) ∙ t in
     record { skipped = λ e. (refl, refl); appended = λ e. absurd (false≢true (sym u ∙ e)); few = omega arith }

@@ -14,13 +14,13 @@ pub area2-double_area-requires : goal.area2-double_area-requires
 area2-double_area-requires c =
     let s = c in
     let a = s.args in
-    let b = closing_at a.n a.nf a.nc in
+    let b = closing_at a.room.n a.room.nf a.room.nc in
     let E = s.requires.names_entering in
     let H = s.requires.shaped in
     has_root c.entered_point-a.result c.entered_point-b.result c.entered_point-c.result
-    (subst PointIn (sym c.entered_point-a.ensures) (vertex_in a.vertices.now b a.n a.nc a.w.now E H a.t.a.0 s.requires.nf_bound.1.a))
-    (subst PointIn (sym c.entered_point-b.ensures) (vertex_in a.vertices.now b a.n a.nc a.w.now E H a.t.b.0 s.requires.nf_bound.1.b))
-    (subst PointIn (sym c.entered_point-c.ensures) (vertex_in a.vertices.now b a.n a.nc a.w.now E H a.t.c.0 s.requires.nf_bound.1.c))
+    (subst PointIn (sym c.entered_point-a.ensures) (vertex_in a.vertices.now b a.room.n a.room.nc a.w.now E H a.t.a.0 s.requires.below.a))
+    (subst PointIn (sym c.entered_point-b.ensures) (vertex_in a.vertices.now b a.room.n a.room.nc a.w.now E H a.t.b.0 s.requires.below.b))
+    (subst PointIn (sym c.entered_point-c.ensures) (vertex_in a.vertices.now b a.room.n a.room.nc a.w.now E H a.t.c.0 s.requires.below.c))
 
 pub returns : goal.returns
 unfolding is_large

@@ -10,32 +10,32 @@ pub materialize_candidate-b-requires : goal.materialize_candidate-b-requires
 materialize_candidate-b-requires c =
     let s = c in
     let a = s.args in
-    let b = closing_at a.n a.nf a.nc in
+    let b = closing_at a.room.n a.room.nf a.room.nc in
     let E = s.requires.names_entering in
     let e = c.materialize_candidate-a.ensures.0 in
-    let k = entered_count b a.n a.nc a.nv (a.t.a.0 ∷ []) a.w.now c.materialize_candidate-a.new.w e in
-    let l = s.requires.nf_bound.1.b in record { nf_bound = (s.requires.nf_bound.0, omega arith); names_entering = e.entering }
+    let k = entered_count b a.room.n a.room.nc a.nv (a.t.a.0 ∷ []) a.w.now c.materialize_candidate-a.new.w e in
+    let l = s.requires.below.b in record { low = omega arith; names_entering = e.entering }
 
 pub materialize_candidate-c-requires : goal.materialize_candidate-c-requires
 materialize_candidate-c-requires c =
     let s = c in
     let a = s.args in
-    let b = closing_at a.n a.nf a.nc in
+    let b = closing_at a.room.n a.room.nf a.room.nc in
     let E = s.requires.names_entering in
     let e = c.materialize_candidate-a.ensures.0 in
     let f = c.materialize_candidate-b.ensures.0 in
-    let k = entered_count b a.n a.nc a.nv (a.t.a.0 ∷ []) a.w.now c.materialize_candidate-a.new.w e in
-    let m = entered_count b a.n a.nc a.nv (a.t.b.0 ∷ []) c.materialize_candidate-a.new.w
+    let k = entered_count b a.room.n a.room.nc a.nv (a.t.a.0 ∷ []) a.w.now c.materialize_candidate-a.new.w e in
+    let m = entered_count b a.room.n a.room.nc a.nv (a.t.b.0 ∷ []) c.materialize_candidate-a.new.w
     c.materialize_candidate-b.new.w f in
-    let l = s.requires.nf_bound.1.c in record { nf_bound = (s.requires.nf_bound.0, omega arith); names_entering = f.entering }
+    let l = s.requires.below.c in record { low = omega arith; names_entering = f.entering }
 
 pub returns : goal.returns
 returns c =
     let s = c in
     let a = s.args in
-    let b = closing_at a.n a.nf a.nc in
+    let b = closing_at a.room.n a.room.nf a.room.nc in
     let E = s.requires.names_entering in (
-      entered_three b a.n a.nc a.nv a.w.now E (candidates_of a.t) s.requires.nf_bound.1
+      entered_three b a.room.n a.room.nc a.nv a.w.now E (candidates_of a.t) s.requires.below
           (tri c.materialize_candidate-a.result.0
           c.materialize_candidate-b.result.0 c.materialize_candidate-c.result.0)
           c.materialize_candidate-a.new.w
@@ -44,8 +44,8 @@ returns c =
           c.materialize_candidate-b.ensures.0 c.materialize_candidate-c.ensures.0
           c.materialize_candidate-a.ensures.1
           c.materialize_candidate-b.ensures.1 c.materialize_candidate-c.ensures.1,
-      numbers_three b a.n
-          a.nc a.nv a.w.now E (candidates_of a.t) s.requires.nf_bound.1
+      numbers_three b a.room.n
+          a.room.nc a.nv a.w.now E (candidates_of a.t) s.requires.below
           (tri c.materialize_candidate-a.result.0
           c.materialize_candidate-b.result.0 c.materialize_candidate-c.result.0)
           c.materialize_candidate-a.new.w

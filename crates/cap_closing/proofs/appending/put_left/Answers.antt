@@ -7,9 +7,9 @@ pub bounds-w-at-2 : goal.bounds-w-at-2
 bounds-w-at-2 c =
     let s = c in
     let a = s.args in
-    let R = s.requires.n_bound in
-    let l = R.3 in
-    let z = R.4 in
+    let R = s.requires.left_below in
+    let l = R.0 in
+    let z = R.1 in
     let e = c.left_at.ensures in
     simp length-set (omega arith)
 
@@ -17,9 +17,9 @@ pub bounds-w-at-3 : goal.bounds-w-at-3
 bounds-w-at-3 c =
     let s = c in
     let a = s.args in
-    let R = s.requires.n_bound in
-    let l = R.3 in
-    let z = R.4 in
+    let R = s.requires.left_below in
+    let l = R.0 in
+    let z = R.1 in
     let e = c.left_at.ensures in
     simp length-set (omega arith)
 
@@ -27,9 +27,9 @@ pub bounds-w-record : goal.bounds-w-record
 bounds-w-record c =
     let s = c in
     let a = s.args in
-    let R = s.requires.n_bound in
-    let l = R.3 in
-    let z = R.4 in
+    let R = s.requires.left_below in
+    let l = R.0 in
+    let z = R.1 in
     let e = c.threes_at.ensures in
     simp length-set (omega arith)
 
@@ -37,9 +37,9 @@ pub bounds-w-record-2 : goal.bounds-w-record-2
 bounds-w-record-2 c =
     let s = c in
     let a = s.args in
-    let R = s.requires.n_bound in
-    let l = R.3 in
-    let z = R.4 in
+    let R = s.requires.left_below in
+    let l = R.0 in
+    let z = R.1 in
     let e = c.threes_at.ensures in
     simp length-set (omega arith)
 

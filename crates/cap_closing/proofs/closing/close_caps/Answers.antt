@@ -19,7 +19,7 @@ start_entering-requires c =
     let z = P.caps in
     let q = P.size in
     let k = P.pooled.few in
-    (omega arith, omega arith, omega arith, omega arith, omega arith)
+    (omega arith, omega arith)
 
 pub append_caps-left-requires : goal.append_caps-left-requires
 append_caps-left-requires c =
@@ -38,7 +38,6 @@ append_caps-left-requires c =
     let S = c.start_entering.ensures in
     let w₁ = c.start_entering.new.w in
     let E = entering_first b a.n nc nv a.w.now w₁ (omega arith) k (omega arith) x z s.requires.vertices_in.1 s.requires.vertices_in.2 S in record {
-      nf_bound = y;
       names_entering = E;
       shaped = shaped_kept a.n a.nf nc a.w.now w₁ S.above a.vertices.now k
           (shaped_first a.n a.nf a.cap_list.now a.w.now D a.vertices.now s.requires.vertices_in.0);
@@ -59,7 +58,7 @@ find_firsts-caps-requires c =
     let k = P.pooled.few in
     let A = c.append_caps-left.ensures in
     let f = A.few in
-    let e = A.entering.size in record { n_bound = (omega arith, omega arith, omega arith, f, omega arith); by_index = A.facets.places }
+    let e = A.entering.size in record { left_below = (f, omega arith); by_index = A.facets.places }
 
 pub returns : goal.returns
 returns c =

@@ -10,22 +10,22 @@ pub overflow_add-result : goal.overflow_add-result
 overflow_add-result c =
     let s = c in
     let a = s.args in
-    let m = most_vertices (closing_at a.n a.nf a.nc) a.n a.nc a.nv a.w.now s.requires.names_entering in
-    omega (arith, s.requires.nf_bound.2, s.requires.names_entering.size, s.requires.names_entering.count, c.fresh_at.ensures)
+    let m = most_vertices (closing_at a.room.n a.room.nf a.room.nc) a.room.n a.room.nc a.nv a.w.now s.requires.names_entering in
+    omega (arith, s.requires.own.1, s.requires.names_entering.size, s.requires.names_entering.count, c.fresh_at.ensures)
 
 pub offset_bounds-w-fresh_at : goal.offset_bounds-w-fresh_at
 offset_bounds-w-fresh_at c =
     let s = c in
     let a = s.args in
-    let m = most_vertices (closing_at a.n a.nf a.nc) a.n a.nc a.nv a.w.now s.requires.names_entering in
-    omega (arith, s.requires.nf_bound.2, s.requires.names_entering.size, s.requires.names_entering.count, c.fresh_at.ensures)
+    let m = most_vertices (closing_at a.room.n a.room.nf a.room.nc) a.room.n a.room.nc a.nv a.w.now s.requires.names_entering in
+    omega (arith, s.requires.own.1, s.requires.names_entering.size, s.requires.names_entering.count, c.fresh_at.ensures)
 
 pub bounds-w-fresh_at : goal.bounds-w-fresh_at
 bounds-w-fresh_at c =
     let s = c in
     let a = s.args in
-    let m = most_vertices (closing_at a.n a.nf a.nc) a.n a.nc a.nv a.w.now s.requires.names_entering in
-    omega (arith, s.requires.nf_bound.2, s.requires.names_entering.size, s.requires.names_entering.count, c.fresh_at.ensures)
+    let m = most_vertices (closing_at a.room.n a.room.nf a.room.nc) a.room.n a.room.nc a.nv a.w.now s.requires.names_entering in
+    omega (arith, s.requires.own.1, s.requires.names_entering.size, s.requires.names_entering.count, c.fresh_at.ensures)
 
 pub returns : goal.returns
 returns c =

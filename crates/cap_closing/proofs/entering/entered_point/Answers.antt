@@ -15,20 +15,20 @@ pub returns-then-v-nv : goal.returns-then-v-nv
 returns-then-v-nv c =
     let s = c in
     let a = s.args in
-    let b = closing_at a.n a.nf a.nc in
+    let b = closing_at a.room.n a.room.nf a.room.nc in
     let E = s.requires.names_entering in
-    c.vertex_at.ensures ∙ own_point a.vertices.now b a.n a.nc a.w.now E a.v.0 c.if-v-nv.true
+    c.vertex_at.ensures ∙ own_point a.vertices.now b a.room.n a.room.nc a.w.now E a.v.0 c.if-v-nv.true
 
 pub candidate_of_vertex-requires : goal.candidate_of_vertex-requires
 candidate_of_vertex-requires c =
-    let s = c in record { nf_bound = (s.requires.nf_bound.0, c.if-v-nv.false, s.requires.nf_bound.1); names_entering = s.requires.names_entering }
+    let s = c in record { own = (c.if-v-nv.false, s.requires.low); names_entering = s.requires.names_entering }
 
 pub point_of-requires : goal.point_of-requires
 point_of-requires c =
     let s = c in
     let a = s.args in
     let E = s.requires.names_entering in
-    let h = s.requires.nf_bound.1 in
+    let h = s.requires.low in
     let z = E.size in
     let k = E.count in
     let q = c.candidate_of_vertex.ensures in
@@ -39,6 +39,6 @@ pub returns : goal.returns
 returns c =
     let s = c in
     let a = s.args in
-    let b = closing_at a.n a.nf a.nc in
+    let b = closing_at a.room.n a.room.nf a.room.nc in
     c.point_of.ensures ∙ ap (point_in a.w.now) c.candidate_of_vertex.ensures
-    ∙ new_point a.vertices.now b a.n a.nc a.w.now s.requires.names_entering a.v.0 (omega (arith, c.if-v-nv.false)) s.requires.nf_bound.1
+    ∙ new_point a.vertices.now b a.room.n a.room.nc a.w.now s.requires.names_entering a.v.0 (omega (arith, c.if-v-nv.false)) s.requires.low

@@ -10,17 +10,17 @@ pub returns-then-known-ne0 : goal.returns-then-known-ne0
 returns-then-known-ne0 c =
     let s = c in
     let a = s.args in
-    let b = closing_at a.n a.nf a.nc in
-    old_at b a.n a.nc a.nv a.w.now s.requires.names_entering a.id.0 s.requires.nf_bound.1 c.given_at.result c.given_at.ensures
+    let b = closing_at a.room.n a.room.nf a.room.nc in
+    old_at b a.room.n a.room.nc a.nv a.w.now s.requires.names_entering a.id.0 s.requires.low c.given_at.result c.given_at.ensures
     c.if-known-ne0.true
 
 pub overflow_add-w : goal.overflow_add-w
 overflow_add-w c =
     let s = c in
     let a = s.args in
-    let b = closing_at a.n a.nf a.nc in
-    let t = top_room b a.n a.nc a.nv a.w.now s.requires.names_entering a.id.0 s.requires.nf_bound.1 c.given_at.result
-    c.given_at.ensures (b + a.n) c.vertices_at-count.result refl c.vertices_at-count.ensures
+    let b = closing_at a.room.n a.room.nf a.room.nc in
+    let t = top_room b a.room.n a.room.nc a.nv a.w.now s.requires.names_entering a.id.0 s.requires.low c.given_at.result
+    c.given_at.ensures (b + a.room.n) c.vertices_at-count.result refl c.vertices_at-count.ensures
     c.if-known-ne0.false in
     omega (arith, t.1.1)
 
@@ -28,8 +28,8 @@ pub overflow_sub-w : goal.overflow_sub-w
 overflow_sub-w c =
     let s = c in
     let a = s.args in
-    let b = closing_at a.n a.nf a.nc in
-    let t = top_room b a.n a.nc a.nv a.w.now s.requires.names_entering a.id.0 s.requires.nf_bound.1 c.given_at.result
+    let b = closing_at a.room.n a.room.nf a.room.nc in
+    let t = top_room b a.room.n a.room.nc a.nv a.w.now s.requires.names_entering a.id.0 s.requires.low c.given_at.result
     c.given_at.ensures c.fresh_at.result c.vertices_at-count.result c.fresh_at.ensures
     c.vertices_at-count.ensures c.if-known-ne0.false in
     let E = s.requires.names_entering in
@@ -45,8 +45,8 @@ pub overflow_add-w-2 : goal.overflow_add-w-2
 overflow_add-w-2 c =
     let s = c in
     let a = s.args in
-    let b = closing_at a.n a.nf a.nc in
-    let t = top_room b a.n a.nc a.nv a.w.now s.requires.names_entering a.id.0 s.requires.nf_bound.1 c.given_at.result
+    let b = closing_at a.room.n a.room.nf a.room.nc in
+    let t = top_room b a.room.n a.room.nc a.nv a.w.now s.requires.names_entering a.id.0 s.requires.low c.given_at.result
     c.given_at.ensures c.fresh_at.result c.vertices_at-count.result c.fresh_at.ensures
     c.vertices_at-count.ensures c.if-known-ne0.false in
     let E = s.requires.names_entering in
@@ -62,8 +62,8 @@ pub offset_bounds-w-fresh_at : goal.offset_bounds-w-fresh_at
 offset_bounds-w-fresh_at c =
     let s = c in
     let a = s.args in
-    let b = closing_at a.n a.nf a.nc in
-    let t = top_room b a.n a.nc a.nv a.w.now s.requires.names_entering a.id.0 s.requires.nf_bound.1 c.given_at.result
+    let b = closing_at a.room.n a.room.nf a.room.nc in
+    let t = top_room b a.room.n a.room.nc a.nv a.w.now s.requires.names_entering a.id.0 s.requires.low c.given_at.result
     c.given_at.ensures c.fresh_at.result c.vertices_at-count.result c.fresh_at.ensures
     c.vertices_at-count.ensures c.if-known-ne0.false in
     let E = s.requires.names_entering in
@@ -79,8 +79,8 @@ pub bounds-w-fresh_at : goal.bounds-w-fresh_at
 bounds-w-fresh_at c =
     let s = c in
     let a = s.args in
-    let b = closing_at a.n a.nf a.nc in
-    let t = top_room b a.n a.nc a.nv a.w.now s.requires.names_entering a.id.0 s.requires.nf_bound.1 c.given_at.result
+    let b = closing_at a.room.n a.room.nf a.room.nc in
+    let t = top_room b a.room.n a.room.nc a.nv a.w.now s.requires.names_entering a.id.0 s.requires.low c.given_at.result
     c.given_at.ensures c.fresh_at.result c.vertices_at-count.result c.fresh_at.ensures
     c.vertices_at-count.ensures c.if-known-ne0.false in
     let E = s.requires.names_entering in
@@ -93,8 +93,8 @@ pub overflow_add-w-3 : goal.overflow_add-w-3
 overflow_add-w-3 c =
     let s = c in
     let a = s.args in
-    let b = closing_at a.n a.nf a.nc in
-    let t = top_room b a.n a.nc a.nv a.w.now s.requires.names_entering a.id.0 s.requires.nf_bound.1 c.given_at.result
+    let b = closing_at a.room.n a.room.nf a.room.nc in
+    let t = top_room b a.room.n a.room.nc a.nv a.w.now s.requires.names_entering a.id.0 s.requires.low c.given_at.result
     c.given_at.ensures c.fresh_at.result c.vertices_at-count.result c.fresh_at.ensures
     c.vertices_at-count.ensures c.if-known-ne0.false in
     let E = s.requires.names_entering in
@@ -119,7 +119,7 @@ pub returns : goal.returns
 returns c =
     let s = c in
     let a = s.args in
-    let b = closing_at a.n a.nf a.nc in
-    new_at b a.n a.nc a.nv a.w.now s.requires.names_entering a.id.0 s.requires.nf_bound.1 c.given_at.result
+    let b = closing_at a.room.n a.room.nf a.room.nc in
+    new_at b a.room.n a.room.nc a.nv a.w.now s.requires.names_entering a.id.0 s.requires.low c.given_at.result
     c.given_at.ensures c.fresh_at.result c.vertices_at-count.result c.fresh_at.ensures
     c.vertices_at-count.ensures c.if-known-ne0.false

@@ -9,9 +9,9 @@ pub loop-c-init : goal.loop-c-init
 loop-c-init c =
     let s = c in
     let a = s.args in
-    let b = closing_at a.n a.nf a.nc in
+    let b = closing_at a.room.n a.room.nf a.room.nc in
     let R = s.requires in
-    (copy_none b a.n (set a.w.now c.vertices_at.result a.nv) (omega arith), omega arith)
+    (copy_none b a.room.n (set a.w.now c.vertices_at.result a.nv) (omega arith), omega arith)
 
 pub entry_at-requires : goal.entry_at-requires
 entry_at-requires c =
@@ -20,93 +20,21 @@ entry_at-requires c =
     let R = s.requires in
     let l = c.loop-c.invariant.0.long ∙ length-set a.w.now c.vertices_at.result a.nv in
     let e = c.given_at-given.ensures in
-    let q = R.3 in
-    let z = R.4 in
-    omega arith
-
-pub overflow_add-w : goal.overflow_add-w
-overflow_add-w c =
-    let s = c in
-    let a = s.args in
-    let R = s.requires in
-    let l = c.loop-c.invariant.0.long ∙ length-set a.w.now c.vertices_at.result a.nv in
-    let e = c.given_at-given.ensures in
-    let q = R.3 in
-    let z = R.4 in
-    let x = c.entry_at.ensures in
-    omega arith
-
-pub offset_bounds-w-entry_at : goal.offset_bounds-w-entry_at
-offset_bounds-w-entry_at c =
-    let s = c in
-    let a = s.args in
-    let R = s.requires in
-    let l = c.loop-c.invariant.0.long ∙ length-set a.w.now c.vertices_at.result a.nv in
-    let e = c.given_at-given.ensures in
-    let q = R.3 in
-    let z = R.4 in
-    let x = c.entry_at.ensures in
-    omega arith
-
-pub bounds-w-entry_at : goal.bounds-w-entry_at
-bounds-w-entry_at c =
-    let s = c in
-    let a = s.args in
-    let R = s.requires in
-    let l = c.loop-c.invariant.0.long ∙ length-set a.w.now c.vertices_at.result a.nv in
-    let e = c.given_at-given.ensures in
-    let q = R.3 in
-    let z = R.4 in
-    let x = c.entry_at.ensures in
-    omega arith
-
-pub overflow_add-w-in-loop-c : goal.overflow_add-w-in-loop-c
-overflow_add-w-in-loop-c c =
-    let s = c in
-    let a = s.args in
-    let R = s.requires in
-    let l = c.loop-c.invariant.0.long ∙ length-set a.w.now c.vertices_at.result a.nv in
-    let e = c.given_at-given.ensures in
-    let q = R.3 in
-    let z = R.4 in
-    let x = c.entry_at.ensures in
-    omega arith
-
-pub offset_bounds-w-given : goal.offset_bounds-w-given
-offset_bounds-w-given c =
-    let s = c in
-    let a = s.args in
-    let R = s.requires in
-    let l = c.loop-c.invariant.0.long ∙ length-set a.w.now c.vertices_at.result a.nv in
-    let e = c.given_at-given.ensures in
-    let q = R.3 in
-    let z = R.4 in
-    let x = c.entry_at.ensures in
-    omega arith
-
-pub bounds-w-given : goal.bounds-w-given
-bounds-w-given c =
-    let s = c in
-    let a = s.args in
-    let R = s.requires in
-    let l = c.loop-c.invariant.0.long ∙ length-set a.w.now c.vertices_at.result a.nv in
-    let e = c.given_at-given.ensures in
-    let q = R.3 in
-    let z = R.4 in
-    let x = c.entry_at.ensures in
+    let q = R.0 in
+    let z = R.1 in
     omega arith
 
 pub loop-c-preserved : goal.loop-c-preserved
 loop-c-preserved c =
     let s = c in
     let a = s.args in
-    let b = closing_at a.n a.nf a.nc in
+    let b = closing_at a.room.n a.room.nf a.room.nc in
     let R = s.requires in
     let k = length-set a.w.now c.vertices_at.result a.nv in
-    let q = R.3 in
-    let z = R.4 in
+    let q = R.0 in
+    let z = R.1 in
     rw c.entry_at.ensures (
-      copy_more b a.n (set a.w.now c.vertices_at.result a.nv) (omega arith) c.loop-c.w c.loop-c.c
+      copy_more b a.room.n (set a.w.now c.vertices_at.result a.nv) (omega arith) c.loop-c.w c.loop-c.c
           (omega arith) (omega arith) c.loop-c.invariant.0 c.given_at-given.result
           c.given_at-given.ensures,
       omega arith,
@@ -123,7 +51,7 @@ pub returns : goal.returns
 returns c =
     let s = c in
     let a = s.args in
-    let b = closing_at a.n a.nf a.nc in
+    let b = closing_at a.room.n a.room.nf a.room.nc in
     let R = s.requires in
-    started b a.n a.nc a.nv a.w.now (omega arith) R.3 R.4 c.vertices_at.result c.vertices_at.ensures c.loop-c.w
+    started b a.room.n a.room.nc a.nv a.w.now (omega arith) R.0 R.1 c.vertices_at.result c.vertices_at.ensures c.loop-c.w
     c.loop-c.c c.loop-c-test.false c.loop-c.invariant.1 c.loop-c.invariant.0

@@ -14,15 +14,15 @@ pub mark_firsts-requires : goal.mark_firsts-requires
 mark_firsts-requires c =
     let s = c in
     let a = s.args in
-    let R = s.requires.n_bound in
+    let R = s.requires.left_below in
     let m = c.threes_at-records.result in
     let t = c.threes_at-records.ensures in
-    let room : m + 4 * a.left ≤ length a.w.now = (let x = R.3 in let y = R.4 in omega arith) in
+    let room : m + 4 * a.left ≤ length a.w.now = (let x = R.0 in let y = R.1 in omega arith) in
     let S = sorted_part a.w.now c.sort_records.new.m m a.left room c.sort_records.ensures in
     let w₁ = put_mid m (m + 4 * a.left - m) a.w.now c.sort_records.new.m in
     let whole = subst (λ (k : ℕ). (j : ℕ) → j < a.left → payload_in a.w.now k j ≡ j) (sym t) s.requires.by_index in
     let f = c.firsts_at.ensures in record {
-      left_bound = (let x = R.3 in omega arith, let x = R.3 in let y = R.4 in let l = S.same in omega arith);
+      left_bound = (let x = R.0 in omega arith, let x = R.0 in let y = R.1 in let l = S.same in omega arith);
       sorted_places = sorted_there a.w.now w₁ m a.left room S whole;
     }
 
@@ -30,17 +30,17 @@ pub returns : goal.returns
 returns c =
     let s = c in
     let a = s.args in
-    let b = closing_at a.n a.nf a.nc in
-    let R = s.requires.n_bound in
+    let b = closing_at a.room.n a.room.nf a.room.nc in
+    let R = s.requires.left_below in
     let m = c.threes_at-records.result in
     let t = c.threes_at-records.ensures in
-    let room : m + 4 * a.left ≤ length a.w.now = (let x = R.3 in let y = R.4 in omega arith) in
+    let room : m + 4 * a.left ≤ length a.w.now = (let x = R.0 in let y = R.1 in omega arith) in
     let S = sorted_part a.w.now c.sort_records.new.m m a.left room
     c.sort_records.ensures in
     let w₁ = put_mid m (m + 4 * a.left - m) a.w.now c.sort_records.new.m in
     let whole = subst (λ (k : ℕ). (j : ℕ) → j < a.left → payload_in a.w.now k j ≡ j) (sym t) s.requires.by_index in
-    subst (λ (k : ℕ). Found k (b + 2 * a.n + 7 * a.nc) a.left c.mark_firsts.result a.w.now c.mark_firsts.new.w) t
+    subst (λ (k : ℕ). Found k (b + 2 * a.room.n + 7 * a.room.nc) a.left c.mark_firsts.result a.w.now c.mark_firsts.new.w) t
     (subst (λ (k : ℕ). Found m k a.left c.mark_firsts.result a.w.now c.mark_firsts.new.w)
     c.firsts_at.ensures (found a.w.now w₁ m a.left room S whole c.firsts_at.result
-    c.mark_firsts.result c.mark_firsts.new.w (let f = c.firsts_at.ensures in let x = R.3 in omega arith)
+    c.mark_firsts.result c.mark_firsts.new.w (let f = c.firsts_at.ensures in let x = R.0 in omega arith)
     c.mark_firsts.ensures))

@@ -11,20 +11,20 @@ is_open_pair-requires c =
     let z = c in
     let s = z.args in
     let e = ap (λ (x : ℕ). get_or s.w.now (x + s.k + s.s) 0) c.numbers_at.ensures in
-    let u = up_in s.n s.nf s.nc s.k s.w.now z.requires.0 s.s z.requires.1 in
-    let d = down_in s.n s.nf s.nc s.k s.w.now z.requires.0 s.s z.requires.1 in
-    (omega arith, omega arith, omega arith, omega arith, omega arith)
+    let u = up_in s.room.n s.room.nf s.room.nc s.k s.w.now z.requires.0 s.s z.requires.1 in
+    let d = down_in s.room.n s.room.nf s.room.nc s.k s.w.now z.requires.0 s.s z.requires.1 in
+    (omega arith, omega arith)
 
 pub returns-then-is_open_pair : goal.returns-then-is_open_pair
 returns-then-is_open_pair c =
     let s = c.args in
     let n = c.numbers_at in
     let o = c.is_open_pair in
-    label_open s.n s.nf s.nc s.w.now s.k s.s n.result n.ensures o.result o.ensures c.if-is_open_pair.true
+    label_open s.room.n s.room.nf s.room.nc s.w.now s.k s.s n.result n.ensures o.result o.ensures c.if-is_open_pair.true
 
 pub returns-else-is_open_pair : goal.returns-else-is_open_pair
 returns-else-is_open_pair c =
     let s = c.args in
     let n = c.numbers_at in
     let o = c.is_open_pair in
-    label_shared s.n s.nf s.nc s.w.now s.k s.s n.result n.ensures o.result o.ensures c.if-is_open_pair.false
+    label_shared s.room.n s.room.nf s.room.nc s.w.now s.k s.s n.result n.ensures o.result o.ensures c.if-is_open_pair.false

@@ -5,31 +5,13 @@ use lib.ListN.{get_or}
 use lib.Dec.{eqb}
 use Rattle.cap_selection.proofs.seeds.is_selected.Goals as goal
 
-pub overflow_add-result : goal.overflow_add-result
-overflow_add-result c =
-    let z = c in
-    let s = z.args in
-    let e = ap (λ (x : ℕ). get_or s.w.now (x + s.i) 0) c.components_at.ensures in
-    let h = z.requires.3 in
-    let l = z.requires.4 in
-    omega arith
-
-pub offset_bounds-w-seeded_at : goal.offset_bounds-w-seeded_at
-offset_bounds-w-seeded_at c =
-    let z = c in
-    let s = z.args in
-    let e = ap (λ (x : ℕ). get_or s.w.now (x + s.i) 0) c.components_at.ensures in
-    let h = z.requires.3 in
-    let l = z.requires.4 in
-    omega arith
-
 pub bounds-w-seeded_at : goal.bounds-w-seeded_at
 bounds-w-seeded_at c =
     let z = c in
     let s = z.args in
     let e = ap (λ (x : ℕ). get_or s.w.now (x + s.i) 0) c.components_at.ensures in
-    let h = z.requires.3 in
-    let l = z.requires.4 in
+    let h = z.requires.0 in
+    let l = z.requires.1 in
     omega arith
 
 pub returns : goal.returns

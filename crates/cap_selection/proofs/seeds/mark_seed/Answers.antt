@@ -9,25 +9,7 @@ pub returns-then-not-is_seed : goal.returns-then-not-is_seed
 returns-then-not-is_seed c =
     let s = c.args in
     let g = c.is_seed in
-    seed_skipped s.n s.nf s.nc s.k s.w.now s.i s.face g.result g.ensures c.if-not-is_seed.true-raw
-
-pub overflow_add-w : goal.overflow_add-w
-overflow_add-w c =
-    let z = c in
-    let s = z.args in
-    let e = ap (λ (x : ℕ). get_or s.w.now (x + s.i) 0) c.components_at.ensures in
-    let h = z.requires.3 in
-    let l = z.requires.0.size in
-    omega arith
-
-pub offset_bounds-w-seeded_at : goal.offset_bounds-w-seeded_at
-offset_bounds-w-seeded_at c =
-    let z = c in
-    let s = z.args in
-    let e = ap (λ (x : ℕ). get_or s.w.now (x + s.i) 0) c.components_at.ensures in
-    let h = z.requires.3 in
-    let l = z.requires.0.size in
-    omega arith
+    seed_skipped s.room.n s.room.nf s.room.nc s.k s.w.now s.i s.face g.result g.ensures c.if-not-is_seed.true-raw
 
 pub bounds-w-seeded_at : goal.bounds-w-seeded_at
 bounds-w-seeded_at c =
@@ -44,5 +26,5 @@ returns c =
     let g = c.is_seed in
     let o = c.components_at in
     let m = c.seeded_at in
-    seed_marked s.n s.nf s.nc s.k s.w.now s.i s.face g.result g.ensures o.result m.result o.ensures m.ensures
+    seed_marked s.room.n s.room.nf s.room.nc s.k s.w.now s.i s.face g.result g.ensures o.result m.result o.ensures m.ensures
     c.if-not-is_seed.false-raw

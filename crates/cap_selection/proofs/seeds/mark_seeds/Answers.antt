@@ -10,15 +10,6 @@ loop-i-init c =
     let s = z.args in
     mark_start s.n s.nf (length s.cap_list.now / 4) s.k s.cap_list.now s.w.now z.requires
 
-pub overflow_mul-i : goal.overflow_mul-i
-overflow_mul-i c = omega arith
-
-pub offset_bounds-cap_list-i : goal.offset_bounds-cap_list-i
-offset_bounds-cap_list-i c = omega arith
-
-pub bounds-cap_list-i : goal.bounds-cap_list-i
-bounds-cap_list-i c = omega arith
-
 pub mark_seed-requires : goal.mark_seed-requires
 mark_seed-requires c =
     let z = c in

@@ -1,4 +1,4 @@
-use Prim.Native.Nat.{◌-◌, ◌/◌}
+use Prim.Native.Nat.{◌/◌}
 use lib.ListN.{length}
 use Rattle.cap_selection.proofs.Marking.{Marking}
 use Rattle.cap_selection.proofs.seeds.mark_seeds.Given as goal

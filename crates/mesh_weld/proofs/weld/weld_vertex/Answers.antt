@@ -1,5 +1,5 @@
 use Rattle.mesh_weld.proofs.Steps.{taken, tail_low, kept_new}
-use Rattle.mesh_weld.specs.Room.{kept_points, answer, words_of, KeyIn, WeldedSoFar}
+use Rattle.mesh_weld.specs.Room.{kept_points, words_of, KeyIn, WeldedSoFar}
 use Rattle.mesh_weld.specs.Cells.{key_of, cells}
 use Rattle.geometry.specs.declared.point.Point.{Point}
 use lib.ListN.{length-set, set}
@@ -21,7 +21,7 @@ pub returns-in-Some : goal.returns-in-Some
 returns-in-Some c =
     let a = c.args in
     taken a.vs.now a.eps a.n a.v.0 a.count a.m.now c.requires.welded_so_far c.requires.v_lt_n c.in-Some.k
-    (sym c.in-Some.is ∙ c.search.ensures ∙ ap (λ (q : Point). answer ((cells a.eps).find q (kept_points a.vs.now a.n a.count a.m.now))) c.vertex_at-p.ensures)
+    (sym c.in-Some.is ∙ c.search.ensures ∙ ap (λ (q : Point). (cells a.eps).find q (kept_points a.vs.now a.n a.count a.m.now)) c.vertex_at-p.ensures)
 
 pub enter-requires : goal.enter-requires
 enter-requires c =
@@ -48,4 +48,4 @@ returns c =
     c.bucket-b.result
     c.cell_of-c.result E
     c.bucket-b.ensures
-    (sym c.in_default.is ∙ c.search.ensures ∙ ap (λ (q : Point). answer ((cells a.eps).find q (kept_points a.vs.now a.n a.count a.m.now))) c.vertex_at-p.ensures))
+    (sym c.in_default.is ∙ c.search.ensures ∙ ap (λ (q : Point). (cells a.eps).find q (kept_points a.vs.now a.n a.count a.m.now)) c.vertex_at-p.ensures))
