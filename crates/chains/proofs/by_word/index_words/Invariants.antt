@@ -1,5 +1,3 @@
-use Prim.Native.Nat.{◌-◌}
-use lib.ListN.{length}
 use Rattle.chains.specs.ByWord.{WordTable}
 use Rattle.chains.proofs.by_word.index_words.Given as goal
 
