@@ -6,30 +6,38 @@ ghost use Rattle.candidate_edges.specs.Steps.{VerticesIn, Sourced, SourcesReady,
 
 use crate::open::enter_vertex;
 use box_faces::faces::{aabb_face_mask, count_faces};
+use candidate_pool::room::Room;
 use geometry::aabb::AABB;
 use geometry::numbers::MeshVertexId;
 use geometry::vertices::vertex_at;
 
-fn enter_corner(w: &mut [u64], vertices: &[f64], n: usize, v: MeshVertexId, extents: AABB, eps: f64)
-    requires sources_ready { SourcesReady vertices.now eps n w.old }
+fn enter_corner(
+    w: &mut [u64],
+    vertices: &[f64],
+    room: Room,
+    v: MeshVertexId,
+    extents: AABB,
+    eps: f64,
+)
+    requires sources_ready { SourcesReady vertices.now eps room.n w.old }
     requires v_in_bounds { v.0 < length vertices.now / 3 }
-    ensures { CornerEntered vertices.now extents eps n v.0 w.old w.new }
+    ensures { CornerEntered vertices.now extents eps room.n v.0 w.old w.new }
 {
     let p = vertex_at(vertices, v);
     let mask = aabb_face_mask(p, p, extents, eps);
     if count_faces(mask) >= 2 {
-        enter_vertex(w, vertices, n, v, mask, eps);
+        enter_vertex(w, vertices, room, v, mask, eps);
     }
 }
 
-pub fn enter_corners(w: &mut [u64], vertices: &[f64], n: usize, extents: AABB, eps: f64)
-    requires holds { Holds eps n w.old × (length vertices.now / 3 ≤ n) }
+pub fn enter_corners(w: &mut [u64], vertices: &[f64], room: Room, extents: AABB, eps: f64)
+    requires holds { Holds eps room.n w.old × (length vertices.now / 3 ≤ room.n) }
     requires vertices_in { VerticesIn vertices.now }
-    requires sourced { Sourced (points_of vertices.now) eps (pool_at n w.old) (joined_in n w.old) }
-    ensures { CornersEntered vertices.now extents eps n w.old w.new }
+    requires sourced { Sourced (points_of vertices.now) eps (pool_at room.n w.old) (joined_in room.n w.old) }
+    ensures { CornersEntered vertices.now extents eps room.n w.old w.new }
 {
     let count = vertices.len() / 3;
     for v in 0..count {
-        enter_corner(w, vertices, n, MeshVertexId(v), extents, eps);
+        enter_corner(w, vertices, room, MeshVertexId(v), extents, eps);
     }
 }

@@ -1,6 +1,6 @@
 // boundary_closure.rs, `detect_boundary_edges` and `inject_mesh_boundary_edges`.
 ghost use Rattle.std.specs.Prelude.{◌≡◌, cond, ℕ, ◌+◌, ◌*◌, ◌/◌, ◌%◌, ◌<◌, eqb, length, get_or, set};
-ghost use Rattle.lists.specs.Lists.{place};
+ghost use Rattle.lists.specs.Found.{found};
 ghost use Rattle.geometry.specs.Triangles.{threes};
 ghost use Rattle.geometry.specs.Meshes.{mesh_of};
 ghost use Rattle.box_faces.specs.Faces.{face_bits, bit_count};
@@ -13,11 +13,12 @@ ghost use Rattle.candidate_edges.specs.Steps.{TableAt, VerticesIn, MeshFits, Sou
 
 use box_faces::faces::{aabb_face_mask, count_faces};
 use candidate_pool::pool::insert_candidate;
-use candidate_pool::room::{edge_table_at, open_edges_at};
+use candidate_pool::room::Room;
 use edges::{edge_from, edge_to};
 use geometry::aabb::AABB;
 use geometry::numbers::{CandidateVertexId, MeshVertexId};
 use geometry::vertices::vertex_at;
+use words::write_three;
 
 // The faces that both ends of a side lie on.
 fn side_mask(vertices: &[f64], facets: &[u32], side: usize, extents: AABB, eps: f64) -> u64
@@ -30,7 +31,7 @@ fn side_mask(vertices: &[f64], facets: &[u32], side: usize, extents: AABB, eps: 
     aabb_face_mask(a, b, extents, eps)
 }
 
-// The place of the first of the k open edges that lies on no face, or k.
+// The first of the k open edges that lies on no face.
 pub fn stray_edge(
     w: &[u64],
     vertices: &[f64],
@@ -39,35 +40,39 @@ pub fn stray_edge(
     k: usize,
     extents: AABB,
     eps: f64,
-) -> usize
+) -> Option<usize>
     requires mesh_fits { MeshFits vertices.now facets.now n w.now }
     requires table_at { TableAt facets.now w.now (edge_table_at n (length facets.now / 3)) k }
-    ensures { result ≡ place (λ e. eqb (length (edge_faces extents eps (mesh_of vertices.now facets.now) e)) 0) (open_edges (threes facets.now)) }
+    ensures { result ≡ found (λ e. eqb (length (edge_faces extents eps (mesh_of vertices.now facets.now) e)) 0) (open_edges (threes facets.now)) }
 {
-    let table = edge_table_at(n, facets.len() / 3);
+    let room = Room {
+        n,
+        nf: facets.len() / 3,
+    };
+    let table = room.edge_table_at();
     for i in 0..k {
         let side = w[table + 2 * i + 1] as usize;
         if side_mask(vertices, facets, side, extents, eps) == 0 {
-            return i;
+            return Some(i);
         }
     }
-    k
+    None
 }
 
 // Inserts a mesh vertex with some faces. There is room for it: each candidate was made for a vertex that had none.
 pub fn enter_vertex(
     w: &mut [u64],
     vertices: &[f64],
-    n: usize,
+    room: Room,
     v: MeshVertexId,
     mask: u64,
     eps: f64,
 ) -> CandidateVertexId
-    requires sources_ready { SourcesReady vertices.now eps n w.old }
+    requires sources_ready { SourcesReady vertices.now eps room.n w.old }
     requires v_in_bounds { (v.0 < length vertices.now / 3) × (mask < 64) }
-    ensures { VertexEntered vertices.now eps n v.0 mask result.0 w.old w.new }
+    ensures { VertexEntered vertices.now eps room.n v.0 mask result.0 w.old w.new }
 {
-    insert_candidate(w, n, vertex_at(vertices, v), v, mask, eps)
+    insert_candidate(w, room, vertex_at(vertices, v), v, mask, eps)
 }
 
 // Writes an open edge; how often it is listed. It "keeps two ends if their candidates differ", else it is listed with no face.
@@ -82,14 +87,9 @@ fn put_edge(
     ensures { (w.new ≡ set (set (set w.old at a.0) (at + 1) b.0) (at + 2) (cond (eqb a.0 b.0) 0 mask))
         × (result ≡ cond (eqb a.0 b.0) 0 (bit_count mask)) }
 {
-    w[at] = a.0 as u64;
-    w[at + 1] = b.0 as u64;
-    if a.0 == b.0 {
-        w[at + 2] = 0;
-        return 0;
-    }
-    w[at + 2] = mask;
-    count_faces(mask)
+    let faces = if a.0 == b.0 { 0 } else { mask };
+    write_three(w, at, a.0 as u64, b.0 as u64, faces);
+    count_faces(faces)
 }
 
 // Inserts the ends of one open edge, the first before the second; how often it is listed.
@@ -106,14 +106,17 @@ fn enter_edge(
     requires i_in_bounds { i < length (open_edges (threes facets.now)) }
     ensures { EdgeEntered vertices.now facets.now extents eps n i result w.old w.new }
 {
-    let nf = facets.len() / 3;
-    let side = w[edge_table_at(n, nf) + 2 * i + 1] as usize;
+    let room = Room {
+        n,
+        nf: facets.len() / 3,
+    };
+    let side = w[room.edge_table_at() + 2 * i + 1] as usize;
     let mask = side_mask(vertices, facets, side, extents, eps);
     let from = MeshVertexId(edge_from(facets, side) as usize);
     let to = MeshVertexId(edge_to(facets, side) as usize);
-    let a = enter_vertex(w, vertices, n, from, mask, eps);
-    let b = enter_vertex(w, vertices, n, to, mask, eps);
-    put_edge(w, open_edges_at(n, nf) + 3 * i, a, b, mask)
+    let a = enter_vertex(w, vertices, room, from, mask, eps);
+    let b = enter_vertex(w, vertices, room, to, mask, eps);
+    put_edge(w, room.open_edges_at() + 3 * i, a, b, mask)
 }
 
 // The ends of all k open edges; how many entries the open-edge list has.

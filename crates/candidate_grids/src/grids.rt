@@ -33,7 +33,7 @@ use box_faces::lines::{axis_grid_coordinate, point_on_face};
 use box_faces::segments::{point_on_segment2, segment_bound};
 use box_faces::uv::Uv;
 use candidate_pool::pool::{insert_grid_point, point_of};
-use candidate_pool::room::{open_edges_at, segments_at};
+use candidate_pool::room::Room;
 use geometry::aabb::AABB;
 use geometry::numbers::CandidateVertexId;
 use geometry::point::Point;
@@ -78,19 +78,12 @@ fn gather_segment(w: &mut [u64], at: usize, edge: usize, face: usize, tolerance:
 }
 
 // The open edges of a face; how many they are.
-fn gather_segments(
-    w: &mut [u64],
-    n: usize,
-    nf: usize,
-    k: usize,
-    face: usize,
-    tolerance: f64,
-) -> usize
-    requires { EdgesReady n nf k face tolerance w.old }
-    ensures { Gathered n nf k face tolerance w.old w.new result }
+fn gather_segments(w: &mut [u64], room: Room, k: usize, face: usize, tolerance: f64) -> usize
+    requires { EdgesReady room.n room.nf k face tolerance w.old }
+    ensures { Gathered room.n room.nf k face tolerance w.old w.new result }
 {
-    let edges = open_edges_at(n, nf);
-    let segments = segments_at(n, nf);
+    let edges = room.open_edges_at();
+    let segments = room.segments_at();
     let mut count = 0;
     for i in 0..k {
         if has_face(w[edges + 3 * i + 2], face) {
@@ -117,16 +110,11 @@ fn is_on_segment(w: &[u64], at: usize, p: Uv, tolerance: f64) -> bool
 }
 
 // "lies on an open edge there"
-fn is_skipped(w: &[u64], n: usize, near: Near, p: Uv) -> bool
-    requires { NearReady n near w.now }
+fn is_skipped(w: &[u64], room: Room, near: Near, p: Uv) -> bool
+    requires { NearReady room.n near w.now }
     ensures { result ≡ skips_near w.now near p }
 {
-    for i in 0..near.count {
-        if is_on_segment(w, near.at + 5 * i, p, near.tolerance) {
-            return true;
-        }
-    }
-    false
+    (0..near.count).any(|i| is_on_segment(w, near.at + 5 * i, p, near.tolerance))
 }
 
 fn grid_line(extents: AABB, axis: usize, parts: usize, i: usize) -> f64
@@ -151,40 +139,38 @@ fn face_line(extents: AABB, face: usize, parts: usize) -> f64
 fn is_interior(i: usize, last: usize) -> bool
     ensures { result ≡ is_inner i last }
 {
-    if i == 0 { false } else { i != last }
+    i != 0 && i != last
 }
 
 fn is_inner(inner: bool, i: usize, last: usize) -> bool
     ensures { result ≡ inner && is_inner i last }
 {
-    if inner { is_interior(i, last) } else { false }
+    inner && is_interior(i, last)
 }
 
 // One grid point, unless it is interior by index and lies on an open edge of the face.
 fn enter_grid_point(
     w: &mut [u64],
-    n: usize,
+    room: Room,
     near: Near,
     face: usize,
     p: Point,
     inner: bool,
     eps: f64,
 )
-    requires { PointReady eps n near face p w.old }
-    ensures { PointsEntered eps n (grid_cell (skips_near w.old near) inner face p) 1 w.old w.new }
+    requires { PointReady eps room.n near face p w.old }
+    ensures { PointsEntered eps room.n (grid_cell (skips_near w.old near) inner face p) 1 w.old w.new }
 {
-    if inner {
-        if is_skipped(w, n, near, project(face, p)) {
-            return;
-        }
+    if inner && is_skipped(w, room, near, project(face, p)) {
+        return;
     }
-    insert_grid_point(w, n, p, face, eps);
+    insert_grid_point(w, room, p, face, eps);
 }
 
 // The grid points of a row, along v.
 fn enter_grid_row(
     w: &mut [u64],
-    n: usize,
+    room: Room,
     near: Near,
     face: usize,
     row: Row,
@@ -192,22 +178,21 @@ fn enter_grid_row(
     last: usize,
     eps: f64,
 )
-    requires { RowReady eps n near face row extents last w.old }
-    ensures { PointsEntered eps n (flat_map (row_cell (skips_near w.old near) extents face row last) (up_to (last + 1))) (last + 1) w.old w.new }
+    requires { RowReady eps room.n near face row extents last w.old }
+    ensures { PointsEntered eps room.n (flat_map (row_cell (skips_near w.old near) extents face row last) (up_to (last + 1))) (last + 1) w.old w.new }
 {
     let axis = v_axis(face);
-    for j in 0..=last {
+    for j in 0..last + 1 {
         let v = grid_line(extents, axis, last, j);
         let p = point_on_face(face, row.at, row.u, v);
-        enter_grid_point(w, n, near, face, p, is_inner(row.inner, j, last), eps);
+        enter_grid_point(w, room, near, face, p, is_inner(row.inner, j, last), eps);
     }
 }
 
 // A face's rows, along u. The skip tolerance goes by the axis that the face is across.
 fn enter_face_grid(
     w: &mut [u64],
-    n: usize,
-    nf: usize,
+    room: Room,
     k: usize,
     face: usize,
     extents: AABB,
@@ -215,8 +200,8 @@ fn enter_face_grid(
     resolution: [f64; 3],
     skip: [f64; 3],
 )
-    requires { FaceReady extents eps resolution skip n nf k face w.old }
-    ensures { FaceEntered extents eps resolution skip n nf k face w.old w.new }
+    requires { FaceReady extents eps resolution skip room.n room.nf k face w.old }
+    ensures { FaceEntered extents eps resolution skip room.n room.nf k face w.old w.new }
 {
     let axis = u_axis(face);
     let last = segments_of(extents, eps, resolution, axis);
@@ -227,36 +212,35 @@ fn enter_face_grid(
         segments_of(extents, eps, resolution, face / 2),
     );
     let tolerance = skip[face / 2];
-    let count = gather_segments(w, n, nf, k, face, tolerance);
+    let count = gather_segments(w, room, k, face, tolerance);
     let near = Near {
-        at: segments_at(n, nf),
-        count: count,
-        tolerance: tolerance,
+        at: room.segments_at(),
+        count,
+        tolerance,
     };
-    for i in 0..=last {
+    for i in 0..last + 1 {
         let row = Row {
-            at: at,
+            at,
             u: grid_line(extents, axis, last, i),
             inner: is_interior(i, last),
         };
-        enter_grid_row(w, n, near, face, row, extents, last_v, eps);
+        enter_grid_row(w, room, near, face, row, extents, last_v, eps);
     }
 }
 
 pub fn enter_grids(
     w: &mut [u64],
-    n: usize,
-    nf: usize,
+    room: Room,
     k: usize,
     extents: AABB,
     eps: f64,
     resolution: [f64; 3],
     skip: [f64; 3],
 )
-    requires { GridReady extents eps resolution skip n nf k w.old }
-    ensures { Gridded extents eps resolution skip n nf k w.old w.new }
+    requires { GridReady extents eps resolution skip room.n room.nf k w.old }
+    ensures { Gridded extents eps resolution skip room.n room.nf k w.old w.new }
 {
     for face in 0..6 {
-        enter_face_grid(w, n, nf, k, face, extents, eps, resolution, skip);
+        enter_face_grid(w, room, k, face, extents, eps, resolution, skip);
     }
 }

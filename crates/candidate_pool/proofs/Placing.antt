@@ -6,7 +6,7 @@
 --   put_inserted     a mesh vertex, found: "a later mesh vertex replaces number and point"
 --   kept_inserted    no mesh vertex, found
 --   placed-..        the same, by what the search answers;   number_miss, number_hit   the number that it gets
-use Prim.Native.Nat.{ℕ, ◌+◌, ◌*◌, ◌-◌, ◌≤◌, ◌<◌}
+use Prim.Native.Nat.{ℕ, suc, ◌+◌, ◌*◌, ◌-◌, ◌≤◌, ◌<◌}
 use native.Mathlib.Omega.{arith}
 use native.Mathlib.Decide.{ℕ_discrete}
 use mathlib.Core.Path.{◌≡◌, refl, sym, ap, subst, ◌∙◌}
@@ -17,6 +17,8 @@ use lib.ListN.{get_or, set, length, length-append, length-set, get_or-append}
 use lib.Seq.{get_or-set_same, get_or-set_other, get_or-append_seam, set-get_or}
 use lib.Ieee.{Float, binary64, of_bits, to_bits}
 use borrow.Author.Tests.{eq-eqb, ne_eqb}
+use Rattle.std.specs.Prelude.{Option, Some, None}
+use Rattle.lists.specs.Found.{found}
 use Rattle.lists.specs.Lists.{some, keep, has, up_to}
 use Rattle.lists.specs.Regions.{view, Outside}
 use Rattle.geometry.specs.declared.point.Point.{Point}
@@ -26,6 +28,7 @@ use Rattle.box_faces.specs.Faces.{has_bit}
 use Rattle.chains.specs.Hash.{mixed, InBucket}
 use Rattle.chains.specs.Links.{link_of, link_to}
 use Rattle.chains.proofs.Firsts.{link_none, link_some}
+use Rattle.chains.proofs.Found.{none_found_link, some_found_link}
 use Rattle.chains.proofs.Entering.{linked_cong, linked_same}
 use Rattle.mesh_weld.specs.Cells.{key_of}
 use Rattle.candidate_pool.specs.Offsets.{entry_at, keys_at, chain_at, lists_at, list_at}
@@ -346,41 +349,47 @@ module _ (eps : Float) (n : ℕ) (w : List ℕ) (h : Holds eps n w) (p : Point) 
     pub put_inserted : Inserted eps n (candidate p m []) w moved
     put_inserted = record { pool = moved_pool; holds = moved_holds; long = moved_long; rest = λ x k. back_same x (omega arith) }
 
--- ---- as the code has it: the key's words, their bucket, and the link that the search answers
+-- ---- as the code has it: the key's words, their bucket, and what the search answers
 
-module _ (eps : Float) (n : ℕ) (w : List ℕ) (h : Holds eps n w) (p : Point) (m : ℕ) (k : Cell) (b link : ℕ)
+module _ (eps : Float) (n : ℕ) (w : List ℕ) (h : Holds eps n w) (p : Point) (m : ℕ) (k : Cell) (b : ℕ) (r : Option ℕ)
     (key_is_lem : k ≡ key_words (key_of eps p)) (in-bucket : InBucket (mixed k.x k.y k.z) n b)
-    (searched : link ≡ link_to (λ i. same_cell (cell_at w (keys_at n + 3 * i)) k) (up_to (count_at w))) where
-  linked : link ≡ link_of (place_for (by_key eps) (pool_at n w) (candidate p m []))
-  linked = searched ∙ ap (λ (q : Cell). link_to (key_is w n q) (up_to (count_at w))) key_is_lem ∙ link_is eps n w h (candidate p m [])
+    (searched : r ≡ found (λ i. same_cell (cell_at w (keys_at n + 3 * i)) k) (up_to (count_at w))) where
+  linked : link_to (key_is w n k) (up_to (count_at w)) ≡ link_of (place_for (by_key eps) (pool_at n w) (candidate p m []))
+  linked = ap (λ (q : Cell). link_to (key_is w n q) (up_to (count_at w))) key_is_lem ∙ link_is eps n w h (candidate p m [])
 
-  hit : (link ≡ 0 → ⊥) → place_for (by_key eps) (pool_at n w) (candidate p m []) ≡ just (link - 1)
-  hit some = link_some (place_for (by_key eps) (pool_at n w) (candidate p m [])) link linked some
+  hit : (i : ℕ) → r ≡ Some i → place_for (by_key eps) (pool_at n w) (candidate p m []) ≡ just i
+  hit i e =
+      let less : suc i - 1 ≡ i = omega arith in
+      link_some (place_for (by_key eps) (pool_at n w) (candidate p m [])) (suc i)
+      (some_found_link (key_is w n k) (up_to (count_at w)) i (sym e ∙ searched) ∙ linked) (λ z. omega arith)
+      ∙ ap just less
 
-  miss : link ≡ 0 → place_for (by_key eps) (pool_at n w) (candidate p m []) ≡ none
-  miss z = link_none (place_for (by_key eps) (pool_at n w) (candidate p m [])) link linked z
+  miss : r ≡ None → place_for (by_key eps) (pool_at n w) (candidate p m []) ≡ none
+  miss e =
+      link_none (place_for (by_key eps) (pool_at n w) (candidate p m [])) 0
+      (none_found_link (key_is w n k) (up_to (count_at w)) (sym e ∙ searched) ∙ linked) refl
 
-  pub miss_room : link ≡ 0 → RoomFor eps n w (candidate p m []) → count_at w < n
-  miss_room z room = room (miss z)
+  pub miss_room : r ≡ None → RoomFor eps n w (candidate p m []) → count_at w < n
+  miss_room e room = room (miss e)
 
-  pub hit_room : (link ≡ 0 → ⊥) → entry_at (link - 1) + 3 < length w
-  hit_room some = omega (arith, link_low eps n w h (candidate p m []) (link - 1) (hit some), h.table.few, h.size)
+  pub hit_room : (i : ℕ) → r ≡ Some i → entry_at i + 3 < length w
+  hit_room i e = omega (arith, link_low eps n w h (candidate p m []) i (hit i e), h.table.few, h.size)
 
-  pub placed_new : (v : List ℕ) → link ≡ 0 → RoomFor eps n w (candidate p m []) → PointIn p → BitsOf p → v ≡ candidate_put w n (count_at w) p m k b
+  pub placed_new : (v : List ℕ) → r ≡ None → RoomFor eps n w (candidate p m []) → PointIn p → BitsOf p → v ≡ candidate_put w n (count_at w) p m k b
       → Inserted eps n (candidate p m []) w v
   placed_new v z room within bits e =
       subst (λ (u : List ℕ). Inserted eps n (candidate p m []) w u) (sym (e ∙ ap (λ (q : Cell). candidate_put w n (count_at w) p m q b) key_is_lem))
       (push_inserted eps n w h p m within bits (miss_room z room) b (in-bucket.is ∙ ap (key_bucket n) key_is_lem) in-bucket.low (miss z))
 
-  pub placed_moved : (v : List ℕ) → (link ≡ 0 → ⊥) → (m ≡ 0 → ⊥) → PointIn p → BitsOf p → v ≡ point_put w (link - 1) p m → Inserted eps n (candidate p m []) w v
-  placed_moved v some vertex within bits e =
-      subst (λ (u : List ℕ). Inserted eps n (candidate p m []) w u) (sym e) (put_inserted eps n w h p m (link - 1) (hit some) within bits vertex)
+  pub placed_moved : (v : List ℕ) (i : ℕ) → r ≡ Some i → (m ≡ 0 → ⊥) → PointIn p → BitsOf p → v ≡ point_put w i p m → Inserted eps n (candidate p m []) w v
+  placed_moved v i q vertex within bits e =
+      subst (λ (u : List ℕ). Inserted eps n (candidate p m []) w u) (sym e) (put_inserted eps n w h p m i (hit i q) within bits vertex)
 
-  pub placed_kept : (link ≡ 0 → ⊥) → m ≡ 0 → Inserted eps n (candidate p m []) w w
-  placed_kept some z = kept_inserted eps n w h p m (link - 1) (hit some) z
+  pub placed_kept : (i : ℕ) → r ≡ Some i → m ≡ 0 → Inserted eps n (candidate p m []) w w
+  placed_kept i q z = kept_inserted eps n w h p m i (hit i q) z
 
-  pub number_miss : link ≡ 0 → count_at w ≡ number_for (by_key eps) (pool_at n w) (candidate p m [])
+  pub number_miss : r ≡ None → count_at w ≡ number_for (by_key eps) (pool_at n w) (candidate p m [])
   number_miss z = sym (number_new (by_key eps) (pool_at n w) (candidate p m []) (miss z) ∙ pool_count n w)
 
-  pub number_hit : (link ≡ 0 → ⊥) → link - 1 ≡ number_for (by_key eps) (pool_at n w) (candidate p m [])
-  number_hit some = sym (number_found (by_key eps) (pool_at n w) (candidate p m []) (link - 1) (hit some))
+  pub number_hit : (i : ℕ) → r ≡ Some i → i ≡ number_for (by_key eps) (pool_at n w) (candidate p m [])
+  number_hit i q = sym (number_found (by_key eps) (pool_at n w) (candidate p m []) i (hit i q))

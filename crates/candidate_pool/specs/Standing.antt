@@ -1,6 +1,7 @@
 -- Candidates as they stand in the work room, of which the outer contract does not speak. For at most n candidates: from 0 on the lengths of the six face lists and the number
 -- of candidates; from 8 on the candidates, five words each; from keys_at on their table (Room.antt); from lists_at on the six face lists, n words each;
 -- from joined_at on a word for each mesh vertex: 1 more than the candidate that it became part of, or 0 while it was not inserted. Assumes nothing.
+--   mesh_word       "mesh vertex + 1 or 0"
 --   faces_in        the faces whose bits a word has            candidate   from its parts
 --   count_at        how many candidates stand in the room      joined_in      the word of mesh vertex v
 --   point_at        a point from three words of bits          candidate_at   candidate c
@@ -15,7 +16,7 @@
 --   Cleared        w became w', which holds no candidate
 --   edge_at, edges_at   k open edges of three words each (two candidates, and the bits of the faces they are listed with), as the list of face and two candidates
 --   EdgesHeld      the ends of these edges are in the lists of the edge's faces
-use Rattle.std.specs.Prelude.{ℕ, suc, ◌+◌, ◌*◌, ◌≤◌, ◌<◌, ◌^◌, ◌≡◌, true, length, get_or, set, Float}
+use Rattle.std.specs.Prelude.{ℕ, suc, ◌+◌, ◌*◌, ◌≤◌, ◌<◌, ◌^◌, ◌≡◌, true, length, get_or, set, Float, Option, Some, None}
 use mathlib.Core.List.{List, [], ◌∷◌, map, flat_map}
 use Rattle.std.proofs.Math.Option.{none}
 use Rattle.std.specs.Float.{binary64}
@@ -24,6 +25,7 @@ use Rattle.lists.specs.Lists.{keep, has, up_to}
 use Rattle.lists.specs.Regions.{view}
 use Rattle.root.specs.Bounds.{Within}
 use Rattle.geometry.specs.declared.point.Point.{Point}
+use Rattle.geometry.specs.declared.numbers.MeshVertexId.{MeshVertexId}
 use Rattle.geometry.specs.Points.{pt, origin}
 use Rattle.geometry.specs.Boxes.{faces}
 use Rattle.mesh_weld.specs.Cells.{key_of}
@@ -33,6 +35,10 @@ use Rattle.candidate_pool.specs.Offsets.{entry_at, keys_at, list_at, joined_at, 
 use Rattle.candidate_pool.specs.Pool.{Candidate, Pool, no_candidate, no_pool, face_list, renewed, listed, by_key, place_for, number_for, insert}
 use Rattle.mesh_weld.specs.Room.{cell_at}
 use Rattle.candidate_pool.specs.Room.{key_words, KeyTable}
+
+abbrev pub mesh_word : Option MeshVertexId → ℕ
+mesh_word (Some v) = v.0 + 1
+mesh_word None = 0
 
 abbrev pub faces_in : ℕ → List ℕ
 faces_in mask = keep (has_bit mask) faces

@@ -4,11 +4,11 @@ ghost use Rattle.std.specs.Prelude.{◌≡◌, [], ◌∷◌, ◌+◌, ◌*◌, 
 ghost use Rattle.candidate_pool.specs.Offsets.{entry_at, pool_end};
 ghost use Rattle.candidate_pool.specs.Pool.{by_key, number_for};
 ghost use Rattle.candidate_pool.specs.Room.{KeyTable};
-ghost use Rattle.candidate_pool.specs.Standing.{faces_in, count_at, point_at, pool_at, candidate, PointIn, PointStored, Holds, RoomFor, Inserted, VertexInserted, FaceAdded, Cleared};
+ghost use Rattle.candidate_pool.specs.Standing.{mesh_word, faces_in, count_at, point_at, pool_at, candidate, PointIn, PointStored, Holds, RoomFor, Inserted, VertexInserted, FaceAdded, Cleared};
 ghost use Rattle.candidate_pool.specs.Steps.{BitsOf, point_put, candidate_put, FacesAdded};
 
 use crate::keys::{find_key, quantized_point_key};
-use crate::room::{chain_at, entry_at, joined_at, keys_at, list_at};
+use crate::room::{Room, entry_at};
 use box_faces::faces::has_face;
 use chains::{bucket, enter};
 use geometry::numbers::{CandidateVertexId, MeshVertexId};
@@ -17,88 +17,97 @@ use mesh_weld::cells::Cell;
 use words::zero_part;
 
 // "mesh vertex + 1 or 0", as it stands in a candidate: 0 where it has no mesh vertex.
-#[derive(Clone, Copy)]
-struct MeshWord(u64);
-
-fn mesh_word(v: MeshVertexId) -> MeshWord
-    requires { v.0 < 268435456 }
-    ensures { result.0 ≡ v.0 + 1 }
+fn mesh_word(mesh: Option<MeshVertexId>) -> u64
+    requires { mesh_word mesh ≤ 268435456 }
+    ensures { result ≡ mesh_word mesh }
 {
-    MeshWord(v.0 as u64 + 1)
+    match mesh {
+        Some(v) => v.0 as u64 + 1,
+        None => 0,
+    }
 }
 
 // The room of no candidate.
-pub fn clear_pool(w: &mut [u64], n: usize, eps: f64)
-    requires { (n < 268435456) × (pool_end n ≤ length w.old) }
-    ensures { Cleared eps n w.old w.new }
+pub fn clear_pool(w: &mut [u64], room: Room, eps: f64)
+    requires { pool_end room.n ≤ length w.old }
+    ensures { Cleared eps room.n w.old w.new }
 {
     zero_part(w, 0, 8);
-    zero_part(w, chain_at(n), 2 * n);
-    zero_part(w, joined_at(n), n);
+    zero_part(w, room.chain_at(), 2 * room.n);
+    zero_part(w, room.joined_at(), room.n);
 }
 
-fn put_point(w: &mut [u64], id: CandidateVertexId, p: Point, mesh: MeshWord)
-    requires { PointIn p × (entry_at id.0 + 3 < length w.old) }
-    ensures { (w.new ≡ point_put w.old id.0 p mesh.0) × BitsOf p }
+fn put_point(w: &mut [u64], id: CandidateVertexId, p: Point, mesh: Option<MeshVertexId>)
+    requires point_in { PointIn p × (entry_at id.0 + 3 < length w.old) }
+    requires mesh_in { mesh_word mesh ≤ 268435456 }
+    ensures { (w.new ≡ point_put w.old id.0 p (mesh_word mesh)) × BitsOf p }
 {
     let at = entry_at(id);
     w[at] = f64::to_bits(p.x);
     w[at + 1] = f64::to_bits(p.y);
     w[at + 2] = f64::to_bits(p.z);
-    w[at + 3] = mesh.0;
+    w[at + 3] = mesh_word(mesh);
 }
 
 // A new candidate, on no face yet.
 fn push_candidate(
     w: &mut [u64],
-    n: usize,
+    room: Room,
     p: Point,
-    mesh: MeshWord,
+    mesh: Option<MeshVertexId>,
     key: Cell,
     b: usize,
 ) -> CandidateVertexId
-    requires point_in { PointIn p × (count_at w.old < n) × (b < n) }
-    requires key_table { KeyTable w.old n (count_at w.old) × (pool_end n ≤ length w.old) }
-    ensures { (result.0 ≡ count_at w.old) × (w.new ≡ candidate_put w.old n (count_at w.old) p mesh.0 key b) × BitsOf p }
+    requires point_in { PointIn p × (count_at w.old < room.n) × (b < room.n) }
+    requires key_table { KeyTable w.old room.n (count_at w.old) × (pool_end room.n ≤ length w.old) }
+    requires mesh_in { mesh_word mesh ≤ 268435456 }
+    ensures { (result.0 ≡ count_at w.old) × (w.new ≡ candidate_put w.old room.n (count_at w.old) p (mesh_word mesh) key b) × BitsOf p }
 {
     let id = CandidateVertexId(w[6] as usize);
     w[6] = id.0 as u64 + 1;
     put_point(w, id, p, mesh);
     w[entry_at(id) + 4] = 0;
-    let at = keys_at(n) + 3 * id.0;
+    let at = room.keys_at() + 3 * id.0;
     w[at] = key.x;
     w[at + 1] = key.y;
     w[at + 2] = key.z;
-    enter(w, chain_at(n), n, id.0, b);
+    enter(w, room.chain_at(), room.n, id.0, b);
     id
 }
 
 // The candidate at p: found by its key, or new. "a later mesh vertex replaces number and point".
-fn place_candidate(w: &mut [u64], n: usize, p: Point, mesh: MeshWord, eps: f64) -> CandidateVertexId
-    requires holds { Holds eps n w.old }
-    requires point_in { PointIn p }
-    requires room_for { RoomFor eps n w.old (candidate p mesh.0 []) }
-    ensures { Inserted eps n (candidate p mesh.0 []) w.old w.new ×
-        (result.0 ≡ number_for (by_key eps) (pool_at n w.old) (candidate p mesh.0 [])) }
+fn place_candidate(
+    w: &mut [u64],
+    room: Room,
+    p: Point,
+    mesh: Option<MeshVertexId>,
+    eps: f64,
+) -> CandidateVertexId
+    requires holds { Holds eps room.n w.old }
+    requires point_in { PointIn p × (mesh_word mesh ≤ 268435456) }
+    requires room_for { RoomFor eps room.n w.old (candidate p (mesh_word mesh) []) }
+    ensures { Inserted eps room.n (candidate p (mesh_word mesh) []) w.old w.new ×
+        (result.0 ≡ number_for (by_key eps) (pool_at room.n w.old) (candidate p (mesh_word mesh) [])) }
 {
     let key = quantized_point_key(p, eps);
-    let b = bucket(key.x, key.y, key.z, n as u64) as usize;
-    let link = find_key(w, n, w[6] as usize, key, b);
-    if link == 0 {
-        return push_candidate(w, n, p, mesh, key, b);
+    let b = bucket(key.x, key.y, key.z, room.n as u64) as usize;
+    match find_key(w, room, w[6] as usize, key, b) {
+        None => push_candidate(w, room, p, mesh, key, b),
+        Some(i) => {
+            let id = CandidateVertexId(i);
+            if mesh.is_some() {
+                put_point(w, id, p, mesh);
+            }
+            id
+        }
     }
-    let id = CandidateVertexId((link - 1) as usize);
-    if mesh.0 != 0 {
-        put_point(w, id, p, mesh);
-    }
-    id
 }
 
 // "faces add up": the face is added to the candidate, and the candidate to the face's list, unless it is there.
-fn push_face(w: &mut [u64], n: usize, id: CandidateVertexId, face: usize, eps: f64)
-    requires holds { Holds eps n w.old }
+fn push_face(w: &mut [u64], room: Room, id: CandidateVertexId, face: usize, eps: f64)
+    requires holds { Holds eps room.n w.old }
     requires id_bound { (id.0 < count_at w.old) × (face < 6) }
-    ensures { FaceAdded eps n id.0 face w.old w.new }
+    ensures { FaceAdded eps room.n id.0 face w.old w.new }
 {
     let at = entry_at(id) + 4;
     let faces = w[at];
@@ -107,18 +116,18 @@ fn push_face(w: &mut [u64], n: usize, id: CandidateVertexId, face: usize, eps: f
     }
     let k = w[face] as usize;
     w[at] = faces + (1 << face as u64);
-    w[list_at(n, face) + k] = id.0 as u64;
+    w[room.list_at(face) + k] = id.0 as u64;
     w[face] = k as u64 + 1;
 }
 
-fn push_faces(w: &mut [u64], n: usize, id: CandidateVertexId, mask: u64, eps: f64)
-    requires holds { Holds eps n w.old }
+fn push_faces(w: &mut [u64], room: Room, id: CandidateVertexId, mask: u64, eps: f64)
+    requires holds { Holds eps room.n w.old }
     requires id_bound { id.0 < count_at w.old }
-    ensures { FacesAdded eps n id.0 mask w.old w.new }
+    ensures { FacesAdded eps room.n id.0 mask w.old w.new }
 {
     for face in 0..6 {
         if has_face(mask, face) {
-            push_face(w, n, id, face, eps);
+            push_face(w, room, id, face, eps);
         }
     }
 }
@@ -126,33 +135,33 @@ fn push_faces(w: &mut [u64], n: usize, id: CandidateVertexId, mask: u64, eps: f6
 // `insert_candidate`, of a mesh vertex with the faces of a mask. The vertex's word then names the candidate that it became part of.
 pub fn insert_candidate(
     w: &mut [u64],
-    n: usize,
+    room: Room,
     p: Point,
     v: MeshVertexId,
     mask: u64,
     eps: f64,
 ) -> CandidateVertexId
-    requires holds { Holds eps n w.old }
-    requires point_in { PointIn p × (mask < 64) × (v.0 < n) }
-    requires room_for { RoomFor eps n w.old (candidate p (v.0 + 1) (faces_in mask)) }
-    ensures { VertexInserted eps n v.0 (candidate p (v.0 + 1) (faces_in mask)) w.old w.new ×
-        (result.0 ≡ number_for (by_key eps) (pool_at n w.old) (candidate p (v.0 + 1) (faces_in mask))) }
+    requires holds { Holds eps room.n w.old }
+    requires point_in { PointIn p × (mask < 64) × (v.0 < room.n) }
+    requires room_for { RoomFor eps room.n w.old (candidate p (v.0 + 1) (faces_in mask)) }
+    ensures { VertexInserted eps room.n v.0 (candidate p (v.0 + 1) (faces_in mask)) w.old w.new ×
+        (result.0 ≡ number_for (by_key eps) (pool_at room.n w.old) (candidate p (v.0 + 1) (faces_in mask))) }
 {
-    let id = place_candidate(w, n, p, mesh_word(v), eps);
-    push_faces(w, n, id, mask, eps);
-    w[joined_at(n) + v.0] = id.0 as u64 + 1;
+    let id = place_candidate(w, room, p, Some(v), eps);
+    push_faces(w, room, id, mask, eps);
+    w[room.joined_at() + v.0] = id.0 as u64 + 1;
     id
 }
 
 // `insert_candidate`, of a point of a face's grid
-pub fn insert_grid_point(w: &mut [u64], n: usize, p: Point, face: usize, eps: f64)
-    requires holds { Holds eps n w.old }
+pub fn insert_grid_point(w: &mut [u64], room: Room, p: Point, face: usize, eps: f64)
+    requires holds { Holds eps room.n w.old }
     requires point_in { PointIn p × (face < 6) }
-    requires room_for { RoomFor eps n w.old (candidate p 0 (face ∷ [])) }
-    ensures { Inserted eps n (candidate p 0 (face ∷ [])) w.old w.new }
+    requires room_for { RoomFor eps room.n w.old (candidate p 0 (face ∷ [])) }
+    ensures { Inserted eps room.n (candidate p 0 (face ∷ [])) w.old w.new }
 {
-    let id = place_candidate(w, n, p, MeshWord(0), eps);
-    push_face(w, n, id, face, eps);
+    let id = place_candidate(w, room, p, None, eps);
+    push_face(w, room, id, face, eps);
 }
 
 pub fn point_of(w: &[u64], id: CandidateVertexId) -> Point

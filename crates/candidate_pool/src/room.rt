@@ -25,86 +25,85 @@ pub fn entry_at(id: CandidateVertexId) -> usize
     8 + 5 * id.0
 }
 
-pub fn keys_at(n: usize) -> usize
-    requires { n < 268435456 }
-    ensures { result ≡ keys_at n }
-{
-    8 + 5 * n
+// The room of at most n candidates and nf facets.
+#[derive(Clone, Copy)]
+pub struct Room {
+    pub n: usize,
+    pub nf: usize,
+    ghost small: { (n < 268435456) × (nf < 268435456) },
 }
 
-pub fn chain_at(n: usize) -> usize
-    requires { n < 268435456 }
-    ensures { result ≡ chain_at n }
-{
-    8 + 8 * n
-}
+impl Room {
+    pub fn keys_at(self) -> usize
+        ensures { result ≡ keys_at self.n }
+    {
+        8 + 5 * self.n
+    }
 
-pub fn list_at(n: usize, face: usize) -> usize
-    requires { (n < 268435456) × (face < 6) }
-    ensures { result ≡ list_at n face }
-{
-    8 + 11 * n + face * n
-}
+    pub fn chain_at(self) -> usize
+        ensures { result ≡ chain_at self.n }
+    {
+        8 + 8 * self.n
+    }
 
-pub fn joined_at(n: usize) -> usize
-    requires { n < 268435456 }
-    ensures { result ≡ joined_at n }
-{
-    8 + 17 * n
-}
+    pub fn list_at(self, face: usize) -> usize
+        requires { face < 6 }
+        ensures { result ≡ list_at self.n face }
+    {
+        8 + 11 * self.n + face * self.n
+    }
 
-pub fn places_at(n: usize) -> usize
-    requires { n < 268435456 }
-    ensures { result ≡ places_at n }
-{
-    8 + 18 * n
-}
+    pub fn joined_at(self) -> usize
+        ensures { result ≡ joined_at self.n }
+    {
+        8 + 17 * self.n
+    }
 
-pub fn side_at(n: usize) -> usize
-    requires { n < 268435456 }
-    ensures { result ≡ side_at n }
-{
-    8 + 19 * n
-}
+    pub fn places_at(self) -> usize
+        ensures { result ≡ places_at self.n }
+    {
+        8 + 18 * self.n
+    }
 
-pub fn pairs_at(n: usize) -> usize
-    requires { n < 268435456 }
-    ensures { result ≡ pairs_at n }
-{
-    8 + 23 * n
-}
+    pub fn side_at(self) -> usize
+        ensures { result ≡ side_at self.n }
+    {
+        8 + 19 * self.n
+    }
 
-pub fn constraints_at(n: usize, nf: usize) -> usize
-    requires { (n < 268435456) × (nf < 268435456) }
-    ensures { result ≡ constraints_at n nf }
-{
-    8 + 39 * n + 12 * nf
-}
+    pub fn pairs_at(self) -> usize
+        ensures { result ≡ pairs_at self.n }
+    {
+        8 + 23 * self.n
+    }
 
-pub fn open_edges_at(n: usize, nf: usize) -> usize
-    requires { (n < 268435456) × (nf < 268435456) }
-    ensures { result ≡ open_edges_at n nf }
-{
-    8 + 63 * n + 30 * nf
-}
+    pub fn constraints_at(self) -> usize
+        ensures { result ≡ constraints_at self.n self.nf }
+    {
+        8 + 39 * self.n + 12 * self.nf
+    }
 
-pub fn segments_at(n: usize, nf: usize) -> usize
-    requires { (n < 268435456) × (nf < 268435456) }
-    ensures { result ≡ segments_at n nf }
-{
-    8 + 63 * n + 39 * nf
-}
+    pub fn open_edges_at(self) -> usize
+        ensures { result ≡ open_edges_at self.n self.nf }
+    {
+        8 + 63 * self.n + 30 * self.nf
+    }
 
-pub fn edge_table_at(n: usize, nf: usize) -> usize
-    requires { (n < 268435456) × (nf < 268435456) }
-    ensures { result ≡ edge_table_at n nf }
-{
-    8 + 63 * n + 54 * nf
-}
+    pub fn segments_at(self) -> usize
+        ensures { result ≡ segments_at self.n self.nf }
+    {
+        8 + 63 * self.n + 39 * self.nf
+    }
 
-pub fn room_end(n: usize, nf: usize) -> usize
-    requires { (n < 268435456) × (nf < 268435456) }
-    ensures { result ≡ room_end n nf }
-{
-    8 + 63 * n + 66 * nf
+    pub fn edge_table_at(self) -> usize
+        ensures { result ≡ edge_table_at self.n self.nf }
+    {
+        8 + 63 * self.n + 54 * self.nf
+    }
+
+    pub fn end(self) -> usize
+        ensures { result ≡ room_end self.n self.nf }
+    {
+        8 + 63 * self.n + 66 * self.nf
+    }
 }

@@ -1,6 +1,7 @@
 -- Bools: tests. Every: what all pass. Members: members of the lists that the words of specs/Lists.antt make. Counts: how many pass. Places: 0, 1, .. n - 1.
 -- Regions: parts of a buffer. Mapped: sorting and keeping under a function. Stores: runs of stores, and counting up.
 -- Sequences: lists made and gone through place by place. Blocks: lists stored one after the other. Pigeonhole: numbers without repeats. First: the first that passes, or none.
+-- Found: what a search answers.
 pub mod Bools
 pub mod Every
 pub mod Members
@@ -16,3 +17,4 @@ pub mod Sequences
 pub mod Blocks
 pub mod Pigeonhole
 pub mod First
+pub mod Found

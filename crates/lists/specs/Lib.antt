@@ -1,3 +1,4 @@
 pub mod Lists
 pub mod Regions
 pub mod Order
+pub mod Found

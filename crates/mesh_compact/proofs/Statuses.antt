@@ -4,12 +4,13 @@ use native.Mathlib.Omega.{arith}
 use mathlib.Core.Path.{◌≡◌, refl, sym, ap, subst, ◌∙◌}
 use mathlib.Core.Bool.{Bool, true, false, cond, not, ◌&&◌}
 use mathlib.Core.List.{List, [], ◌∷◌, ◌++◌, Memᴰ}
-use mathlib.Core.Option.{Option, none, some, or_else}
+use Rattle.std.specs.Prelude.{Option, None, Some, is_none}
+use Rattle.std.specs.Option.{option_or}
 use lib.Dec.{T, ltb, leb}
 use lib.ListN.{length, get_or}
 use borrow.Author.Tests.{ltb-true, ltb-false, lt-leb, le-leb}
 use lib.Ieee.{Float}
-use Rattle.lists.specs.Lists.{is_none, has, keep, count, up_from, up_to, Decides}
+use Rattle.lists.specs.Lists.{has, keep, count, up_from, up_to, Decides}
 use Rattle.lists.proofs.Counts.{keep_append, keep_same}
 use Rattle.lists.proofs.Members.{some_of, of_some, has_of, of_has, keep_of, of_keep, get_d_mem}
 use Rattle.lists.proofs.Places.{of_up, up_of}
@@ -45,11 +46,10 @@ keep_both {A} p q (x ∷ l) = go (p x) (keep_both p q l)
 
 -- ---- what the three filters and the components say together
 
-told : (o : Option Reason) (a : Bool) → is_none (or_else o (cond a (some alone) none)) ≡ (is_none o && not a)
-unfolding or_else
-told none true = refl
-told none false = refl
-told (some r) a = refl
+told : (o : Option Reason) (a : Bool) → is_none (option_or o (cond a (Some alone) None)) ≡ (is_none o && not a)
+told None true = refl
+told None false = refl
+told (Some r) a = refl
 
 and_left : (a b : Bool) → T (a && b) → T a
 and_left true b t = tt

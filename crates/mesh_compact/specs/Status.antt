@@ -6,10 +6,10 @@
 --   kept_facets m   the facets kept, in order
 --   Stays          the rule for a kept facet without its computing: it passed, and m facets or more that passed are joined to it, itself counted
 --   Rule           the statuses give no reason exactly of the facets that stay
-use Rattle.std.specs.Prelude.{ℕ, ◌<◌, Bool, cond, ltb, length, Float}
+use Rattle.std.specs.Prelude.{ℕ, ◌<◌, Bool, cond, ltb, length, Float, Option, None, Some, is_none}
+use Rattle.std.specs.Option.{option_or}
 use mathlib.Core.List.{List, Memᴰ}
-use Rattle.std.proofs.Math.Option.{Option, none, some, or_else}
-use Rattle.lists.specs.Lists.{some as any, is_none, has, keep, count, up_to, Decides}
+use Rattle.lists.specs.Lists.{some as any, has, keep, count, up_to, Decides}
 use Rattle.geometry.specs.declared.point.Point.{Point}
 use Rattle.geometry.specs.Triangles.{Triangle, vertices}
 use Rattle.components.specs.Joined.{Among, ManyJoined}
@@ -30,7 +30,7 @@ module _ (eps : Float) (points : List Point) (facets : List (Triangle ℕ)) wher
       ltb (count (has (component_of cs i)) l) m
 
   unfoldable pub status : ℕ → ℕ → Option Reason
-  status m i = or_else (filtered eps points facets (passed eps points facets i) (facet_at facets i)) (cond (is_alone m i) (some alone) none)
+  status m i = option_or (filtered eps points facets (passed eps points facets i) (facet_at facets i)) (cond (is_alone m i) (Some alone) None)
 
   unfoldable pub kept_facets : ℕ → List ℕ
   kept_facets m = keep (λ i. is_none (status m i)) (up_to (length facets))

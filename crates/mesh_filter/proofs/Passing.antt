@@ -4,9 +4,8 @@ use native.Mathlib.Numerals.{add-one}
 use mathlib.Core.Path.{◌≡◌, refl, ap, ◌∙◌}
 use mathlib.Core.Bool.{Bool, true, false, cond, not, ◌&&◌}
 use mathlib.Core.List.{List, [], ◌∷◌, ◌++◌}
-use mathlib.Core.Option.{none, some}
+use Rattle.std.specs.Prelude.{None, Some, is_none}
 use lib.Ieee.{Float}
-use Rattle.lists.specs.Lists.{is_none}
 use Rattle.lists.proofs.Bools.{and_stop}
 use Rattle.geometry.specs.declared.point.Point.{Point}
 use Rattle.geometry.specs.Triangles.{Triangle}
@@ -14,7 +13,7 @@ use Rattle.mesh_filter.specs.Filters.{facet_at, has_repeated_corner, is_flat, is
 
 module _ (eps : Float) (points : List Point) (facets : List (Triangle ℕ)) (earlier : List ℕ) (t : Triangle ℕ) where
   -- the three tests, one after the other
-  told : (r f d : Bool) → is_none (cond r (some repeated_corner) (cond f (some too_flat) (cond d (some duplicate) none))) ≡ (not r && (not f && not d))
+  told : (r f d : Bool) → is_none (cond r (Some repeated_corner) (cond f (Some too_flat) (cond d (Some duplicate) None))) ≡ (not r && (not f && not d))
   told true f d = refl
   told false true d = refl
   told false false true = refl

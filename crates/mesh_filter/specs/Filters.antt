@@ -9,10 +9,9 @@
 --   filtered            the first filter that drops a facet, in the order of the document, where these facets passed before it; or none
 --   passes              no filter drops it
 --   passed n            the facets that passed among the first n, in order
-use Rattle.std.specs.Prelude.{ℕ, zero, suc, Bool, cond, ◌&&◌, ◌||◌, List, [], ◌∷◌, ◌++◌, eqb, get_or, Float}
-use Rattle.std.proofs.Math.Option.{Option, none, some}
+use Rattle.std.specs.Prelude.{ℕ, zero, suc, Bool, cond, ◌&&◌, ◌||◌, List, [], ◌∷◌, ◌++◌, eqb, get_or, Float, Option, None, Some, is_none}
 use Rattle.std.specs.Float.Ieee.{le}
-use Rattle.lists.specs.Lists.{some as any, is_none}
+use Rattle.lists.specs.Lists.{some as any}
 use Rattle.root.specs.Doubles.{◌⊗◌}
 use Rattle.geometry.specs.declared.point.Point.{Point}
 use Rattle.geometry.specs.Points.{norm2, normal}
@@ -47,9 +46,9 @@ pub data Reason : Type 0 where
 module _ (eps : Float) (points : List Point) (facets : List (Triangle ℕ)) where
   unfoldable pub filtered : List ℕ → Triangle ℕ → Option Reason
   filtered earlier t =
-      cond (has_repeated_corner t) (some repeated_corner)
-      (cond (is_flat eps points t) (some too_flat)
-      (cond (is_duplicate facets earlier t) (some duplicate) none))
+      cond (has_repeated_corner t) (Some repeated_corner)
+      (cond (is_flat eps points t) (Some too_flat)
+      (cond (is_duplicate facets earlier t) (Some duplicate) None))
 
   abbrev pub passes : List ℕ → Triangle ℕ → Bool
   passes earlier t = is_none (filtered earlier t)

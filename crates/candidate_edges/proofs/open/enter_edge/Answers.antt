@@ -79,10 +79,9 @@ enter_vertex-b-requires c =
       v_in_bounds = (h.1, h.2);
     }
 
-pub open_edges_at-requires : goal.open_edges_at-requires
-open_edges_at-requires c =
-    let f = c.requires.edges_entering.fits in
-    (f.small, f.few)
+pub invariant_of-room : goal.invariant_of-room
+invariant_of-room c =
+    let f = c.requires.edges_entering.fits in record { small = (f.small, f.few) }
 
 pub overflow_mul-i : goal.overflow_mul-i
 overflow_mul-i c = omega (arith, edge_in_lem (goal.at.overflow_mul-i c).After-open_edges_at)

@@ -1,28 +1,35 @@
-use Prim.Native.Nat.{◌+◌}
-use mathlib.Core.Path.{sym, ap, ◌∙◌}
-use mathlib.Core.Bool.{Bool, cond}
+use Prim.Native.Nat.{ℕ, suc, ◌+◌}
 use native.Mathlib.Omega.{arith}
+use mathlib.Core.Path.{◌≡◌, refl, sym, ap, ◌∙◌}
+use mathlib.Core.Bool.{Bool, true, false, cond}
+use mathlib.Core.List.{List, [], ◌∷◌}
 use borrow.Author.Tests.{eq-eqb, ne_eqb}
-use lib.ListN.{set, length-set}
-use Rattle.box_faces.specs.Faces.{bit_count}
+use lib.Dec.{eqb}
+use lib.ListN.{set}
+use lib.Seq.{sets}
+use Rattle.lists.specs.Lists.{keep}
+use Rattle.box_faces.specs.Faces.{has_bit, bit_count}
+use Rattle.candidate_edges.proofs.open.put_edge.Goals.{then-a-b, else-a-b}
 use Rattle.candidate_edges.proofs.open.put_edge.Goals as goal
 
-pub bounds-w-at-2 : goal.bounds-w-at-2
-bounds-w-at-2 c = simp length-set (omega arith)
+none_counted : (t : Bool) (mask : ℕ) → bit_count (cond t 0 mask) ≡ cond t 0 (bit_count mask)
+unfolding bit_count has_bit keep
+none_counted true mask = refl
+none_counted false mask = refl
 
-pub returns-then-a-b : goal.returns-then-a-b
-returns-then-a-b c =
-    let s = c in
-    let a = s.args in
-    let e = sym (eq-eqb a.a.0 a.b.0 c.if-a-b.true) in
-    (ap (λ (t : Bool). set (set (set a.w.now a.at a.a.0) (a.at + 1) a.b.0) (a.at + 2) (cond t 0 a.mask)) e, ap (λ (t : Bool). cond t 0 (bit_count a.mask)) e)
+three_put : (w : List ℕ) (at a b c : ℕ) → sets w at (a ∷ b ∷ c ∷ []) ≡ set (set (set w at a) (at + 1) b) (at + 2) c
+three_put w at a b c =
+    let one : suc at ≡ at + 1 = omega arith in
+    let two : suc (suc at) ≡ at + 2 = omega arith in
+    λ i. set (set (set w at a) (one i) b) (two i) c
 
 pub returns : goal.returns
 returns c =
-    let s = c in
-    let a = s.args in
-    let e = sym (ne_eqb a.a.0 a.b.0 c.if-a-b.false) in (
-      ap (λ (t : Bool). set (set (set a.w.now a.at a.a.0) (a.at + 1) a.b.0) (a.at + 2) (cond t 0 a.mask)) e,
-      c.count_faces.ensures ∙ ap
-          (λ (t : Bool). cond t 0 (bit_count a.mask)) e,
+    let a = c.args in
+    let faces : c.if-a-b.faces ≡ cond (eqb a.a.0 a.b.0) 0 a.mask = elim c.if-a-b.branch [
+      | then-a-b w ↦ w.faces-is ∙ sym (ap (λ (t : Bool). cond t 0 a.mask) (eq-eqb a.a.0 a.b.0 w.if-a-b.true))
+      | else-a-b w ↦ w.faces-is ∙ sym (ap (λ (t : Bool). cond t 0 a.mask) (ne_eqb a.a.0 a.b.0 w.if-a-b.false))
+    ] in (
+      c.write_three.ensures ∙ three_put a.w.now a.at a.a.0 a.b.0 c.if-a-b.faces ∙ ap (λ (x : ℕ). set (set (set a.w.now a.at a.a.0) (a.at + 1) a.b.0) (a.at + 2) x) faces,
+      c.count_faces.ensures ∙ ap bit_count faces ∙ none_counted (eqb a.a.0 a.b.0) a.mask,
     )

@@ -1,11 +1,12 @@
 use Prim.Native.Nat.{◌+◌, ◌*◌, ◌/◌, ◌<◌}
-use mathlib.Core.Path.{◌≡◌, ◌∙◌}
+use mathlib.Core.Path.{◌≡◌, sym, ◌∙◌}
 use native.Mathlib.Omega.{arith}
 use borrow.Author.Tests.{eq-eqb, ne_eqb}
 use lib.Dec.{eqb}
 use lib.ListN.{length, get_or}
 use Rattle.geometry.specs.Triangles.{threes}
 use Rattle.edges.specs.Edges.{sides, open_edges}
+use Rattle.lists.proofs.Found.{found_none, found_some}
 use Rattle.lists.proofs.Sequences.{place_stop, place_more, place_end}
 use Rattle.candidate_edges.proofs.Ends.{side_is, side_low}
 use Rattle.candidate_edges.proofs.Passes.{stray, stray_test}
@@ -30,8 +31,8 @@ tested c =
     c.loop-i-test.true)
     c.side_mask.ensures
 
-pub edge_table_at-table-requires : goal.edge_table_at-table-requires
-edge_table_at-table-requires c = (c.requires.mesh_fits.small, c.requires.mesh_fits.few)
+pub invariant_of-room : goal.invariant_of-room
+invariant_of-room c = record { small = (c.requires.mesh_fits.small, c.requires.mesh_fits.few) }
 
 pub loop-i-init : goal.loop-i-init
 loop-i-init c = (omega arith, omega arith)
@@ -68,11 +69,13 @@ side_mask-requires c =
 pub returns-then-side_mask-eq0 : goal.returns-then-side_mask-eq0
 returns-then-side_mask-eq0 c =
     let t = tested (goal.at.returns-then-side_mask-eq0 c).After-side_mask in
-    let s = c in
-    let loop' = c.loop-i in
-    place_stop (stray s.args.vertices.now s.args.facets.now s.args.extents s.args.eps) (open_edges (threes s.args.facets.now)) loop'.i
-    loop'.invariant.1 (0, 0)
-    (omega (arith, s.requires.table_at.count, c.loop-i-test.true)) (t ∙ eq-eqb c.side_mask.result 0 c.if-side_mask-eq0.true)
+    let a = c.args in
+    let l = c.loop-i in
+    let low : l.i < length (open_edges (threes a.facets.now)) = omega (arith, c.requires.table_at.count, c.loop-i-test.true) in
+    sym (found_some (stray a.vertices.now a.facets.now a.extents a.eps) (open_edges (threes a.facets.now)) l.i
+    (sym (place_stop (stray a.vertices.now a.facets.now a.extents a.eps) (open_edges (threes a.facets.now)) l.i l.invariant.1 (0, 0) low
+    (t ∙ eq-eqb c.side_mask.result 0 c.if-side_mask-eq0.true)))
+    low)
 
 pub loop-i-preserved : goal.loop-i-preserved
 loop-i-preserved c =
@@ -88,8 +91,9 @@ loop-i-preserved c =
 
 pub returns : goal.returns
 returns c =
-    let s = c in
-    let a = s.args in
+    let a = c.args in
     let l = c.loop-i in
-    let same : a.k ≡ l.i = omega (arith, c.loop-i-test.false, l.invariant.0) in
-    same ∙ place_end (stray a.vertices.now a.facets.now a.extents a.eps) (open_edges (threes a.facets.now)) l.i l.invariant.1 (omega (arith, s.requires.table_at.count))
+    let end = place_end (stray a.vertices.now a.facets.now a.extents a.eps) (open_edges (threes a.facets.now)) l.i l.invariant.1
+    (omega (arith, c.loop-i-test.false, l.invariant.0, c.requires.table_at.count)) in
+    sym (found_none (stray a.vertices.now a.facets.now a.extents a.eps) (open_edges (threes a.facets.now))
+    (sym end ∙ (let same : l.i ≡ length (open_edges (threes a.facets.now)) = omega (arith, c.loop-i-test.false, l.invariant.0, c.requires.table_at.count) in same)))

@@ -80,9 +80,6 @@ gather_segments-count-requires c =
     let h = p.face_in in
     edges_ready _ _ _ _ _ _ p.face_in p.holds p.held _ p.size p.small p.edges (p.skips _ (omega arith))
 
-pub segments_at-requires : goal.segments_at-requires
-segments_at-requires c = let p = c.requires in (p.holds.table.small, p.small)
-
 pub loop-i-init : goal.loop-i-init
 loop-i-init c =
     (omega arith, entered_none _ _ _ _ _ (gathered_holds _ _ _ _ _ _ _ _ c.requires.holds _ c.gather_segments-count.ensures))
@@ -106,15 +103,16 @@ enter_grid_row-requires c =
     c.segments_of.ensures in
     subst (λ (x : Float). Within (2 ^ 48) x) (sym c.face_line-at.ensures)
     (face_line_in _ _ _ c.requires.box_in c.requires.face_in few.0 few.1) in
-    let room : count_at c.gather_segments-count.new.w + (last s + 1) * (last-v s + 1) ≤ c.args.n = face_room _ _ c.args.resolution c.args.n c.args.face (last s) (last-v s) c.args.w.now
+    let room : count_at c.gather_segments-count.new.w + (last s + 1) * (last-v s + 1) ≤ c.args.room.n = face_room _ _ c.args.resolution c.args.room.n c.args.face (last s) (last-v s) c.args.w.now
     c.gather_segments-count.new.w
     (last_is s) (last-v-is s)
     (gathered_count _ _ _ _ _ _ _ _ c.requires.holds _ c.gather_segments-count.ensures) c.requires.few in
     let k = c in
     let p = c.requires in
+    let most : c.loop-i.i ≤ c.segments_of-last.result = omega (arith, c.loop-i-test.true) in
     row_ready _ _ _ _ _ _ _ _ _ _ (near_ready _ _ _ _ _ _ _ _ _ _ k.gather_segments-count.ensures k.segments_at.ensures p.edges p.size) _
     c.loop-i.invariant.1 _ _
-    p.face_in p.box_in c.loop-i-test.true least.1 least.0 least-v.1 least-v.0 room at_in
+    p.face_in p.box_in most least.1 least.0 least-v.1 least-v.0 room at_in
     (along-u (goal.at.enter_grid_row-requires c).After-grid_line)
 
 pub loop-i-preserved : goal.loop-i-preserved

@@ -1,4 +1,4 @@
-use Prim.Native.Nat.{ℕ, ◌+◌, ◌<◌}
+use Prim.Native.Nat.{ℕ, ◌+◌, ◌≤◌, ◌<◌}
 use native.Mathlib.Omega.{arith}
 use mathlib.Core.Path.{◌≡◌, refl, ap, subst, ◌∙◌}
 use mathlib.Core.List.{flat_map}
@@ -41,11 +41,12 @@ enter_grid_point-requires c =
     c.grid_line-v.ensures ∙ ap (λ (a : ℕ). line_at (lowest s.args.extents a) (highest s.args.extents a) s.args.last c.loop-j.j)
     c.v_axis-axis.ensures.1 in
     let t = c in
+    let most : c.loop-j.j ≤ c.args.last = omega (arith, c.loop-j-test.true) in
     let p = c.requires in
     let a = p.at_in in
     let b = p.u_in in
-    let d = row_line_in _ _ _ _ _ _ _ _ _ p _ t.loop-j.invariant.1 t.loop-j-test.true _ v_low along-v in
-    row_point_ready _ _ _ _ _ _ _ _ _ p _ t.loop-j.invariant.1 t.loop-j-test.true _
+    let d = row_line_in _ _ _ _ _ _ _ _ _ p _ t.loop-j.invariant.1 most _ v_low along-v in
+    row_point_ready _ _ _ _ _ _ _ _ _ p _ t.loop-j.invariant.1 most _
     (point_in _ _ _ _ _ c.point_on_face-p.ensures (search rules) (search rules) (search rules))
 
 pub loop-j-preserved : goal.loop-j-preserved
@@ -56,7 +57,7 @@ loop-j-preserved c =
     c.grid_line-v.ensures ∙ ap (λ (a : ℕ). line_at (lowest s.args.extents a) (highest s.args.extents a) s.args.last c.loop-j.j)
     c.v_axis-axis.ensures.1 in
     let t = c in
-    let l = t.loop-j-test.true in (
+    let l : c.loop-j.j ≤ c.args.last = omega (arith, c.loop-j-test.true) in (
       omega arith,
       entered_more _ _ _ _ _ _ _ _ _ _ _ t.loop-j.invariant.1
           (row_cell_lem _ _ _ _ _ _ _ _ _ c.requires _ t.loop-j.invariant.1 l _ _ _ along-v
@@ -74,7 +75,7 @@ returns c =
     let a = c.loop-j.invariant.0 in
     let b = c.loop-j-test.false in
     let e : c.loop-j.j ≡ s.args.last + 1 = omega arith in
-    subst (λ (x : ℕ). PointsEntered s.args.eps s.args.n (flat_map
+    subst (λ (x : ℕ). PointsEntered s.args.eps s.args.room.n (flat_map
     (row_cell (skips_near s.args.w.now s.args.near) s.args.extents s.args.face s.args.row s.args.last) (up_to x)) x s.args.w.now
     c.loop-j.w)
     e c.loop-j.invariant.1

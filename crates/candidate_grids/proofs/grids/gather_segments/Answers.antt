@@ -8,12 +8,6 @@ use Rattle.candidate_pool.specs.Offsets.{open_edges_at}
 use Rattle.candidate_grids.proofs.grids.gather_segments.Goals.{then-has_face, else-has_face}
 use Rattle.candidate_grids.proofs.grids.gather_segments.Goals as goal
 
-pub open_edges_at-edges-requires : goal.open_edges_at-edges-requires
-open_edges_at-edges-requires c = (c.requires.small_n, c.requires.small)
-
-pub segments_at-segments-requires : goal.segments_at-segments-requires
-segments_at-segments-requires c = (c.requires.small_n, c.requires.small)
-
 pub loop-i-init : goal.loop-i-init
 loop-i-init c = gather_start _ _ _ _ _ _
 
@@ -50,7 +44,7 @@ overflow_add-edges-then-has_face c = omega arith
 pub gather_segment-requires : goal.gather_segment-requires
 gather_segment-requires c =
     let bit : c.has_face.result
-    ≡ has_bit (get_or c.loop-i.w (open_edges_at c.args.n c.args.nf + 3 * c.loop-i.i + 2) 0) c.args.face = let l = c.loop-i in
+    ≡ has_bit (get_or c.loop-i.w (open_edges_at c.args.room.n c.args.room.nf + 3 * c.loop-i.i + 2) 0) c.args.face = let l = c.loop-i in
     c.has_face.ensures ∙ ap (λ (x : ℕ). has_bit (get_or l.w (x + 3 * l.i + 2) 0) c.args.face) c.open_edges_at-edges.ensures in
     let t = c in
     let l = t.loop-i in
@@ -63,7 +57,7 @@ overflow_add-count c = omega arith
 pub loop-i-preserved : goal.loop-i-preserved
 loop-i-preserved c =
     let bit : c.has_face.result
-    ≡ has_bit (get_or c.loop-i.w (open_edges_at c.args.n c.args.nf + 3 * c.loop-i.i + 2) 0) c.args.face = let l = c.loop-i in
+    ≡ has_bit (get_or c.loop-i.w (open_edges_at c.args.room.n c.args.room.nf + 3 * c.loop-i.i + 2) 0) c.args.face = let l = c.loop-i in
     c.has_face.ensures ∙ ap (λ (x : ℕ). has_bit (get_or l.w (x + 3 * l.i + 2) 0) c.args.face) c.open_edges_at-edges.ensures in
     let t = c in
     let l = t.loop-i in

@@ -6,4 +6,4 @@ pub returns-then-inner : goal.returns-then-inner
 returns-then-inner c = c.is_interior.ensures ∙ sym (and_next _ _ _ c.if-inner.true refl)
 
 pub returns-else-inner : goal.returns-else-inner
-returns-else-inner c = sym (and_stop _ _ c.if-inner.false)
+returns-else-inner c = c.if-inner.false ∙ sym (and_stop _ _ c.if-inner.false)

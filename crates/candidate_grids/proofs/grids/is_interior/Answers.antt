@@ -1,8 +1,8 @@
 use borrow.Author.Tests.{eq-eqb, ne_eqb}
 use Rattle.candidate_grids.proofs.grids.is_interior.Goals as goal
 
-pub returns-then-i-eq0 : goal.returns-then-i-eq0
-returns-then-i-eq0 c = simp (eq-eqb _ _ c.if-i-eq0.true)
+pub returns-then-i-ne0 : goal.returns-then-i-ne0
+returns-then-i-ne0 c = simp (ne_eqb _ _ c.if-i-ne0.true)
 
-pub returns-else-i-eq0 : goal.returns-else-i-eq0
-returns-else-i-eq0 c = simp (ne_eqb _ _ c.if-i-eq0.false)
+pub returns-else-i-ne0 : goal.returns-else-i-ne0
+returns-else-i-ne0 c = simp (eq-eqb _ _ c.if-i-ne0.false)

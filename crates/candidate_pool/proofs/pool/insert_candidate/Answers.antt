@@ -1,9 +1,9 @@
-use Prim.Native.Nat.{ℕ, ◌+◌}
-use mathlib.Core.Path.{refl, subst, ◌∙◌}
+use Prim.Native.Nat.{◌+◌}
+use mathlib.Core.Path.{refl, ◌∙◌}
 use lib.ListN.{length-set}
 use native.Mathlib.Omega.{arith}
 use Rattle.candidate_pool.specs.Pool.{by_key}
-use Rattle.candidate_pool.specs.Standing.{faces_in, candidate, pool_at, Inserted}
+use Rattle.candidate_pool.specs.Standing.{faces_in, candidate, pool_at}
 use Rattle.candidate_pool.proofs.Adding.{number_in, same_number, inserted_faces, vertex_inserted}
 use Rattle.candidate_pool.proofs.pool.insert_candidate.Goals as goal
 
@@ -12,7 +12,7 @@ push_faces-requires c =
     let place-candidate' = c.place_candidate-id in
     let s = c in record {
       holds = place-candidate'.ensures.0.holds;
-      id_bound = number_in s.args.eps s.args.n s.args.w.now place-candidate'.new.w _ place-candidate'.result.0 place-candidate'.ensures.0
+      id_bound = number_in s.args.eps s.args.room.n s.args.w.now place-candidate'.new.w _ place-candidate'.result.0 place-candidate'.ensures.0
           place-candidate'.ensures.1;
     }
 
@@ -22,7 +22,7 @@ overflow_add-w c =
     let place-candidate' = c.place_candidate-id in
     omega (
       arith,
-      number_in s.args.eps s.args.n s.args.w.now place-candidate'.new.w _ place-candidate'.result.0 place-candidate'.ensures.0
+      number_in s.args.eps s.args.room.n s.args.w.now place-candidate'.new.w _ place-candidate'.result.0 place-candidate'.ensures.0
           place-candidate'.ensures.1,
       place-candidate'.ensures.0.holds.table.few,
       place-candidate'.ensures.0.holds.table.small,
@@ -34,19 +34,14 @@ shape_of-w c =
 
 pub returns : goal.returns
 returns c =
-    let s = c in
-    let place-candidate' = c.place_candidate-id in
-    let mesh-word' = c.mesh_word in
-    let push-faces' = c.push_faces in
-    let joined-at' = c.joined_at in
-    let on = faces_in s.args.mask in
-    let number = place-candidate'.ensures.1 ∙ same_number (by_key s.args.eps) (pool_at s.args.n s.args.w.now) s.args.p mesh-word'.result.0
-    (s.args.v.0 + 1) on in
-    let faced = inserted_faces s.args.eps s.args.n s.args.w.now place-candidate'.new.w push-faces'.new.w s.args.p mesh-word'.result.0
-    place-candidate'.result.0 s.requires.holds place-candidate'.ensures.0 place-candidate'.ensures.1 s.args.mask push-faces'.ensures in
-    let inserted = subst (λ (m : ℕ). Inserted s.args.eps s.args.n (candidate s.args.p m on) s.args.w.now push-faces'.new.w) mesh-word'.ensures
-    faced in (
-      vertex_inserted s.args.eps s.args.n s.args.v.0 place-candidate'.result.0 (candidate s.args.p (s.args.v.0 + 1) on) s.args.w.now
-          push-faces'.new.w inserted s.requires.point_in.2 number _ joined-at'.result joined-at'.ensures refl,
+    let a = c.args in
+    let place = c.place_candidate-id in
+    let push = c.push_faces in
+    let on = faces_in a.mask in
+    let number = place.ensures.1 ∙ same_number (by_key a.eps) (pool_at a.room.n a.w.now) a.p (a.v.0 + 1) (a.v.0 + 1) on in
+    let inserted = inserted_faces a.eps a.room.n a.w.now place.new.w push.new.w a.p (a.v.0 + 1) place.result.0 c.requires.holds place.ensures.0 place.ensures.1
+    a.mask push.ensures in (
+      vertex_inserted a.eps a.room.n a.v.0 place.result.0 (candidate a.p (a.v.0 + 1) on) a.w.now push.new.w inserted c.requires.point_in.2 number _
+          c.joined_at.result c.joined_at.ensures refl,
       number,
     )

@@ -7,7 +7,7 @@ push_face-requires c =
     let s = c in record {
       holds = place-candidate'.ensures.0.holds;
       id_bound = (
-        number_in s.args.eps s.args.n s.args.w.now place-candidate'.new.w _ place-candidate'.result.0 place-candidate'.ensures.0
+        number_in s.args.eps s.args.room.n s.args.w.now place-candidate'.new.w _ place-candidate'.result.0 place-candidate'.ensures.0
             place-candidate'.ensures.1,
         s.requires.point_in.1,
       );
@@ -18,5 +18,5 @@ returns c =
     let s = c in
     let place-candidate' = c.place_candidate-id in
     let push-face' = c.push_face in
-    inserted_face s.args.eps s.args.n s.args.w.now place-candidate'.new.w push-face'.new.w s.args.p 0 place-candidate'.result.0
+    inserted_face s.args.eps s.args.room.n s.args.w.now place-candidate'.new.w push-face'.new.w s.args.p 0 place-candidate'.result.0
     s.requires.holds place-candidate'.ensures.0 place-candidate'.ensures.1 s.args.face s.requires.point_in.1 push-face'.ensures

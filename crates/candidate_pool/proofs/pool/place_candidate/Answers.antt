@@ -1,89 +1,83 @@
-use mathlib.Core.Path.{◌∙◌}
+use Prim.Native.Nat.{ℕ}
+use mathlib.Core.Path.{◌≡◌, refl, sym, ◌∙◌}
+use mathlib.Core.Bool.{true, false}
 use mathlib.Core.List.{[]}
 use native.Mathlib.Omega.{arith}
-use Rattle.candidate_pool.specs.Standing.{candidate}
+use Rattle.std.specs.Prelude.{Option, Some, None, is_some}
+use Rattle.geometry.specs.declared.numbers.MeshVertexId.{MeshVertexId}
+use Rattle.candidate_pool.specs.Standing.{mesh_word, candidate}
 use Rattle.candidate_pool.proofs.Reading.{some_room}
 use Rattle.candidate_pool.proofs.Placing.{miss_room, hit_room, placed_new, placed_moved, placed_kept, number_miss, number_hit}
 use Rattle.candidate_pool.proofs.pool.place_candidate.Goals as goal
 
-pub bucket-b-requires : goal.bucket-b-requires
-bucket-b-requires c =
-    let s = c in record {
-      buckets_nonzero = some_room s.args.eps s.args.n s.args.w.now s.requires.holds (candidate s.args.p s.args.mesh.0 []) s.requires.room_for;
-      buckets_bound = omega (
-        arith,
-        s.requires.holds.table.small,
-      );
-    }
+word_some : (o : Option MeshVertexId) → is_some o ≡ true → mesh_word o ≡ 0 → ⊥
+word_some (Some v) e z = omega arith
+word_some None e z = let q : ◌≡◌ {A = ℕ} 0 1 = cc in omega arith
 
-pub push_candidate-requires : goal.push_candidate-requires
-push_candidate-requires c =
-    let s = c in
-    let quantized-point-key' = c.quantized_point_key-key in
-    let bucket' = c.bucket-b in
-    let find-key' = c.find_key-link in record {
-      point_in = (
-        s.requires.point_in,
-        miss_room s.args.eps s.args.n s.args.w.now s.requires.holds s.args.p s.args.mesh.0
-            quantized-point-key'.result bucket'.result find-key'.result quantized-point-key'.ensures bucket'.ensures find-key'.ensures c.if-link-eq0.true
-            s.requires.room_for,
-        bucket'.ensures.low,
-      );
-      key_table = (s.requires.holds.table, s.requires.holds.size);
-    }
+word_none : (o : Option MeshVertexId) → is_some o ≡ false → mesh_word o ≡ 0
+word_none (Some v) e = let q : ◌≡◌ {A = ℕ} 0 1 = cc in absurd (omega arith)
+word_none None e = refl
 
-pub returns-then-link-eq0 : goal.returns-then-link-eq0
-returns-then-link-eq0 c =
-    let s = c in
-    let quantized-point-key' = c.quantized_point_key-key in
-    let bucket' = c.bucket-b in
-    let find-key' = c.find_key-link in
-    let push-candidate' = c.push_candidate in
-    let if1' = c.if-link-eq0 in (
-      placed_new s.args.eps s.args.n s.args.w.now s.requires.holds s.args.p s.args.mesh.0
-          quantized-point-key'.result bucket'.result find-key'.result quantized-point-key'.ensures bucket'.ensures find-key'.ensures
-          push-candidate'.new.w if1'.true s.requires.room_for s.requires.point_in push-candidate'.ensures.2 push-candidate'.ensures.1,
-      push-candidate'.ensures.0 ∙ number_miss s.args.eps s.args.n s.args.w.now s.requires.holds s.args.p s.args.mesh.0
-          quantized-point-key'.result bucket'.result find-key'.result quantized-point-key'.ensures bucket'.ensures find-key'.ensures if1'.true,
+pub bucket-b-requires-clause-buckets_nonzero : goal.bucket-b-requires-clause-buckets_nonzero
+bucket-b-requires-clause-buckets_nonzero c =
+    let a = c.args in some_room a.eps a.room.n a.w.now c.requires.holds (candidate a.p (mesh_word a.mesh) []) c.requires.room_for
+
+pub push_candidate-requires-clause-point_in : goal.push_candidate-requires-clause-point_in
+push_candidate-requires-clause-point_in c =
+    let a = c.args in
+    let k = c.quantized_point_key-key in
+    let b = c.bucket-b in
+    let f = c.find_key in (
+      c.requires.point_in.0,
+      miss_room a.eps a.room.n a.w.now c.requires.holds a.p (mesh_word a.mesh) k.result b.result f.result k.ensures b.ensures f.ensures c.in-None.is
+          c.requires.room_for,
+      b.ensures.low,
     )
 
-pub put_point-requires : goal.put_point-requires
-put_point-requires c =
-    let s = c in
-    let quantized-point-key' = c.quantized_point_key-key in
-    let bucket' = c.bucket-b in
-    let find-key' = c.find_key-link in (
-      s.requires.point_in,
-      hit_room s.args.eps s.args.n s.args.w.now s.requires.holds s.args.p s.args.mesh.0
-          quantized-point-key'.result bucket'.result find-key'.result quantized-point-key'.ensures bucket'.ensures find-key'.ensures
-          c.if-link-eq0.false,
+pub returns-in-None : goal.returns-in-None
+returns-in-None c =
+    let a = c.args in
+    let k = c.quantized_point_key-key in
+    let b = c.bucket-b in
+    let f = c.find_key in
+    let u = c.push_candidate in (
+      placed_new a.eps a.room.n a.w.now c.requires.holds a.p (mesh_word a.mesh) k.result b.result f.result k.ensures b.ensures f.ensures
+          u.new.w c.in-None.is c.requires.room_for c.requires.point_in.0 u.ensures.2 u.ensures.1,
+      u.ensures.0
+          ∙ number_miss a.eps a.room.n a.w.now c.requires.holds a.p (mesh_word a.mesh) k.result b.result f.result k.ensures b.ensures f.ensures c.in-None.is,
     )
 
-pub returns-then-mesh-ne0 : goal.returns-then-mesh-ne0
-returns-then-mesh-ne0 c =
-    let s = c in
-    let quantized-point-key' = c.quantized_point_key-key in
-    let bucket' = c.bucket-b in
-    let find-key' = c.find_key-link in
-    let put-point' = c.put_point in
-    let if1' = c.if-link-eq0 in (
-      placed_moved s.args.eps s.args.n s.args.w.now s.requires.holds s.args.p s.args.mesh.0
-          quantized-point-key'.result bucket'.result find-key'.result quantized-point-key'.ensures bucket'.ensures find-key'.ensures
-          put-point'.new.w if1'.false c.if-mesh-ne0.true s.requires.point_in put-point'.ensures.1 put-point'.ensures.0,
-      number_hit s.args.eps s.args.n s.args.w.now s.requires.holds s.args.p s.args.mesh.0
-          quantized-point-key'.result bucket'.result find-key'.result quantized-point-key'.ensures bucket'.ensures find-key'.ensures if1'.false,
+pub put_point-requires-clause-point_in : goal.put_point-requires-clause-point_in
+put_point-requires-clause-point_in c =
+    let a = c.args in
+    let k = c.quantized_point_key-key in
+    let b = c.bucket-b in
+    let f = c.find_key in (
+      c.requires.point_in.0,
+      hit_room a.eps a.room.n a.w.now c.requires.holds a.p (mesh_word a.mesh) k.result b.result f.result k.ensures b.ensures f.ensures c.in-Some.i c.in-Some.is,
     )
 
-pub returns-else-mesh-ne0 : goal.returns-else-mesh-ne0
-returns-else-mesh-ne0 c =
-    let s = c in
-    let quantized-point-key' = c.quantized_point_key-key in
-    let bucket' = c.bucket-b in
-    let find-key' = c.find_key-link in
-    let if1' = c.if-link-eq0 in (
-      placed_kept s.args.eps s.args.n s.args.w.now s.requires.holds s.args.p s.args.mesh.0
-          quantized-point-key'.result bucket'.result find-key'.result quantized-point-key'.ensures bucket'.ensures find-key'.ensures if1'.false
-          c.if-mesh-ne0.false,
-      number_hit s.args.eps s.args.n s.args.w.now s.requires.holds s.args.p s.args.mesh.0
-          quantized-point-key'.result bucket'.result find-key'.result quantized-point-key'.ensures bucket'.ensures find-key'.ensures if1'.false,
+pub returns-then-is_some : goal.returns-then-is_some
+returns-then-is_some c =
+    let a = c.args in
+    let k = c.quantized_point_key-key in
+    let b = c.bucket-b in
+    let f = c.find_key in
+    let u = c.put_point in
+    let s = c.in-Some in (
+      placed_moved a.eps a.room.n a.w.now c.requires.holds a.p (mesh_word a.mesh) k.result b.result f.result k.ensures b.ensures f.ensures
+          u.new.w s.i s.is (word_some a.mesh (sym c.is_some.ensures ∙ c.if-is_some.true)) c.requires.point_in.0 u.ensures.1 u.ensures.0,
+      number_hit a.eps a.room.n a.w.now c.requires.holds a.p (mesh_word a.mesh) k.result b.result f.result k.ensures b.ensures f.ensures s.i s.is,
+    )
+
+pub returns-else-is_some : goal.returns-else-is_some
+returns-else-is_some c =
+    let a = c.args in
+    let k = c.quantized_point_key-key in
+    let b = c.bucket-b in
+    let f = c.find_key in
+    let s = c.in-Some in (
+      placed_kept a.eps a.room.n a.w.now c.requires.holds a.p (mesh_word a.mesh) k.result b.result f.result k.ensures b.ensures f.ensures
+          s.i s.is (word_none a.mesh (sym c.is_some.ensures ∙ c.if-is_some.false)),
+      number_hit a.eps a.room.n a.w.now c.requires.holds a.p (mesh_word a.mesh) k.result b.result f.result k.ensures b.ensures f.ensures s.i s.is,
     )

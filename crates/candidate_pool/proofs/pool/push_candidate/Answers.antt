@@ -5,13 +5,16 @@ use native.Mathlib.Omega.{arith}
 use Rattle.candidate_pool.specs.Offsets.{keys_at}
 use Rattle.mesh_weld.specs.Room.{cell_at}
 use Rattle.candidate_pool.specs.Room.{key_bucket}
+use Rattle.candidate_pool.specs.Standing.{mesh_word}
 use Rattle.candidate_pool.proofs.Putting.{enter_asks, put_all, put_long}
 use Rattle.candidate_pool.proofs.pool.push_candidate.Goals as goal
 
 pub put_point-requires : goal.put_point-requires
 put_point-requires c =
-    let s = c in
-    (s.requires.point_in.0, simp length-set (omega (arith, s.requires.point_in.1, s.requires.key_table.1)))
+    let s = c in record {
+      point_in = (s.requires.point_in.0, simp length-set (omega (arith, s.requires.point_in.1, s.requires.key_table.1)));
+      mesh_in = s.requires.mesh_in;
+    }
 
 pub bounds-w-entry_at : goal.bounds-w-entry_at
 bounds-w-entry_at c =
@@ -67,10 +70,10 @@ enter-requires c =
     let entry-at' = c.entry_at in
     let keys-at' = c.keys_at in
     let chain-at' = c.chain_at in
-    let asked = enter_asks s.args.w.now s.args.n (get_or s.args.w.now 6 0) s.args.p s.args.mesh.0 s.args.key s.requires.key_table.1 s.requires.point_in.1
+    let asked = enter_asks s.args.w.now s.args.room.n (get_or s.args.w.now 6 0) s.args.p (mesh_word s.args.mesh) s.args.key s.requires.key_table.1 s.requires.point_in.1
     put-point'.new.w put-point'.new.w entry-at'.result keys-at'.result chain-at'.result s.args.b
     put-point'.ensures.0 entry-at'.ensures keys-at'.ensures chain-at'.ensures
-    (λ i. key_bucket s.args.n (cell_at s.args.w.now (keys_at s.args.n + 3 * i))) s.requires.point_in.2 s.requires.key_table.0.linked in record {
+    (λ i. key_bucket s.args.room.n (cell_at s.args.w.now (keys_at s.args.room.n + 3 * i))) s.requires.point_in.2 s.requires.key_table.0.linked in record {
       b_lt_nb = asked.0;
       id_in_bounds = asked.1.0;
       b_bound = asked.1.1;
@@ -84,7 +87,7 @@ shape_of-w c =
     let entry-at' = c.entry_at in
     let keys-at' = c.keys_at in
     let chain-at' = c.chain_at in
-    put_long s.args.w.now s.args.n (get_or s.args.w.now 6 0) s.args.p s.args.mesh.0 s.args.key s.requires.key_table.1 s.requires.point_in.1
+    put_long s.args.w.now s.args.room.n (get_or s.args.w.now 6 0) s.args.p (mesh_word s.args.mesh) s.args.key s.requires.key_table.1 s.requires.point_in.1
     put-point'.new.w enter'.new.m entry-at'.result keys-at'.result chain-at'.result s.args.b
     put-point'.ensures.0 entry-at'.ensures keys-at'.ensures chain-at'.ensures enter'.ensures
 
@@ -97,7 +100,7 @@ returns c =
     let keys-at' = c.keys_at in
     let chain-at' = c.chain_at in (
       refl,
-      put_all s.args.w.now s.args.n (get_or s.args.w.now 6 0) s.args.p s.args.mesh.0 s.args.key s.requires.key_table.1 s.requires.point_in.1
+      put_all s.args.w.now s.args.room.n (get_or s.args.w.now 6 0) s.args.p (mesh_word s.args.mesh) s.args.key s.requires.key_table.1 s.requires.point_in.1
           put-point'.new.w enter'.new.m entry-at'.result keys-at'.result chain-at'.result s.args.b
           put-point'.ensures.0 entry-at'.ensures keys-at'.ensures chain-at'.ensures enter'.ensures,
       put-point'.ensures.1,

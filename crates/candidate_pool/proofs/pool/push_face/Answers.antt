@@ -21,14 +21,14 @@ bit_is c b said =
     sym (c.has_face.ensures ∙ ap (λ (at : ℕ). has_bit (get_or c.args.w.now (at + 4) 0) c.args.face) c.entry_at-at.ensures) ∙ said
 
 -- where the candidate goes in the face's list
-end_in : (c : After-list_at) → has_bit (faces c.args.w.now c.args.id.0) c.args.face ≡ false → c.list_at.result + get_or c.args.w.now c.args.face 0 < joined_at c.args.n
+end_in : (c : After-list_at) → has_bit (faces c.args.w.now c.args.id.0) c.args.face ≡ false → c.list_at.result + get_or c.args.w.now c.args.face 0 < joined_at c.args.room.n
 end_in c bit-off =
-    list_end c.args.eps c.args.n c.args.w.now c.requires.holds c.args.id.0 c.args.face c.requires.id_bound.0 c.requires.id_bound.1
+    list_end c.args.eps c.args.room.n c.args.w.now c.requires.holds c.args.id.0 c.args.face c.requires.id_bound.0 c.requires.id_bound.1
     bit-off c.list_at.result c.list_at.ensures
 
 pub returns-then-has_face : goal.returns-then-has_face
 returns-then-has_face c =
-    face_there c.args.eps c.args.n c.args.w.now c.requires.holds c.args.id.0 c.args.face c.requires.id_bound.0 c.requires.id_bound.1
+    face_there c.args.eps c.args.room.n c.args.w.now c.requires.holds c.args.id.0 c.args.face c.requires.id_bound.0 c.requires.id_bound.1
     (bit_is (goal.at.returns-then-has_face c).After-has_face _ c.if-has_face.true)
 
 pub overflow_add-w : goal.overflow_add-w
@@ -67,5 +67,5 @@ bounds-w-face-2 c = simp length-set (omega (arith, c.requires.holds.size))
 pub returns : goal.returns
 returns c =
     rw c.entry_at-at.ensures
-    (face_added c.args.eps c.args.n c.args.w.now c.requires.holds c.args.id.0 c.args.face c.requires.id_bound.0 c.requires.id_bound.1
+    (face_added c.args.eps c.args.room.n c.args.w.now c.requires.holds c.args.id.0 c.args.face c.requires.id_bound.0 c.requires.id_bound.1
     (bit_is (goal.at.returns c).After-has_face _ c.if-has_face.false) (1 * 2 ^ c.args.face % 18446744073709551616) c.list_at.result (shifted c.args.face c.requires.id_bound.1) c.list_at.ensures)
