@@ -1,3 +1,2 @@
-pub mod CornerLists
 pub mod Planes
 pub mod Walks

@@ -1,31 +1,30 @@
 -- Laws of one plane. Snapping twice is snapping once, so a plane that leaves the corners that stay unsnapped, on corners that are snapped
 -- already, does what the definition says; and each plane gives at most half as many corners again. Assumes nothing.
 --   unsnapped_short, clip_short   at most half as many corners again: 3, 4, 6, 9, 13, 19, 28
---   unsnapped_snapped             the first plane: clipped unsnapped, then snapped
---   unsnapped_same                the other planes: corners that are snapped already
+--   unsnapped_snapped             clipped unsnapped, then snapped
+--   unsnapped_same                corners that are snapped already
 --   clip_snapped                  what a plane leaves is snapped
---   whole, whole_first, gone      a polygon wholly inside a plane, and one wholly outside
-use Prim.Native.Nat.{ℕ, suc, ◌+◌, ◌*◌, ◌-◌, ◌≤◌, ◌<◌}
-use mathlib.Core.Bool.{Bool, true, false, cond, beq, ◌&&◌, not}
+--   whole, gone                   a polygon wholly inside a plane, and one wholly outside
+use Prim.Native.Nat.{ℕ, ◌+◌, ◌*◌, ◌-◌, ◌≤◌, ◌<◌}
+use mathlib.Core.Bool.{Bool, true, false, cond, beq}
 use mathlib.Core.List.{List, [], ◌∷◌, ◌++◌, map}
 use mathlib.Core.Path.{◌≡◌, refl, sym, ap, ◌∙◌}
 use native.Mathlib.Omega.{arith}
-use lib.ListN.{get_or, drop, length, length-append}
+use lib.ListN.{get_or, drop, length, length-append, length-map}
 use lib.Ieee.{Float}
-use borrow.Author.Tests.{not-true}
+use Rattle.std.proofs.lemmas.List.{map-append}
 use Rattle.geometry.specs.declared.point.Point.{Point}
 use Rattle.geometry.specs.declared.aabb.AABB.{AABB}
 use Rattle.std.specs.Prelude.{Option, Some, None}
 use Rattle.geometry.specs.Points.{along, origin}
 use Rattle.geometry.specs.Boxes.{axis, plane}
-use Rattle.lists.specs.Lists.{every}
-use Rattle.lists.proofs.Bools.{and_right}
-use Rattle.lists.proofs.Every.{every_at}
+use Rattle.lists.specs.Lists.{every, some}
+use Rattle.lists.proofs.Bools.{and_left, and_right, or_none_left, or_none_right}
+use Rattle.lists.proofs.Every.{every_at, none_at}
 use Rattle.aabb_planes.specs.Planes.{inside, snapped, crossing, interpolated, on_plane}
 use Rattle.aabb_polygons.specs.Polygons.{crossed, side_clipped, walk, clip_to_plane}
-use Rattle.aabb_polygons.specs.Steps.{corners, points, side_crossed, side_unsnapped, walk_unsnapped, clip_unsnapped}
+use Rattle.aabb_polygons.specs.Steps.{side_crossed, side_unsnapped, walk_unsnapped, clip_unsnapped}
 use Rattle.aabb_planes.proofs.SnapTwice.{snap_twice}
-use Rattle.aabb_polygons.proofs.CornerLists.{snap_append}
 
 -- ---- how the count grows: each plane gives at most half as many corners again. A corner outside counts one half for the crossing back in
 abbrev outside : Bool → ℕ
@@ -75,10 +74,6 @@ module _ (k : ℕ) (box : AABB) (eps : Float) where
 
 -- ---- corners that are snapped
 module _ (box : AABB) (eps : Float) where
-  snap_length : (l : List Point) → length (map (snapped box eps) l) ≡ length l
-  snap_length [] = refl
-  snap_length (p ∷ ps) = ap suc (snap_length ps)
-
   snap_all_twice : (l : List Point) → map (snapped box eps) (map (snapped box eps) l) ≡ map (snapped box eps) l
   snap_all_twice [] = refl
   snap_all_twice (p ∷ ps) = λ i. snap_twice box eps p i ∷ snap_all_twice ps i
@@ -92,8 +87,8 @@ module _ (box : AABB) (eps : Float) where
       → map (snapped box eps) (cond s [] x ++ cond i (q ∷ []) []) ≡ cond s [] x ++ cond i (snapped box eps q ∷ []) []
   parts_snapped true true x q h = refl
   parts_snapped true false x q h = refl
-  parts_snapped false true x q h = snap_append box eps x (q ∷ []) ∙ ap (λ (y : List Point). y ++ (snapped box eps q ∷ [])) h
-  parts_snapped false false x q h = snap_append box eps x [] ∙ ap (λ (y : List Point). y ++ []) h
+  parts_snapped false true x q h = map-append (snapped box eps) x (q ∷ []) ∙ ap (λ (y : List Point). y ++ (snapped box eps q ∷ [])) h
+  parts_snapped false false x q h = map-append (snapped box eps) x [] ∙ ap (λ (y : List Point). y ++ []) h
 
   module _ (k : ℕ) where
     side_snapped : (prev curr : Point) → map (snapped box eps) (side_unsnapped box eps k prev curr) ≡ side_clipped box eps k prev curr
@@ -104,10 +99,9 @@ module _ (box : AABB) (eps : Float) where
     walk_snapped : (prev : Point) (l : List Point) → map (snapped box eps) (walk_unsnapped box eps k prev l) ≡ walk box eps k prev l
     unfolding walk_unsnapped walk
     walk_snapped prev [] = refl
-    walk_snapped prev (curr ∷ rest) = snap_append box eps (side_unsnapped box eps k prev curr) (walk_unsnapped box eps k curr rest)
+    walk_snapped prev (curr ∷ rest) = map-append (snapped box eps) (side_unsnapped box eps k prev curr) (walk_unsnapped box eps k curr rest)
         ∙ (λ i. side_snapped prev curr i ++ walk_snapped curr rest i)
 
-    -- the first plane
     pub unsnapped_snapped : (l : List Point) → map (snapped box eps) (clip_unsnapped box eps k l) ≡ clip_to_plane box eps l k
     unfolding clip_unsnapped clip_to_plane
     unsnapped_snapped l = walk_snapped (get_or l (length l - 1) origin) l
@@ -116,7 +110,7 @@ module _ (box : AABB) (eps : Float) where
     clip_snapped l = ap (λ (x : List Point). map (snapped box eps) x) (sym (unsnapped_snapped l)) ∙ snap_all_twice (clip_unsnapped box eps k l) ∙ unsnapped_snapped l
 
     pub clip_short : (l : List Point) → 2 * length (clip_to_plane box eps l k) ≤ 3 * length l
-    clip_short l = omega (arith, unsnapped_short k box eps l, ap length (unsnapped_snapped l), snap_length (clip_unsnapped box eps k l))
+    clip_short l = omega (arith, unsnapped_short k box eps l, ap length (unsnapped_snapped l), length-map (clip_unsnapped box eps k l) (snapped box eps))
 
     side_same : (prev curr : Point) → snapped box eps curr ≡ curr → side_unsnapped box eps k prev curr ≡ side_clipped box eps k prev curr
     unfolding side_unsnapped side_clipped
@@ -134,7 +128,6 @@ module _ (box : AABB) (eps : Float) where
     walk_same prev [] h = refl
     walk_same prev (curr ∷ rest) h = λ i. side_same prev curr (first_of curr rest h) i ++ walk_same curr rest (rest_of curr rest h) i
 
-    -- the other planes
     pub unsnapped_same : (l : List Point) → map (snapped box eps) l ≡ l → clip_unsnapped box eps k l ≡ clip_to_plane box eps l k
     unfolding clip_unsnapped clip_to_plane
     unsnapped_same l h = walk_same (get_or l (length l - 1) origin) l h
@@ -142,57 +135,34 @@ module _ (box : AABB) (eps : Float) where
     abbrev within : Point → Bool
     within p = inside box eps k p
 
-    side_whole : (prev curr : Point) → inside box eps k prev ≡ true → inside box eps k curr ≡ true → side_unsnapped box eps k prev curr ≡ curr ∷ []
+    side_whole : (prev curr : Point) → within prev ≡ true → within curr ≡ true → side_unsnapped box eps k prev curr ≡ curr ∷ []
     unfolding side_unsnapped
     side_whole prev curr h g = simp (h, g)
 
-    every_head : (p : Point) (ps : List Point) → every within (p ∷ ps) ≡ true → inside box eps k p ≡ true
-    every_head p ps h = every_at within (p ∷ ps) 0 p h (omega arith)
-
-    every_tail : (p : Point) (ps : List Point) → every within (p ∷ ps) ≡ true → every within ps ≡ true
-    unfolding every
-    every_tail p ps h = sym (ap (λ (b : Bool). b && every within ps) (every_head p ps h)) ∙ h
-
-    walk_whole : (prev : Point) (l : List Point) → inside box eps k prev ≡ true → every within l ≡ true → walk_unsnapped box eps k prev l ≡ l
+    walk_whole : (prev : Point) (l : List Point) → within prev ≡ true → every within l ≡ true → walk_unsnapped box eps k prev l ≡ l
     unfolding walk_unsnapped
     walk_whole prev [] h g = refl
     walk_whole prev (curr ∷ rest) h g =
-        λ i. side_whole prev curr h (every_head curr rest g) i ++ walk_whole curr rest (every_head curr rest g) (every_tail curr rest g) i
+        let c = and_left (within curr) (every within rest) g in
+        λ i. side_whole prev curr h c i ++ walk_whole curr rest c (and_right (within curr) (every within rest) g) i
 
-    -- a polygon that is wholly inside, of snapped corners, stays
-    pub whole : (l : List Point) → 0 < length l → map (snapped box eps) l ≡ l → every within l ≡ true → l ≡ clip_to_plane box eps l k
+    -- a polygon that is wholly inside stays
+    pub whole : (l : List Point) → 0 < length l → every within l ≡ true → l ≡ clip_unsnapped box eps k l
     unfolding clip_unsnapped
-    whole l z h g = sym (walk_whole (get_or l (length l - 1) origin) l (every_at within l (length l - 1) origin g (omega arith)) g) ∙ unsnapped_same l h
+    whole l z g = sym (walk_whole (get_or l (length l - 1) origin) l (every_at within l (length l - 1) origin g (omega arith)) g)
 
-    -- the first plane, where every corner is inside
-    pub whole_first : (l : List Point) → 0 < length l → every within l ≡ true → map (snapped box eps) l ≡ clip_to_plane box eps l k
-    unfolding clip_unsnapped
-    whole_first l z g =
-        ap (λ (x : List Point). map (snapped box eps) x) (sym (walk_whole (get_or l (length l - 1) origin) l (every_at within l (length l - 1) origin g (omega arith)) g)) ∙
-        unsnapped_snapped l
-
-    abbrev without : Point → Bool
-    without p = not (inside box eps k p)
-
-    side_none : (prev curr : Point) → inside box eps k prev ≡ false → inside box eps k curr ≡ false → side_clipped box eps k prev curr ≡ []
-    unfolding side_clipped
+    side_none : (prev curr : Point) → within prev ≡ false → within curr ≡ false → side_unsnapped box eps k prev curr ≡ []
+    unfolding side_unsnapped
     side_none prev curr h g = simp (h, g)
 
-    none_head : (p : Point) (ps : List Point) → every without (p ∷ ps) ≡ true → inside box eps k p ≡ false
-    none_head p ps h = not-true (inside box eps k p) (every_at without (p ∷ ps) 0 p h (omega arith))
-
-    none_tail : (p : Point) (ps : List Point) → every without (p ∷ ps) ≡ true → every without ps ≡ true
-    unfolding every
-    none_tail p ps h = and_right (without p) (every without ps) h
-
-    walk_none : (prev : Point) (l : List Point) → inside box eps k prev ≡ false → every without l ≡ true → walk box eps k prev l ≡ []
-    unfolding walk
+    walk_none : (prev : Point) (l : List Point) → within prev ≡ false → some within l ≡ false → walk_unsnapped box eps k prev l ≡ []
+    unfolding walk_unsnapped
     walk_none prev [] h g = refl
     walk_none prev (curr ∷ rest) h g =
-        λ i. side_none prev curr h (none_head curr rest g) i ++ walk_none curr rest (none_head curr rest g) (none_tail curr rest g) i
+        let c = or_none_left (within curr) (some within rest) g in
+        λ i. side_none prev curr h c i ++ walk_none curr rest c (or_none_right (within curr) (some within rest) g) i
 
-    -- a polygon that is wholly outside
-    pub gone : (a : List Float) (l : List Point) → 0 < length l → every without l ≡ true → corners a 0 ≡ clip_to_plane box eps l k
-    unfolding clip_to_plane points
-    gone a l z g =
-        sym (walk_none (get_or l (length l - 1) origin) l (not-true (inside box eps k (get_or l (length l - 1) origin)) (every_at without l (length l - 1) origin g (omega arith))) g)
+    -- a polygon that is wholly outside goes
+    pub gone : (l : List Point) → 0 < length l → some within l ≡ false → [] ≡ clip_unsnapped box eps k l
+    unfolding clip_unsnapped
+    gone l z g = sym (walk_none (get_or l (length l - 1) origin) l (none_at within l (length l - 1) origin g (omega arith)) g)

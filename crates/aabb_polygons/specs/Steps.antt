@@ -1,25 +1,15 @@
--- What the inner functions do, step by step: polygons in a lent list of coordinates, and clipping that leaves the corners that stay unsnapped.
+-- What the inner functions do, step by step: clipping that leaves the corners that stay unsnapped.
 -- Contracts of inner functions cite this; the product promises nothing by it. Assumes nothing.
---   points, corners n points of a list of coordinates
 --   side_crossed     the corner where a side crosses
 --   side_unsnapped, walk_unsnapped, clip_unsnapped   as side_clipped, walk, clip_to_plane, but a corner that stays is left as it is
-use Rattle.std.specs.Prelude.{ℕ, zero, suc, ◌-◌, cond, List, [], ◌∷◌, ◌++◌, get_or, length, Float}
+use Rattle.std.specs.Prelude.{ℕ, ◌-◌, cond, List, [], ◌∷◌, ◌++◌, get_or, length, Float}
 use Rattle.std.specs.Bool.{beq}
 use Rattle.geometry.specs.declared.point.Point.{Point}
 use Rattle.geometry.specs.declared.aabb.AABB.{AABB}
 use Rattle.geometry.specs.Points.{origin, along}
 use Rattle.geometry.specs.Boxes.{axis, plane}
-use Rattle.geometry.specs.Meshes.{vertex_of}
 use Rattle.aabb_planes.specs.Planes.{inside, crossing}
 use Rattle.aabb_polygons.specs.Polygons.{crossed}
-
--- n points from the point k on
-unfoldable pub points : List Float → ℕ → ℕ → List Point
-points l k zero = []
-points l k (suc n) = vertex_of l k ∷ points l (suc k) n
-
-abbrev pub corners : List Float → ℕ → List Point
-corners l n = points l 0 n
 
 module _ (box : AABB) (eps : Float) where
   abbrev pub side_crossed : ℕ → Point → Point → List Point

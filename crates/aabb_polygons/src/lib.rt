@@ -2,5 +2,4 @@
 // plane.
 #![tactic(auto)]
 
-pub mod corners;
 pub mod polygon;

@@ -7,7 +7,6 @@ use native.Mathlib.Omega.{arith}
 use borrow.Author.Tests.{ltb-false}
 use lib.Dec.{ltb}
 use lib.Ieee.{Float}
-use Rattle.lists.specs.Lists.{some}
 use Rattle.lists.proofs.Bools.{or_none_left, or_none_right}
 use Rattle.rounding.proofs.Segments.{capped_over}
 use Rattle.geometry.specs.declared.aabb.AABB.{AABB}

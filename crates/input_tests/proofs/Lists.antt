@@ -13,7 +13,7 @@ use lib.ListN.{length}
 use lib.Ieee.{Float}
 use Rattle.lists.proofs.Bools.{or_none_left, or_none_right}
 use Rattle.refusals.specs.declared.refusal.Refusal.TheVariants.{Ragged, TooMany, BadIndex}
-use Rattle.refusals.specs.declared.refusal.Checked.TheVariants.{Passed}
+use Rattle.std.specs.Prelude.{Ok}
 use Rattle.refusals.specs.Refusals.{Test, first_refusal}
 use Rattle.refusals.proofs.Replies.{head_passed, tail_passed}
 use Rattle.input_tests.specs.Front.{ragged, too_many, mesh_ceiling, admitted, Admits, cap_ceiling, bad_index, list_tests, ListsPass, CapListPass}
@@ -35,7 +35,7 @@ module _ (ceiling : ℕ) (vs : List Float) (fs : List ℕ) (caps : ℕ) where
   second =
       (too_many (admitted ceiling) (length vs) 3 || (too_many (admitted ceiling) (length fs) 3 || too_many cap_ceiling caps 4), TooMany) ∷ (bad_index (length vs / 3) fs, BadIndex) ∷ []
 
-  pub listed : first_refusal (list_tests ceiling vs fs caps) ≡ Passed → ListsPass vs fs
+  pub listed : first_refusal (list_tests ceiling vs fs caps) ≡ Ok tt → ListsPass vs fs
   unfolding ragged too_many
   listed e =
       let r1 = head_passed (ragged (length vs) 3 || (ragged (length fs) 3 || ragged caps 4)) Ragged second e in
@@ -58,7 +58,7 @@ module _ (ceiling : ℕ) (vs : List Float) (fs : List ℕ) (caps : ℕ) where
         below = head_passed (bad_index (length vs / 3) fs) BadIndex [] e3;
       }
 
-  pub cap_listed : first_refusal (list_tests ceiling vs fs caps) ≡ Passed → CapListPass caps
+  pub cap_listed : first_refusal (list_tests ceiling vs fs caps) ≡ Ok tt → CapListPass caps
   unfolding ragged too_many
   cap_listed e =
       let any_ragged = ragged (length vs) 3 || (ragged (length fs) 3 || ragged caps 4) in

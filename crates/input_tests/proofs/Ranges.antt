@@ -1,11 +1,15 @@
 -- What the ranges of test 4 give: bounds, so that sums, products and roots of accepted numbers are finite.
-use mathlib.Core.Path.{◌≡◌, sym, subst}
-use mathlib.Core.Bool.{true, not, ◌&&◌}
+use mathlib.Core.Path.{◌≡◌, refl, sym, subst}
+use mathlib.Core.Bool.{Bool, true, false, not, cond, ◌&&◌, ◌||◌}
+use Rattle.std.specs.Prelude.{Some, None}
+use Rattle.std.specs.declared.ops.RangeInclusive.{RangeInclusive}
+use Rattle.std.specs.Ordering.{partial_le, is_some_and, is_le, float_partial_cmp}
+use Rattle.std.specs.declared.cmp.Ordering.TheVariants.{Less, Equal, Greater}
+use Rattle.std.specs.Range.{range_inclusive_start, range_inclusive_end, range_inclusive_exhausted, range_inclusive_contains}
 use Prim.Native.Nat.{ℕ, ◌^◌}
 use native.Mathlib.Omega.{arith}
 use lib.Dec.{T}
 use lib.Ieee.{Float, nan, inf, fin, is_nan, of_bits, neg, le, lt, eq}
-use Rattle.lists.specs.Lists.{every}
 use Rattle.lists.proofs.Bools.{and_left, and_right}
 use Rattle.root.specs.Doubles.{2^30}
 use Rattle.root.specs.Bounds.{Within}
@@ -53,3 +57,19 @@ unfolding eps_in_range is_nan of_bits le lt eq
 eps_is_number nan e = absurd (let z : ◌≡◌ {A = ℕ} 0 1 = cc in omega arith)
 eps_is_number (inf s) e = tt
 eps_is_number (fin s m d) e = tt
+
+-- `<=` of doubles, as the library's order answers it, and what `contains` answers of a range of them
+at_most : (x y : Float) → partial_le float_partial_cmp x y ≡ le x y
+unfolding le
+at_most x y = go (lt x y) (eq x y) (lt y x)
+  where
+    go : (a b c : Bool) → is_some_and is_le (cond a (Some Less) (cond b (Some Equal) (cond c (Some Greater) None))) ≡ (a || b)
+    go true b c = refl
+    go false true c = refl
+    go false false true = refl
+    go false false false = refl
+
+module _ (r : RangeInclusive Float) (low high x : Float) where
+  pub contained : range_inclusive_start r ≡ low → range_inclusive_end r ≡ high → range_inclusive_exhausted r ≡ false
+      → range_inclusive_contains float_partial_cmp r x ≡ (le low x && le x high)
+  contained s e n = simp (s, e, n, at_most)

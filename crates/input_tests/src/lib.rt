@@ -7,12 +7,13 @@ ghost use Rattle.lists.specs.Lists.{every};
 ghost use Rattle.refusals.specs.Refusals.{first_refusal};
 ghost use Rattle.input_tests.specs.Front.{ragged, too_many, admitted, bad_index, list_tests, cap_ceiling, in_range, eps_in_range, resolution_in_range, work_need};
 
-use refusals::refusal::{Checked, Refusal};
+use refusals::refusal::Refusal;
 
 pub mod boxes;
 pub mod grid;
 
 // 1, for a list of `of` numbers an item
+#[tactic(auto, unfolding(crate::specs::Front::ragged))]
 pub fn is_ragged(length: usize, of: usize) -> bool
     requires { 0 < of }
     ensures { result ≡ ragged length of }
@@ -21,6 +22,7 @@ pub fn is_ragged(length: usize, of: usize) -> bool
 }
 
 // 2, of a list with at most so many items
+#[tactic(auto, unfolding(crate::specs::Front::too_many))]
 pub fn is_too_many(most: usize, length: usize, of: usize) -> bool
     requires { 0 < of }
     ensures { result ≡ too_many most length of }
@@ -29,14 +31,11 @@ pub fn is_too_many(most: usize, length: usize, of: usize) -> bool
 }
 
 // A ceiling over 65,536 counts as 65,536.
+#[tactic(auto, unfolding(crate::specs::Front::admitted))]
 pub fn most_admitted(ceiling: u64) -> usize
     ensures { result ≡ admitted ceiling }
 {
-    if ceiling < 65536 {
-        ceiling as usize
-    } else {
-        65536
-    }
+    ceiling.min(65536) as usize
 }
 
 // 2, of a list of three numbers an item, by the caller's ceiling
@@ -48,101 +47,82 @@ fn is_over(ceiling: u64, length: usize) -> bool
 }
 
 // 3
+#[tactic(auto, unfolding(crate::specs::Front::bad_index))]
 pub fn has_bad_index(facets: &[u32], count: usize) -> bool
     ensures { result ≡ bad_index count facets.now }
 {
-    for i in 0..facets.len() {
-        if facets[i] as usize >= count {
-            return true;
-        }
-    }
-    false
+    facets.iter().any(|k| *k as usize >= count)
 }
 
 // 1, of all three lists: `caps` is the length of the cap list, 0 where an operation takes none
 fn any_ragged(vertices: usize, facets: usize, caps: usize) -> bool
     ensures { result ≡ (ragged vertices 3 || (ragged facets 3 || ragged caps 4)) }
 {
-    if is_ragged(vertices, 3) {
-        return true;
-    }
-    if is_ragged(facets, 3) {
-        return true;
-    }
-    is_ragged(caps, 4)
+    is_ragged(vertices, 3) || is_ragged(facets, 3) || is_ragged(caps, 4)
 }
 
 // 2, of all three lists: at most 1,048,576 cap triangles
 fn any_too_many(ceiling: u64, vertices: usize, facets: usize, caps: usize) -> bool
     ensures { result ≡ (too_many (admitted ceiling) vertices 3 || (too_many (admitted ceiling) facets 3 || too_many cap_ceiling caps 4)) }
 {
-    if is_over(ceiling, vertices) {
-        return true;
-    }
-    if is_over(ceiling, facets) {
-        return true;
-    }
-    is_too_many(1048576, caps, 4)
+    is_over(ceiling, vertices) || is_over(ceiling, facets) || is_too_many(1048576, caps, 4)
 }
 
 // 1, 2 and 3, in that order, 2 by the caller's ceiling
-pub fn check_lists(ceiling: u64, vertices: &[f64], facets: &[u32], caps: usize) -> Checked
+#[tactic(auto, using(refusals::proofs::Refusals::holds, refusals::proofs::Refusals::passes, refusals::proofs::Refusals::none_left))]
+pub fn check_lists(
+    ceiling: u64,
+    vertices: &[f64],
+    facets: &[u32],
+    caps: usize,
+) -> Result<(), Refusal>
     ensures { result ≡ first_refusal (list_tests ceiling vertices.now facets.now caps) }
 {
     if any_ragged(vertices.len(), facets.len(), caps) {
-        return Checked::Refused(Refusal::Ragged);
+        return Err(Refusal::Ragged);
     }
     if any_too_many(ceiling, vertices.len(), facets.len(), caps) {
-        return Checked::Refused(Refusal::TooMany);
+        return Err(Refusal::TooMany);
     }
     if has_bad_index(facets, vertices.len() / 3) {
-        return Checked::Refused(Refusal::BadIndex);
+        return Err(Refusal::BadIndex);
     }
-    Checked::Passed
+    Ok(())
 }
 
 // 4, of one coordinate or box corner: 2^30 is 1073741824
+#[tactic(auto, unfolding(crate::specs::Front::in_range))]
 pub fn in_range(x: f64) -> bool
     ensures { result ≡ in_range x }
 {
-    if x >= -1073741824.0 {
-        x <= 1073741824.0
-    } else {
-        false
-    }
+    (-1073741824.0..=1073741824.0).contains(&x)
 }
 
 // 4, of all coordinates, also those that no facet uses
 pub fn all_in_range(vertices: &[f64]) -> bool
     ensures { result ≡ every in_range vertices.now }
 {
-    for i in 0..vertices.len() {
-        if !in_range(vertices[i]) {
-            return false;
-        }
-    }
-    true
+    vertices.iter().all(|x| in_range(*x))
 }
 
 // 4, of eps: -0.0 equals 0 and is accepted
+#[tactic(auto, unfolding(crate::specs::Front::eps_in_range))]
 pub fn eps_in_range(eps: f64) -> bool
     ensures { result ≡ eps_in_range eps }
 {
-    if eps >= 0.0 { eps <= 1.0 } else { false }
+    (0.0..=1.0).contains(&eps)
 }
 
 // 4, of a resolution: -0.0 is not above 0
+#[tactic(auto, unfolding(crate::specs::Front::resolution_in_range))]
 pub fn resolution_in_range(resolution: f64) -> bool
     ensures { result ≡ resolution_in_range resolution }
 {
-    if resolution > 0.0 {
-        resolution <= 1073741824.0
-    } else {
-        false
-    }
+    resolution > 0.0 && resolution <= 1073741824.0
 }
 
 // 7: the counts are within their ceilings, so nothing wraps
+#[tactic(auto, unfolding(crate::specs::Front::work_need))]
 pub fn work_need(vertices: usize, facets: usize, caps: usize, grid: usize) -> usize
     requires { vertices + facets + caps + grid ≤ 4294967296 }
     ensures { result ≡ work_need vertices facets caps grid }

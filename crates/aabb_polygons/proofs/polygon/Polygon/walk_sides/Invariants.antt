@@ -1,0 +1,6 @@
+use Rattle.aabb_planes.specs.Planes.{face_of}
+use Rattle.aabb_polygons.proofs.Walks.{Walked}
+use Rattle.aabb_polygons.proofs.polygon.Polygon.walk_sides.Given as goal
+
+abbrev pub invariant-loop-curr : goal.invariant-loop-curr
+invariant-loop-curr l = Walked l.clip.extents l.clip.eps (face_of l.plane) l.initial.curr-items l.self l.prev l.curr-index
