@@ -53,9 +53,9 @@ module _ (vs : List Float) (fs : List ℕ) (q : CleanAsked) (l : Limits) where
   abbrev rest : List Test
   rest = (bad_number, BadNumber) ∷ (ltb l.lent need, NoWorkRoom need) ∷ (far_keys q.eps vs, KeyRange) ∷ []
 
-  pub lists_refused : (x : Result (Unit {0}) Refusal) (r : Refusal) → x ≡ first_refusal lists → x ≡ Err r → x ≡ first_refusal (clean_tests vs fs q l)
+  pub lists_refused : (r : Refusal) → first_refusal lists ≡ Err r → Err r ≡ first_refusal (clean_tests vs fs q l)
   unfolding clean_tests
-  lists_refused x r e f = f ∙ sym (row_refused lists rest r (sym e ∙ f))
+  lists_refused r e = sym (row_refused lists rest r e)
 
   module _ (e : first_refusal lists ≡ Ok tt) where
     pub number_refused : bad_number ≡ true → Err BadNumber ≡ first_refusal (clean_tests vs fs q l)
