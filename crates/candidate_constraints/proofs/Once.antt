@@ -182,7 +182,6 @@ module _ (f : ℕ) where
       first (y ∷ l) g = (key_before y x g.0 h.0, first l g.1)
 
   same_some : (x : ℕ × ℕ) (l : List (ℕ × ℕ)) → Low x → Each Low l → some (same_pair x) l ≡ some (eqb (pair_key f x)) (map (pair_key f) l)
-  unfolding some
   same_some x [] a h = refl
   same_some x (y ∷ l) a h = λ t. key_same x y a h.0 t || same_some x l a h.1 t
 

@@ -176,7 +176,6 @@ module _ (n f m count : ℕ) (w₀ : List ℕ) where
 
 -- ---- push_open_edge
 keep_map : {A B : Type 0} (g : A → B) (p : B → Bool) (q : A → Bool) (l : List A) → keep p (map g (keep q l)) ≡ map g (keep (λ x. p (g x) && q x) l)
-unfolding keep
 keep_map g p q [] = refl
 keep_map {A} {B} g p q (x ∷ l) = go (p (g x)) refl (q x) (keep_map g p q l)
   where
@@ -188,7 +187,6 @@ keep_map {A} {B} g p q (x ∷ l) = go (p (g x)) refl (q x) (keep_map g p q l)
     go false e false ih = ih
 
 face_only : (f mask : ℕ) → f < 6 → keep (λ g. eqb g f && has_bit mask g) faces ≡ cond (has_bit mask f) (f ∷ []) []
-unfolding keep
 face_only zero mask h = refl
 face_only (suc zero) mask h = refl
 face_only (suc (suc zero)) mask h = refl
@@ -269,7 +267,7 @@ module _ (n f at count : ℕ) (w₀ : List ℕ) where
     pub pushed : Pushed n f (pairs_at n + 2 * count) i (edge_pairs (pool_at n w₀) f (edges_at w₀ at i)) count c w₀ w
 
   pub edging_start : (k : ℕ) → Edging k w₀ count 0
-  unfolding edges_at flat_map up_from keep
+  unfolding edges_at flat_map up_from
   edging_start k = record { within = omega arith; pushed = pushed_none n f (pairs_at n + 2 * count) count w₀ }
 
   pub edging_turn : (k : ℕ) (w w' : List ℕ) (c r i : ℕ) → Edging k w c i → i < k → pool_at n w ≡ pool_at n w₀ → edge_at w (at + 3 * i) ≡ edge_at w₀ (at + 3 * i)

@@ -139,7 +139,6 @@ pub record CornersGoing (vs : List Float) (box : AABB) (eps : Float) (n v : ℕ)
 
 module _ (vs : List Float) (box : AABB) (eps : Float) (n : ℕ) where
   kept : (v : ℕ) (b : Bool) → twice vs box eps (corner vs box eps v) ≡ b → keep (twice vs box eps) (corner vs box eps v ∷ []) ≡ cond b (corner vs box eps v ∷ []) []
-  unfolding keep
   kept v b e = ap (λ (t : Bool). cond t (corner vs box eps v ∷ []) []) e
 
   module _ (v mask : ℕ) (p : Point) (w : List ℕ) (ready : SourcesReady vs eps n w) (at : p ≡ vertex (points_of vs) v) (is : mask ≡ face_bits (faces_of box eps p p)) where
@@ -174,7 +173,7 @@ module _ (vs : List Float) (box : AABB) (eps : Float) (n : ℕ) where
         }
 
   pub corners_start : (w : List ℕ) → Holds eps n w × (length vs / 3 ≤ n) → VerticesIn vs → Sourced (points_of vs) eps (pool_at n w) (joined_in n w) → CornersGoing vs box eps n 0 w w
-  unfolding up_from keep
+  unfolding up_from
   corners_start w holds within sourced =
       record {
         low = omega arith;

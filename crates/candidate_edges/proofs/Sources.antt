@@ -8,7 +8,8 @@ use Prim.Native.Nat.{ℕ, zero, suc, ◌+◌, ◌≤◌, ◌<◌}
 use mathlib.Core.Path.{◌≡◌, refl, sym, ap, ◌∙◌, subst}
 use mathlib.Core.Bool.{Bool, true, false, cond, ◌&&◌, true≢false}
 use mathlib.Core.List.{List, [], ◌∷◌, ◌++◌, map}
-use mathlib.Core.Option.{Option, none, some as just, some-ne-none}
+use Rattle.std.specs.Prelude.{Option, None, Some}
+use Rattle.std.proofs.lemmas.Option.{none-some}
 use native.Mathlib.Omega.{arith}
 use native.Mathlib.Decide.{ℕ_discrete}
 use borrow.Author.Tests.{eq-eqb, ne_eqb}
@@ -24,8 +25,8 @@ use Rattle.lists.proofs.Sequences.{at_map}
 use Rattle.geometry.specs.declared.point.Point.{Point}
 use Rattle.geometry.specs.Meshes.{vertex}
 use Rattle.geometry.specs.Points.{origin}
-use Rattle.chains.specs.Links.{link_of, link_to, FirstFound, First}
-use Rattle.chains.proofs.Firsts.{link_to_first, first_link_to, first_new, places_link, link_some}
+use Rattle.chains.specs.Links.{link_of, id_in, link_to, FirstFound, First}
+use Rattle.chains.proofs.Firsts.{link_to_first, first_link_to, first_new, places_link, id_link}
 use Rattle.mesh_weld.specs.Cells.{Key, key_of, same, same_key}
 use Rattle.candidate_pool.specs.Pool.{Candidate, Pool, no_candidate, no_pool, point_of, renewed, by_key, place_for, number_for, insert}
 use Rattle.candidate_pool.proofs.Rule.{key_symmetric, key_lawful}
@@ -81,14 +82,14 @@ module _ (eps : Float) (p : Pool) where
   spots_long = length-map p.all (λ d. d.point)
 
   module _ (e : Candidate) where
-    link_new : place_for (by_key eps) p e ≡ none → (c : ℕ) → c < length p.all → same_key (key_of eps (point_of p c)) (key_of eps e.point) ≡ false
+    link_new : place_for (by_key eps) p e ≡ None → (c : ℕ) → c < length p.all → same_key (key_of eps (point_of p c)) (key_of eps e.point) ≡ false
     unfolding by_key
     link_new z c h =
         key_symmetric (key_of eps (point_of p c)) (key_of eps e.point)
         ∙ ap (λ (q : Point). same_key (key_of eps e.point) (key_of eps q)) (sym (spot_at e.point c h))
         ∙ (key_lawful eps).none e.point spots z c (omega (arith, spots_long))
 
-    link_old : (i : ℕ) → place_for (by_key eps) p e ≡ just i → key_of eps e.point ≡ key_of eps (point_of p i)
+    link_old : (i : ℕ) → place_for (by_key eps) p e ≡ Some i → key_of eps e.point ≡ key_of eps (point_of p i)
     unfolding by_key
     link_old i z =
         let low = found_low (by_key eps) p e (key_lawful eps) i z in
@@ -100,8 +101,8 @@ module _ (eps : Float) (p : Pool) where
     unfolding by_key
     link_is = places_link (λ q. same_key (key_of eps q) (key_of eps e.point)) origin spots
 
-    place_is : (c : ℕ) → link_to (λ q. same_key (key_of eps q) (key_of eps e.point)) spots ≡ suc c → place_for (by_key eps) p e ≡ just c
-    place_is c h = link_some (place_for (by_key eps) p e) (suc c) (sym h ∙ link_is) (λ z. omega arith) ∙ ap just (omega arith)
+    place_is : (c : ℕ) → link_to (λ q. same_key (key_of eps q) (key_of eps e.point)) spots ≡ suc c → place_for (by_key eps) p e ≡ Some c
+    place_is c h = sym (id_link (place_for (by_key eps) p e)) ∙ ap id_in (sym link_is ∙ h)
 
 -- ---- no candidate, and one more
 
@@ -170,28 +171,28 @@ module _ (points : List Point) (eps : Float) (p : Pool) (v : ℕ) (on : List ℕ
   keys_kept : (c : ℕ) → c < length p.all → key_of eps (point_of then c) ≡ key_of eps (point_of p c)
   keys_kept c h = go (place_for (by_key eps) p entered) refl
     where
-      at : (i : ℕ) → place_for (by_key eps) p entered ≡ just i → Dec (c ≡ i) → key_of eps (get_or (set p.all i (anew i)) c no_candidate).point ≡ key_of eps (point_of p c)
+      at : (i : ℕ) → place_for (by_key eps) p entered ≡ Some i → Dec (c ≡ i) → key_of eps (get_or (set p.all i (anew i)) c no_candidate).point ≡ key_of eps (point_of p c)
       at i z (yes q) =
           subst (λ (j : ℕ). key_of eps (get_or (set p.all j (anew j)) c no_candidate).point ≡ key_of eps (point_of p c)) q
           (ap (λ (k : Candidate). key_of eps k.point) (get_or-set_same p.all c (anew c) no_candidate h)
-          ∙ ap (key_of eps) (point_anew c) ∙ link_old eps p entered c (z ∙ ap just (sym q)))
+          ∙ ap (key_of eps) (point_anew c) ∙ link_old eps p entered c (z ∙ ap Some (sym q)))
       at i z (no d) = ap (λ (k : Candidate). key_of eps k.point) (get_or-set_other p.all i c (anew i) no_candidate d)
 
       go : (k : Option ℕ) → place_for (by_key eps) p entered ≡ k → key_of eps (point_of then c) ≡ key_of eps (point_of p c)
-      go none z =
+      go None z =
           ap (λ (l : List Candidate). key_of eps (get_or l c no_candidate).point) (all_new (by_key eps) p entered z)
           ∙ ap (λ (k : Candidate). key_of eps k.point) (get_or-append p.all (entered ∷ []) no_candidate c h)
-      go (just i) z = ap (λ (l : List Candidate). key_of eps (get_or l c no_candidate).point) (all_found (by_key eps) p entered i z) ∙ at i z (ℕ_discrete c i)
+      go (Some i) z = ap (λ (l : List Candidate). key_of eps (get_or l c no_candidate).point) (all_found (by_key eps) p entered i z) ∙ at i z (ℕ_discrete c i)
 
   count_least : length p.all ≤ length then.all
   count_least = go (place_for (by_key eps) p entered) refl
     where
       go : (k : Option ℕ) → place_for (by_key eps) p entered ≡ k → length p.all ≤ length then.all
-      go none z = omega (arith, count_new (by_key eps) p entered z)
-      go (just i) z = omega (arith, count_found (by_key eps) p entered i z)
+      go None z = omega (arith, count_new (by_key eps) p entered z)
+      go (Some i) z = omega (arith, count_found (by_key eps) p entered i z)
 
   -- what the rule finds it finds again
-  link_stays : (e : Candidate) (c : ℕ) → place_for (by_key eps) p e ≡ just c → place_for (by_key eps) then e ≡ just c
+  link_stays : (e : Candidate) (c : ℕ) → place_for (by_key eps) p e ≡ Some c → place_for (by_key eps) then e ≡ Some c
   link_stays e c z =
       let l = spots_long eps p in
       let l' = spots_long eps then in
@@ -204,27 +205,27 @@ module _ (points : List Point) (eps : Float) (p : Pool) (v : ℕ) (on : List ℕ
       c (link_is eps p e ∙ ap link_of z))
 
   -- and the vertex that was inserted has a candidate
-  link_own : place_for (by_key eps) then entered ≡ just (number_for (by_key eps) p entered)
+  link_own : place_for (by_key eps) then entered ≡ Some (number_for (by_key eps) p entered)
   link_own = go (place_for (by_key eps) p entered) refl
     where
       passes : ℕ → Type 0
       passes k = T (same_key (key_of eps (get_or (spots eps then) k (vertex points v))) (key_of eps (vertex points v)))
 
-      last : place_for (by_key eps) p entered ≡ none → get_or (spots eps then) (length p.all) (vertex points v) ≡ vertex points v
+      last : place_for (by_key eps) p entered ≡ None → get_or (spots eps then) (length p.all) (vertex points v) ≡ vertex points v
       last z =
           spot_at eps then (vertex points v) (length p.all) (omega (arith, count_new (by_key eps) p entered z))
           ∙ ap (λ (l : List Candidate). (get_or l (length p.all) no_candidate).point) (all_new (by_key eps) p entered z)
           ∙ ap (λ (k : Candidate). k.point) (get_or_at p.all entered [] no_candidate (length p.all) refl)
 
-      before : place_for (by_key eps) p entered ≡ none → (k : ℕ) → k < length p.all → passes k → ⊥
+      before : place_for (by_key eps) p entered ≡ None → (k : ℕ) → k < length p.all → passes k → ⊥
       before z k h t =
           true≢false
           (sym (is_true (same_key (key_of eps (get_or (spots eps then) k (vertex points v))) (key_of eps (vertex points v))) t)
           ∙ ap (λ (x : Key). same_key x (key_of eps (vertex points v))) (ap (key_of eps) (spot_at eps then (vertex points v) k (omega (arith, count_least))) ∙ keys_kept k h)
           ∙ link_new eps p entered z k h)
 
-      go : (k : Option ℕ) → place_for (by_key eps) p entered ≡ k → place_for (by_key eps) then entered ≡ just (number_for (by_key eps) p entered)
-      go none z =
+      go : (k : Option ℕ) → place_for (by_key eps) p entered ≡ k → place_for (by_key eps) then entered ≡ Some (number_for (by_key eps) p entered)
+      go None z =
           place_is eps then entered (length p.all)
           (sym (first_link_to (λ q. same_key (key_of eps q) (key_of eps (vertex points v))) (vertex points v) (spots eps then) (length p.all + 1)
           (subst (λ (m : ℕ). First passes 0 m (length p.all + 1)) (let l = spots_long eps then in omega (arith, count_new (by_key eps) p entered z))
@@ -232,8 +233,8 @@ module _ (points : List Point) (eps : Float) (p : Pool) (v : ℕ) (on : List ℕ
           (subst T (sym (ap (λ (q : Point). same_key (key_of eps q) (key_of eps (vertex points v))) (last z) ∙ key_self (key_of eps (vertex points v)))) tt)
           (λ k a b. before z k b))))
           ∙ omega arith)
-          ∙ ap just (sym (number_new (by_key eps) p entered z))
-      go (just i) z = link_stays entered i z ∙ ap just (sym (number_found (by_key eps) p entered i z))
+          ∙ ap Some (sym (number_new (by_key eps) p entered z))
+      go (Some i) z = link_stays entered i z ∙ ap Some (sym (number_found (by_key eps) p entered i z))
 
   module _ (word word' : ℕ → ℕ) (s : Sourced points eps p word) (h : v < length points) (own : word' v ≡ suc (number_for (by_key eps) p entered))
       (other : (u : ℕ) → (u ≡ v → ⊥) → word' u ≡ word u) where
@@ -241,20 +242,20 @@ module _ (points : List Point) (eps : Float) (p : Pool) (v : ℕ) (on : List ℕ
     low = go (place_for (by_key eps) p entered) refl
       where
         go : (k : Option ℕ) → place_for (by_key eps) p entered ≡ k → (c : ℕ) → c < length then.all → (get_or then.all c no_candidate).mesh ≤ length points
-        go none z =
+        go None z =
             subst (λ (l : List Candidate). (c : ℕ) → c < length l → (get_or l c no_candidate).mesh ≤ length points) (sym (all_new (by_key eps) p entered z))
             (snoc_all (λ k. k.mesh ≤ length points) p.all entered s.low (omega arith))
-        go (just i) z =
+        go (Some i) z =
             subst (λ (l : List Candidate). (c : ℕ) → c < length l → (get_or l c no_candidate).mesh ≤ length points) (sym (all_found (by_key eps) p entered i z))
             (set_all (λ k. k.mesh ≤ length points) p.all i (anew i) s.low (let m = mesh_anew i in omega arith))
 
-    found : (u c : ℕ) → u < length points → word' u ≡ suc c → place_for (by_key eps) then (record { point = vertex points u; mesh = u + 1; on = [] }) ≡ just c
+    found : (u c : ℕ) → u < length points → word' u ≡ suc c → place_for (by_key eps) then (record { point = vertex points u; mesh = u + 1; on = [] }) ≡ Some c
     found u c l e = go (ℕ_discrete u v)
       where
-        go : Dec (u ≡ v) → place_for (by_key eps) then (record { point = vertex points u; mesh = u + 1; on = [] }) ≡ just c
+        go : Dec (u ≡ v) → place_for (by_key eps) then (record { point = vertex points u; mesh = u + 1; on = [] }) ≡ Some c
         go (yes q) =
             ap (λ (x : ℕ). place_for (by_key eps) then (record { point = vertex points x; mesh = x + 1; on = [] })) q
-            ∙ link_own ∙ ap just (omega (arith, own, e, ap word' q))
+            ∙ link_own ∙ ap Some (omega (arith, own, e, ap word' q))
         go (no d) = link_stays (record { point = vertex points u; mesh = u + 1; on = [] }) c (s.found u c l (sym (other u d) ∙ e))
 
     abbrev from : ℕ → ℕ
@@ -267,8 +268,8 @@ module _ (points : List Point) (eps : Float) (p : Pool) (v : ℕ) (on : List ℕ
     from_old c d = ap (λ (b : Bool). cond b v (s.source c)) (ne_eqb c (length p.all) d)
 
     names_new : (k : Option ℕ) → place_for (by_key eps) p entered ≡ k → length p.all < length then.all → word' v ≡ suc (length p.all)
-    names_new none z l = own ∙ ap suc (number_new (by_key eps) p entered z)
-    names_new (just i) z l = absurd (omega (arith, count_found (by_key eps) p entered i z))
+    names_new None z l = own ∙ ap suc (number_new (by_key eps) p entered z)
+    names_new (Some i) z l = absurd (omega (arith, count_found (by_key eps) p entered i z))
 
     names_old : (c : ℕ) → c < length p.all → Dec (s.source c ≡ v) → word' (s.source c) ≡ suc c
     names_old c l (yes q) =
@@ -320,11 +321,11 @@ module _ (points : List Point) (eps : Float) (p : Pool) (word : ℕ → ℕ) (s 
   pub sourced_few : length p.all ≤ length points
   sourced_few = omega (arith, sources_long, pigeonhole (length points) sources differ source_low)
 
-  module _ (v : ℕ) (on : List ℕ) (h : v < length points) (z : place_for (by_key eps) p (record { point = vertex points v; mesh = v + 1; on = on }) ≡ none) where
+  module _ (v : ℕ) (on : List ℕ) (h : v < length points) (z : place_for (by_key eps) p (record { point = vertex points v; mesh = v + 1; on = on }) ≡ None) where
     unnamed : (d : ℕ) → d < length sources → v ≡ get_or sources d 0 → ⊥
     unnamed d l e =
         let k : d < length p.all = omega (arith, sources_long) in
-        some-ne-none d (sym (s.found v d h (ap word e ∙ word_at d k)) ∙ z)
+        none-some d (sym (sym (s.found v d h (ap word e ∙ word_at d k)) ∙ z))
 
     all_differ : (c d : ℕ) → c < d → d < length (v ∷ sources) → get_or (v ∷ sources) c 0 ≡ get_or (v ∷ sources) d 0 → ⊥
     all_differ c zero cd l e = omega arith

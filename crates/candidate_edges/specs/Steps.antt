@@ -11,7 +11,7 @@
 --   CornerEntered    what `enter_corner` leaves         CornersEntered   what `enter_corners` leaves
 use Rattle.std.specs.Prelude.{ℕ, suc, ◌+◌, ◌*◌, ◌/◌, ◌%◌, ◌≤◌, ◌<◌, ◌≡◌, leb, length, get_or, Float}
 use mathlib.Core.List.{List, [], ◌∷◌, foldl}
-use Rattle.std.proofs.Math.Option.{some}
+use Rattle.std.specs.Prelude.{Option, None, Some}
 use Rattle.lists.specs.Lists.{keep}
 use Rattle.geometry.specs.declared.point.Point.{Point}
 use Rattle.geometry.specs.declared.aabb.AABB.{AABB}
@@ -44,7 +44,7 @@ VerticesIn vs = (v : ℕ) → v < length vs / 3 → PointIn (vertex (points_of v
 -- A vertex's word is 0 while it was not inserted. `source` of a candidate is the vertex that it was made for.
 pub record Sourced (points : List Point) (eps : Float) (p : Pool) (word : ℕ → ℕ) : Type 0 where
   pub low : (c : ℕ) → c < length p.all → (get_or p.all c no_candidate).mesh ≤ length points
-  pub found : (v c : ℕ) → v < length points → word v ≡ suc c → place_for (by_key eps) p (record { point = vertex points v; mesh = v + 1; on = [] }) ≡ some c
+  pub found : (v c : ℕ) → v < length points → word v ≡ suc c → place_for (by_key eps) p (record { point = vertex points v; mesh = v + 1; on = [] }) ≡ Some c
   pub source : ℕ → ℕ
   pub within : (c : ℕ) → c < length p.all → source c < length points
   pub names : (c : ℕ) → c < length p.all → word (source c) ≡ suc c

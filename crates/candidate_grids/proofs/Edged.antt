@@ -48,7 +48,6 @@ module _ (f x y : ℕ) (G : ℕ → ℕ → Bool) (h : ℕ → Bool) where
 
   step : (k : ℕ) (l : List ℕ) → some test (entries (keep h l)) ≡ (has l f && (h f && G x y)) → Dec (k ≡ f) → (b : Bool) → h k ≡ b
       → some test (entries (cond b (k ∷ keep h l) (keep h l))) ≡ ((eqb f k || has l f) && (h f && G x y))
-  unfolding some
   step k l r (yes e) true t =
       let hf : h f ≡ true = ap h (sym e) ∙ t in
       ap (λ (c : Bool). (c && G x y) || some test (entries (keep h l))) (eq-eqb k f e)
@@ -63,7 +62,6 @@ module _ (f x y : ℕ) (G : ℕ → ℕ → Bool) (h : ℕ → Bool) where
   step k l r (no d) false t = r ∙ sym (ap (λ (c : Bool). (c || has l f) && (h f && G x y)) (ne_eqb f k (λ e. d (sym e))))
 
   one_face : (l : List ℕ) → some test (entries (keep h l)) ≡ (has l f && (h f && G x y))
-  unfolding some keep
   one_face [] = refl
   one_face (k ∷ l) = step k l (one_face l) (ℕ_discrete k f) (h k) refl
 

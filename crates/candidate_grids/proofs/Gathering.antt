@@ -41,7 +41,7 @@ module _ (n nf k face : ℕ) (tolerance : Float) (w : List ℕ) where
   S = segments_at n nf
 
   pub gather_start : Gathering n nf k face tolerance w w 0 0
-  unfolding skips_at some up_from
+  unfolding skips_at up_from
   gather_start = record { few = omega arith; most = omega arith; segments = λ j h. absurd (omega arith); skips = λ p. refl; long = refl; rest = λ x h. refl }
 
   module _ (R : EdgesReady n nf k face tolerance w) (v : List ℕ) (count i : ℕ) (G : Gathering n nf k face tolerance w v count i) (lt : i < k) where

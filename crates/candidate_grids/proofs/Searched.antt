@@ -13,7 +13,7 @@ use Rattle.lists.proofs.Places.{up_of}
 use Rattle.lists.proofs.Sequences.{some_up}
 
 pub none_yet : (p : ℕ → Bool) → some p (up_to 0) ≡ false
-unfolding some up_from
+unfolding up_from
 none_yet p = refl
 
 pub none_more : (p : ℕ → Bool) (i : ℕ) → some p (up_to i) ≡ false → p i ≡ false → some p (up_to (i + 1)) ≡ false

@@ -12,7 +12,7 @@ use mathlib.Core.List.{List, [], ◌∷◌, ◌++◌, map, append-nil}
 use lib.ListN.{get_or, set, length, length-set}
 use lib.Seq.{get_or-set_same, get_or-set_other, set-get_or}
 use lib.Ieee.{Float}
-use Rattle.lists.specs.Lists.{some, keep, has, up_from, up_to}
+use Rattle.lists.specs.Lists.{keep, has, up_from, up_to}
 use Rattle.lists.specs.Regions.{view}
 use Rattle.lists.proofs.Sequences.{keep_up}
 use Rattle.geometry.specs.declared.point.Point.{Point}
@@ -40,7 +40,7 @@ pub record Adding (eps : Float) (n id mask k : ℕ) (w v : List ℕ) : Type 0 wh
 
 -- adding no face changes nothing, since a candidate's faces are in face order
 with_none : (n : ℕ) (w : List ℕ) (id : ℕ) → id < count_at w → pool_at n w ≡ with_faces (pool_at n w) id []
-unfolding renewed listed some pool_at
+unfolding renewed listed pool_at
 with_none n w id low = λ i. record { all = all i; lists = map (λ f. view w (list_at n f) (get_or w f 0)) faces }
   where
     again : renewed (candidate_at w id) (candidate origin 0 []) ≡ candidate_at w id
@@ -54,7 +54,7 @@ with_none n w id low = λ i. record { all = all i; lists = map (λ f. view w (li
 
 module _ (eps : Float) (n id mask : ℕ) (w : List ℕ) (low : id < count_at w) where
   pub adding_start : Holds eps n w → Adding eps n id mask 0 w w
-  unfolding keep up_from
+  unfolding up_from
   adding_start h = record { pool = with_none n w id low; holds = h; long = refl; rest = λ x r. refl }
 
   module _ (k : ℕ) (v : List ℕ) (a : Adding eps n id mask k w v) where

@@ -24,8 +24,7 @@ use Rattle.box_faces.specs.Faces.{has_bit}
 use Rattle.mesh_weld.specs.Cells.{key_of}
 use Rattle.candidate_pool.specs.Offsets.{entry_at, keys_at, lists_at, list_at, joined_at}
 use Rattle.candidate_pool.specs.Pool.{Candidate, Pool, no_candidate, face_list, renewed, added, listed}
-use Rattle.mesh_weld.specs.Room.{cell_at}
-use Rattle.candidate_pool.specs.Room.{key_words}
+use Rattle.mesh_weld.specs.Room.{words_of, cell_at}
 use Rattle.candidate_pool.specs.Standing.{faces_in, candidate, count_at, point_at, candidate_at, pool_at, PointStored, Tidy, Holds, with_face, FaceAdded}
 use Rattle.candidate_pool.proofs.Listing.{keep_faces, has_kept, has_one, listed_at}
 use Rattle.candidate_pool.proofs.Tidying.{tidy_faces}
@@ -244,11 +243,11 @@ module _ (eps : Float) (n : ℕ) (w : List ℕ) (h : Holds eps n w) (id f : ℕ)
             tidy = subst Tidy (sym face_pool) (tidy_faces pool id (f ∷ []) id_in h.tidy);
           }
         where
-          keys : (c : ℕ) → c < count_at w → cell_at face_put (keys_at n + 3 * c) ≡ key_words (key_of eps (point_at face_put (entry_at c)))
+          keys : (c : ℕ) → c < count_at w → cell_at face_put (keys_at n + 3 * c) ≡ words_of (key_of eps (point_at face_put (entry_at c)))
           keys c r =
               key_same w face_put (keys_at n + 3 * c) (λ i s. table_words (keys_at n + 3 * c + i) (omega arith) (omega (arith, h.table.few)))
               ∙ h.keys c r
-              ∙ ap (λ (q : Point). key_words (key_of eps q)) (sym (point_same w face_put (entry_at c) (λ i s. point_word c i r (omega arith))))
+              ∙ ap (λ (q : Point). words_of (key_of eps q)) (sym (point_same w face_put (entry_at c) (λ i s. point_word c i r (omega arith))))
 
           stored : (c : ℕ) → c < count_at w → PointStored face_put (entry_at c)
           stored c r = stored_same w face_put (entry_at c) (λ i s. point_word c i r (omega arith)) (h.stored c r)

@@ -15,8 +15,8 @@ use Rattle.lists.specs.Regions.{view}
 use Rattle.lists.proofs.Regions.{view_at}
 use Rattle.geometry.specs.declared.point.Point.{Point}
 use Rattle.mesh_weld.specs.Cells.{key_of}
+use Rattle.mesh_weld.specs.Room.{words_of}
 use Rattle.candidate_pool.specs.Offsets.{entry_at, keys_at, list_at, joined_at}
-use Rattle.candidate_pool.specs.Room.{key_words}
 use Rattle.candidate_pool.specs.Standing.{count_at, point_at, candidate_at, pool_at, PointStored, Tidy, Holds}
 use Rattle.candidate_pool.proofs.Reading.{pool_count, pool_at_lem, pool_list, pool_is, candidate_same, list_in, list_few}
 use Rattle.candidate_pool.proofs.Putting.{key_same}
@@ -78,7 +78,7 @@ module _ (eps : Float) (n : ℕ) (w w' : List ℕ) (H : Holds eps n w) (long : l
         table = table_kept n w w' H.table (count_same n w w' long same) long (λ x a b. same x (omega arith));
         keys = λ c h.
             key_same w w' (keys_at n + 3 * c) (λ i k. same (keys_at n + 3 * c + i) (omega (arith, few, low c h)))
-            ∙ H.keys c (low c h) ∙ ap (λ (p : Point). key_words (key_of eps p)) (sym (point_kept n w w' long same few c (low c h)));
+            ∙ H.keys c (low c h) ∙ ap (λ (p : Point). words_of (key_of eps p)) (sym (point_kept n w w' long same few c (low c h)));
         stored = λ c h. stored_kept n w w' long same few c (low c h) (H.stored c (low c h));
         masks = λ c h. omega (arith, H.masks c (low c h), same (entry_at c + 4) (omega (arith, few, low c h)));
         lengths = λ f h. omega (arith, H.lengths f h, same f (omega arith));

@@ -14,8 +14,7 @@ use native.Mathlib.Decide.{ℕ_discrete}
 use mathlib.Core.Path.{◌≡◌, refl, ap, subst, ◌∙◌}
 use mathlib.Core.Bool.{Bool, true, cond, ◌&&◌, ◌||◌, or-true}
 use mathlib.Core.List.{List, [], ◌∷◌, ◌++◌, map}
-use mathlib.Core.Option
-use mathlib.Core.Option.{Option, none, some}
+use Rattle.std.specs.Prelude.{Option, None, Some, unwrap_or}
 use lib.Dec.{eqb}
 use lib.ListN.{get_or, set, length, length-append, length-set, length-map, get_or-append}
 use lib.Seq.{get_or-set_same, get_or-set_other}
@@ -28,51 +27,51 @@ use Rattle.candidate_pool.specs.Pool.{Candidate, Pool, no_candidate, point_of, f
 use Rattle.candidate_pool.proofs.Listing.{listed_has}
 
 module _ (J : Joining Point) (p : Pool) (e : Candidate) where
-  pub number_new : place_for J p e ≡ none → number_for J p e ≡ length p.all
+  pub number_new : place_for J p e ≡ None → number_for J p e ≡ length p.all
   unfolding number_for
-  number_new h = ap (λ (o : Option ℕ). Option.get_or o (length p.all)) h
+  number_new h = ap (λ (o : Option ℕ). unwrap_or o (length p.all)) h
 
-  pub number_found : (i : ℕ) → place_for J p e ≡ some i → number_for J p e ≡ i
+  pub number_found : (i : ℕ) → place_for J p e ≡ Some i → number_for J p e ≡ i
   unfolding number_for
-  number_found i h = ap (λ (o : Option ℕ). Option.get_or o (length p.all)) h
+  number_found i h = ap (λ (o : Option ℕ). unwrap_or o (length p.all)) h
 
-  pub all_new : place_for J p e ≡ none → (insert J p e).all ≡ p.all ++ (e ∷ [])
+  pub all_new : place_for J p e ≡ None → (insert J p e).all ≡ p.all ++ (e ∷ [])
   unfolding insert
   all_new h = ap (entered_as p.all e) h
 
-  pub all_found : (i : ℕ) → place_for J p e ≡ some i → (insert J p e).all ≡ set p.all i (renewed (get_or p.all i no_candidate) e)
+  pub all_found : (i : ℕ) → place_for J p e ≡ Some i → (insert J p e).all ≡ set p.all i (renewed (get_or p.all i no_candidate) e)
   unfolding insert
   all_found i h = ap (entered_as p.all e) h
 
-  pub count_new : place_for J p e ≡ none → length (insert J p e).all ≡ suc (length p.all)
+  pub count_new : place_for J p e ≡ None → length (insert J p e).all ≡ suc (length p.all)
   count_new h = ap (length {A = Candidate}) (all_new h) ∙ length-append p.all (e ∷ []) ∙ omega arith
 
-  pub count_found : (i : ℕ) → place_for J p e ≡ some i → length (insert J p e).all ≡ length p.all
+  pub count_found : (i : ℕ) → place_for J p e ≡ Some i → length (insert J p e).all ≡ length p.all
   count_found i h = ap (length {A = Candidate}) (all_found i h) ∙ length-set p.all i (renewed (get_or p.all i no_candidate) e)
 
   pub count_grows : length p.all ≤ length (insert J p e).all
   count_grows = go (place_for J p e) refl
     where
       go : (k : Option ℕ) → place_for J p e ≡ k → length p.all ≤ length (insert J p e).all
-      go none h = omega (arith, count_new h)
-      go (some i) h = omega (arith, count_found i h)
+      go None h = omega (arith, count_new h)
+      go (Some i) h = omega (arith, count_found i h)
 
   pub count_most : length (insert J p e).all ≤ suc (length p.all)
   count_most = go (place_for J p e) refl
     where
       go : (k : Option ℕ) → place_for J p e ≡ k → length (insert J p e).all ≤ suc (length p.all)
-      go none h = omega (arith, count_new h)
-      go (some i) h = omega (arith, count_found i h)
+      go None h = omega (arith, count_new h)
+      go (Some i) h = omega (arith, count_found i h)
 
-  pub found_low : Lawful Point J → (i : ℕ) → place_for J p e ≡ some i → i < length p.all
+  pub found_low : Lawful Point J → (i : ℕ) → place_for J p e ≡ Some i → i < length p.all
   found_low lawful i h = omega (arith, (lawful.found e.point (map (λ c. c.point) p.all) i h).0, length-map p.all (λ c. c.point))
 
   pub number_low : Lawful Point J → number_for J p e < length (insert J p e).all
   number_low lawful = go (place_for J p e) refl
     where
       go : (k : Option ℕ) → place_for J p e ≡ k → number_for J p e < length (insert J p e).all
-      go none h = omega (arith, count_new h, number_new h)
-      go (some i) h = omega (arith, count_found i h, number_found i h, found_low lawful i h)
+      go None h = omega (arith, count_new h, number_new h)
+      go (Some i) h = omega (arith, count_found i h, number_found i h, found_low lawful i h)
 
   pub inserted_has : (f c : ℕ) → f < 6 → has (face_list (insert J p e) f) c ≡ (has (face_list p f) c || (has e.on f && eqb c (number_for J p e)))
   unfolding insert
@@ -101,5 +100,5 @@ module _ (J : Joining Point) (p : Pool) (e : Candidate) where
       at i (no d) = ap (λ (k : Candidate). k.point) (get_or-set_other p.all i c (renewed (get_or p.all i no_candidate) e) no_candidate d)
 
       go : (k : Option ℕ) → place_for J p e ≡ k → point_of (insert J p e) c ≡ point_of p c
-      go none x = ap (λ (l : List Candidate). (get_or l c no_candidate).point) (all_new x) ∙ ap (λ (k : Candidate). k.point) (get_or-append p.all (e ∷ []) no_candidate c h)
-      go (some i) x = ap (λ (l : List Candidate). (get_or l c no_candidate).point) (all_found i x) ∙ at i (ℕ_discrete c i)
+      go None x = ap (λ (l : List Candidate). (get_or l c no_candidate).point) (all_new x) ∙ ap (λ (k : Candidate). k.point) (get_or-append p.all (e ∷ []) no_candidate c h)
+      go (Some i) x = ap (λ (l : List Candidate). (get_or l c no_candidate).point) (all_found i x) ∙ at i (ℕ_discrete c i)

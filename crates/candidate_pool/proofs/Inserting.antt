@@ -8,13 +8,12 @@ use native.Mathlib.Omega.{arith}
 use mathlib.Core.Path.{◌≡◌, refl, sym, ap, ◌∙◌}
 use mathlib.Core.Bool.{Bool, true, false, cond, ◌||◌, or-true, or_assoc}
 use mathlib.Core.List.{List, [], ◌∷◌, ◌++◌}
-use mathlib.Core.Option
-use mathlib.Core.Option.{Option, none, some as just}
+use Rattle.std.specs.Prelude.{Option, None, Some, unwrap_or}
 use lib.Dec.{eqb}
 use lib.ListN.{get_or, set, length}
 use lib.Seq.{get_or-set_same, set-set, get_or-append_seam, set-append_seam}
 use borrow.Author.Tests.{eq-eqb}
-use Rattle.lists.specs.Lists.{some, keep, has}
+use Rattle.lists.specs.Lists.{keep, has}
 use Rattle.lists.proofs.Sequences.{some_append}
 use Rattle.geometry.specs.declared.point.Point.{Point}
 use Rattle.geometry.specs.Points.{origin}
@@ -75,23 +74,22 @@ faces_more p c a b h = pool_is (all_twice p.all c origin 0 a b h) (listed_twice 
 
 -- `on` is in face order, and no more than faces
 pub insert_faces : (J : Joining Point) (p : Pool) (q : Point) (m : ℕ) (on : List ℕ) → keep (λ f. has on f) faces ≡ on
-    → ((i : ℕ) → place_for J p (candidate q m []) ≡ just i → i < length p.all)
+    → ((i : ℕ) → place_for J p (candidate q m []) ≡ Some i → i < length p.all)
     → with_faces (insert J p (candidate q m [])) (number_for J p (candidate q m [])) on ≡ insert J p (candidate q m on)
-unfolding insert number_for renewed some
+unfolding insert number_for renewed
 insert_faces J p q m on canonical low = pool_is (go (place_for J p (candidate q m [])) refl) (listed_twice p.lists [] on (number_for J p (candidate q m [])))
   where
     go : (k : Option ℕ) → place_for J p (candidate q m []) ≡ k
-        → set (entered_as p.all (candidate q m []) k) (Option.get_or k (length p.all))
-        (renewed (get_or (entered_as p.all (candidate q m []) k) (Option.get_or k (length p.all)) no_candidate) (candidate origin 0 on))
+        → set (entered_as p.all (candidate q m []) k) (unwrap_or k (length p.all))
+        (renewed (get_or (entered_as p.all (candidate q m []) k) (unwrap_or k (length p.all)) no_candidate) (candidate origin 0 on))
         ≡ entered_as p.all (candidate q m on) k
-    go none e =
+    go None e =
         set-append_seam p.all (candidate q m []) [] (renewed (get_or (p.all ++ (candidate q m [] ∷ [])) (length p.all) no_candidate) (candidate origin 0 on))
         ∙ ap (λ (y : Candidate). p.all ++ (renewed y (candidate origin 0 on) ∷ [])) (get_or-append_seam p.all (candidate q m []) [] no_candidate)
         ∙ ap (λ (o : List ℕ). p.all ++ (candidate q m o ∷ [])) canonical
-    go (just i) e = all_twice p.all i q m [] on (low i e)
+    go (Some i) e = all_twice p.all i q m [] on (low i e)
 
 pub one_face : (f : ℕ) → f < 6 → keep (λ g. has (f ∷ []) g) faces ≡ f ∷ []
-unfolding keep some
 one_face zero h = refl
 one_face (suc zero) h = refl
 one_face (suc (suc zero)) h = refl

@@ -15,19 +15,18 @@ use lib.ListN.{get_or, length}
 use lib.Ieee.{Float, nan, inf, fin, up, down}
 use mir.Syntax.{w64}
 use mir.Val.{SFits}
-use Rattle.lists.specs.Lists.{up_to}
+use Rattle.lists.specs.Lists.{first, up_to}
 use Rattle.lists.proofs.Bools.{by_test, is_true}
 use Rattle.rounding.specs.Rounding.{half_up, rounded, key, key_word}
 use Rattle.rounding.proofs.Keys.{same_word}
 use Rattle.geometry.specs.declared.point.Point.{Point}
 use Rattle.geometry.specs.Points.{origin}
-use Rattle.chains.specs.Links.{link_of, link_to}
-use Rattle.chains.proofs.Firsts.{link_to_places, places_link}
+use Rattle.chains.specs.Links.{id_in}
+use Rattle.chains.proofs.Firsts.{link_to_places, places_link, ids_first, id_link}
 use Rattle.mesh_weld.specs.Cells.{key_of, same, same_key}
 use Rattle.candidate_pool.specs.Offsets.{keys_at}
 use Rattle.candidate_pool.specs.Pool.{by_key}
-use Rattle.mesh_weld.specs.Room.{cell_at, same_cell}
-use Rattle.candidate_pool.specs.Room.{key_words}
+use Rattle.mesh_weld.specs.Room.{words_of, cell_at, same_cell}
 use Rattle.candidate_pool.proofs.Searching.{key_is}
 
 -- ---- keys fit
@@ -73,7 +72,7 @@ word_same j k f g =
     (λ t. ne_eqb (key_word j) (key_word k)
     (λ e. subst (λ (b : Bool). T (not b)) (ap (λ i. same i k) (same_word j k f g e) ∙ same_self k) t))
 
-pub words_keys : (eps : Float) (p q : Point) → same_cell (key_words (key_of eps p)) (key_words (key_of eps q)) ≡ same_key (key_of eps p) (key_of eps q)
+pub words_keys : (eps : Float) (p q : Point) → same_cell (words_of (key_of eps p)) (words_of (key_of eps q)) ≡ same_key (key_of eps p) (key_of eps q)
 unfolding same_key key_of
 words_keys eps p q =
     let x = word_same (key eps p.x) (key eps q.x) (key_fits eps p.x) (key_fits eps q.x) in
@@ -83,10 +82,12 @@ words_keys eps p q =
 
 -- ---- the search
 
-pub found_is : (eps : Float) (p : Point) (l : List Point) (w : List ℕ) (n : ℕ) → ((i : ℕ) → i < length l → cell_at w (keys_at n + 3 * i) ≡ key_words (key_of eps (get_or l i origin))) →
-    link_to (key_is w n (key_words (key_of eps p))) (up_to (length l)) ≡ link_of ((by_key eps).find p l)
+pub found_is : (eps : Float) (p : Point) (l : List Point) (w : List ℕ) (n : ℕ) → ((i : ℕ) → i < length l → cell_at w (keys_at n + 3 * i) ≡ words_of (key_of eps (get_or l i origin))) →
+    first (key_is w n (words_of (key_of eps p))) (up_to (length l)) ≡ (by_key eps).find p l
 unfolding by_key
 found_is eps p l w n stands =
-    link_to_places (λ q. same_key (key_of eps q) (key_of eps p)) origin l (key_is w n (key_words (key_of eps p)))
-    (λ i h. ap (λ k. same_cell k (key_words (key_of eps p))) (stands i h) ∙ words_keys eps (get_or l i origin) p)
-    ∙ places_link (λ q. same_key (key_of eps q) (key_of eps p)) origin l
+    sym (ids_first (key_is w n (words_of (key_of eps p))) (length l))
+    ∙ ap id_in (link_to_places (λ q. same_key (key_of eps q) (key_of eps p)) origin l (key_is w n (words_of (key_of eps p)))
+    (λ i h. ap (λ k. same_cell k (words_of (key_of eps p))) (stands i h) ∙ words_keys eps (get_or l i origin) p)
+    ∙ places_link (λ q. same_key (key_of eps q) (key_of eps p)) origin l)
+    ∙ id_link (first (λ k. same_key (key_of eps (get_or l k origin)) (key_of eps p)) (up_to (length l)))

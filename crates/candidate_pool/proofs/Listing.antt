@@ -13,7 +13,7 @@ use mathlib.Core.List.{List, [], ◌∷◌, ◌++◌, map}
 use lib.Dec.{eqb}
 use lib.ListN.{get_or}
 use borrow.Author.Tests.{eqb-true}
-use Rattle.lists.specs.Lists.{some, keep, has, up_from}
+use Rattle.lists.specs.Lists.{keep, has, up_from}
 use Rattle.lists.proofs.Counts.{keep_same}
 use Rattle.lists.proofs.Places.{of_up}
 use Rattle.lists.proofs.Sequences.{some_append}
@@ -40,7 +40,6 @@ keep_faces p q e = keep_same p q faces (λ f m. e f (of_up 0 6 m).1)
 -- ---- what stands in a list
 
 pub has_one : (c k : ℕ) → has (c ∷ []) k ≡ eqb k c
-unfolding some
 has_one c k = or-false (eqb k c)
 
 pub has_added : (l : List ℕ) (c k : ℕ) → has (added l c) k ≡ (has l k || eqb k c)
@@ -58,7 +57,6 @@ has_added l c k = go (has l c) refl
     go false e = ap (λ (b : Bool). has (cond b l (l ++ (c ∷ []))) k) e ∙ some_append (eqb k) l (c ∷ []) ∙ ap (λ (b : Bool). has l k || b) (has_one c k)
 
 has_keep : (t : ℕ → Bool) (l : List ℕ) (k : ℕ) → has (keep t l) k ≡ (t k && has l k)
-unfolding some keep
 has_keep t [] k = sym (none (t k))
   where
     none : (b : Bool) → (b && false) ≡ false
@@ -73,7 +71,6 @@ has_keep t (x ∷ l) k = go (t x) refl (eqb k x) refl (has_keep t l k)
     go false b false e r = rw (b, e) r
 
 pub is_face : (f : ℕ) → f < 6 → has faces f ≡ true
-unfolding some
 is_face zero h = refl
 is_face (suc zero) h = refl
 is_face (suc (suc zero)) h = refl

@@ -17,7 +17,7 @@ use mathlib.Core.Logic.{⊎_elim}
 use lib.Dec.{eqb}
 use lib.ListN.{length}
 use borrow.Author.Tests.{eq-eqb, eqb-false}
-use Rattle.lists.specs.Lists.{keep, some, has}
+use Rattle.lists.specs.Lists.{keep, has}
 use Rattle.lists.proofs.Counts.{count_le}
 use Rattle.lists.proofs.Orders.{cases}
 use Rattle.geometry.specs.Boxes.{faces}
@@ -109,11 +109,10 @@ pub few_faces : (mask : ℕ) → length (faces_in mask) ≤ 6
 few_faces mask = count_le (has_bit mask) faces
 
 pub no_faces : faces_in 0 ≡ []
-unfolding keep has_bit
+unfolding has_bit
 no_faces = refl
 
 pub no_bit : (f : ℕ) → f < 6 → has_bit 0 f ≡ false
-unfolding some
 no_bit f h = sym (has_faces 0 f h) ∙ ap (λ (l : List ℕ). has l f) no_faces
 
 abbrev pub Bit : ℕ → Type 0

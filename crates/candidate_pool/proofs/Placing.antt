@@ -6,36 +6,31 @@
 --   put_inserted     a mesh vertex, found: "a later mesh vertex replaces number and point"
 --   kept_inserted    no mesh vertex, found
 --   placed-..        the same, by what the search answers;   number_miss, number_hit   the number that it gets
-use Prim.Native.Nat.{ℕ, suc, ◌+◌, ◌*◌, ◌-◌, ◌≤◌, ◌<◌}
+use Prim.Native.Nat.{ℕ, ◌+◌, ◌*◌, ◌≤◌, ◌<◌}
 use native.Mathlib.Omega.{arith}
 use native.Mathlib.Decide.{ℕ_discrete}
 use mathlib.Core.Path.{◌≡◌, refl, sym, ap, subst, ◌∙◌}
 use mathlib.Core.Bool.{Bool, cond, ◌||◌, or-false}
 use mathlib.Core.List.{List, [], ◌∷◌, ◌++◌, map}
-use mathlib.Core.Option.{none, some as just}
 use lib.ListN.{get_or, set, length, length-append, length-set, get_or-append}
 use lib.Seq.{get_or-set_same, get_or-set_other, get_or-append_seam, set-get_or}
 use lib.Ieee.{Float, binary64, of_bits, to_bits}
 use borrow.Author.Tests.{eq-eqb, ne_eqb}
 use Rattle.std.specs.Prelude.{Option, Some, None}
-use Rattle.lists.specs.Found.{found}
-use Rattle.lists.specs.Lists.{some, keep, has, up_to}
+use Rattle.lists.specs.Lists.{keep, has, first, up_to}
 use Rattle.lists.specs.Regions.{view, Outside}
 use Rattle.geometry.specs.declared.point.Point.{Point}
 use Rattle.geometry.specs.Points.{pt}
 use Rattle.geometry.specs.Boxes.{faces}
 use Rattle.box_faces.specs.Faces.{has_bit}
 use Rattle.chains.specs.Hash.{mixed, InBucket}
-use Rattle.chains.specs.Links.{link_of, link_to}
-use Rattle.chains.proofs.Firsts.{link_none, link_some}
-use Rattle.chains.proofs.Found.{none_found_link, some_found_link}
 use Rattle.chains.proofs.Entering.{linked_cong, linked_same}
 use Rattle.mesh_weld.specs.Cells.{key_of}
 use Rattle.candidate_pool.specs.Offsets.{entry_at, keys_at, chain_at, lists_at, list_at}
 use Rattle.mesh_weld.specs.declared.cells.Cell.{Cell}
 use Rattle.candidate_pool.specs.Pool.{Candidate, Pool, no_candidate, by_key, renewed, entered_as, listed, place_for, number_for, insert}
-use Rattle.mesh_weld.specs.Room.{cell_at, same_cell}
-use Rattle.candidate_pool.specs.Room.{key_words, key_bucket, KeyTable}
+use Rattle.mesh_weld.specs.Room.{words_of, cell_at, same_cell}
+use Rattle.candidate_pool.specs.Room.{key_bucket, KeyTable}
 use Rattle.candidate_pool.specs.Standing.{faces_in, candidate, count_at, point_at, candidate_at, pool_at, PointIn, PointStored, Tidy, Holds, RoomFor, Inserted}
 use Rattle.candidate_pool.specs.Steps.{BitsOf, point_put, candidate_put}
 use Rattle.candidate_pool.proofs.Listing.{keep_faces, has_kept}
@@ -43,7 +38,7 @@ use Rattle.candidate_pool.proofs.Rule.{key_lawful}
 use Rattle.candidate_pool.proofs.Searching.{key_is}
 use Rattle.candidate_pool.proofs.Growing.{number_new, number_found}
 use Rattle.candidate_pool.proofs.Tidying.{tidy_insert}
-use Rattle.candidate_pool.proofs.Reading.{pool_count, pool_at_lem, pool_is, candidate_same, lists_same, link_is, link_low, link_key}
+use Rattle.candidate_pool.proofs.Reading.{pool_count, pool_at_lem, pool_is, candidate_same, lists_same, first_is, link_low, link_key}
 use Rattle.candidate_pool.proofs.Putting.{key_same, four_long, four_rest, four_at0, four_at1, four_at2, four_at3, Pushed, pushed, pushed_linked, tail_room}
 use Rattle.candidate_pool.proofs.Masking.{no_faces}
 
@@ -81,32 +76,32 @@ stored_at w at p b within x y z =
 
 pub point_same : (u w : List ℕ) (at : ℕ) → ((i : ℕ) → i < 3 → get_or w (at + i) 0 ≡ get_or u (at + i) 0) → point_at w at ≡ point_at u at
 point_same u w at same =
-    λ i. pt (of_bits binary64 (first i)) (of_bits binary64 (same 1 (omega arith) i)) (of_bits binary64 (same 2 (omega arith) i))
+    λ i. pt (of_bits binary64 (start i)) (of_bits binary64 (same 1 (omega arith) i)) (of_bits binary64 (same 2 (omega arith) i))
   where
-    first : get_or w at 0 ≡ get_or u at 0
-    first = ap (λ (x : ℕ). get_or w x 0) (omega arith) ∙ same 0 (omega arith) ∙ ap (λ (x : ℕ). get_or u x 0) (omega arith)
+    start : get_or w at 0 ≡ get_or u at 0
+    start = ap (λ (x : ℕ). get_or w x 0) (omega arith) ∙ same 0 (omega arith) ∙ ap (λ (x : ℕ). get_or u x 0) (omega arith)
 
 pub stored_same : (u w : List ℕ) (at : ℕ) → ((i : ℕ) → i < 3 → get_or w (at + i) 0 ≡ get_or u (at + i) 0) → PointStored u at → PointStored w at
 stored_same u w at same s =
     record {
-      x = ap (λ (v : ℕ). to_bits binary64 (of_bits binary64 v)) first ∙ s.x ∙ sym first;
+      x = ap (λ (v : ℕ). to_bits binary64 (of_bits binary64 v)) start ∙ s.x ∙ sym start;
       y = ap (λ (v : ℕ). to_bits binary64 (of_bits binary64 v)) (same 1 (omega arith)) ∙ s.y ∙ sym (same 1 (omega arith));
       z = ap (λ (v : ℕ). to_bits binary64 (of_bits binary64 v)) (same 2 (omega arith)) ∙ s.z ∙ sym (same 2 (omega arith));
       within = subst PointIn (sym (point_same u w at same)) s.within;
     }
   where
-    first : get_or w at 0 ≡ get_or u at 0
-    first = ap (λ (x : ℕ). get_or w x 0) (omega arith) ∙ same 0 (omega arith) ∙ ap (λ (x : ℕ). get_or u x 0) (omega arith)
+    start : get_or w at 0 ≡ get_or u at 0
+    start = ap (λ (x : ℕ). get_or w x 0) (omega arith) ∙ same 0 (omega arith) ∙ ap (λ (x : ℕ). get_or u x 0) (omega arith)
 
 -- ---- a new one
 
 module _ (eps : Float) (n : ℕ) (w : List ℕ) (h : Holds eps n w) (p : Point) (m : ℕ) (within : PointIn p) (bits : BitsOf p)
-    (less : count_at w < n) (b : ℕ) (b-is : b ≡ key_bucket n (key_words (key_of eps p))) (b_low : b < n) where
+    (less : count_at w < n) (b : ℕ) (b-is : b ≡ key_bucket n (words_of (key_of eps p))) (b_low : b < n) where
   abbrev id : ℕ
   id = count_at w
 
   abbrev key : Cell
-  key = key_words (key_of eps p)
+  key = words_of (key_of eps p)
 
   abbrev new : List ℕ
   new = candidate_put w n id p m key b
@@ -149,13 +144,13 @@ module _ (eps : Float) (n : ℕ) (w : List ℕ) (h : Holds eps n w) (p : Point) 
           candidate_same w new c (λ i s. old_word c i r s)
           ∙ sym (get_or-append (pool_at n w).all (candidate p m [] ∷ []) no_candidate c (omega (arith, pool_count n w)) ∙ pool_at_lem n w c r)
 
-  pub push_pool : place_for (by_key eps) (pool_at n w) (candidate p m []) ≡ none → pool_at n new ≡ insert (by_key eps) (pool_at n w) (candidate p m [])
-  unfolding insert listed some pool_at
+  pub push_pool : place_for (by_key eps) (pool_at n w) (candidate p m []) ≡ None → pool_at n new ≡ insert (by_key eps) (pool_at n w) (candidate p m [])
+  unfolding insert listed pool_at
   push_pool q =
       appended
       ∙ sym (λ i. record { all = entered_as (pool_at n w).all (candidate p m []) (q i); lists = map (λ f. view w (list_at n f) (get_or w f 0)) faces })
 
-  push_holds : place_for (by_key eps) (pool_at n w) (candidate p m []) ≡ none → Holds eps n new
+  push_holds : place_for (by_key eps) (pool_at n w) (candidate p m []) ≡ None → Holds eps n new
   push_holds q =
       record {
         size = omega (arith, h.size, put.long);
@@ -177,11 +172,11 @@ module _ (eps : Float) (n : ℕ) (w : List ℕ) (h : Holds eps n w) (p : Point) 
         tidy = subst Tidy (sym (push_pool q)) (tidy_insert (by_key eps) (pool_at n w) (candidate p m []) (key_lawful eps) h.tidy);
       }
     where
-      keys : (c : ℕ) → c < id + 1 → Dec (c ≡ id) → cell_at new (keys_at n + 3 * c) ≡ key_words (key_of eps (point_at new (entry_at c)))
-      keys c k (yes e) = rw e (put.key ∙ ap (λ (q : Point). key_words (key_of eps q)) (sym new_point))
+      keys : (c : ℕ) → c < id + 1 → Dec (c ≡ id) → cell_at new (keys_at n + 3 * c) ≡ words_of (key_of eps (point_at new (entry_at c)))
+      keys c k (yes e) = rw e (put.key ∙ ap (λ (q : Point). words_of (key_of eps q)) (sym new_point))
       keys c k (no d) =
           let r : c < id = omega arith in
-          old_key c r ∙ h.keys c r ∙ ap (λ (q : Point). key_words (key_of eps q)) (sym (point_same w new (entry_at c) (λ i s. old_word c i r (omega arith))))
+          old_key c r ∙ h.keys c r ∙ ap (λ (q : Point). words_of (key_of eps q)) (sym (point_same w new (entry_at c) (λ i s. old_word c i r (omega arith))))
 
       stored : (c : ℕ) → c < id + 1 → Dec (c ≡ id) → PointStored new (entry_at c)
       stored c k (yes e) = rw e (stored_at new (entry_at id) p bits within put.x put.y put.z)
@@ -191,7 +186,7 @@ module _ (eps : Float) (n : ℕ) (w : List ℕ) (h : Holds eps n w) (p : Point) 
       masks c k (yes e) = rw e (omega (arith, put.mask))
       masks c k (no d) = let r : c < id = omega arith in omega (arith, old_word c 4 r (omega arith), h.masks c r)
 
-  pub push_inserted : place_for (by_key eps) (pool_at n w) (candidate p m []) ≡ none → Inserted eps n (candidate p m []) w new
+  pub push_inserted : place_for (by_key eps) (pool_at n w) (candidate p m []) ≡ None → Inserted eps n (candidate p m []) w new
   push_inserted q =
       record {
         pool = push_pool q;
@@ -203,11 +198,10 @@ module _ (eps : Float) (n : ℕ) (w : List ℕ) (h : Holds eps n w) (p : Point) 
 -- ---- one that is found
 
 pub kept_none : (t : ℕ → Bool) → keep (λ f. has (keep t faces) f || has [] f) faces ≡ keep t faces
-unfolding some
 kept_none t = keep_faces (λ f. has (keep t faces) f || has [] f) t (λ f h. or-false (has (keep t faces) f) ∙ has_kept t f h)
 
 module _ (eps : Float) (n : ℕ) (w : List ℕ) (h : Holds eps n w) (p : Point) (m id : ℕ)
-    (found : place_for (by_key eps) (pool_at n w) (candidate p m []) ≡ just id) where
+    (found : place_for (by_key eps) (pool_at n w) (candidate p m []) ≡ Some id) where
   abbrev renewed_pool : Pool
   renewed_pool =
       record {
@@ -216,7 +210,7 @@ module _ (eps : Float) (n : ℕ) (w : List ℕ) (h : Holds eps n w) (p : Point) 
       }
 
   renewed_pool_lem : renewed_pool ≡ insert (by_key eps) (pool_at n w) (candidate p m [])
-  unfolding insert listed some pool_at
+  unfolding insert listed pool_at
   renewed_pool_lem =
       sym (λ i. record { all = entered_as (pool_at n w).all (candidate p m []) (found i); lists = map (λ f. view w (list_at n f) (get_or w f 0)) faces })
 
@@ -338,9 +332,9 @@ module _ (eps : Float) (n : ℕ) (w : List ℕ) (h : Holds eps n w) (p : Point) 
         key_kept : (c : ℕ) → cell_at moved (keys_at n + 3 * c) ≡ cell_at w (keys_at n + 3 * c)
         key_kept c = key_same w moved (keys_at n + 3 * c) (λ i s. back_same (keys_at n + 3 * c + i) (omega arith))
 
-        keys : (c : ℕ) → c < count_at w → Dec (c ≡ id) → cell_at moved (keys_at n + 3 * c) ≡ key_words (key_of eps (point_at moved (entry_at c)))
-        keys c k (yes e) = rw e (key_kept id ∙ link_key eps n w h (candidate p m []) id found ∙ ap (λ (q : Point). key_words (key_of eps q)) (sym point_is))
-        keys c k (no d) = key_kept c ∙ h.keys c k ∙ ap (λ (q : Point). key_words (key_of eps q)) (sym (point_same w moved (entry_at c) (λ i s. other_word c i d (omega arith))))
+        keys : (c : ℕ) → c < count_at w → Dec (c ≡ id) → cell_at moved (keys_at n + 3 * c) ≡ words_of (key_of eps (point_at moved (entry_at c)))
+        keys c k (yes e) = rw e (key_kept id ∙ link_key eps n w h (candidate p m []) id found ∙ ap (λ (q : Point). words_of (key_of eps q)) (sym point_is))
+        keys c k (no d) = key_kept c ∙ h.keys c k ∙ ap (λ (q : Point). words_of (key_of eps q)) (sym (point_same w moved (entry_at c) (λ i s. other_word c i d (omega arith))))
 
         stored : (c : ℕ) → c < count_at w → Dec (c ≡ id) → PointStored moved (entry_at c)
         stored c k (yes e) = rw e (stored_at moved (entry_at id) p bits within at_x at_y at_z)
@@ -352,22 +346,16 @@ module _ (eps : Float) (n : ℕ) (w : List ℕ) (h : Holds eps n w) (p : Point) 
 -- ---- as the code has it: the key's words, their bucket, and what the search answers
 
 module _ (eps : Float) (n : ℕ) (w : List ℕ) (h : Holds eps n w) (p : Point) (m : ℕ) (k : Cell) (b : ℕ) (r : Option ℕ)
-    (key_is_lem : k ≡ key_words (key_of eps p)) (in-bucket : InBucket (mixed k.x k.y k.z) n b)
-    (searched : r ≡ found (λ i. same_cell (cell_at w (keys_at n + 3 * i)) k) (up_to (count_at w))) where
-  linked : link_to (key_is w n k) (up_to (count_at w)) ≡ link_of (place_for (by_key eps) (pool_at n w) (candidate p m []))
-  linked = ap (λ (q : Cell). link_to (key_is w n q) (up_to (count_at w))) key_is_lem ∙ link_is eps n w h (candidate p m [])
+    (key_is_lem : k ≡ words_of (key_of eps p)) (in-bucket : InBucket (mixed k.x k.y k.z) n b)
+    (searched : r ≡ first (λ i. same_cell (cell_at w (keys_at n + 3 * i)) k) (up_to (count_at w))) where
+  answer : r ≡ place_for (by_key eps) (pool_at n w) (candidate p m [])
+  answer = searched ∙ ap (λ (q : Cell). first (key_is w n q) (up_to (count_at w))) key_is_lem ∙ first_is eps n w h (candidate p m [])
 
-  hit : (i : ℕ) → r ≡ Some i → place_for (by_key eps) (pool_at n w) (candidate p m []) ≡ just i
-  hit i e =
-      let less : suc i - 1 ≡ i = omega arith in
-      link_some (place_for (by_key eps) (pool_at n w) (candidate p m [])) (suc i)
-      (some_found_link (key_is w n k) (up_to (count_at w)) i (sym e ∙ searched) ∙ linked) (λ z. omega arith)
-      ∙ ap just less
+  hit : (i : ℕ) → r ≡ Some i → place_for (by_key eps) (pool_at n w) (candidate p m []) ≡ Some i
+  hit i e = sym answer ∙ e
 
-  miss : r ≡ None → place_for (by_key eps) (pool_at n w) (candidate p m []) ≡ none
-  miss e =
-      link_none (place_for (by_key eps) (pool_at n w) (candidate p m [])) 0
-      (none_found_link (key_is w n k) (up_to (count_at w)) (sym e ∙ searched) ∙ linked) refl
+  miss : r ≡ None → place_for (by_key eps) (pool_at n w) (candidate p m []) ≡ None
+  miss e = sym answer ∙ e
 
   pub miss_room : r ≡ None → RoomFor eps n w (candidate p m []) → count_at w < n
   miss_room e room = room (miss e)

@@ -7,7 +7,7 @@
 --   list_length, list_long a list has the length that stands in the room
 --   list_few               it has at most n candidates
 --   lists_same             stores elsewhere leave the lists
---   link_is                what the search by words finds is what the definition finds
+--   first_is               what the search by words finds is what the definition finds
 --   link_low, link_key     what is found is a candidate, and has the key
 --   some_room              there is room for a candidate at all
 use Prim.Native.Nat.{ℕ, suc, ◌+◌, ◌*◌, ◌≤◌, ◌<◌}
@@ -16,11 +16,11 @@ use native.Mathlib.Nat.{mul-le-mul_right}
 use mathlib.Core.Path.{◌≡◌, refl, sym, ap, ◌∙◌}
 use mathlib.Core.Bool.{Bool}
 use mathlib.Core.List.{List, [], map}
-use mathlib.Core.Option.{Option, none, some}
+use Rattle.std.specs.Prelude.{Option, None, Some}
 use lib.ListN.{get_or, length, length-map, get_or-map}
 use lib.Seq.{ext_get_or}
 use lib.Ieee.{Float, binary64, of_bits}
-use Rattle.lists.specs.Lists.{up_to}
+use Rattle.lists.specs.Lists.{first, up_to}
 use Rattle.lists.specs.Regions.{view}
 use Rattle.lists.proofs.Places.{length_up, at_map_up}
 use Rattle.lists.proofs.Regions.{view_length, view_same, view_at}
@@ -28,13 +28,12 @@ use Rattle.lists.proofs.Pigeonhole.{pigeonhole}
 use Rattle.geometry.specs.declared.point.Point.{Point}
 use Rattle.geometry.specs.Points.{pt, origin}
 use Rattle.geometry.specs.Boxes.{faces}
-use Rattle.chains.specs.Links.{link_of, link_to}
+use Rattle.chains.specs.Links.{link_of}
 use Rattle.chains.proofs.Firsts.{places_link, link_found}
 use Rattle.mesh_weld.specs.Cells.{key_of, same_key}
 use Rattle.candidate_pool.specs.Offsets.{entry_at, keys_at, lists_at, list_at, joined_at, pool_end}
 use Rattle.candidate_pool.specs.Pool.{Candidate, no_candidate, face_list, by_key, place_for, point_of}
-use Rattle.mesh_weld.specs.Room.{cell_at}
-use Rattle.candidate_pool.specs.Room.{key_words}
+use Rattle.mesh_weld.specs.Room.{words_of, cell_at}
 use Rattle.candidate_pool.specs.Standing.{faces_in, count_at, point_at, candidate_at, pool_at, Holds, RoomFor, Tidy}
 use Rattle.candidate_pool.proofs.Listing.{at_faces, faces_same}
 use Rattle.candidate_pool.proofs.Searching.{key_is, words_same}
@@ -128,21 +127,21 @@ module _ (eps : Float) (n : ℕ) (w : List ℕ) (h : Holds eps n w) where
   point_is : (c : ℕ) → c < count_at w → get_or points c origin ≡ point_at w (entry_at c)
   point_is c k = get_or-map (λ c. c.point) (pool_at n w).all c no_candidate ∙ ap (λ (x : Candidate). x.point) (pool_at_lem n w c k)
 
-  pub link_is : (e : Candidate) → link_to (key_is w n (key_words (key_of eps e.point))) (up_to (count_at w)) ≡ link_of (place_for (by_key eps) (pool_at n w) e)
-  link_is e =
-      ap (λ (k : ℕ). link_to (key_is w n (key_words (key_of eps e.point))) (up_to k)) (sym points_long)
+  pub first_is : (e : Candidate) → first (key_is w n (words_of (key_of eps e.point))) (up_to (count_at w)) ≡ place_for (by_key eps) (pool_at n w) e
+  first_is e =
+      ap (λ (k : ℕ). first (key_is w n (words_of (key_of eps e.point))) (up_to k)) (sym points_long)
       ∙ found_is eps e.point points w n
-      (λ i k. let r : i < count_at w = omega (arith, points_long) in h.keys i r ∙ ap (λ (p : Point). key_words (key_of eps p)) (sym (point_is i r)))
+      (λ i k. let r : i < count_at w = omega (arith, points_long) in h.keys i r ∙ ap (λ (p : Point). words_of (key_of eps p)) (sym (point_is i r)))
 
-  pub link_low : (e : Candidate) (i : ℕ) → place_for (by_key eps) (pool_at n w) e ≡ some i → i < count_at w
+  pub link_low : (e : Candidate) (i : ℕ) → place_for (by_key eps) (pool_at n w) e ≡ Some i → i < count_at w
   link_low e i q = omega (arith, ((key_lawful eps).found e.point points i q).0, points_long)
 
-  pub link_key : (e : Candidate) (i : ℕ) → place_for (by_key eps) (pool_at n w) e ≡ some i → cell_at w (keys_at n + 3 * i) ≡ key_words (key_of eps e.point)
+  pub link_key : (e : Candidate) (i : ℕ) → place_for (by_key eps) (pool_at n w) e ≡ Some i → cell_at w (keys_at n + 3 * i) ≡ words_of (key_of eps e.point)
   unfolding by_key
   link_key e i q =
       let t : Point → Bool = λ p. same_key (key_of eps p) (key_of eps e.point) in
       h.keys i (link_low e i q)
-      ∙ words_same (key_words (key_of eps (point_at w (entry_at i)))) (key_words (key_of eps e.point))
+      ∙ words_same (words_of (key_of eps (point_at w (entry_at i)))) (words_of (key_of eps e.point))
       (words_keys eps (point_at w (entry_at i)) e.point
       ∙ ap (λ (p : Point). same_key (key_of eps p) (key_of eps e.point)) (sym (point_is i (link_low e i q)))
       ∙ (link_found t origin points i (places_link t origin points ∙ ap link_of q)).1)
@@ -151,5 +150,5 @@ module _ (eps : Float) (n : ℕ) (w : List ℕ) (h : Holds eps n w) where
   some_room e room = go (place_for (by_key eps) (pool_at n w) e) refl
     where
       go : (k : Option ℕ) → place_for (by_key eps) (pool_at n w) e ≡ k → 0 < n
-      go none q = omega (arith, room q)
-      go (some i) q = omega (arith, link_low e i q, h.table.few)
+      go None q = omega (arith, room q)
+      go (Some i) q = omega (arith, link_low e i q, h.table.few)

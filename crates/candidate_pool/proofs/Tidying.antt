@@ -8,7 +8,7 @@ use native.Mathlib.Decide.{ℕ_discrete}
 use mathlib.Core.Path.{◌≡◌, refl, sym, ap, subst, ◌∙◌}
 use mathlib.Core.Bool.{Bool, true, false, cond, ◌&&◌, ◌||◌, and-true, or-false, and-false}
 use mathlib.Core.List.{List, [], ◌∷◌, ◌++◌}
-use mathlib.Core.Option.{Option, none, some}
+use Rattle.std.specs.Prelude.{Option, None, Some}
 use lib.Dec.{T, eqb}
 use lib.ListN.{get_or, set, length, length-append, length-set, get_or-append}
 use lib.Seq.{get_or-set_same, get_or-set_other, get_or-append_seam}
@@ -187,23 +187,23 @@ tidy_insert J p e lawful t =
     all = p.all
 
     kept : (k : Option ℕ) → place_for J p e ≡ k → (d : ℕ) → d < length (insert J p e).all → (d ≡ c → ⊥) → d < length all
-    kept none q d hd n = let a = count_new J p e q in let b = number_new J p e q in let m : (d ≡ length all → ⊥) = λ z. n (z ∙ sym b) in omega arith
-    kept (some i) q d hd n = omega (arith, count_found J p e i q)
+    kept None q d hd n = let a = count_new J p e q in let b = number_new J p e q in let m : (d ≡ length all → ⊥) = λ z. n (z ∙ sym b) in omega arith
+    kept (Some i) q d hd n = omega (arith, count_found J p e i q)
 
     others : (k : Option ℕ) → place_for J p e ≡ k → (d : ℕ) → d < length all → (d ≡ c → ⊥) → get_or (insert J p e).all d no_candidate ≡ get_or all d no_candidate
-    others none q d hd n = ap (λ (l : List Candidate). get_or l d no_candidate) (all_new J p e q) ∙ get_or-append all (e ∷ []) no_candidate d hd
-    others (some i) q d hd n =
+    others None q d hd n = ap (λ (l : List Candidate). get_or l d no_candidate) (all_new J p e q) ∙ get_or-append all (e ∷ []) no_candidate d hd
+    others (Some i) q d hd n =
         ap (λ (l : List Candidate). get_or l d no_candidate) (all_found J p e i q)
         ∙ get_or-set_other all i d (renewed (get_or all i no_candidate) e) no_candidate (λ z. n (z ∙ sym (number_found J p e i q)))
 
     own : (k : Option ℕ) → place_for J p e ≡ k → (f : ℕ) → f < 6 → has (get_or (insert J p e).all c no_candidate).on f ≡ (has (face_list p f) c || has e.on f)
-    own none q f hf =
+    own None q f hf =
         ap (λ (l : List Candidate). has (get_or l c no_candidate).on f) (all_new J p e q)
         ∙ ap (λ (d : ℕ). has (get_or (all ++ (e ∷ [])) d no_candidate).on f) (number_new J p e q)
         ∙ ap (λ (y : Candidate). has y.on f) (get_or-append_seam all e [] no_candidate)
         ∙ ap (λ (b : Bool). b || has e.on f) (sym (low_absent (length all) (face_list p f) (λ i h. t.low f i hf h)))
         ∙ ap (λ (d : ℕ). has (face_list p f) d || has e.on f) (sym (number_new J p e q))
-    own (some i) q f hf =
+    own (Some i) q f hf =
         ap (λ (l : List Candidate). has (get_or l c no_candidate).on f) (all_found J p e i q)
         ∙ ap (λ (d : ℕ). has (get_or (set all i (renewed (get_or all i no_candidate) e)) d no_candidate).on f) (number_found J p e i q)
         ∙ ap (λ (y : Candidate). has y.on f) (get_or-set_same all i (renewed (get_or all i no_candidate) e) no_candidate (found_low J p e lawful i q))

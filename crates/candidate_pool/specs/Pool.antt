@@ -8,8 +8,7 @@
 --   listed        `push_unique`: the face lists after candidate c was added to some faces
 --   insert        `insert_candidate`: the candidate found is renewed, else the new one stands behind all
 use Rattle.std.specs.Prelude.{ℕ, cond, ◌||◌, List, [], ◌∷◌, ◌++◌, map, eqb, get_or, set, length, Float}
-use Rattle.std.proofs.Math.Option
-use Rattle.std.proofs.Math.Option.{Option, none, some}
+use Rattle.std.specs.Prelude.{Option, None, Some, unwrap_or}
 use Rattle.lists.specs.Lists.{first, keep, has, up_to}
 use Rattle.geometry.specs.declared.point.Point.{Point}
 use Rattle.geometry.specs.Points.{origin}
@@ -57,8 +56,8 @@ renewed c e =
 
 -- the candidate at the place found is renewed; where none was found, e stands behind all
 abbrev pub entered_as : List Candidate → Candidate → Option ℕ → List Candidate
-entered_as l e (some i) = set l i (renewed (get_or l i no_candidate) e)
-entered_as l e none = l ++ (e ∷ [])
+entered_as l e (Some i) = set l i (renewed (get_or l i no_candidate) e)
+entered_as l e None = l ++ (e ∷ [])
 
 abbrev pub added : List ℕ → ℕ → List ℕ
 added l c = cond (has l c) l (l ++ (c ∷ []))
@@ -72,7 +71,7 @@ module _ (J : Joining Point) where
   place_for p e = J.find e.point (map (λ c. c.point) p.all)
 
   unfoldable pub number_for : Pool → Candidate → ℕ
-  number_for p e = Option.get_or (place_for p e) (length p.all)
+  number_for p e = unwrap_or (place_for p e) (length p.all)
 
   unfoldable pub insert : Pool → Candidate → Pool
   insert p e = record { all = entered_as p.all e (place_for p e); lists = listed p.lists e.on (number_for p e) }

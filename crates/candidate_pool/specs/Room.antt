@@ -1,19 +1,13 @@
 -- What the functions of candidates keep in the work room, of which the outer contract does not speak. For at most n candidates: their keys from keys_at on, three words each, and
 -- from chain_at on the bucket chains (crate chains), n heads, n tails and n nexts. Assumes nothing.
---   key_words    a key as three words, of cleaning's form (`Cell`) though made otherwise: a key beyond 2^62 has words here too
 --   key_bucket   the bucket of a key
 --   KeyTable    the room holds the table of the first `count` candidates by their keys
 use Rattle.std.specs.Prelude.{ℕ, ◌+◌, ◌*◌, ◌≤◌, ◌<◌, List, length}
-use Rattle.rounding.specs.Rounding.{key_word}
 use Rattle.chains.specs.Hash.{bucket_of}
 use Rattle.chains.specs.Chains.{Linked}
-use Rattle.mesh_weld.specs.Cells.{Key}
 use Rattle.candidate_pool.specs.Offsets.{keys_at, chain_at, lists_at}
 use Rattle.mesh_weld.specs.declared.cells.Cell.{Cell}
 use Rattle.mesh_weld.specs.Room.{cell_at}
-
-abbrev pub key_words : Key → Cell
-key_words k = record { x = key_word k.x; y = key_word k.y; z = key_word k.z }
 
 abbrev pub key_bucket : ℕ → Cell → ℕ
 key_bucket n k = bucket_of k.x k.y k.z n

@@ -18,7 +18,7 @@
 --   EdgesHeld      the ends of these edges are in the lists of the edge's faces
 use Rattle.std.specs.Prelude.{ℕ, suc, ◌+◌, ◌*◌, ◌≤◌, ◌<◌, ◌^◌, ◌≡◌, true, length, get_or, set, Float, Option, Some, None}
 use mathlib.Core.List.{List, [], ◌∷◌, map, flat_map}
-use Rattle.std.proofs.Math.Option.{none}
+use Rattle.std.specs.Prelude.{Option, None, Some}
 use Rattle.std.specs.Float.{binary64}
 use Rattle.std.specs.Float.Ieee.{of_bits, to_bits}
 use Rattle.lists.specs.Lists.{keep, has, up_to}
@@ -33,8 +33,8 @@ use Rattle.box_faces.specs.Faces.{has_bit}
 use Rattle.candidate_pool.specs.OpenEdges.{OpenEdge, open_edge}
 use Rattle.candidate_pool.specs.Offsets.{entry_at, keys_at, list_at, joined_at, pool_end}
 use Rattle.candidate_pool.specs.Pool.{Candidate, Pool, no_candidate, no_pool, face_list, renewed, listed, by_key, place_for, number_for, insert}
-use Rattle.mesh_weld.specs.Room.{cell_at}
-use Rattle.candidate_pool.specs.Room.{key_words, KeyTable}
+use Rattle.mesh_weld.specs.Room.{words_of, cell_at}
+use Rattle.candidate_pool.specs.Room.{KeyTable}
 
 abbrev pub mesh_word : Option MeshVertexId → ℕ
 mesh_word (Some v) = v.0 + 1
@@ -80,14 +80,14 @@ pub record Tidy (p : Pool) : Type 0 where
 pub record Holds (eps : Float) (n : ℕ) (w : List ℕ) : Type 0 where
   pub size : pool_end n ≤ length w
   pub table : KeyTable w n (count_at w)
-  pub keys : (c : ℕ) → c < count_at w → cell_at w (keys_at n + 3 * c) ≡ key_words (key_of eps (point_at w (entry_at c)))
+  pub keys : (c : ℕ) → c < count_at w → cell_at w (keys_at n + 3 * c) ≡ words_of (key_of eps (point_at w (entry_at c)))
   pub stored : (c : ℕ) → c < count_at w → PointStored w (entry_at c)
   pub masks : (c : ℕ) → c < count_at w → get_or w (entry_at c + 4) 0 < 64
   pub lengths : (f : ℕ) → f < 6 → get_or w f 0 ≤ n
   pub tidy : Tidy (pool_at n w)
 
 abbrev pub RoomFor : Float → ℕ → List ℕ → Candidate → Type 0
-RoomFor eps n w e = place_for (by_key eps) (pool_at n w) e ≡ none → count_at w < n
+RoomFor eps n w e = place_for (by_key eps) (pool_at n w) e ≡ None → count_at w < n
 
 -- only the words below joined_at change
 pub record Inserted (eps : Float) (n : ℕ) (e : Candidate) (w w' : List ℕ) : Type 0 where

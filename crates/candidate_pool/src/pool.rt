@@ -7,13 +7,13 @@ ghost use Rattle.candidate_pool.specs.Room.{KeyTable};
 ghost use Rattle.candidate_pool.specs.Standing.{mesh_word, faces_in, count_at, point_at, pool_at, candidate, PointIn, PointStored, Holds, RoomFor, Inserted, VertexInserted, FaceAdded, Cleared};
 ghost use Rattle.candidate_pool.specs.Steps.{BitsOf, point_put, candidate_put, FacesAdded};
 
-use crate::keys::{find_key, quantized_point_key};
+use crate::keys::find_key;
 use crate::room::{Room, entry_at};
 use box_faces::faces::has_face;
 use chains::{bucket, enter};
 use geometry::numbers::{CandidateVertexId, MeshVertexId};
 use geometry::point::Point;
-use mesh_weld::cells::Cell;
+use mesh_weld::cells::{Cell, cell_of};
 use words::zero_part;
 
 // "mesh vertex + 1 or 0", as it stands in a candidate: 0 where it has no mesh vertex.
@@ -89,7 +89,7 @@ fn place_candidate(
     ensures { Inserted eps room.n (candidate p (mesh_word mesh) []) w.old w.new ×
         (result.0 ≡ number_for (by_key eps) (pool_at room.n w.old) (candidate p (mesh_word mesh) [])) }
 {
-    let key = quantized_point_key(p, eps);
+    let key = cell_of(p, eps);
     let b = bucket(key.x, key.y, key.z, room.n as u64) as usize;
     match find_key(w, room, w[6] as usize, key, b) {
         None => push_candidate(w, room, p, mesh, key, b),

@@ -13,7 +13,7 @@ use Rattle.candidate_edges.proofs.open.put_edge.Goals.{then-a-b, else-a-b}
 use Rattle.candidate_edges.proofs.open.put_edge.Goals as goal
 
 none_counted : (t : Bool) (mask : ℕ) → bit_count (cond t 0 mask) ≡ cond t 0 (bit_count mask)
-unfolding bit_count has_bit keep
+unfolding bit_count has_bit
 none_counted true mask = refl
 none_counted false mask = refl
 

@@ -25,7 +25,7 @@ bucket-b-requires-clause-buckets_nonzero c =
 pub push_candidate-requires-clause-point_in : goal.push_candidate-requires-clause-point_in
 push_candidate-requires-clause-point_in c =
     let a = c.args in
-    let k = c.quantized_point_key-key in
+    let k = c.cell_of-key in
     let b = c.bucket-b in
     let f = c.find_key in (
       c.requires.point_in.0,
@@ -37,7 +37,7 @@ push_candidate-requires-clause-point_in c =
 pub returns-in-None : goal.returns-in-None
 returns-in-None c =
     let a = c.args in
-    let k = c.quantized_point_key-key in
+    let k = c.cell_of-key in
     let b = c.bucket-b in
     let f = c.find_key in
     let u = c.push_candidate in (
@@ -50,7 +50,7 @@ returns-in-None c =
 pub put_point-requires-clause-point_in : goal.put_point-requires-clause-point_in
 put_point-requires-clause-point_in c =
     let a = c.args in
-    let k = c.quantized_point_key-key in
+    let k = c.cell_of-key in
     let b = c.bucket-b in
     let f = c.find_key in (
       c.requires.point_in.0,
@@ -60,7 +60,7 @@ put_point-requires-clause-point_in c =
 pub returns-then-is_some : goal.returns-then-is_some
 returns-then-is_some c =
     let a = c.args in
-    let k = c.quantized_point_key-key in
+    let k = c.cell_of-key in
     let b = c.bucket-b in
     let f = c.find_key in
     let u = c.put_point in
@@ -73,7 +73,7 @@ returns-then-is_some c =
 pub returns-else-is_some : goal.returns-else-is_some
 returns-else-is_some c =
     let a = c.args in
-    let k = c.quantized_point_key-key in
+    let k = c.cell_of-key in
     let b = c.bucket-b in
     let f = c.find_key in
     let s = c.in-Some in (
