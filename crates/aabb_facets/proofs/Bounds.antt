@@ -107,7 +107,6 @@ pub record Own (n : ℕ) (c : Clipping) (i : ℕ) : Type 0 where
   pub facets : length c.facets ≡ i
 
 apart : (l : List (ℕ × ℕ)) (v : ℕ) → is_shared l v ≡ false → Each (Differ v) (map (λ (s : ℕ × ℕ). s.0) l)
-unfolding some
 apart [] v h = tt
 apart (s ∷ l) v h =
     (λ q. never (eqb v s.0) (eq-eqb v s.0 q) (or_none_left (eqb v s.0) (is_shared l v) h), apart l v (or_none_right (eqb v s.0) (is_shared l v) h))
@@ -133,7 +132,7 @@ module _ (box : AABB) (eps : Float) (vs : List Point) (whole : every (inside_box
       (λ e. o)
 
   own_facet : (c : Clipping) (t : Triangle ℕ) (i : ℕ) → Below n t → Own n c i → Own n (clip_facet box eps vs c t) (i + 1)
-  unfolding clip_facet sharing every
+  unfolding clip_facet sharing
   own_facet c t i h o =
       subst (λ (b : Bool). Own n (cond b (sharing box eps vs c t) (fanned c (clip_polygon box eps faces (map (vertex vs) (vertices t))))) (i + 1)) (sym inside)
       (record { count = o3.count; once = o3.once; low = o3.low; facets = long })

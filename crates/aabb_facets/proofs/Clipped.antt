@@ -25,7 +25,7 @@ abbrev pub is_shared : List (ℕ × ℕ) → ℕ → Bool
 is_shared l v = some (λ s. eqb v s.0) l
 
 pub linked : (l : List (ℕ × ℕ)) (v : ℕ) → is_shared l v ≡ true → link l v ≡ shared_number l v + 1
-unfolding some link shared_number
+unfolding link shared_number
 linked [] v h = absurd (never false h refl)
 linked (s ∷ l) v h = go (linked l v) (eqb v s.0) h
   where
@@ -35,7 +35,7 @@ linked (s ∷ l) v h = go (linked l v) (eqb v s.0) h
     go f false g = f g
 
 pub unlinked : (l : List (ℕ × ℕ)) (v : ℕ) → is_shared l v ≡ false → link l v ≡ 0
-unfolding some link
+unfolding link
 unlinked [] v h = refl
 unlinked (s ∷ l) v h = go (unlinked l v) (eqb v s.0) h
   where
@@ -71,12 +71,10 @@ module _ (box : AABB) (eps : Float) (vs : List Point) (c : Clipping) (v : ℕ) w
   number_new = ap (λ (b : Bool). cond b (length c.points) (shared_number c.shared v)) (eq-eqb v v refl)
 
   pub shared_now : is_shared (share_once box eps vs c v).shared v ≡ true
-  unfolding some
   shared_now = share_cases (λ m. is_shared m.shared v ≡ true) (λ e. or_stop (eqb v v) (is_shared c.shared v) (eq-eqb v v refl)) (λ e. e)
 
   module _ (w : ℕ) (h : is_shared c.shared w ≡ true) where
     pub shared_still : is_shared (share_once box eps vs c v).shared w ≡ true
-    unfolding some
     shared_still = share_cases (λ m. is_shared m.shared w ≡ true) (λ e. ap (λ (b : Bool). eqb w v || b) h ∙ or-true (eqb w v)) (λ e. h)
 
     pub number_still : shared_number (share_once box eps vs c v).shared w ≡ shared_number c.shared w

@@ -151,7 +151,6 @@ module _ (vs : List Float) (fs : List ℕ) (box : AABB) (eps : Float) (n : ℕ) 
         ∙ ap (seen c3.points c3.shared) (numbers_same m a b c ks ∙ sym (flat_append m.facets (mapped (shared_number c3.shared) (tri a b c) ∷ [])))
 
     inside_is : (In a && (In b && In c)) ≡ every (λ v. inside_box box eps (vertex (points_of vs) v)) (vertices (tri a b c))
-    unfolding every
     inside_is = ap (λ (x : Bool). In a && (In b && x)) (sym (and-true (In c)))
 
     pub facet_shows : facet_room vs fs box eps (shows vs box eps n m ov of) i ≡ shows vs box eps n (clip_facet box eps (points_of vs) m (tri a b c)) ov of

@@ -13,8 +13,8 @@ use lib.Dec.{ltb, eqb}
 use lib.ListN.{length}
 use Rattle.lists.proofs.Bools.{or_stop, or_next, or_none_left, or_none_right}
 use Rattle.refusals.specs.declared.refusal.Refusal.TheVariants.{Ragged, TooMany, BadIndex, NoWorkRoom}
-use Rattle.refusals.specs.declared.refusal.Checked.{Checked}
-use Rattle.refusals.specs.declared.refusal.Checked.TheVariants.{Passed, Refused}
+use Rattle.std.specs.Prelude.{Result, Ok, Err}
+use Rattle.refusals.specs.declared.refusal.Refusal.{Refusal}
 use Rattle.refusals.specs.Refusals.{Test, first_refusal}
 use Rattle.refusals.proofs.Refusals.{holds, passes, none_left}
 use Rattle.refusals.proofs.Replies.{head_passed, tail_passed}
@@ -39,10 +39,10 @@ module _ (vertices : ℕ) (fs : List ℕ) (l : Limits) where
   abbrev counts : List Test
   counts = (many, TooMany) ∷ index
 
-  abbrev found : Checked
+  abbrev found : Result (Unit {0}) Refusal
   found = first_refusal (boundary_tests vertices fs l)
 
-  pub ragged_refused : ragged (length fs) 3 ≡ true → Refused Ragged ≡ found
+  pub ragged_refused : ragged (length fs) 3 ≡ true → ◌≡◌ {A = Result (Unit {0}) Refusal} (Err Ragged) found
   unfolding boundary_tests
   ragged_refused h = sym (holds (ragged (length fs) 3) Ragged counts h)
 
@@ -60,25 +60,25 @@ module _ (vertices : ℕ) (fs : List ℕ) (l : Limits) where
     unfolding boundary_tests
     after_ragged = passes (ragged (length fs) 3) Ragged counts h1
 
-    pub many_refused : many ≡ true → Refused TooMany ≡ found
+    pub many_refused : many ≡ true → ◌≡◌ {A = Result (Unit {0}) Refusal} (Err TooMany) found
     many_refused h = sym (after_ragged ∙ holds many TooMany index h)
 
     module _ (h2 : many ≡ false) where
       after_counts : found ≡ first_refusal index
       after_counts = after_ragged ∙ passes many TooMany index h2
 
-      pub index_refused : bad_index vertices fs ≡ true → Refused BadIndex ≡ found
+      pub index_refused : bad_index vertices fs ≡ true → ◌≡◌ {A = Result (Unit {0}) Refusal} (Err BadIndex) found
       index_refused h = sym (after_counts ∙ holds (bad_index vertices fs) BadIndex work h)
 
       module _ (h3 : bad_index vertices fs ≡ false) where
         after_index : found ≡ first_refusal work
         after_index = after_counts ∙ passes (bad_index vertices fs) BadIndex work h3
 
-        pub room_refused : (n : ℕ) → n ≡ need → l.lent < n → Refused (NoWorkRoom n) ≡ found
+        pub room_refused : (n : ℕ) → n ≡ need → l.lent < n → ◌≡◌ {A = Result (Unit {0}) Refusal} (Err (NoWorkRoom n)) found
         room_refused n e h =
-            ap (λ (k : ℕ). Refused (NoWorkRoom k)) e ∙ sym (after_index ∙ holds (ltb l.lent need) (NoWorkRoom need) [] (lt-ltb l.lent need (omega (arith, e, h))))
+            ap (λ (k : ℕ). Err {T = Unit {0}} (NoWorkRoom k)) e ∙ sym (after_index ∙ holds (ltb l.lent need) (NoWorkRoom need) [] (lt-ltb l.lent need (omega (arith, e, h))))
 
-        pub all_passed_lem : (n : ℕ) → n ≡ need → n ≤ l.lent → Passed ≡ found
+        pub all_passed_lem : (n : ℕ) → n ≡ need → n ≤ l.lent → ◌≡◌ {A = Result (Unit {0}) Refusal} (Ok tt) found
         all_passed_lem n e h =
             sym (after_index ∙ passes (ltb l.lent need) (NoWorkRoom need) [] (le-ltb l.lent need (omega (arith, e, h))) ∙ none_left)
 
@@ -91,7 +91,7 @@ module _ (vertices : ℕ) (fs : List ℕ) (l : Limits) where
       let b = ltb-false (admitted l.ceiling) (length fs / 3) (or_none_right (ltb (admitted l.ceiling) vertices) (too_many (admitted l.ceiling) (length fs) 3) h) in
       (omega (arith, a, m), omega (arith, b, m))
 
-  pub passed : found ≡ Passed → Ready vertices fs l.lent
+  pub passed : found ≡ Ok tt → Ready vertices fs l.lent
   unfolding boundary_tests ragged work_need
   passed e =
       let e2 = tail_passed (ragged (length fs) 3) Ragged counts e in

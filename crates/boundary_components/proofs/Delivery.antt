@@ -13,10 +13,10 @@ use Rattle.lists.proofs.Regions.{view_length}
 use Rattle.geometry.specs.Triangles.{threes}
 use Rattle.edges.specs.Edges.{pair_words}
 use Rattle.refusals.specs.declared.refusal.Refusal.TheVariants.{NoRoom}
-use Rattle.refusals.specs.declared.reply.Reply.TheVariants.{DoneThree, Refused}
+use Rattle.std.specs.Prelude.{Ok, Err}
 use Rattle.refusals.specs.Refusals.{documented_reply}
 use Rattle.refusals.specs.Answers.{output, Answer}
-use Rattle.refusals.proofs.Answers.{short, done_three}
+use Rattle.refusals.proofs.Answers.{short, done}
 use Rattle.irregular_edges.specs.Irregular.{irregular_edges}
 use Rattle.boundary_groups.specs.Groups.{boundary_components, component_words}
 use Rattle.boundary_components.specs.Boundary.{boundary_outputs}
@@ -50,17 +50,17 @@ module _ (vertices : ℕ) (fs w w' : List ℕ) (k c q : ℕ) (ready : Ready vert
   irregular_long = sym (view_length w' (4 * length fs) (2 * q) (omega (arith, room, l.few_irregular))) ∙ ap length l.irregulars
 
   module _ (e p i : List ℕ) where
-    pub short_edges : length e < 2 * k → Answer [] (boundary_outputs (threes fs) e e p p i i) (documented_reply (Refused (NoRoom (2 * k))))
+    pub short_edges : length e < 2 * k → Answer [] (boundary_outputs (threes fs) e e p p i i) (documented_reply (Err (NoRoom (2 * k))))
     short_edges h = short [] (output edges_out e e) (output components_out p p ∷ output irregular_out i i ∷ []) (2 * k) edges_long tt h (refl, (refl, (refl, tt)))
 
     module _ (fe : 2 * k ≤ length e) where
-      pub short_components : length p < 2 * c → Answer [] (boundary_outputs (threes fs) e e p p i i) (documented_reply (Refused (NoRoom (2 * c))))
+      pub short_components : length p < 2 * c → Answer [] (boundary_outputs (threes fs) e e p p i i) (documented_reply (Err (NoRoom (2 * c))))
       short_components h =
           short (output edges_out e e ∷ []) (output components_out p p) (output irregular_out i i ∷ []) (2 * c) components_long (omega (arith, fe, edges_long), tt) h
           (refl, (refl, (refl, tt)))
 
       module _ (fp : 2 * c ≤ length p) where
-        pub short_irregular : length i < 2 * q → Answer [] (boundary_outputs (threes fs) e e p p i i) (documented_reply (Refused (NoRoom (2 * q))))
+        pub short_irregular : length i < 2 * q → Answer [] (boundary_outputs (threes fs) e e p p i i) (documented_reply (Err (NoRoom (2 * q))))
         short_irregular h =
             short (output edges_out e e ∷ output components_out p p ∷ []) (output irregular_out i i) [] (2 * q) irregular_long
             (omega (arith, fe, edges_long), (omega (arith, fp, components_long), tt)) h (refl, (refl, (refl, tt)))
@@ -68,8 +68,8 @@ module _ (vertices : ℕ) (fs w w' : List ℕ) (k c q : ℕ) (ready : Ready vert
         pub written : (e' p' i' : List ℕ) → 2 * q ≤ length i
             → e' ≡ overlay (view w' (9 * length fs + 2 * vertices) (2 * k)) e → p' ≡ overlay (view w' (11 * length fs + 2 * vertices) (2 * c)) p
             → i' ≡ overlay (view w' (4 * length fs) (2 * q)) i
-            → Answer [] (boundary_outputs (threes fs) e e' p p' i i') (documented_reply (DoneThree (2 * k) (2 * c) (2 * q)))
+            → Answer [] (boundary_outputs (threes fs) e e' p p' i i') (documented_reply (Ok (2 * k ∷ 2 * c ∷ 2 * q ∷ [])))
         written e' p' i' fi a b d =
-            done_three (output edges_out e e') (output components_out p p') (output irregular_out i i') (2 * k) (2 * c) (2 * q) edges_long components_long irregular_long
+            done (output edges_out e e' ∷ output components_out p p' ∷ output irregular_out i i' ∷ []) (2 * k ∷ 2 * c ∷ 2 * q ∷ []) (λ t. edges_long t ∷ components_long t ∷ irregular_long t ∷ [])
             (omega (arith, fe, edges_long), (omega (arith, fp, components_long), (omega (arith, fi, irregular_long), tt)))
             (a ∙ ap (λ (x : List ℕ). overlay x e) l.edges, (b ∙ ap (λ (x : List ℕ). overlay x p) l.groups, (d ∙ ap (λ (x : List ℕ). overlay x i) l.irregulars, tt)))

@@ -37,7 +37,7 @@ none_of_map f [] e = refl
 none_of_map f (x ∷ l) e = absurd (let h = ap length e in omega (arith, h))
 
 none_of_distinct : {A : Type 0} (same : A → A → Bool) (l : List A) → distinct same l ≡ [] → l ≡ []
-unfolding distinct_from some
+unfolding distinct_from
 none_of_distinct same [] e = refl
 none_of_distinct same (x ∷ l) e = absurd (let h = ap length e in omega (arith, h))
 
@@ -84,7 +84,7 @@ module _ (facets : List (Triangle ℕ)) where
   none_open h = ap (λ (k : List (ℕ × ℕ)). sort_by pair_before k) (none_kept (is_open S) S h)
 
   pub no_components : open_edges facets ≡ [] → boundary_components facets ≡ []
-  unfolding boundary_components open_pairs groups up_from keep
+  unfolding boundary_components open_pairs groups up_from
   no_components e = ap (λ (l : List (ℕ × ℕ)). let es = map sorted_pair l in map (λ g. map (nth_edge es) g) (groups es)) e
 
   -- a list that has a member is not empty

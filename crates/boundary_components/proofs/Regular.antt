@@ -43,7 +43,6 @@ not_both s t n a b =
 
 -- a count of either of two tests that never both hold
 count_either : {A : Type 0} (p q r : A → Bool) → ((x : A) → r x ≡ (p x || q x)) → ((x : A) → p x ≡ true → q x ≡ true → ⊥) → (l : List A) → count r l ≡ count p l + count q l
-unfolding keep
 count_either p q r e n [] = refl
 count_either p q r e n (x ∷ l) =
     count_cons r x l ∙ step (p x) (q x) (r x) (e x) (n x) (count p l) (count q l) (count r l) (count_either p q r e n l)

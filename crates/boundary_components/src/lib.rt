@@ -15,32 +15,32 @@ use boundary_groups::group_edges;
 use edges::{keep_open, sort_sides};
 use input_tests::{has_bad_index, is_ragged, is_too_many, most_admitted, work_need};
 use irregular_edges::irregular_edges;
-use refusals::refusal::{Checked, Refusal};
+use refusals::refusal::Refusal;
 use refusals::reply::Reply;
-use words::{copy_words, zero_front, zero_part};
+use words::{copy_front, zero_front, zero_part};
 
 // Tests 1, 2, 3 and 7, in that order.
-fn check(vertices: u64, facets: &[u32], ceiling: u64, lent: usize) -> Checked
+fn check(vertices: u64, facets: &[u32], ceiling: u64, lent: usize) -> Result<(), Refusal>
     ensures { result ≡ first_refusal (boundary_tests vertices facets.now (limits ceiling lent)) }
 {
     if is_ragged(facets.len(), 3) {
-        return Checked::Refused(Refusal::Ragged);
+        return Err(Refusal::Ragged);
     }
     let most = most_admitted(ceiling);
     if vertices > most as u64 {
-        return Checked::Refused(Refusal::TooMany);
+        return Err(Refusal::TooMany);
     }
     if is_too_many(most, facets.len(), 3) {
-        return Checked::Refused(Refusal::TooMany);
+        return Err(Refusal::TooMany);
     }
     if has_bad_index(facets, vertices as usize) {
-        return Checked::Refused(Refusal::BadIndex);
+        return Err(Refusal::BadIndex);
     }
     let need = work_need(vertices as usize, facets.len() / 3, 0, 0);
     if lent < need {
-        return Checked::Refused(Refusal::NoWorkRoom(need));
+        return Err(Refusal::NoWorkRoom(need));
     }
-    Checked::Passed
+    Ok(())
 }
 
 // How many open edges, components and irregular edges there are.
@@ -64,9 +64,9 @@ fn stage(vertices: usize, facets: &[u32], work: &mut [u64]) -> Found
     zero_part(work, 2 * edges, 2 * (n - edges));
     let components = group_edges(work, edges, n, vertices, 5 * n);
     Found {
-        edges: edges,
-        components: components,
-        irregular: irregular,
+        edges,
+        components,
+        irregular,
     }
 }
 
@@ -75,7 +75,7 @@ fn write_list(w: &[u64], from: usize, n: usize, out: &mut [u64])
     requires { (from + n ≤ length w.now) × (n ≤ length out.old) }
     ensures { out.new ≡ overlay (view w.now from n) out.old }
 {
-    copy_words(&w[from..from + n], out);
+    copy_front(&w[from..from + n], out);
 }
 
 // Every length is known before the first output is written.
@@ -86,7 +86,7 @@ fn list_checked(
     out_edges: &mut [u64],
     out_components: &mut [u64],
     out_irregular: &mut [u64],
-) -> Reply
+) -> Reply<3>
     requires { Ready vertices facets.now (length work.old) }
     ensures { Answer []
         (boundary_outputs (threes facets.now) out_edges.old out_edges.new out_components.old out_components.new
@@ -97,19 +97,19 @@ fn list_checked(
     let components = 2 * found.components;
     let irregular = 2 * found.irregular;
     if out_edges.len() < edges {
-        return Reply::Refused(Refusal::NoRoom(edges));
+        return Err(Refusal::NoRoom(edges));
     }
     if out_components.len() < components {
-        return Reply::Refused(Refusal::NoRoom(components));
+        return Err(Refusal::NoRoom(components));
     }
     if out_irregular.len() < irregular {
-        return Reply::Refused(Refusal::NoRoom(irregular));
+        return Err(Refusal::NoRoom(irregular));
     }
     let n = facets.len();
     write_list(work, 9 * n + 2 * vertices, edges, out_edges);
     write_list(work, 11 * n + 2 * vertices, components, out_components);
     write_list(work, 4 * n, irregular, out_irregular);
-    Reply::DoneThree(edges, components, irregular)
+    Ok([edges, components, irregular])
 }
 
 // The tests, and the lists where they pass. The work room is left as it came out.
@@ -121,22 +121,20 @@ fn list_lent(
     out_edges: &mut [u64],
     out_components: &mut [u64],
     out_irregular: &mut [u64],
-) -> Reply
+) -> Reply<3>
     ensures { Answer (boundary_tests vertices facets.now (limits ceiling (length work.old)))
         (boundary_outputs (threes facets.now) out_edges.old out_edges.new out_components.old out_components.new
         out_irregular.old out_irregular.new) (documented_reply result) }
 {
-    match check(vertices, facets, ceiling, work.len()) {
-        Checked::Passed => list_checked(
-            vertices as usize,
-            facets,
-            work,
-            out_edges,
-            out_components,
-            out_irregular,
-        ),
-        Checked::Refused(r) => Reply::Refused(r),
-    }
+    check(vertices, facets, ceiling, work.len())?;
+    list_checked(
+        vertices as usize,
+        facets,
+        work,
+        out_edges,
+        out_components,
+        out_irregular,
+    )
 }
 
 // Lists the open edges of facets by components, which of these are rings, and the edges that no closed surface has.
@@ -148,7 +146,7 @@ pub fn boundary_components(
     out_edges: &mut [u64],
     out_components: &mut [u64],
     out_irregular: &mut [u64],
-) -> Reply
+) -> Reply<3>
     ensures { Answered (boundary_tests vertices facets.now (limits ceiling (length work.old)))
         (boundary_outputs (threes facets.now) out_edges.old out_edges.new out_components.old out_components.new
         out_irregular.old out_irregular.new) work.old work.new (documented_reply result) }

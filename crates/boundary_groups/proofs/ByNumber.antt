@@ -31,7 +31,6 @@ abbrev pub keys_of : List (ℕ × ℕ) → ℕ → ℕ → List ℕ
 keys_of l b d = keep (λ r. some (has_key r) l) (up_from b d)
 
 some_no : (r : ℕ) (l : List (ℕ × ℕ)) → Each (λ y. y.0 ≡ r → ⊥) l → some (has_key r) l ≡ false
-unfolding some
 some_no r [] e = refl
 some_no r (y ∷ l) e = λ t. ne_eqb y.0 r e.0 t || some_no r l e.1 t
 
@@ -44,7 +43,7 @@ module _ (n : ℕ) where
   Cut l = (b d : ℕ) → b + d ≡ n → keys_below b n l → runs l ≡ map (λ r. keep (has_key r) l) (keys_of l b d)
 
   cut_none : Cut []
-  unfolding runs some
+  unfolding runs
   cut_none b d e f = sym (ap (map (λ r. keep (has_key r) [])) (keep_none (λ r. false) (up_from b d) (each_of (λ x. false ≡ false) (up_from b d) (λ x m. refl))))
 
   module _ (k : ℕ) (r : ℕ × ℕ) (run l : List (ℕ × ℕ)) (same : Each (λ y. y.0 ≡ k) (r ∷ run)) (later : Each (λ y. k < y.0) l) (ih : Cut l) where
@@ -84,7 +83,6 @@ module _ (n : ℕ) where
         append_nil (y ∷ x) = ap (λ (z : List (ℕ × ℕ)). y ∷ z) (append_nil x)
 
     found : some (has_key k) all ≡ true
-    unfolding some
     found = ap (λ (t : Bool). t || some (has_key k) (run ++ l)) (eq-eqb r.0 k same.0)
 
     keys : (b p d : ℕ) → b + p ≡ k → keys_of all b (p + suc d) ≡ k ∷ keys_of l (suc k) d

@@ -101,7 +101,6 @@ halves : (i : ℕ) → (i ≡ 2 * (i / 2)) ⊎ (i ≡ 2 * (i / 2) + 1)
 halves i = ⊎_elim (λ (h : i ≤ 2 * (i / 2)). inl (omega arith)) (λ (h : 2 * (i / 2) < i). inr (omega arith)) (le_or_lt i (2 * (i / 2)))
 
 every_map : {A B : Type 0} (p : B → Bool) (f : A → B) (l : List A) → every p (map f l) ≡ every (λ x. p (f x)) l
-unfolding every
 every_map p f [] = refl
 every_map p f (x ∷ l) = ap (λ (b : Bool). p (f x) && b) (every_map p f l)
 

@@ -44,7 +44,7 @@ module _ (number : ℕ → ℕ) where
     kept k d = keep (has_key r) (map numbered (up_from k d))
 
     later : (i k d : ℕ) → number i ≡ r → i < k → AtMostAll record_before (numbered i) (kept k d)
-    unfolding up_from keep
+    unfolding up_from
     later i k zero e h = tt
     later i k (suc d) e h = go (eqb (number k) r) refl (later i (suc k) d e (omega arith))
       where
@@ -56,7 +56,7 @@ module _ (number : ℕ → ℕ) where
         go false t rest = rest
 
     kept_ascends : (k d : ℕ) → Ascending record_before (kept k d)
-    unfolding up_from keep
+    unfolding up_from
     kept_ascends k zero = tt
     kept_ascends k (suc d) = go (eqb (number k) r) refl (kept_ascends (suc k) d)
       where

@@ -25,12 +25,10 @@ use Rattle.boundary_groups.proofs.Together.{eqb_T, first_end, second_end, share_
 
 module _ {A : Type 0} where
   pub every_of : (p : A → Bool) (l : List A) → ((x : A) → Memᴰ x l → T (p x)) → T (every p l)
-  unfolding every
   every_of p [] f = tt
   every_of p (x ∷ l) f = and_of (p x) (every p l) (f x (Memᴰ.head refl)) (every_of p l (λ y m. f y (Memᴰ.tail m)))
 
   pub every_same : (p q : A → Bool) (l : List A) → ((x : A) → Memᴰ x l → p x ≡ q x) → every p l ≡ every q l
-  unfolding every
   every_same p q [] f = refl
   every_same p q (x ∷ l) f = λ t. f x (Memᴰ.head refl) t && every_same p q l (λ y m. f y (Memᴰ.tail m)) t
 
@@ -76,7 +74,6 @@ ring_told c = record { sound = sound; complete = complete }
 -- ---- a ring by the degrees of its vertices
 
 pub keep_keep : {A : Type 0} (p q : A → Bool) (l : List A) → ((x : A) → Memᴰ x l → T (p x) → T (q x)) → keep p (keep q l) ≡ keep p l
-unfolding keep
 keep_keep p q [] f = refl
 keep_keep {A = A} p q (x ∷ l) f = go (p x) (q x) refl refl (f x (Memᴰ.head refl)) (keep_keep p q l (λ y m. f y (Memᴰ.tail m)))
   where

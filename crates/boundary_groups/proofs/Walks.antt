@@ -40,17 +40,15 @@ records_cons w j e h =
 
 module _ (p : ℕ × ℕ → Bool) (w : List ℕ) (b : Bool) (j e : ℕ) (h : j < e) (s : b ≡ every p (records_at w (2 * j) (e - j))) where
   pub every_records_stop : p (record_of w (2 * j)) ≡ false → b ≡ false
-  unfolding every
   every_records_stop q = s ∙ ap (every p) (records_cons w j e h) ∙ and_stop (p (record_of w (2 * j))) (every p (records_at w (2 * (j + 1)) (e - (j + 1)))) q
 
   pub every_records_more : p (record_of w (2 * j)) ≡ true → b ≡ every p (records_at w (2 * (j + 1)) (e - (j + 1)))
-  unfolding every
   every_records_more q =
       s ∙ ap (every p) (records_cons w j e h)
       ∙ and_next (p (record_of w (2 * j))) (every p (records_at w (2 * (j + 1)) (e - (j + 1)))) (every p (records_at w (2 * (j + 1)) (e - (j + 1)))) q refl
 
 pub every_records_end : (p : ℕ × ℕ → Bool) (w : List ℕ) (at k : ℕ) → k ≡ 0 → every p (records_at w at k) ≡ true
-unfolding every records_at
+unfolding records_at
 every_records_end p w at zero e = refl
 every_records_end p w at (suc k) e = absurd (omega arith)
 

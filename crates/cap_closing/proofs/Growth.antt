@@ -119,7 +119,6 @@ module _ (n m : Named) (g : Grown n m) (s : Sound n) where
 
   pub kept_left : (ts : List (Triangle ℕ)) → Each (Corners (λ v. 0 < get_or n.given v 0)) ts
       → keep (is_large m.points) (map (mapped (new_number m)) ts) ≡ keep (is_large n.points) (map (mapped (new_number n)) ts)
-  unfolding keep
   kept_left [] h = refl
   kept_left (t ∷ ts) h =
       let e = large_kept t h.0 in

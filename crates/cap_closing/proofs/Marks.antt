@@ -44,7 +44,7 @@ pub record Marking (w₀ : List ℕ) (records firsts left : ℕ) (w : List ℕ) 
 
 module _ (w₀ : List ℕ) (records firsts left : ℕ) (behind : records + 2 * left ≤ firsts) (room : firsts + left ≤ length w₀) (s : SortedPlaces w₀ records left) where
   pub marking_start : Marking w₀ records firsts left w₀ 0 0
-  unfolding up_from keep
+  unfolding up_from
   marking_start =
       record {
         within = omega arith;

@@ -36,7 +36,6 @@ module _ (key : ℕ → ℕ) (i : ℕ) where
 -- ---- `distinct`
 
 some_snoc : {A : Type 0} (p : A → Bool) (l : List A) (x : A) → some p (l ++ (x ∷ [])) ≡ (p x || some p l)
-unfolding some
 some_snoc p [] x = refl
 some_snoc p (y ∷ l) x = ap (λ (b : Bool). p y || b) (some_snoc p l x) ∙ or_swap (p y) (p x) (some p l)
 
@@ -49,7 +48,7 @@ module _ {A : Type 0} (same : A → A → Bool) (f : ℕ → A) (key : ℕ → �
 
   from : (k n : ℕ) (seen : List A) → k + n ≤ m → ((i : ℕ) → k ≤ i → i < m → some (same (f i)) seen ≡ seen_by k i)
       → distinct_from same seen (map f (up_from k n)) ≡ map f (keep (is_first key) (up_from k n))
-  unfolding distinct_from keep up_from is_first some
+  unfolding distinct_from up_from is_first
   from k zero seen l h = refl
   from k (suc n) seen l h =
       let r = from (suc k) n (f k ∷ seen) (omega arith) (λ i a b. (λ t. alike i k (omega arith) b t || h i (omega arith) b t) ∙ sym (seen_more k i)) in
@@ -62,5 +61,5 @@ module _ {A : Type 0} (same : A → A → Bool) (f : ℕ → A) (key : ℕ → �
       go false r s q = ap (λ (l : List A). f k ∷ l) q
 
   pub distinct_places : distinct same (map f (up_to m)) ≡ map f (keep (is_first key) (up_to m))
-  unfolding some up_from
+  unfolding up_from
   distinct_places = from 0 m [] (omega arith) (λ i a b. refl)

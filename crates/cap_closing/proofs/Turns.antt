@@ -124,7 +124,7 @@ module _ (vs : List Float) (n nf nc : ℕ) (positive : Bool) (w : List ℕ) (E :
   lefts m ts = keep (is_large m.points) (map (mapped (new_number m)) ts)
 
   nothing_taken : taken_at n nf nc positive w 0 ≡ []
-  unfolding up_from keep
+  unfolding up_from
   nothing_taken = refl
 
   pub appending_none : Appending vs b n nf nc positive 0 0 w w

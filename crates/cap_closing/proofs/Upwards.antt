@@ -19,7 +19,6 @@ use Rattle.lists.proofs.Pigeonhole.{pigeonhole}
 use Rattle.lists.proofs.Sequences.{up_snoc}
 
 pub keep_nil : {A : Type 0} (p : A → Bool) → keep p [] ≡ []
-unfolding keep
 keep_nil p = refl
 
 pub map_more : {A : Type 0} (f : ℕ → A) (k : ℕ) → map f (up_to (k + 1)) ≡ map f (up_to k) ++ (f k ∷ [])

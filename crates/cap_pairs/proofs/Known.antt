@@ -92,7 +92,6 @@ three_ways false false false false = refl
 
 -- ---- open edges
 some_one_face : (f : ℕ) (c : Bool) (l : List ℕ) → some (λ g. eqb g f && c) l ≡ (has l f && c)
-unfolding some
 some_one_face f c [] = refl
 some_one_face f c (g ∷ l) = ap (λ (b : Bool). (eqb g f && c) || b) (some_one_face f c l) ∙ ap (λ (b : Bool). (b && c) || (has l f && c)) (eqb_sym g f) ∙ share (eqb f g) (has l f) c
   where
@@ -146,7 +145,7 @@ same_pair_right : (s t u : ℕ × ℕ) → SameEnds t u → same_pair s t ≡ sa
 same_pair_right s t u e = same_pair_sym s t ∙ same_pair_as t u (pair_same t u e) s ∙ same_pair_sym u s
 
 pub turned_edges : (pool : Pool) (t : Cap) (s : ℕ × ℕ) → some (same_pair s) (edges (outward pool t).corners) ≡ some (same_pair s) (edges t.corners)
-unfolding outward some
+unfolding outward
 turned_edges pool t s = go (beq (lt zero_f (signed_area pool t)) (ccw_is_outward t.face))
   where
     order : (x y z : Bool) → (z || (y || (x || false))) ≡ (x || (y || (z || false)))
@@ -282,7 +281,6 @@ module _ (n nf k : ℕ) (cap_list w : List ℕ) (ready : CapReady n nf k cap_lis
     next_2 = next_wrap (3 * i + 2) (omega arith) ∙ omega arith
 
     triangle_test : (held_test (3 * i) || (held_test (3 * i + 1) || held_test (3 * i + 2))) ≡ (eqb T0.face f && some (same_pair Q) (edges T0.corners))
-    unfolding some
     triangle_test =
         let x =
         side_test (3 * i) (omega arith) T0.corners.a T0.corners.b T0.face

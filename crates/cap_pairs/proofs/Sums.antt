@@ -16,16 +16,14 @@ use Rattle.lists.proofs.Sequences.{some_up}
 -- ---- some
 module _ {A : Type 0} (p : A → Bool) where
   pub some_one : (x : A) → some p (x ∷ []) ≡ p x
-  unfolding some
   some_one x = or-false (p x)
 
   pub some_map : {B : Type 0} (g : B → A) (l : List B) → some p (map g l) ≡ some (λ x. p (g x)) l
-  unfolding some
   some_map g [] = refl
   some_map g (x ∷ l) = ap (λ (b : Bool). p (g x) || b) (some_map g l)
 
 pub some_none : (p : ℕ → Bool) → some p (up_to 0) ≡ false
-unfolding some up_from
+unfolding up_from
 some_none p = refl
 
 abbrev any_of_three : (ℕ → Bool) → ℕ → Bool
@@ -57,7 +55,7 @@ some_threes p (suc m) =
 some_from : {A : Type 0} (p : A → Bool) (d : A) (g : ℕ → A) (l : List A) (k : ℕ) → ((i : ℕ) → i < length l → g (k + i) ≡ get_or l i d) → some
     (λ i. p (g i)) (up_from k (length l)) ≡
     some p l
-unfolding some up_from
+unfolding up_from
 some_from p d g [] k h = refl
 some_from p d g (x ∷ l) k h =
     let e : p (g k) ≡ p x = ap (λ (y : ℕ). p (g y)) (start k) ∙ ap p (h 0 (omega arith)) in

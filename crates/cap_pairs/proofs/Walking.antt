@@ -77,7 +77,7 @@ module _ (test : ℕ → Bool) (mask count face : ℕ) (s : FaceWalk test mask c
         (omega (arith, s.so, e), omega (arith, s.long, l))
 
   pub walk_end : 6 ≤ face → place test (faces_in mask) ≡ bit_count mask
-  unfolding place keep
+  unfolding place
   walk_end h =
       let e : place test (left mask face) ≡ 0 = ap (λ (l : List ℕ). place test (keep (has_bit mask) l)) (drop_of_length-le faces {i = face} h) in
       let l : length (left mask face) ≡ 0 = ap (λ (l : List ℕ). length (keep (has_bit mask) l)) (drop_of_length-le faces {i = face} h) in

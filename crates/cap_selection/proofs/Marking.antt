@@ -34,7 +34,7 @@ module _ (n nf nc k : ℕ) (cap_list w : List ℕ) where
   more i r = some_up (marks r) i
 
   none : (r : ℕ) → seeded_by n nf nc k cap_list w 0 r ≡ false
-  unfolding seeded_by some up_from
+  unfolding seeded_by up_from
   none r = refl
 
   pub mark_start : Markable n nf nc k cap_list w → Marking w 0

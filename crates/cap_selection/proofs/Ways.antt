@@ -34,7 +34,6 @@ module _ {A : Type 0} (p q : A → Bool) where
   swap false false c d = refl
 
   pub some_or : (l : List A) → some (λ x. p x || q x) l ≡ (some p l || some q l)
-  unfolding some
   some_or [] = refl
   some_or (x ∷ l) = ap (λ (b : Bool). (p x || q x) || b) (some_or l) ∙ swap (p x) (q x) (some p l) (some q l)
 

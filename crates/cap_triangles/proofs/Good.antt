@@ -93,14 +93,12 @@ module _ (pool : Pool) (caps : List Cap) where
     z = (cap_at caps i).corners.c
 
     different : (eqb x y ≡ false) × (eqb y z ≡ false) × (eqb z x ≡ false)
-    unfolding some
     different = differ (eqb x y) (eqb y z) (eqb z x) (or_none_left (repeats i) (strays i) not_last)
 
     abbrev here : ℕ → Bool
     here c = has (face_list pool (cap_at caps i).face) c
 
     missing : (not (here x) ≡ false) × (not (here y) ≡ false) × (not (here z) ≡ false)
-    unfolding some
     missing = differ (not (here x)) (not (here y)) (not (here z)) (or_none_right (repeats i) (strays i) not_last)
 
     good_tidy : Tidy pool → GoodCap (length pool.all) pool (cap_at caps i)

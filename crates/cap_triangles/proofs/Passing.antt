@@ -75,7 +75,7 @@ bad_after pool last t =
 
 module _ (n : ℕ) (w : List ℕ) (pooled : Pooled n w) where
   words_are : (last f a b c : ℕ) → bad_after (pool_at n w) last (cap f (tri a b c)) ≡ bad_words w last f a b c
-  unfolding bad_after bad_words some
+  unfolding bad_after bad_words
   words_are last f a b c =
       when_face f _ _
       (λ h.

@@ -25,7 +25,7 @@ use Rattle.candidate_pool.specs.OpenEdges.{OpenEdge}
 
 -- a pair the other way round is the same open edge
 open_as : (boundary : List OpenEdge) (s u : ℕ × ℕ) → T (same_pair s u) → is_open_pair boundary s ≡ is_open_pair boundary u
-unfolding is_open_pair some
+unfolding is_open_pair
 open_as [] s u h = refl
 open_as (e ∷ l) s u h = ap₂ ◌||◌ (same_pair_as s u (is_true (same_pair s u) h) (e.from, e.to)) (open_as l s u h)
 

@@ -5,15 +5,15 @@ use native.Mathlib.Decide.{ℕ_discrete}
 use mathlib.Core.Path.{◌≡◌, refl, sym, ap, ◌∙◌, subst}
 use mathlib.Core.Bool.{Bool, true, false, cond}
 use mathlib.Core.List.{List, [], ◌∷◌, map}
-use mathlib.Core.Option.{Option, none, some}
 use lib.Dec.{T, eqb}
 use lib.ListN.{get_or, length, length-map}
 use borrow.Author.Tests.{eq-eqb, ne_eqb}
+use Rattle.std.specs.Prelude.{Option, Some, None}
 use Rattle.lists.specs.Lists.{first, place, up_from, up_to}
 use Rattle.lists.proofs.Bools.{is_true}
 use Rattle.lists.proofs.Places.{at_up, length_up}
 use Rattle.lists.proofs.Members.{place_before, place_at, place_le}
-use Rattle.chains.specs.Links.{link_of, link_to, Absent, FirstFound, First, Last}
+use Rattle.chains.specs.Links.{link_of, id_in, link_to, Absent, FirstFound, First, Last}
 
 -- ---- one number more
 
@@ -165,7 +165,7 @@ link_map f t l =
 -- ---- the first that passes, or none, as a link
 
 first_up : (t : ℕ → Bool) (k n : ℕ) → First (λ j. T (t j)) k (k + n) (link_of (first t (up_from k n)))
-unfolding first up_from
+unfolding up_from
 first_up t k zero = first_empty (λ j. T (t j)) k (k + zero) (omega arith)
 first_up t k (suc n) = go (t k) refl (first t (up_from (suc k) n)) (first_up t (suc k) n)
   where
@@ -189,7 +189,7 @@ first_up t k (suc n) = go (t k) refl (first t (up_from (suc k) n)) (first_up t (
             go (yes e) = h (subst (λ (i : ℕ). T (t i)) e has)
             go (no e) = f j (omega arith) b has
 
-    go : (b : Bool) → t k ≡ b → (o : Option ℕ) → First (λ j. T (t j)) (suc k) (suc k + n) (link_of o) → First (λ j. T (t j)) k (k + suc n) (link_of (cond b (some k) o))
+    go : (b : Bool) → t k ≡ b → (o : Option ℕ) → First (λ j. T (t j)) (suc k) (suc k + n) (link_of o) → First (λ j. T (t j)) k (k + suc n) (link_of (cond b (Some k) o))
     go true e o f = here (subst T (sym e) tt)
     go false e o f = beyond (λ h. subst T e h) (link_of o) f
 
@@ -207,11 +207,15 @@ ids_same t u n h =
     ap (λ (m : ℕ). link_to t (up_to m)) (sym (length_up 0 n))
     ∙ link_to_places u 0 (up_to n) t (λ i l. let g : i < n = omega (arith, length_up 0 n) in h i g ∙ ap u (sym (at_up 0 n i g ∙ omega arith)))
 
--- what a link says of the answer
-pub link_none : (o : Option ℕ) (v : ℕ) → v ≡ link_of o → v ≡ 0 → o ≡ none
-link_none none v e z = refl
-link_none (some k) v e z = absurd (omega arith)
+-- a number or none, by its link and back
+pub id_link : (o : Option ℕ) → id_in (link_of o) ≡ o
+id_link None = refl
+id_link (Some k) = refl
 
-pub link_some : (o : Option ℕ) (v : ℕ) → v ≡ link_of o → (v ≡ 0 → ⊥) → o ≡ some (v - 1)
-link_some none v e z = absurd (z e)
-link_some (some k) v e z = let d : k ≡ v - 1 = omega arith in ap some d
+pub link_id : (v : ℕ) → link_of (id_in v) ≡ v
+link_id zero = refl
+link_id (suc k) = refl
+
+-- the first of the ids below n that passes, or none, is what the link stands for
+pub ids_first : (t : ℕ → Bool) (n : ℕ) → id_in (link_to t (up_to n)) ≡ first t (up_to n)
+ids_first t n = ap id_in (ids_link t n) ∙ id_link (first t (up_to n))

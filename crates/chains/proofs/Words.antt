@@ -1,18 +1,19 @@
 -- The table of words: how it grows, and what its search asks and answers.
 use Prim.Native.Nat.{ℕ, ◌+◌, ◌≤◌, ◌<◌}
 use native.Mathlib.Omega.{arith}
-use mathlib.Core.Path.{◌≡◌, refl, sym, ◌∙◌, subst}
+use mathlib.Core.Path.{◌≡◌, refl, sym, ap, ◌∙◌, subst}
 use mathlib.Core.Bool.{Bool}
 use mathlib.Core.List.{List}
 use lib.Dec.{eqb, eqb→eq}
 use lib.ListN.{get_or, length}
-use Rattle.lists.specs.Lists.{up_to}
+use Rattle.lists.specs.Lists.{first, up_to}
 use Rattle.lists.specs.Regions.{PartZeroed}
-use Rattle.chains.specs.Links.{link_to}
+use Rattle.std.specs.Prelude.{Option}
+use Rattle.chains.specs.Links.{id_in, link_to}
 use Rattle.chains.specs.Chains.{Linked, Filed, linked_in}
 use Rattle.chains.specs.Hash.{bucket_of, mixed, InBucket}
 use Rattle.chains.specs.ByWord.{word_bucket, WordTable}
-use Rattle.chains.proofs.Firsts.{link_to_places}
+use Rattle.chains.proofs.Firsts.{link_to_places, ids_first}
 use Rattle.chains.proofs.Entering.{linked_none, linked_more, tail_le, entered_length, entered_rest}
 use Rattle.chains.proofs.Walking.{filed_by_key}
 
@@ -25,8 +26,8 @@ pub word_filed : (keys m : List ℕ) (at nb key b : ℕ) → Linked (word_bucket
 word_filed keys m at nb key b l e =
     filed_by_key (λ x. bucket_of x 0 0 nb) (λ i. get_or keys i 0) m at nb (length keys) key b (sought keys key) l e (λ i h t. sym (eqb→eq key (get_or keys i 0) t))
 
-pub word_answer : (keys : List ℕ) (key v : ℕ) → v ≡ link_to (sought keys key) (up_to (length keys)) → v ≡ link_to (eqb key) keys
-word_answer keys key v e = e ∙ link_to_places (eqb key) 0 keys (sought keys key) (λ i h. refl)
+pub word_answer : (keys : List ℕ) (key : ℕ) (o : Option ℕ) → o ≡ first (sought keys key) (up_to (length keys)) → o ≡ id_in (link_to (eqb key) keys)
+word_answer keys key o e = e ∙ sym (ids_first (sought keys key) (length keys)) ∙ ap id_in (link_to_places (eqb key) 0 keys (sought keys key) (λ i h. refl))
 
 module _ (keys : List ℕ) (at nb : ℕ) where
   pub words_start : (u w : List ℕ) → at + nb + nb ≤ length u → PartZeroed u w at (nb + nb) → WordTable keys at nb w w 0

@@ -1,5 +1,6 @@
 // The table stands in the buffer from `at` on: nb heads, nb tails, and a next for each id (specs/Chains.antt). Cleared heads and tails are the table of no id.
 ghost use Rattle.std.specs.Prelude.{◌≡◌, ◌+◌, ◌≤◌, ◌<◌, ◌^◌, length, get_or};
+ghost use Rattle.chains.specs.Links.{id_in};
 ghost use Rattle.chains.specs.Chains.{link_place, linked_in};
 
 // Where the link to a new id of the bucket b goes, whose tail is t.
@@ -30,18 +31,29 @@ pub fn enter(m: &mut [u64], at: usize, nb: usize, id: usize, b: usize)
     m[at + nb + nb + id] = 0;
 }
 
-// The link to the first id of the bucket b.
-pub fn first(m: &[u64], at: usize, b: usize) -> u64
-    requires { at + b < length m.now }
-    ensures { result ≡ get_or m.now (at + b) 0 }
+// The id behind a link.
+fn id_in(link: u64) -> Option<usize>
+    ensures { result ≡ id_in link }
 {
-    m[at + b]
+    if link == 0 {
+        None
+    } else {
+        Some((link - 1) as usize)
+    }
 }
 
-// The link to the id after `id` in its bucket.
-pub fn next(m: &[u64], at: usize, nb: usize, id: usize) -> u64
-    requires { at + nb + nb + id < length m.now }
-    ensures { result ≡ get_or m.now (at + nb + nb + id) 0 }
+// The first id of the bucket b.
+pub fn first(m: &[u64], at: usize, b: usize) -> Option<usize>
+    requires { at + b < length m.now }
+    ensures { result ≡ id_in (get_or m.now (at + b) 0) }
 {
-    m[at + nb + nb + id]
+    id_in(m[at + b])
+}
+
+// The id after `id` in its bucket.
+pub fn next(m: &[u64], at: usize, nb: usize, id: usize) -> Option<usize>
+    requires { at + nb + nb + id < length m.now }
+    ensures { result ≡ id_in (get_or m.now (at + nb + nb + id) 0) }
+{
+    id_in(m[at + nb + nb + id])
 }

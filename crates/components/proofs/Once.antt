@@ -30,7 +30,6 @@ pub decides_as : {P Q : Type 0} {r : Bool} → (P → Q) → (Q → P) → Decid
 decides_as f g d = record { sound = λ t. f (d.sound t); complete = λ q. d.complete (g q) }
 
 pub once_keep : (p : ℕ → Bool) (l : List ℕ) → Once l → Once (keep p l)
-unfolding keep
 once_keep p [] o = tt
 once_keep p (i ∷ l) o = go (p i) (once_keep p l o.1)
   where

@@ -23,7 +23,6 @@ single run = cond (eqb (length run) 1) run []
 
 -- how often a key stands in a list of another key, and of no other
 count_other : (x : ℕ × ℕ) (l : List (ℕ × ℕ)) → Each (λ y. x.0 ≡ y.0 → ⊥) l → count (same_record_key x) l ≡ 0
-unfolding keep
 count_other x l e = ap length (keep_none (same_record_key x) l (each_map (λ y. x.0 ≡ y.0 → ⊥) (λ y. same_record_key x y ≡ false) (λ y h. ne_eqb x.0 y.0 h) l e))
 
 count_same : (x : ℕ × ℕ) (l : List (ℕ × ℕ)) → Each (λ y. y.0 ≡ x.0) l → count (same_record_key x) l ≡ length l
@@ -69,7 +68,7 @@ module _ (k : ℕ) (r l : List (ℕ × ℕ)) (same : Each (λ y. y.0 ≡ k) r) (
       ∙ (λ t. keep_either once (eqb (length r) 1) r in_run t ++ keep_same once (λ x. eqb (count (same_record_key x) l) 1) l (λ x m. behind x (of_each (λ y. k < y.0) m later)) t)
 
 pub runs_open : (l : List (ℕ × ℕ)) → Ascending record_before l → flat_map single (runs l) ≡ open_records l
-unfolding flat_map runs open_records keep
+unfolding flat_map runs open_records
 runs_open =
     by_runs (λ l. flat_map single (runs l) ≡ open_records l) refl (λ k r run l same later ih.
     ap (flat_map single) (runs_append k r run l same (greater_other k l later)) ∙ ap (λ (m : List (ℕ × ℕ)). single (r ∷ run) ++ m) ih

@@ -18,14 +18,12 @@ use Rattle.edges.specs.Edges.{sorted_pair, pair_before}
 
 module _ {A : Type 0} (before : A → A → Bool) (p : A → Bool) where
   at_most_keep : (x : A) (l : List A) → AtMostAll before x l → AtMostAll before x (keep p l)
-  unfolding keep
   at_most_keep x [] h = tt
   at_most_keep x (y ∷ l) h =
       ⊎_elim (λ (e : p y ≡ true). rw (keep_yes p y l e) (h.0, at_most_keep x l h.1)) (λ (e : p y ≡ false). rw (keep_no p y l e) (at_most_keep x l h.1))
       (cases (p y))
 
   pub ascending_keep : (l : List A) → Ascending before l → Ascending before (keep p l)
-  unfolding keep
   ascending_keep [] h = tt
   ascending_keep (x ∷ l) h =
       ⊎_elim (λ (e : p x ≡ true). rw (keep_yes p x l e) (at_most_keep x l h.0, ascending_keep l h.1)) (λ (e : p x ≡ false). rw (keep_no p x l e) (ascending_keep l h.1))
@@ -55,7 +53,7 @@ sorted_ascends l =
 
 module _ (p : ℕ × ℕ → Bool) where
   insert_yes : (x : ℕ × ℕ) (l : List (ℕ × ℕ)) → Ascending pair_before l → p x ≡ true → keep p (insert_by pair_before x l) ≡ insert_by pair_before x (keep p l)
-  unfolding insert_by keep
+  unfolding insert_by
   insert_yes x [] a e = keep_yes p x [] e
   insert_yes x (y ∷ l) a e =
       ⊎_elim (λ (k : pair_before y x ≡ true). rw (insert_later pair_before x y l k) (later (insert_yes x l a.1 e) k))
@@ -82,7 +80,7 @@ module _ (p : ℕ × ℕ → Bool) where
           (λ (f : p y ≡ false). rw (keep_no p y (insert_by pair_before x l) f, keep_no p y l f) ih) (cases (p y))
 
   pub keep_by_pair : (l : List (ℕ × ℕ)) → keep p (sort_by pair_before l) ≡ sort_by pair_before (keep p l)
-  unfolding sort_by keep
+  unfolding sort_by
   keep_by_pair [] = refl
   keep_by_pair (x ∷ l) = step (keep_by_pair l)
     where

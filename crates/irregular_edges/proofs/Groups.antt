@@ -25,14 +25,12 @@ use Rattle.irregular_edges.specs.Listed.{irregular_run}
 -- ---- counting in two parts, one of which has none
 module _ (p : ℕ × ℕ → Bool) (r l : List (ℕ × ℕ)) where
   in_front : Each (λ y. p y ≡ false) l → count p (r ++ l) ≡ count p r
-  unfolding keep
   in_front e = count_append p r l ∙ ap (λ (n : ℕ). count p r + n) (ap length (keep_none p l e)) ∙ all (count p r)
     where
       all : (n : ℕ) → n + 0 ≡ n
       all n = omega arith
 
   behind : Each (λ y. p y ≡ false) r → count p (r ++ l) ≡ count p l
-  unfolding keep
   behind e = count_append p r l ∙ ap (λ (n : ℕ). n + count p l) (ap length (keep_none p r e)) ∙ none (count p l)
     where
       none : (n : ℕ) → 0 + n ≡ n
@@ -65,7 +63,6 @@ module _ (S : List (ℕ × ℕ)) where
 
     -- of two
     two : (x a b : ℕ × ℕ) (s t : Bool) → same_way x a ≡ s → same_way x b ≡ t → count (same_way x) (a ∷ b ∷ []) ≡ more s (more t 0)
-    unfolding keep
     two x a b s t e g = count_cons (same_way x) a (b ∷ []) ∙ (λ u. more (e u) ((count_cons (same_way x) b [] ∙ (λ v. more (g v) 0)) u))
 
     first_of_two : (t : Bool) → ltb 1 (more true (more t 0)) ≡ t
@@ -133,7 +130,7 @@ module _ (S : List (ℕ × ℕ)) where
             of_run x (of_each (λ y. y.0 ≡ k) m same) ∙ of_each (λ y. irregular_in r y ≡ irregular_run S r) m (irregular_run_lem k r same))
 
   pub runs_keep : (l : List (ℕ × ℕ)) → Ascending record_before l → runs (keep (irregular_in l) l) ≡ keep (irregular_run S) (runs l)
-  unfolding keep runs
+  unfolding runs
   runs_keep =
       by_runs (λ l. runs (keep (irregular_in l) l) ≡ keep (irregular_run S) (runs l)) refl (λ k r run l same later ih.
       ap runs (parts k (r ∷ run) l same later) ∙ either k r run l same later ih (irregular_run S (r ∷ run)) refl

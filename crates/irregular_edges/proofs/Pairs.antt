@@ -34,7 +34,6 @@ module _ (S : List (ℕ × ℕ)) (small : (i : ℕ) → Small (get_or S i (0, 0)
       (λ t. (sym (key_first (side x) (small x.1)) t, sym (key_second (side x) (small x.1)) t)) ∙ ap unpacked (sym u.key)
 
   some_key : (x : ℕ × ℕ) (seen : List (ℕ × ℕ)) → Row S small 0 x → Each (Row S small 0) seen → some (same_pair (side x)) (map side seen) ≡ some (eqb x.0) (map key_of seen)
-  unfolding some
   some_key x [] u v = refl
   some_key x (y ∷ seen) u v = λ t. same_key_lem x y u v.0 t || some_key x seen u v.1 t
 

@@ -115,7 +115,7 @@ module _ (S R : List (ℕ × ℕ)) (l : List (List (ℕ × ℕ))) where
   found_no e = ap (λ (m : List (List (ℕ × ℕ))). map unpacked (map first_key m)) (keep_no (irregular_run S) R l e)
 
 none : (S : List (ℕ × ℕ)) (w : List ℕ) (at k : ℕ) → k ≡ 0 → found S (runs (records_at w at k)) ≡ []
-unfolding found keep
+unfolding found
 none S w at k h = ap (found S) (runs_nil w at k h)
 
 edges_of_lem : (f : List ℕ) → length f % 3 ≡ 0 → ((j : ℕ) → get_or f j 0 < 4294967296) → found (sides (threes f)) (runs (edge_table (sides (threes f)))) ≡ irregular_edges (threes f)

@@ -22,18 +22,14 @@ use Rattle.geometry.specs.Meshes.{Mesh, coordinates, vertex_of}
 use Rattle.geometry.proofs.Meshes.{length_coordinates}
 use Rattle.refusals.specs.declared.refusal.Refusal.{Refusal}
 use Rattle.refusals.specs.declared.refusal.Refusal.TheVariants.{BadNumber, NoWorkRoom, KeyRange, NoRoom}
-use Rattle.refusals.specs.declared.refusal.Checked.{Checked}
-use Rattle.refusals.specs.declared.refusal.Checked.TheVariants.{Passed, Refused}
-use Rattle.refusals.specs.declared.reply.Reply.{Reply}
-use Rattle.refusals.specs.declared.reply.Reply.TheVariants.{DoneTwo}
-use Rattle.refusals.specs.declared.reply.Reply.TheVariants as reply
+use Rattle.std.specs.Prelude.{Result, Ok, Err}
 use Rattle.refusals.specs.Refusals.{documented_reply, Test, first_refusal}
 use Rattle.refusals.specs.Answers.{Output, output, mesh_outputs, Answer}
 use Rattle.input_tests.specs.Front.{Limits, limits, list_tests, in_range, eps_in_range, work_need, far_keys}
 use Rattle.refusals.proofs.Refusals.{holds, passes, none_left, row_passed, row_refused}
 use Rattle.refusals.proofs.Replies.{head_passed, tail_passed, row_front, row_rest}
 use Rattle.input_tests.proofs.Lists.{listed}
-use Rattle.refusals.proofs.Answers.{short, done_two, answered}
+use Rattle.refusals.proofs.Answers.{short, done as all_done, answered}
 use Rattle.mesh_compact.specs.declared.compact.Staged.{Staged}
 use Rattle.mesh_compact.proofs.Statuses.{rule}
 use Rattle.mesh_cleanup.specs.Clean.{CleanAsked, clean_tests, clean_result, Cleaned}
@@ -57,12 +53,12 @@ module _ (vs : List Float) (fs : List ℕ) (q : CleanAsked) (l : Limits) where
   abbrev rest : List Test
   rest = (bad_number, BadNumber) ∷ (ltb l.lent need, NoWorkRoom need) ∷ (far_keys q.eps vs, KeyRange) ∷ []
 
-  pub lists_refused : (x : Checked) (r : Refusal) → x ≡ first_refusal lists → x ≡ Refused r → x ≡ first_refusal (clean_tests vs fs q l)
+  pub lists_refused : (r : Refusal) → first_refusal lists ≡ Err r → Err r ≡ first_refusal (clean_tests vs fs q l)
   unfolding clean_tests
-  lists_refused x r e f = f ∙ sym (row_refused lists rest r (sym e ∙ f))
+  lists_refused r e = sym (row_refused lists rest r e)
 
-  module _ (e : first_refusal lists ≡ Passed) where
-    pub number_refused : bad_number ≡ true → Refused BadNumber ≡ first_refusal (clean_tests vs fs q l)
+  module _ (e : first_refusal lists ≡ Ok tt) where
+    pub number_refused : bad_number ≡ true → Err BadNumber ≡ first_refusal (clean_tests vs fs q l)
     unfolding clean_tests
     number_refused h = sym (row_passed lists rest e ∙ holds bad_number BadNumber ((ltb l.lent need, NoWorkRoom need) ∷ keys) h)
 
@@ -73,20 +69,20 @@ module _ (vs : List Float) (fs : List ℕ) (q : CleanAsked) (l : Limits) where
           row_passed lists rest e ∙ passes bad_number BadNumber ((ltb l.lent need, NoWorkRoom need) ∷ keys) h
           ∙ ap (λ (k : ℕ). first_refusal ((ltb l.lent k, NoWorkRoom k) ∷ keys)) (sym en)
 
-      pub room_refused : l.lent < n → Refused (NoWorkRoom n) ≡ first_refusal (clean_tests vs fs q l)
+      pub room_refused : l.lent < n → Err (NoWorkRoom n) ≡ first_refusal (clean_tests vs fs q l)
       room_refused k = sym (after_numbers ∙ holds (ltb l.lent n) (NoWorkRoom n) keys (lt-ltb l.lent n k))
 
       module _ (k : n ≤ l.lent) where
         after_room : first_refusal (clean_tests vs fs q l) ≡ first_refusal keys
         after_room = after_numbers ∙ passes (ltb l.lent n) (NoWorkRoom n) keys (le-ltb l.lent n k)
 
-        pub key_refused : far_keys q.eps vs ≡ true → Refused KeyRange ≡ first_refusal (clean_tests vs fs q l)
+        pub key_refused : far_keys q.eps vs ≡ true → Err KeyRange ≡ first_refusal (clean_tests vs fs q l)
         key_refused g = sym (after_room ∙ holds (far_keys q.eps vs) KeyRange [] g)
 
-        pub all_passed_lem : far_keys q.eps vs ≡ false → Passed ≡ first_refusal (clean_tests vs fs q l)
+        pub all_passed_lem : far_keys q.eps vs ≡ false → Ok tt ≡ first_refusal (clean_tests vs fs q l)
         all_passed_lem g = sym (after_room ∙ passes (far_keys q.eps vs) KeyRange [] g ∙ none_left)
 
-  pub ready : first_refusal (clean_tests vs fs q l) ≡ Passed → CleanReady vs fs q l.lent
+  pub ready : first_refusal (clean_tests vs fs q l) ≡ Ok tt → CleanReady vs fs q l.lent
   unfolding clean_tests work_need
   ready e =
       let n = 128 * (length vs / 3 + length fs / 3 + 0 + 0) + 1024 in
@@ -127,23 +123,23 @@ module _ (vs : List Float) (m : Mesh) (s : Staged) (w : List ℕ) (S : Staging v
   abbrev out_f : Output
   out_f = output (flat m.facets) f f'
 
-  pub short_vertices : length v < 3 * s.vertices → v' ≡ v → f' ≡ f → Answer [] (mesh_outputs m v v' f f') (documented_reply (reply.Refused (NoRoom (3 * s.vertices))))
+  pub short_vertices : length v < 3 * s.vertices → v' ≡ v → f' ≡ f → Answer [] (mesh_outputs m v v' f f') (documented_reply (Err (NoRoom (3 * s.vertices))))
   short_vertices h a b = short [] out_v (out_f ∷ []) (3 * s.vertices) length_is tt h (a, (b, tt))
 
   pub short_facets : 3 * s.vertices ≤ length v → length f < s.numbers → v' ≡ v → f' ≡ f → Answer [] (mesh_outputs m v v' f f')
-      (documented_reply (reply.Refused (NoRoom s.numbers)))
+      (documented_reply (Err (NoRoom s.numbers)))
   short_facets h g a b = short (out_v ∷ []) out_f [] s.numbers numbers_is (omega (arith, length_is, h), tt) g (a, (b, tt))
 
   pub done : 3 * s.vertices ≤ length v → s.numbers ≤ length f → v' ≡ overlay (coordinates (map (vertex_of vs) (view w s.order s.vertices))) v → f' ≡ overlay
       (view w s.corners s.numbers) f
-      → Answer [] (mesh_outputs m v v' f f') (documented_reply (DoneTwo (3 * s.vertices) s.numbers))
+      → Answer [] (mesh_outputs m v v' f f') (documented_reply (Ok (3 * s.vertices ∷ s.numbers ∷ [])))
   done h g a b =
-      done_two out_v out_f (3 * s.vertices) s.numbers length_is numbers_is (omega (arith, length_is, h), (omega (arith, numbers_is, g), tt))
+      all_done (out_v ∷ out_f ∷ []) (3 * s.vertices ∷ s.numbers ∷ []) (λ i. length_is i ∷ numbers_is i ∷ []) (omega (arith, length_is, h), (omega (arith, numbers_is, g), tt))
       (a ∙ ap (λ l. overlay (coordinates l) v) S.delivered.vertices, (b ∙ ap (λ (l : List ℕ). overlay l f) S.delivered.numbers, tt))
 
 -- ---- the work room cleared
 
-pub cleaned_up : (vs : List Float) (fs : List ℕ) (q : CleanAsked) (ceiling : ℕ) (r : Reply) (w u w' : List ℕ) (v v' : List Float) (f f' : List ℕ)
+pub cleaned_up : (vs : List Float) (fs : List ℕ) (q : CleanAsked) (ceiling : ℕ) (r : Result (List ℕ) Refusal) (w u w' : List ℕ) (v v' : List Float) (f f' : List ℕ)
     → Answer (clean_tests vs fs q (limits ceiling (length w))) (mesh_outputs (clean_result vs fs q) v v' f f') (documented_reply r)
     → length u ≡ length w → w' ≡ overlay (replicate (length u) 0) u → Cleaned vs fs q ceiling r w w' v v' f f'
 cleaned_up vs fs q ceiling r w u w' v v' f f' a e z =

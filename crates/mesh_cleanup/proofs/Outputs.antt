@@ -1,13 +1,12 @@
 -- One vertex more, and one number more, written to an output. Assumes nothing.
-use Prim.Native.Nat.{ℕ, zero, suc, ◌+◌, ◌*◌, ◌≤◌, ◌<◌}
+use Prim.Native.Nat.{ℕ, zero, suc, ◌+◌, ◌-◌, ◌*◌, ◌≤◌, ◌<◌}
 use native.Mathlib.Omega.{arith}
 use mathlib.Core.Path.{◌≡◌, refl, sym, ap, subst, ◌∙◌}
 use mathlib.Core.List.{List, [], ◌∷◌, map, flat_map}
-use lib.ListN.{length, get_or, set, length-map}
+use lib.ListN.{length, get_or, set, take, drop, length-map}
 use lib.Seq.{sets}
 use lib.Ieee.{Float, nan}
 use Rattle.lists.specs.Regions.{view}
-use Rattle.lists.proofs.Regions.{view_length, view_at}
 use Rattle.lists.proofs.Sequences.{at_map}
 use Rattle.words.specs.Overlay.{overlay}
 use Rattle.words.proofs.Overlay.{Writing, writing_start, writing_turn, writing_end}
@@ -33,31 +32,27 @@ coordinates_at (p ∷ l) (suc k) z h =
       (ap (λ (i : ℕ). get_or (coordinates (p ∷ l)) i z) b ∙ r.1.0, ap (λ (i : ℕ). get_or (coordinates (p ∷ l)) i z) c ∙ r.1.1),
     )
 
-module _ (vs : List Float) (m : List ℕ) (at n : ℕ) (room : at + n ≤ length m) where
+module _ (vs : List Float) (order : List ℕ) where
   abbrev pub points : List Point
-  points = map (vertex_of vs) (view m at n)
+  points = map (vertex_of vs) order
 
-  points_long : length points ≡ n
-  points_long = length-map (view m at n) (vertex_of vs) ∙ view_length m at n room
+  point_is : (k : ℕ) → k < length order → get_or points k origin ≡ vertex_of vs (get_or order k 0)
+  point_is k h = at_map (vertex_of vs) order k 0 origin h
 
-  point_is : (k : ℕ) → k < n → get_or points k origin ≡ vertex_of vs (get_or m (at + k) 0)
-  point_is k h = at_map (vertex_of vs) (view m at n) k 0 origin (let e = view_length m at n room in omega arith) ∙ ap (vertex_of vs) (view_at m at n k h)
+  flat_long : length (coordinates points) ≡ 3 * length order
+  flat_long = length_coordinates points ∙ ap (λ (x : ℕ). 3 * x) (length-map order (vertex_of vs))
 
-  flat_long : length (coordinates points) ≡ 3 * n
-  flat_long = length_coordinates points ∙ ap (λ (x : ℕ). 3 * x) points_long
-
-  pub vertices_start : (old : List Float) → 3 * n ≤ length old → Writing (coordinates points) old old (3 * 0)
+  pub vertices_start : (old : List Float) → 3 * length order ≤ length old → Writing (coordinates points) old old (3 * 0)
   vertices_start old h = writing_start (coordinates points) old (let e = flat_long in omega arith)
 
-  module _ (old out : List Float) (k : ℕ) (R : Writing (coordinates points) old out (3 * k)) (h : k < n) where
+  module _ (old out : List Float) (k : ℕ) (R : Writing (coordinates points) old out (3 * k)) (h : k < length order) where
     -- there is room for vertex k
     pub vertex_room : 3 * k + 2 < length out
     vertex_room = let a = flat_long in let b = R.room in let c = R.same in omega arith
 
-    three_stores : (p : Point) → p ≡ vertex_of vs (get_or m (at + k) 0) → Writing (coordinates points) old (set (set (set out (3 * k) p.x) (3 * k + 1) p.y) (3 * k + 2) p.z)
-        (3 * (k + 1))
+    three_stores : (p : Point) → p ≡ vertex_of vs (get_or order k 0) → Writing (coordinates points) old (set (set (set out (3 * k) p.x) (3 * k + 1) p.y) (3 * k + 2) p.z) (3 * (k + 1))
     three_stores p e =
-        let c = coordinates_at points k nan (let l = points_long in omega arith) in
+        let c = coordinates_at points k nan (let l = length-map order (vertex_of vs) in omega arith) in
         let q = e ∙ sym (point_is k h) in
         let a = flat_long in
         let two : 3 * k + 1 + 1 ≡ 3 * k + 2 = omega arith in
@@ -68,25 +63,12 @@ module _ (vs : List Float) (m : List ℕ) (at n : ℕ) (room : at + n ≤ length
         (writing_turn (coordinates points) old (set (set out (3 * k) p.x) (3 * k + 1) p.y) (3 * k + 2) nan p.z
         (subst (λ (i : ℕ). Writing (coordinates points) old (set (set out (3 * k) p.x) (3 * k + 1) p.y) i) two R₂) (omega arith) (ap (λ (x : Point). x.z) q ∙ sym c.1.1))
 
-    pub vertices_turn : (p : Point) → p ≡ vertex_of vs (get_or m (at + k) 0) → Writing (coordinates points) old (sets out (3 * k) (p.x ∷ p.y ∷ p.z ∷ [])) (3 * (k + 1))
+    pub vertices_turn : (p : Point) → p ≡ vertex_of vs (get_or order k 0) → Writing (coordinates points) old (sets out (3 * k) (p.x ∷ p.y ∷ p.z ∷ [])) (3 * (k + 1))
     vertices_turn p e = subst (λ (l : List Float). Writing (coordinates points) old l (3 * (k + 1))) (three_set out (3 * k) p.x p.y p.z) (three_stores p e)
 
-  pub vertices_end : (old out : List Float) (k : ℕ) → Writing (coordinates points) old out (3 * k) → n ≤ k → out ≡ overlay (coordinates points) old
+  pub vertices_end : (old out : List Float) (k : ℕ) → Writing (coordinates points) old out (3 * k) → length order ≤ k → out ≡ overlay (coordinates points) old
   vertices_end old out k R h = writing_end (coordinates points) old out (3 * k) R (let a = flat_long in omega arith)
 
-  -- ---- numbers
-
-  numbers_long : length (view m at n) ≡ n
-  numbers_long = view_length m at n room
-
-  pub numbers_start : (old : List ℕ) → n ≤ length old → Writing (view m at n) old old 0
-  numbers_start old h = writing_start (view m at n) old (let e = numbers_long in omega arith)
-
-  pub number_room : (old out : List ℕ) (i : ℕ) → Writing (view m at n) old out i → i < n → i < length out
-  number_room old out i R h = let a = numbers_long in let b = R.room in let c = R.same in omega arith
-
-  pub numbers_turn : (old out : List ℕ) (i : ℕ) → Writing (view m at n) old out i → i < n → Writing (view m at n) old (set out i (get_or m (at + i) 0)) (i + 1)
-  numbers_turn old out i R h = writing_turn (view m at n) old out i 0 (get_or m (at + i) 0) R (let e = numbers_long in omega arith) (sym (view_at m at n i h))
-
-  pub numbers_end : (old out : List ℕ) (i : ℕ) → Writing (view m at n) old out i → n ≤ i → out ≡ overlay (view m at n) old
-  numbers_end old out i R h = writing_end (view m at n) old out i R (let e = numbers_long in omega arith)
+-- a part of the work room, as the code takes it
+pub part_is : (w : List ℕ) (at n : ℕ) → take (at + n - at) (drop at w) ≡ view w at n
+part_is w at n = let e : at + n - at ≡ n = omega arith in ap (λ (k : ℕ). take k (drop at w)) e

@@ -6,7 +6,8 @@ use mathlib.Core.Path.{◌≡◌}
 use mathlib.Core.List.{List}
 use lib.ListN.{length}
 use lib.Ieee.{Float}
-use Rattle.refusals.specs.declared.reply.Reply.{Reply}
+use Rattle.std.specs.Prelude.{Result}
+use Rattle.refusals.specs.declared.refusal.Refusal.{Refusal}
 use Rattle.refusals.specs.Refusals.{documented_reply}
 use Rattle.refusals.specs.Answers.{MeshesAlike}
 use Rattle.refusals.proofs.Answers.{meshes_alike}
@@ -19,7 +20,7 @@ module _ (vs : List Float) (fs : List ℕ) (q : CleanAsked) (c d : ℕ) (hc : Ad
   unfolding clean_tests
   same_tests lent = same_row c d vs fs 0 _ hc hd
 
-  pub clean_under_both : (r₁ r₂ : Reply) (w w₁ w₂ : List ℕ) (v v₁ v₂ : List Float) (f f₁ f₂ : List ℕ)
+  pub clean_under_both : (r₁ r₂ : Result (List ℕ) Refusal) (w w₁ w₂ : List ℕ) (v v₁ v₂ : List Float) (f f₁ f₂ : List ℕ)
       → Cleaned vs fs q c r₁ w w₁ v v₁ f f₁ → Cleaned vs fs q d r₂ w w₂ v v₂ f f₂ → MeshesAlike (documented_reply r₁) (documented_reply r₂) w₁ w₂ v₁ v₂ f₁ f₂
   clean_under_both r₁ r₂ w w₁ w₂ v v₁ v₂ f f₁ f₂ a b =
       meshes_alike _ _ (clean_result vs fs q) w w₁ w₂ _ _ v v₁ v₂ f f₁ f₂ (same_tests (length w)) a.answered b.answered

@@ -7,13 +7,13 @@
 --   clean_result          document 01's: the rule by cells, and two facets
 --   clean_tests           1, 2, 3, 4, 7, 8
 --   Cleaned              what the operation promises: the answer, and the rule for a kept facet without its computing
-use Rattle.std.specs.Prelude.{ℕ, ◌/◌, not, ◌&&◌, List, [], ◌∷◌, ◌++◌, map, get_or, length, Float}
+use Rattle.std.specs.Prelude.{ℕ, ◌/◌, not, ◌&&◌, List, [], ◌∷◌, ◌++◌, map, get_or, length, Float, Result}
 use Rattle.lists.specs.Lists.{every}
 use Rattle.geometry.specs.declared.point.Point.{Point}
 use Rattle.geometry.specs.Triangles.{Triangle, mapped}
 use Rattle.geometry.specs.Meshes.{Mesh, mesh_of, vertex}
 use Rattle.refusals.specs.declared.refusal.Refusal.TheVariants.{BadNumber, KeyRange}
-use Rattle.refusals.specs.declared.reply.Reply.{Reply}
+use Rattle.refusals.specs.declared.refusal.Refusal.{Refusal}
 use Rattle.refusals.specs.Refusals.{documented_reply, Test}
 use Rattle.refusals.specs.Answers.{mesh_outputs, Answered}
 use Rattle.input_tests.specs.Front.{Limits, limits, list_tests, in_range, eps_in_range, work_need, work_test, far_keys}
@@ -65,6 +65,6 @@ module _ (vs : List Float) (fs : List ℕ) (q : CleanAsked) where
       Rule q.eps (welded_points w (mesh_of vs fs).points) (welded_facets w (mesh_of vs fs).facets) min_component_facets
 
   -- under a ceiling, from work room w and outputs v and f to w', v' and f', with the reply r
-  pub record Cleaned (ceiling : ℕ) (r : Reply) (w w' : List ℕ) (v v' : List Float) (f f' : List ℕ) : Type 0 where
+  pub record Cleaned (ceiling : ℕ) (r : Result (List ℕ) Refusal) (w w' : List ℕ) (v v' : List Float) (f f' : List ℕ) : Type 0 where
     pub answered : Answered (clean_tests (limits ceiling (length w))) (mesh_outputs clean_result v v' f f') w w' (documented_reply r)
     pub rule : KeptRule

@@ -11,14 +11,14 @@ ghost use Rattle.input_tests.specs.Front.{limits};
 ghost use Rattle.mesh_cleanup.specs.Clean.{clean_asked, clean_tests, clean_result, Cleaned};
 ghost use Rattle.mesh_cleanup.specs.Steps.{CleanReady, Staging};
 
-use geometry::vertices::{vertex_at, vertex_in, write_point};
+use geometry::vertices::{point_at, write_point};
 use input_tests::grid::has_far_key;
 use input_tests::{all_in_range, check_lists, eps_in_range, work_need};
 use mesh_compact::compact::{Staged, remove_small_disconnected_components};
 use mesh_filter::corners::WeldedAt;
-use mesh_filter::filter::filter;
+use mesh_filter::filter::Filter;
 use mesh_weld::weld::weld;
-use refusals::refusal::{Checked, Refusal};
+use refusals::refusal::Refusal;
 use refusals::reply::Reply;
 use words::zero_front;
 
@@ -26,27 +26,27 @@ use words::zero_front;
 const MIN_COMPONENT_FACETS: u64 = 2;
 
 // Tests 1, 2, 3, 4, 7 and 8, in that order.
-fn check(vertices: &[f64], facets: &[u32], eps: f64, ceiling: u64, lent: usize) -> Checked
+fn check(
+    vertices: &[f64],
+    facets: &[u32],
+    eps: f64,
+    ceiling: u64,
+    lent: usize,
+) -> Result<(), Refusal>
     ensures { result ≡ first_refusal (clean_tests vertices.now facets.now (clean_asked eps) (limits ceiling lent)) }
 {
-    let lists = check_lists(ceiling, vertices, facets, 0);
-    if let Checked::Refused(_) = lists {
-        return lists;
-    }
-    if !all_in_range(vertices) {
-        return Checked::Refused(Refusal::BadNumber);
-    }
-    if !eps_in_range(eps) {
-        return Checked::Refused(Refusal::BadNumber);
+    check_lists(ceiling, vertices, facets, 0)?;
+    if !all_in_range(vertices) || !eps_in_range(eps) {
+        return Err(Refusal::BadNumber);
     }
     let need = work_need(vertices.len() / 3, facets.len() / 3, 0, 0);
     if lent < need {
-        return Checked::Refused(Refusal::NoWorkRoom(need));
+        return Err(Refusal::NoWorkRoom(need));
     }
     if has_far_key(vertices, eps) {
-        return Checked::Refused(Refusal::KeyRange);
+        return Err(Refusal::KeyRange);
     }
-    Checked::Passed
+    Ok(())
 }
 
 // The cleaned mesh in the work room: 14 words a vertex for welding, 14 a facet for the filter, then 2 a vertex and 8 a facet for components and numbers.
@@ -57,12 +57,19 @@ fn stage(vertices: &[f64], facets: &[u32], eps: f64, work: &mut [u64]) -> Staged
     let nv = vertices.len() / 3;
     let nf = facets.len() / 3;
     let count = weld(work, vertices, nv, eps);
-    let welded = WeldedAt {
-        kept: 9 * nv,
-        count: count,
-        numbers: 10 * nv,
+    let filter = Filter {
+        welded: WeldedAt {
+            kept: 9 * nv,
+            count,
+            numbers: 10 * nv,
+        },
+        vertices,
+        facets,
+        at: 14 * nv,
+        n: nf,
+        eps,
     };
-    let passed = filter(work, welded, vertices, facets, 14 * nv, nf, eps);
+    let passed = filter.filter(work);
     remove_small_disconnected_components(
         work,
         9 * nv,
@@ -74,26 +81,24 @@ fn stage(vertices: &[f64], facets: &[u32], eps: f64, work: &mut [u64]) -> Staged
     )
 }
 
-// The coordinates of the n vertices whose numbers stand in m from `at` on.
-fn write_vertices(m: &[u64], at: usize, n: usize, vertices: &[f64], out: &mut [f64])
-    requires n_in_bounds { (at + n ≤ length m.now) × (3 * n ≤ length out.old) }
-    requires by_index { (j : ℕ) → j < n → get_or m.now (at + j) 0 < length vertices.now / 3 }
-    ensures { out.new ≡ overlay (coordinates (map (vertex_of vertices.now) (view m.now at n))) out.old }
+// The coordinates of the vertices whose numbers stand in `order`.
+fn write_vertices(order: &[u64], vertices: &[f64], out: &mut [f64])
+    requires room { 3 * length order.now ≤ length out.old }
+    requires numbers { (j : ℕ) → j < length order.now → get_or order.now j 0 < length vertices.now / 3 }
+    ensures { out.new ≡ overlay (coordinates (map (vertex_of vertices.now) order.now)) out.old }
 {
-    for k in 0..n {
-        let v = vertex_in(m, at + k);
-        write_point(out, 3 * k, vertex_at(vertices, v));
+    for (k, v) in order.iter().enumerate() {
+        write_point(out, 3 * k, point_at(vertices, *v as usize));
     }
 }
 
-// The n numbers that stand in m from `at` on.
-fn write_numbers(m: &[u64], at: usize, n: usize, out: &mut [u32])
-    requires n_in_bounds { (at + n ≤ length m.now) × (n ≤ length out.old) }
-    requires by_index { (j : ℕ) → j < n → get_or m.now (at + j) 0 < 196609 }
-    ensures { out.new ≡ overlay (view m.now at n) out.old }
+fn write_numbers(numbers: &[u64], out: &mut [u32])
+    requires room { length numbers.now ≤ length out.old }
+    requires small { (j : ℕ) → j < length numbers.now → get_or numbers.now j 0 < 196609 }
+    ensures { out.new ≡ overlay numbers.now out.old }
 {
-    for i in 0..n {
-        out[i] = m[at + i] as u32;
+    for (i, number) in numbers.iter().enumerate() {
+        out[i] = *number as u32;
     }
 }
 
@@ -105,27 +110,25 @@ fn clean_checked(
     work: &mut [u64],
     out_vertices: &mut [f64],
     out_facets: &mut [u32],
-) -> Reply
+) -> Reply<2>
     requires { CleanReady vertices.now facets.now (clean_asked eps) (length work.old) }
     ensures { Answer []
         (mesh_outputs (clean_result vertices.now facets.now (clean_asked eps)) out_vertices.old out_vertices.new out_facets.old
         out_facets.new) (documented_reply result) }
 {
     let s = stage(vertices, facets, eps, work);
-    let order = s.order;
-    let used = s.vertices;
-    let corners = s.corners;
-    let numbers = s.numbers;
-    let need = 3 * used;
+    let need = 3 * s.vertices;
     if out_vertices.len() < need {
-        return Reply::Refused(Refusal::NoRoom(need));
+        return Err(Refusal::NoRoom(need));
     }
-    if out_facets.len() < numbers {
-        return Reply::Refused(Refusal::NoRoom(numbers));
+    if out_facets.len() < s.numbers {
+        return Err(Refusal::NoRoom(s.numbers));
     }
-    write_vertices(work, order, used, vertices, out_vertices);
-    write_numbers(work, corners, numbers, out_facets);
-    Reply::DoneTwo(need, numbers)
+    let order_end = s.order + s.vertices;
+    write_vertices(&work[s.order..order_end], vertices, out_vertices);
+    let corners_end = s.corners + s.numbers;
+    write_numbers(&work[s.corners..corners_end], out_facets);
+    Ok([need, s.numbers])
 }
 
 // The tests, and the mesh where they pass. The work room is left as it came out.
@@ -137,15 +140,13 @@ fn clean_lent(
     work: &mut [u64],
     out_vertices: &mut [f64],
     out_facets: &mut [u32],
-) -> Reply
+) -> Reply<2>
     ensures { Answer (clean_tests vertices.now facets.now (clean_asked eps) (limits ceiling (length work.old)))
         (mesh_outputs (clean_result vertices.now facets.now (clean_asked eps)) out_vertices.old out_vertices.new out_facets.old
         out_facets.new) (documented_reply result) }
 {
-    match check(vertices, facets, eps, ceiling, work.len()) {
-        Checked::Passed => clean_checked(vertices, facets, eps, work, out_vertices, out_facets),
-        Checked::Refused(r) => Reply::Refused(r),
-    }
+    check(vertices, facets, eps, ceiling, work.len())?;
+    clean_checked(vertices, facets, eps, work, out_vertices, out_facets)
 }
 
 // Cleans a mesh. The work room is cleared once, at the end: each table clears what it needs before.
@@ -157,7 +158,7 @@ pub fn clean_mesh(
     work: &mut [u64],
     out_vertices: &mut [f64],
     out_facets: &mut [u32],
-) -> Reply
+) -> Reply<2>
     ensures { Cleaned vertices.now facets.now (clean_asked eps) ceiling result work.old work.new out_vertices.old
         out_vertices.new out_facets.old out_facets.new }
 {

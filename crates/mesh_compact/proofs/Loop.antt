@@ -119,7 +119,7 @@ module _ (kept facets parts k at n least i : ℕ) (w : Numbered) (m : List ℕ) 
 module _ (facets parts k least : ℕ) (m : List ℕ) where
   one_more : (b : Bool) (i : ℕ) → is_large_at m parts k least i ≡ b → flat (map (λ j. corners_at m (facets + 3 * j)) (keep (is_large_at m parts k least) (i ∷ []))) ≡ cond b
       (vertices (corners_at m (facets + 3 * i))) []
-  unfolding keep flat_map
+  unfolding flat_map
   one_more true i e = rw e
   one_more false i e = rw e
 
@@ -164,7 +164,7 @@ module _ (kept facets parts k at n : ℕ) (m v : List ℕ) (R : RenumberRoom kep
     turn_same least i h = λ t. cond (large_same least i h t) (vertices (facet_same i h t)) []
 
     corners_same : (least i : ℕ) → i ≤ k → kept_corners v facets parts k least i ≡ kept_corners m facets parts k least i
-    unfolding keep up_from flat_map
+    unfolding up_from flat_map
     corners_same least zero h = refl
     corners_same least (suc i) h =
         ap (kept_corners v facets parts k least) (sym (add-one i))
@@ -207,7 +207,7 @@ module _ (kept facets parts k at n : ℕ) (m v : List ℕ) (R : RenumberRoom kep
 
 pub going_start : (kept facets parts k at n least : ℕ) (m v : List ℕ) → at + n ≤ length m → PartZeroed m v at n → NumberedSoFar kept facets parts k at n least 0
     (record { vertices = 0; corners = 0 }) v v
-unfolding numbering keep up_from flat_map
+unfolding numbering up_from flat_map
 going_start kept facets parts k at n least m v room z =
     record {
       done = omega arith;

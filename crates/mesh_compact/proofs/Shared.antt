@@ -37,7 +37,7 @@ flat_at (t ∷ l) (suc i) e d h g =
 -- those kept place by place are those kept
 pub keep_places : {A : Type 0} (p : ℕ → Bool) (q : ℕ → Bool) (f : ℕ → A) (g : ℕ → A) (l : List ℕ) (o : ℕ)
     → ((i : ℕ) → i < length l → (p (o + i) ≡ q (get_or l i 0)) × (f (o + i) ≡ g (get_or l i 0))) → map f (keep p (up_from o (length l))) ≡ map g (keep q l)
-unfolding keep up_from
+unfolding up_from
 keep_places p q f g [] o h = refl
 keep_places {A} p q f g (x ∷ l) o h =
     go (p o) (q x) at_zero.0 at_zero.1

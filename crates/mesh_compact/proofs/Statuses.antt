@@ -35,7 +35,6 @@ shares_back facets i j t =
 -- ---- lists
 
 keep_both : {A : Type 0} (p q : A → Bool) (l : List A) → keep (λ x. p x && q x) l ≡ keep q (keep p l)
-unfolding keep
 keep_both p q [] = refl
 keep_both {A} p q (x ∷ l) = go (p x) (keep_both p q l)
   where
@@ -84,7 +83,7 @@ module _ (eps : Float) (points : List Point) (facets : List (Triangle ℕ)) wher
       append_nil (x ∷ l) = ap (λ (r : List ℕ). x ∷ r) (append_nil l)
 
   pub passed_keeps : (n : ℕ) → passed eps points facets n ≡ keep goes (up_to n)
-  unfolding passed passed_next keep up_from
+  unfolding passed passed_next up_from
   passed_keeps zero = refl
   passed_keeps (suc n) =
       let e : 0 + n ≡ n = omega arith in

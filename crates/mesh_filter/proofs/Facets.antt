@@ -3,7 +3,7 @@ use Prim.Native.Nat.{ℕ, zero, suc, ◌+◌, ◌*◌, ◌/◌, ◌<◌}
 use native.Mathlib.Decide.{dec_lt}
 use native.Mathlib.Omega.{arith}
 use mathlib.Core.Path.{◌≡◌, refl, sym, ap, subst, ◌∙◌}
-use mathlib.Core.Bool.{Bool, true, false}
+use mathlib.Core.Bool.{Bool, true, false, true≢false}
 use mathlib.Core.List.{List, [], ◌∷◌, map}
 use lib.Dec.{T, eqb}
 use lib.ListN.{length, get_or, length-map, get_or-eq_default}
@@ -15,12 +15,21 @@ use Rattle.lists.proofs.Members.{of_some, some_of, mem_get_d, get_d_mem}
 use Rattle.lists.proofs.Sequences.{at_map}
 use Rattle.geometry.specs.Triangles.{Triangle, tri, mapped, threes, corners_at}
 use Rattle.geometry.proofs.Threes.{length_threes, threes_at_lem}
-use Rattle.chains.specs.Links.{link_to}
+use Rattle.std.specs.Prelude.{Option, is_some}
+use Rattle.chains.specs.Links.{link_to, id_in}
 use Rattle.chains.proofs.Firsts.{link_found, link_absent, link_map}
 use Rattle.mesh_filter.specs.declared.corners.WeldedAt.{WeldedAt}
 use Rattle.mesh_filter.specs.Filters.{facet_at, same_corners, is_duplicate}
 use Rattle.mesh_filter.specs.Room.{numbers_in_room, facets_in_room, corners_key, Below, CornersNumbered}
 use Rattle.mesh_filter.proofs.Keys.{same_key_lem}
+
+none_link : (v : ℕ) → is_some (id_in v) ≡ false → v ≡ 0
+none_link zero e = refl
+none_link (suc k) e = absurd (true≢false e)
+
+some_link : (v : ℕ) → is_some (id_in v) ≡ true → v ≡ 0 → ⊥
+some_link zero e z = true≢false (sym e)
+some_link (suc k) e z = omega arith
 
 module _ (w : WeldedAt) (vs : List Float) (fs : List ℕ) (at n : ℕ) (m : List ℕ) (N : CornersNumbered w vs fs at n m) where
   abbrev F : List (Triangle ℕ)
@@ -62,29 +71,28 @@ module _ (w : WeldedAt) (vs : List Float) (fs : List ℕ) (at n : ℕ) (m : List
   -- ---- duplicates by their keys
 
   keys_some : (t : Triangle ℕ) → Below 2097152 t → (l : List ℕ) → some (λ j. same_corners (facet_at F j) t) l ≡ some (λ j. eqb (corners_key t) (corners_key (facet_at F j))) l
-  unfolding some
   keys_some t h [] = refl
   keys_some t h (j ∷ l) = rw (same_key_lem (facet_at F j) t (facet_small j) h, keys_some t h l)
 
-  module _ (t : Triangle ℕ) (h : Below 2097152 t) (l keys : List ℕ) (e : keys ≡ map (λ j. corners_key (facet_at F j)) l) (r : ℕ) (found : r ≡ link_to (eqb (corners_key t)) keys) where
-    found_in_lem : r ≡ link_to (λ j. eqb (corners_key t) (corners_key (facet_at F j))) l
-    found_in_lem = found ∙ ap (link_to (eqb (corners_key t))) e ∙ link_map (λ j. corners_key (facet_at F j)) (eqb (corners_key t)) l
+  module _ (t : Triangle ℕ) (h : Below 2097152 t) (l keys : List ℕ) (e : keys ≡ map (λ j. corners_key (facet_at F j)) l) where
+    found_in_lem : link_to (eqb (corners_key t)) keys ≡ link_to (λ j. eqb (corners_key t) (corners_key (facet_at F j))) l
+    found_in_lem = ap (link_to (eqb (corners_key t))) e ∙ link_map (λ j. corners_key (facet_at F j)) (eqb (corners_key t)) l
 
-    pub no_duplicate : r ≡ 0 → is_duplicate F l t ≡ false
+    pub no_duplicate : (r : Option ℕ) → r ≡ id_in (link_to (eqb (corners_key t)) keys) → is_some r ≡ false → is_duplicate F l t ≡ false
     unfolding is_duplicate
-    no_duplicate z = keys_some t h l ∙ none (some (λ j. eqb (corners_key t) (corners_key (facet_at F j))) l) (λ q.
+    no_duplicate r found z = keys_some t h l ∙ none (some (λ j. eqb (corners_key t) (corners_key (facet_at F j))) l) (λ q.
         let m = of_some (λ j. eqb (corners_key t) (corners_key (facet_at F j))) l (subst T (sym q) tt) in
         let p = mem_get_d 0 m.1 in
-        link_absent (λ j. eqb (corners_key t) (corners_key (facet_at F j))) 0 l (sym found_in_lem ∙ z) p.0 p.1
+        link_absent (λ j. eqb (corners_key t) (corners_key (facet_at F j))) 0 l (sym found_in_lem ∙ none_link _ (ap is_some (sym found) ∙ z)) p.0 p.1
         (ap (λ (j : ℕ). eqb (corners_key t) (corners_key (facet_at F j))) p.2 ∙ is_true _ m.2))
       where
         none : (b : Bool) → (b ≡ true → ⊥) → b ≡ false
         none true f = absurd (f refl)
         none false f = refl
 
-    pub is_duplicate_lem : (r ≡ 0 → ⊥) → is_duplicate F l t ≡ true
+    pub is_duplicate_lem : (r : Option ℕ) → r ≡ id_in (link_to (eqb (corners_key t)) keys) → is_some r ≡ true → is_duplicate F l t ≡ true
     unfolding is_duplicate
-    is_duplicate_lem nz = keys_some t h l ∙ go r found_in_lem nz
+    is_duplicate_lem r found z = keys_some t h l ∙ go (link_to (eqb (corners_key t)) keys) found_in_lem (some_link _ (ap is_some (sym found) ∙ z))
       where
         go : (r : ℕ) → r ≡ link_to (λ j. eqb (corners_key t) (corners_key (facet_at F j))) l → (r ≡ 0 → ⊥) → some (λ j. eqb (corners_key t) (corners_key (facet_at F j))) l ≡ true
         go zero q nz = absurd (nz refl)

@@ -1,7 +1,7 @@
 // The filter, facet by facet (the second loop of `clean_mesh` in mesh_cleanup.rs). specs/Room.antt says what stands where in m, from `at` on.
 ghost use Rattle.std.specs.Prelude.{◌≡◌, ◌+◌, ◌*◌, ◌≤◌, ◌<◌, length, set, eqb};
 ghost use Rattle.lists.specs.Regions.{view};
-ghost use Rattle.chains.specs.Links.{link_to};
+ghost use Rattle.chains.specs.Links.{id_in, link_to};
 ghost use Rattle.chains.specs.Chains.{Linked};
 ghost use Rattle.chains.specs.ByWord.{word_bucket};
 ghost use Rattle.mesh_filter.specs.Room.{points_in_room, facets_in_room, CornersNumbered, FilteredSoFar, FacetFiltered, Filtered};
@@ -24,11 +24,11 @@ pub struct Filter<'a> {
 
 impl Filter<'_> {
     // The first of the `count` facets that passed with this key.
-    fn find_key(&self, m: &[u64], count: usize, key: u64) -> u64
+    fn find_key(&self, m: &[u64], count: usize, key: u64) -> Option<usize>
         requires n_nonzero { (0 < self.now.n) × ((self.now.n ≤ 65536) × (count ≤ self.now.n)) }
         requires n_in_bounds { self.now.at + 14 * self.now.n ≤ length m.now }
         requires linked { Linked (word_bucket (view m.now (self.now.at + 9 * self.now.n) count) (4 * self.now.n)) m.now self.now.at (4 * self.now.n) count }
-        ensures { result ≡ link_to (eqb key) (view m.now (self.now.at + 9 * self.now.n) count) }
+        ensures { result ≡ id_in (link_to (eqb key) (view m.now (self.now.at + 9 * self.now.n) count)) }
     {
         let keys = self.at + 9 * self.n;
         let end = keys + count;
@@ -66,7 +66,7 @@ impl Filter<'_> {
             return count;
         }
         let key = corners_key(t);
-        if self.find_key(m, count, key) != 0 {
+        if self.find_key(m, count, key).is_some() {
             return count;
         }
         let b = bucket(key, 0, 0, (4 * self.n) as u64) as usize;

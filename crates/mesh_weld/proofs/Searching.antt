@@ -21,11 +21,9 @@ use Rattle.lists.proofs.Sequences.{flat_map_lem, flat_same, at_map}
 use Rattle.geometry.specs.declared.point.Point.{Point}
 use Rattle.geometry.specs.Points.{origin}
 use Rattle.geometry.specs.Meshes.{vertex, vertex_of}
-use Rattle.chains.specs.Links.{link_of, link_to, id_in}
 use Rattle.chains.specs.Chains.{Filed}
 use Rattle.chains.specs.Hash.{bucket_at}
-use Rattle.chains.proofs.Firsts.{ids_same}
-use Rattle.chains.proofs.Cells.{cell_link}
+use Rattle.lists.proofs.First.{first_keep, first_same}
 use Rattle.chains.proofs.Walking.{filed_by_key}
 use Rattle.mesh_weld.specs.declared.cells.Cell.{Cell}
 use Rattle.mesh_weld.specs.Cells.{Key, key_of, near, in_cell, around, same_key, cells}
@@ -49,10 +47,6 @@ same_cell_lem a b e =
 -- the kept vertex at k is in the cell c and near p, as the room has it
 abbrev pub meets_at : List Float → Float → ℕ → List ℕ → Cell → Point → ℕ → Bool
 meets_at vs eps n m c p k = same_cell (cell_at m (11 * n + 3 * k)) c && near eps p (vertex_of vs (get_or m (9 * n + k) 0))
-
-id_link : (o : Option ℕ) → id_in (link_of o) ≡ o
-id_link None = refl
-id_link (Some k) = refl
 
 first_append : (t : ℕ → Bool) (l r : List ℕ) → first t (l ++ r) ≡ option_or (first t l) (first t r)
 first_append t [] r = refl
@@ -81,16 +75,15 @@ module _ (vs : List Float) (eps : Float) (n count : ℕ) (m : List ℕ) (I : Ind
       (and_left (same_cell (cell_at m (11 * n + 3 * k)) c) (near eps p (vertex_of vs (get_or m (9 * n + k) 0))) (is_true (meets_at vs eps n m c p k) x)))
 
   -- what a walk tells of the cell
-  pub met : (c : Cell) (p : Point) (r : Option ℕ) → r ≡ id_in (link_to (meets_at vs eps n m c p) (up_to count)) → r ≡ found_in vs eps n count m p (c ∷ [])
+  pub met : (c : Cell) (p : Point) (r : Option ℕ) → r ≡ first (meets_at vs eps n m c p) (up_to count) → r ≡ found_in vs eps n count m p (c ∷ [])
   unfolding found_in flat_map
   met c p r e =
       let inside : ℕ → Bool = λ k. same_cell (cell_at m (11 * n + 3 * k)) c in
       let near_at : ℕ → Bool = λ k. near eps p (vertex (kept_points vs n count m) k) in
       e
-      ∙ ap id_in
-      (ids_same (meets_at vs eps n m c p) (λ k. inside k && near_at k) count (λ k h. ap (λ (q : Point). inside k && near eps p q) (kept_at k h))
-      ∙ cell_link inside near_at count)
-      ∙ id_link (first near_at (in_cell_at n count m c))
+      ∙ first_same (meets_at vs eps n m c p) (λ k. inside k && near_at k) (up_to count)
+      (λ k x. ap (λ (q : Point). inside k && near eps p q) (kept_at k (omega (arith, (of_up 0 count x).1))))
+      ∙ sym (first_keep near_at inside (up_to count))
       ∙ ap (first near_at) (sym (append-nil (in_cell_at n count m c)))
 
   -- ---- cell after cell

@@ -51,7 +51,6 @@ module _ (vs : List Float) (eps : Float) (n i count : ℕ) (m : List ℕ) (G : W
         index =
             record {
               size = I.size;
-              some = I.some;
               small = I.small;
               room = omega (arith, I.room, len);
               few = I.few;
@@ -230,7 +229,6 @@ module _ (vs : List Float) (eps : Float) (n i count : ℕ) (m : List ℕ) (G : W
           index =
               record {
                 size = I.size;
-                some = I.some;
                 small = I.small;
                 room = omega (arith, I.room, len);
                 few = omega (arith, few);
@@ -267,15 +265,14 @@ module _ (vs : List Float) (eps : Float) (n i count : ℕ) (m : List ℕ) (G : W
 
 -- ---- the first vertex and the last
 
-pub going_start : (vs : List Float) (eps : Float) (n : ℕ) (m v : List ℕ) → 0 < n → n < 268435456 → 3 * n ≤ length vs → 14 * n ≤ length m → PartZeroed m v 0 (8 * n)
+pub going_start : (vs : List Float) (eps : Float) (n : ℕ) (m v : List ℕ) → n < 268435456 → 3 * n ≤ length vs → 14 * n ≤ length m → PartZeroed m v 0 (8 * n)
     → WeldedSoFar vs eps n 0 0 v
 unfolding weld
-going_start vs eps n m v any small size room z =
+going_start vs eps n m v small size room z =
     record {
       index =
           record {
             size = size;
-            some = any;
             small = small;
             room = omega (arith, z.long);
             few = omega arith;
@@ -294,7 +291,3 @@ going_end vs eps n i count m G h =
     let e : i ≡ n = omega (arith, G.done) in
     let g = subst (λ (k : ℕ). WeldedSoFar vs eps n k count m) e G in
     record { few = g.within; kept = g.kept; old_to_new = g.old_to_new }
-
-pub none_welds : (vs : List Float) (eps : Float) (n : ℕ) (m : List ℕ) → n ≡ 0 → Welds vs eps n m 0
-unfolding weld
-none_welds vs eps n m e = subst (λ (k : ℕ). Welds vs eps k m 0) (sym e) (record { few = omega arith; kept = refl; old_to_new = refl })

@@ -72,7 +72,6 @@ KeysIn vs eps n = (i : ℕ) → i < n → KeyIn eps (vertex_of vs i)
 
 pub record Index (vs : List Float) (eps : Float) (n count : ℕ) (m : List ℕ) : Type 0 where
   pub size : 3 * n ≤ length vs
-  pub some : 0 < n
   pub small : n < 268435456
   pub room : 14 * n ≤ length m
   pub few : count ≤ n

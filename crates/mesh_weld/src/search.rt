@@ -19,6 +19,7 @@ pub struct Kept<'a> {
     pub n: usize,
     pub count: usize,
     pub eps: f64,
+    pub ghost some: { 0 < n },
     pub ghost index: { Index vertices.now eps n count room.now },
     pub ghost keys_in: { KeysIn vertices.now eps n },
 }
@@ -41,12 +42,12 @@ impl Kept<'_> {
         ensures { result ≡ found_in self.now.vertices.now self.now.eps self.now.n self.now.count self.now.room.now p (c ∷ []) }
     {
         let b = bucket_at(s, (4 * self.n) as u64) as usize;
-        let mut at = first(self.room, 0, b);
-        while let Some(i) = at {
+        let mut here = first(self.room, 0, b);
+        while let Some(i) = here {
             if self.holds(i, c, p) {
                 return Some(i);
             }
-            at = next(self.room, 0, 4 * self.n, i);
+            here = next(self.room, 0, 4 * self.n, i);
         }
         None
     }

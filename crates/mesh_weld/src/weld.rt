@@ -63,9 +63,6 @@ pub fn weld(m: &mut [u64], vs: &[f64], n: usize, eps: f64) -> usize
     requires keys_in { KeysIn vs.now eps n }
     ensures { Welds vs.now eps n m.new result }
 {
-    if n == 0 {
-        return 0;
-    }
     zero_part(m, 0, 8 * n);
     let mut count = 0;
     for i in 0..n {

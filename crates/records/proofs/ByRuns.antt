@@ -260,7 +260,6 @@ greater_other k (q ∷ l) h = λ e. omega (arith, h.0)
 
 -- ---- different keys
 seen_less : (y : ℕ) (seen : List ℕ) → Each (λ s. s < y) seen → some (eqb y) seen ≡ false
-unfolding some
 seen_less y [] e = refl
 seen_less y (s ∷ seen) e = λ t. ne_eqb y s (λ q. omega (arith, e.0)) t || seen_less y seen e.1 t
 
@@ -282,7 +281,7 @@ Differ l = (seen : List ℕ) → Past seen l → map first_key (runs l) ≡ dist
 -- the rest of a run adds no key
 run_seen : (k : ℕ) (run l : List (ℕ × ℕ)) (seen : List ℕ) → Each (λ y. y.0 ≡ k) run → Each (λ y. k < y.0) l → some (eqb k) seen ≡ true → Past seen l → Differ l
     → map first_key (runs l) ≡ distinct_from eqb seen (map (λ r. r.0) (run ++ l))
-unfolding distinct_from some
+unfolding distinct_from
 run_seen k [] l seen same later has past ih = ih seen past
 run_seen k (q ∷ run) l seen same later has past ih =
     run_seen k run l (q.0 ∷ seen) same.1 later (ap (λ (b : Bool). b || some (eqb k) seen) (eq-eqb k q.0 (sym same.0)))
@@ -293,7 +292,7 @@ run_seen k (q ∷ run) l seen same later has past ih =
     rest x = distinct_from eqb (x ∷ seen) (map (λ r. r.0) (run ++ l))
 
 pub runs_distinct : (l : List (ℕ × ℕ)) → Ascending record_before l → map first_key (runs l) ≡ distinct eqb (map (λ r. r.0) l)
-unfolding distinct_from some runs
+unfolding distinct_from runs
 runs_distinct l a = by_runs Differ (λ seen h. refl) more l a [] (nothing l)
   where
     more : (k : ℕ) (r : ℕ × ℕ) (run l : List (ℕ × ℕ)) → Each (λ y. y.0 ≡ k) (r ∷ run) → Each (λ y. k < y.0) l → Differ l → Differ (r ∷ run ++ l)

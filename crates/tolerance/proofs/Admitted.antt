@@ -2,8 +2,7 @@
 use mathlib.Core.Path.{◌≡◌, refl, ap, ◌∙◌}
 use mathlib.Core.Bool.{Bool, true, false, cond}
 use mathlib.Core.List.{[], ◌∷◌}
-use native.Mathlib.Omega.{arith}
-use Prim.Native.Nat.{ℕ, ◌^◌}
+use Prim.Native.Nat.{◌^◌}
 use lib.Dec.{T, lit≤, lit<}
 use lib.Ieee.{Float, binary64, fits, of_bits, to_bits, lt, le}
 use lib.Ieee.Fits.{add-fits}
@@ -18,7 +17,7 @@ use Rattle.geometry.proofs.Points.{norm2_within, norm2_plus, norm2_rootable}
 use Rattle.refusals.specs.declared.refusal.Refusal.{Refusal}
 use Rattle.refusals.specs.Refusals.{documented}
 use Rattle.input_tests.specs.Front.{box_in_range, bad_box, eps_in_range}
-use Rattle.tolerance.specs.declared.Tolerance.TheVariants.{Of, Refused}
+use Rattle.std.specs.Prelude.{Result, Ok, Err}
 use Rattle.tolerance.specs.Tolerance.{box_lengths, tolerance, tolerance_reply, Tolerated}
 use Rattle.tolerance.proofs.Replies.{sides_within, reply_done}
 
@@ -72,13 +71,13 @@ module _ (b : AABB) (e : box_in_range b ≡ true) where
 
 -- ---- what `bbox_eps` promises, by cases
 
-pub refused : (b : AABB) (r : Refusal) → documented r ≡ tolerance_reply b → Tolerated b (Refused r)
+pub refused : (b : AABB) (r : Refusal) → documented r ≡ tolerance_reply b → Tolerated b (Err r)
 refused b r e = record { replied = e; admitted = λ eps h. absurd (never r eps h); rooted = λ eps h. absurd (never r eps h) }
   where
-    never : (r : Refusal) (eps : Float) → Refused r ≡ Of eps → ⊥
-    never r eps h = let z : ◌≡◌ {A = ℕ} 0 1 = cc in omega arith
+    never : (r : Refusal) (eps : Float) → ◌≡◌ {A = Result Float Refusal} (Err r) (Ok eps) → ⊥
+    never r eps h = cc
 
-pub tolerated : (b : AABB) (eps : Float) → eps ≡ tolerance b → box_in_range b ≡ true → bad_box b ≡ false → Tolerated b (Of eps)
+pub tolerated : (b : AABB) (eps : Float) → eps ≡ tolerance b → box_in_range b ≡ true → bad_box b ≡ false → Tolerated b (Ok eps)
 tolerated b eps h e f =
     record {
       replied = ap (λ (d : Float). 0 ∷ to_bits binary64 d ∷ []) h ∙ reply_done b e f;

@@ -10,7 +10,8 @@ use Rattle.root.proofs.Powers.{sub_pow}
 use Rattle.geometry.specs.declared.aabb.AABB.{AABB}
 use Rattle.geometry.specs.Points.{norm2}
 use Rattle.geometry.proofs.Points.{PointWithin, norm2_rootable}
-use Rattle.refusals.specs.declared.refusal.Checked.{Checked}
+use Rattle.std.specs.Prelude.{Result}
+use Rattle.refusals.specs.declared.refusal.Refusal.{Refusal}
 use Rattle.refusals.specs.declared.refusal.Refusal.TheVariants.{BadNumber, BadBox}
 use Rattle.refusals.specs.Refusals.{documented, numbered}
 use Rattle.input_tests.specs.Front.{box_in_range, bad_box}
@@ -32,7 +33,7 @@ sides_rootable b e = norm2_rootable 31 (lit≤ tt) (sides_within b e)
 
 -- ---- the reply: 4 before 5
 
-abbrev replied : AABB → Checked → List ℕ
+abbrev replied : AABB → Result (Unit {0}) Refusal → List ℕ
 replied b c = numbered c (to_bits binary64 (tolerance b) ∷ [])
 
 pub reply_bad_number : (b : AABB) → box_in_range b ≡ false → documented BadNumber ≡ tolerance_reply b

@@ -10,13 +10,6 @@ use input_tests::boxes::{box_in_range, is_bad_box};
 use refusals::refusal::Refusal;
 use rounding::max;
 
-// The tolerance, or why there is none.
-#[derive(Clone, Copy)]
-pub enum Tolerance {
-    Of(f64),
-    Refused(Refusal),
-}
-
 fn sides(extents: AABB) -> Point
     ensures { result ≡ box_lengths extents }
 {
@@ -28,15 +21,15 @@ fn sides(extents: AABB) -> Point
 }
 
 // "1e-10 times the larger of 1 and the root of the summed squares of the sides", after tests 4 and 5
-pub fn bbox_eps(extents: AABB) -> Tolerance
+pub fn bbox_eps(extents: AABB) -> Result<f64, Refusal>
     ensures { Tolerated extents result }
 {
     if !box_in_range(extents) {
-        return Tolerance::Refused(Refusal::BadNumber);
+        return Err(Refusal::BadNumber);
     }
     if is_bad_box(extents) {
-        return Tolerance::Refused(Refusal::BadBox);
+        return Err(Refusal::BadBox);
     }
     let diag = sides(extents).norm();
-    Tolerance::Of(1.0e-10 * max(diag, 1.0))
+    Ok(1.0e-10 * max(diag, 1.0))
 }

@@ -50,7 +50,7 @@ pub record BoundaryBlocks : Type 0 where
   turned : lists (0 ∷ 1 ∷ 2 ∷ 0 ∷ 1 ∷ 3 ∷ []) ≡ (0 ∷ 2 ∷ 0 ∷ 3 ∷ 1 ∷ 2 ∷ 1 ∷ 3 ∷ []) ∷ (4 ∷ 1 ∷ []) ∷ (0 ∷ 1 ∷ []) ∷ []
 
 pub listed : BoundaryBlocks
-unfolding every some keep place insert_by sort_by distinct_from up_from flat_map threes same_pair pair_before open_edges pair_words components documented first_refusal room_tests ragged too_many
+unfolding place insert_by sort_by distinct_from up_from flat_map threes same_pair pair_before open_edges pair_words components documented first_refusal room_tests ragged too_many
     admitted bad_index work_need same_side is_irregular irregular_edges share_end together groups open_pairs boundary_components is_ring component_words boundary_tests
 listed =
     record {

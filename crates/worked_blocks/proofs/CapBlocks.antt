@@ -172,7 +172,7 @@ pub record Rules : Type 0 where
   few_reply : reply (+0 ∷ +0 ∷ +0 ∷ +0 ∷ +1 ∷ +0 ∷ +0 ∷ +0 ∷ 0·01 ∷ []) lone [] (box_to 0·1 0·1 0·1) +1 +1 CloseNegative ≡ 0 ∷ 9 ∷ 3 ∷ []
 
 pub computed : WorkedBlocks
-unfolding every some keep place insert_by sort_by distinct_from up_from flat_map magnitude within larger clamped before one units_of root root_of_square whole_root half_up rounded key
+unfolding place insert_by sort_by distinct_from up_from flat_map magnitude within larger clamped before one units_of root root_of_square whole_root half_up rounded key
     beyond far_key ceil whole_up rounding.segments_over along difference dot cross threes contains_oriented_edge sorted_vertices segments grid_line grid_size first components key_of
     same_key same_corners same_pair pair_before open_edges documented first_refusal ragged too_many admitted bad_index in_range eps_in_range resolution_in_range box_in_range bad_box grid_too_fine
     work_need far_keys room_tests project on_face faces_of by_key renewed listed number_for insert grid_point skipped grid_at face_grid grid enter_edge edge_surface corner_vertices
@@ -181,7 +181,7 @@ unfolding every some keep place insert_by sort_by distinct_from up_from flat_map
 computed = record { c10 = refl; c9 = refl; c13 = refl; c14_near = refl; c14_far = refl; c15_positive = refl; c15_points = refl; c15_negative = refl; c15_above = refl }
 
 pub rules : Rules
-unfolding every some keep place insert_by sort_by distinct_from up_from flat_map magnitude within larger clamped before one units_of root root_of_square whole_root half_up rounded key
+unfolding place insert_by sort_by distinct_from up_from flat_map magnitude within larger clamped before one units_of root root_of_square whole_root half_up rounded key
     beyond far_key ceil whole_up rounding.segments_over along difference dot cross threes contains_oriented_edge sorted_vertices segments grid_line grid_size first components key_of
     same_key same_corners same_pair pair_before open_edges documented first_refusal ragged too_many admitted bad_index in_range eps_in_range resolution_in_range box_in_range bad_box grid_too_fine
     work_need far_keys room_tests project on_face faces_of by_key renewed listed number_for insert grid_point skipped grid_at face_grid grid enter_edge edge_surface corner_vertices

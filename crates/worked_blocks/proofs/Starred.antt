@@ -214,7 +214,7 @@ of_all a (Memᴰ.head {x} {xs} e) = subst⁻¹ (λ (q : Row). q.given ≡ q.stat
 of_all a (Memᴰ.tail {x} {xs} m) = of_all a.1 m
 
 computed : All starred
-unfolding every some distinct_from up_from threes magnitude within inside snap_to snapped crossing interpolated on_plane crossed side_clipped walk clip_to_plane clip_polygon along
+unfolding distinct_from up_from threes magnitude within inside snap_to snapped crossing interpolated on_plane crossed side_clipped walk clip_to_plane clip_polygon along
     fan fanned inside_box shared_number share_once sharing clip_facet clip_facets clipped flat_map first_refusal documented ragged too_many admitted bad_index in_range eps_in_range
     box_in_range bad_box work_need room_tests clip_tests clip_result keep place insert_by sort_by half_up rounded key beyond far_key far_keys difference dot cross key_of same_key around near
     neighbours cells first weld_next weld has_repeated_corner is_flat sorted_vertices same_corners is_duplicate filtered passed_next passed components share_vertex is_alone status

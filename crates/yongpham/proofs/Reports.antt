@@ -25,8 +25,7 @@ use Rattle.refusals.specs.Reports.{Reported}
 use Rattle.refusals.proofs.Refusals.{holds, row_passed, row_refused}
 use Rattle.refusals.proofs.Answers.{refused, answered, called}
 use Rattle.refusals.proofs.Reports.{same_reply}
-use Rattle.tolerance.specs.declared.Tolerance.{Tolerance}
-use Rattle.tolerance.specs.declared.Tolerance.TheVariants.{Of, Refused}
+use Rattle.std.specs.Prelude.{Result, Ok, Err}
 use Rattle.tolerance.specs.Tolerance.{tolerance_reply, documented_tolerance, Tolerated}
 use Rattle.candidate_surface.specs.Asked.{Asked}
 use Rattle.caps.specs.declared.mode.BoundaryClosure.{BoundaryClosure}
@@ -35,13 +34,13 @@ use Rattle.caps.specs.Operation.{caps_tests, caps_result, unchanged, Closes, Cap
 use Rattle.caps.proofs.Demands.{closes}
 use Rattle.yongpham.specs.Calls.{mode_of, no_mode_tests, caps_call_tests, CapsCalled}
 
-pub tolerance_done : (b : AABB) (t : Tolerance) (eps : Float) (r : ℕ) (ws : List ℕ) → Tolerated b t → t ≡ Of eps → (r ≡ 0) ×
+pub tolerance_done : (b : AABB) (t : Result Float Refusal) (eps : Float) (r : ℕ) (ws : List ℕ) → Tolerated b t → t ≡ Ok eps → (r ≡ 0) ×
     (ws ≡ to_bits binary64 eps ∷ 0 ∷ 0 ∷ 0 ∷ []) → Reported
     (tolerance_reply b) r ws
 tolerance_done b t eps r ws h e k =
     same_reply (0 ∷ to_bits binary64 eps ∷ []) (tolerance_reply b) r ws (sym (ap documented_tolerance e) ∙ h.replied) (record { number = k.0; words = k.1 })
 
-pub tolerance_refused : (b : AABB) (t : Tolerance) (q : Refusal) (r : ℕ) (ws : List ℕ) → Tolerated b t → t ≡ Refused q → Reported (documented q) r ws → Reported (tolerance_reply b)
+pub tolerance_refused : (b : AABB) (t : Result Float Refusal) (q : Refusal) (r : ℕ) (ws : List ℕ) → Tolerated b t → t ≡ Err q → Reported (documented q) r ws → Reported (tolerance_reply b)
     r ws
 tolerance_refused b t q r ws h e k = same_reply (documented q) (tolerance_reply b) r ws (sym (ap documented_tolerance e) ∙ h.replied) k
 

@@ -4,7 +4,7 @@ ghost use Rattle.tolerance.specs.Tolerance.{tolerance_reply};
 
 use geometry::aabb::AABB;
 use refusals::report::{report_done, report_refusal};
-use tolerance::{Tolerance, bbox_eps};
+use tolerance::bbox_eps;
 
 // `bbox_eps` of the box with these two corners: values[0] gets the bits of the tolerance.
 pub fn yongpham_tolerance(
@@ -23,7 +23,7 @@ pub fn yongpham_tolerance(
         max_corner: [max_x, max_y, max_z],
     };
     match bbox_eps(extents) {
-        Tolerance::Of(eps) => report_done(values, f64::to_bits(eps), 0, 0, 0),
-        Tolerance::Refused(refusal) => report_refusal(values, refusal),
+        Ok(eps) => report_done(values, f64::to_bits(eps), 0, 0, 0),
+        Err(refusal) => report_refusal(values, refusal),
     }
 }

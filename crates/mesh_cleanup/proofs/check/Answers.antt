@@ -7,59 +7,48 @@ use native.Mathlib.Omega.{arith}
 use mathlib.Core.Bool.{not}
 use mathlib.Core.Path.{sym, ap, ◌∙◌}
 use Rattle.mesh_cleanup.proofs.check.Goals as goal
+use Rattle.mesh_cleanup.proofs.check.Goals.{then-not-all_in_range-via-then-not-all_in_range, then-not-all_in_range-via-else-not-all_in_range+then-not-eps_in_range}
 
-pub returns-in-Refused : goal.returns-in-Refused
-returns-in-Refused c =
-    let s = c in
-    let a = s.args in
-    lists_refused a.vertices.now a.facets.now (clean_asked a.eps) (limits a.ceiling a.lent) _ _ c.check_lists-lists.ensures c.in-Refused.is
+pub returns-in_err-check_lists : goal.returns-in_err-check_lists
+returns-in_err-check_lists c =
+    let a = c.args in
+    lists_refused a.vertices.now a.facets.now (clean_asked a.eps) (limits a.ceiling a.lent) _ (sym c.check_lists.ensures ∙ c.in_err-check_lists.was)
 
 pub returns-then-not-all_in_range : goal.returns-then-not-all_in_range
 returns-then-not-all_in_range c =
-    let s = c in
-    let a = s.args in
-    number_refused a.vertices.now a.facets.now (clean_asked a.eps) (limits a.ceiling a.lent) (sym c.check_lists-lists.ensures ∙ c.in_default.is)
-    (ap not (and_stop _ _ (sym c.all_in_range.ensures ∙ c.if-not-all_in_range.true)))
-
-pub returns-then-not-eps_in_range : goal.returns-then-not-eps_in_range
-returns-then-not-eps_in_range c =
-    let s = c in
-    let a = s.args in
-    number_refused a.vertices.now a.facets.now (clean_asked a.eps) (limits a.ceiling a.lent)
-    (sym c.check_lists-lists.ensures ∙ c.in_default.is)
-    (ap not (and_next _ _ _ (sym c.all_in_range.ensures ∙ c.if-not-all_in_range.false)
-    (sym c.eps_in_range.ensures ∙ c.if-not-eps_in_range.true)))
+    let a = c.args in
+    number_refused a.vertices.now a.facets.now (clean_asked a.eps) (limits a.ceiling a.lent) (sym c.check_lists.ensures ∙ c.in_ok-check_lists.was)
+    (elim c.then-not-all_in_range.branch [
+      then-not-all_in_range-via-then-not-all_in_range w ↦ ap not (and_stop _ _ (sym c.all_in_range.ensures ∙ w.if-not-all_in_range.true))
+      | then-not-all_in_range-via-else-not-all_in_range+then-not-eps_in_range w ↦
+          ap not (and_next _ _ _ (sym c.all_in_range.ensures ∙ w.if-not-all_in_range.false) (sym w.eps_in_range.ensures ∙ w.if-not-eps_in_range.true))
+    ])
 
 pub work_need-need-requires : goal.work_need-need-requires
 work_need-need-requires c =
-    let s = c in
-    let a = s.args in
-    let l = listed _ a.vertices.now a.facets.now _ (sym c.check_lists-lists.ensures ∙ c.in_default.is) in
+    let l = listed _ c.args.vertices.now c.args.facets.now _ (sym c.check_lists.ensures ∙ c.in_ok-check_lists.was) in
     omega (arith, l.few_vertices, l.few_facets)
 
 pub returns-then-lent-need : goal.returns-then-lent-need
 returns-then-lent-need c =
-    let s = c in
-    let a = s.args in
+    let a = c.args in
     room_refused a.vertices.now a.facets.now (clean_asked a.eps) (limits a.ceiling a.lent)
-    (sym c.check_lists-lists.ensures ∙ c.in_default.is)
+    (sym c.check_lists.ensures ∙ c.in_ok-check_lists.was)
     (ap not (and_next _ _ _ (sym c.all_in_range.ensures ∙ c.if-not-all_in_range.false)
     (sym c.eps_in_range.ensures ∙ c.if-not-eps_in_range.false))) _ c.work_need-need.ensures c.if-lent-need.true
 
 pub returns-then-has_far_key : goal.returns-then-has_far_key
 returns-then-has_far_key c =
-    let s = c in
-    let a = s.args in
+    let a = c.args in
     key_refused a.vertices.now a.facets.now (clean_asked a.eps) (limits a.ceiling a.lent)
-    (sym c.check_lists-lists.ensures ∙ c.in_default.is) (ap not (and_next _ _ _ (sym c.all_in_range.ensures ∙ c.if-not-all_in_range.false)
+    (sym c.check_lists.ensures ∙ c.in_ok-check_lists.was) (ap not (and_next _ _ _ (sym c.all_in_range.ensures ∙ c.if-not-all_in_range.false)
     (sym c.eps_in_range.ensures ∙ c.if-not-eps_in_range.false))) _
     c.work_need-need.ensures c.if-lent-need.false (sym c.has_far_key.ensures ∙ c.if-has_far_key.true)
 
 pub returns : goal.returns
 returns c =
-    let s = c in
-    let a = s.args in
+    let a = c.args in
     all_passed_lem a.vertices.now a.facets.now (clean_asked a.eps) (limits a.ceiling a.lent)
-    (sym c.check_lists-lists.ensures ∙ c.in_default.is) (ap not (and_next _ _ _ (sym c.all_in_range.ensures ∙ c.if-not-all_in_range.false)
+    (sym c.check_lists.ensures ∙ c.in_ok-check_lists.was) (ap not (and_next _ _ _ (sym c.all_in_range.ensures ∙ c.if-not-all_in_range.false)
     (sym c.eps_in_range.ensures ∙ c.if-not-eps_in_range.false))) _
     c.work_need-need.ensures c.if-lent-need.false (sym c.has_far_key.ensures ∙ c.if-has_far_key.false)

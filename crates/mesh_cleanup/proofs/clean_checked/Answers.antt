@@ -6,29 +6,22 @@ use Rattle.mesh_cleanup.proofs.clean_checked.Goals as goal
 
 pub returns-then-out_vertices-need : goal.returns-then-out_vertices-need
 returns-then-out_vertices-need c =
-    let s = c in
-    let a = s.args in
+    let a = c.args in
     short_vertices a.vertices.now (clean_result a.vertices.now a.facets.now (clean_asked a.eps)) c.stage-s.result
     c.stage-s.new.work c.stage-s.ensures a.out_vertices.now a.out_vertices.now a.out_facets.now
     a.out_facets.now c.if-out_vertices-need.true refl refl
 
-pub returns-then-out_facets-numbers : goal.returns-then-out_facets-numbers
-returns-then-out_facets-numbers c =
-    let s = c in
-    let a = s.args in
+pub returns-then-out_facets-s : goal.returns-then-out_facets-s
+returns-then-out_facets-s c =
+    let a = c.args in
     short_facets a.vertices.now (clean_result a.vertices.now a.facets.now (clean_asked a.eps)) c.stage-s.result
     c.stage-s.new.work c.stage-s.ensures a.out_vertices.now a.out_vertices.now
-    a.out_facets.now a.out_facets.now (omega (arith, c.if-out_vertices-need.false)) c.if-out_facets-numbers.true refl refl
+    a.out_facets.now a.out_facets.now (omega (arith, c.if-out_vertices-need.false)) c.if-out_facets-s.true refl refl
 
 pub returns : goal.returns
 returns c =
-    let s = c in
-    let a = s.args in
-    done a.vertices.now (clean_result a.vertices.now a.facets.now (clean_asked a.eps))
-    c.stage-s.result
-    c.stage-s.new.work
-    c.stage-s.ensures a.out_vertices.now
-    c.write_vertices.new.out a.out_facets.now c.write_numbers.new.out
-    (omega (arith, c.if-out_vertices-need.false))
-    (omega (arith, c.if-out_facets-numbers.false))
+    let a = c.args in
+    done a.vertices.now (clean_result a.vertices.now a.facets.now (clean_asked a.eps)) c.stage-s.result c.stage-s.new.work c.stage-s.ensures
+    a.out_vertices.now c.write_vertices.new.out a.out_facets.now c.write_numbers.new.out
+    (omega (arith, c.if-out_vertices-need.false)) (omega (arith, c.if-out_facets-s.false))
     c.write_vertices.ensures c.write_numbers.ensures

@@ -9,20 +9,18 @@ use Rattle.mesh_cleanup.proofs.clean_lent.Goals as goal
 
 pub clean_checked-requires : goal.clean_checked-requires
 clean_checked-requires c =
-    let s = c in
-    let a = s.args in
-    ready a.vertices.now a.facets.now (clean_asked a.eps) (limits a.ceiling (length a.work.now))
-    (sym c.check.ensures ∙ c.in-Passed.is)
+    let a = c.args in
+    ready a.vertices.now a.facets.now (clean_asked a.eps) (limits a.ceiling (length a.work.now)) (sym c.check.ensures ∙ c.in_ok-check.was)
 
-pub returns-in-Passed : goal.returns-in-Passed
-returns-in-Passed c =
+pub returns : goal.returns
+returns c =
     let a = c.args in
     behind (clean_tests a.vertices.now a.facets.now (clean_asked a.eps) (limits a.ceiling (length a.work.now))) _ _
-    (sym c.check.ensures ∙ c.in-Passed.is) c.clean_checked.ensures
+    (sym c.check.ensures ∙ c.in_ok-check.was) c.clean_checked.ensures
 
-pub returns-in-Refused : goal.returns-in-Refused
-returns-in-Refused c =
+pub returns-in_err-check : goal.returns-in_err-check
+returns-in_err-check c =
     let a = c.args in
     refused (clean_tests a.vertices.now a.facets.now (clean_asked a.eps) (limits a.ceiling (length a.work.now)))
     (mesh_outputs (clean_result a.vertices.now a.facets.now (clean_asked a.eps)) a.out_vertices.now a.out_vertices.now a.out_facets.now a.out_facets.now) _
-    (sym c.check.ensures ∙ c.in-Refused.is) (refl, (refl, tt))
+    (sym c.check.ensures ∙ c.in_err-check.was) (refl, (refl, tt))

@@ -4,8 +4,8 @@ use Rattle.chains.proofs.Words.{sought}
 use Rattle.chains.proofs.by_word.find_word.Given as goal
 
 -- `find_word` meets its contract: the loop's invariant is `Walk`, its measure the ids that are left. Assumes nothing.
-abbrev pub invariant-loop-p : goal.invariant-loop-p
-invariant-loop-p l = Walk l.m l.at l.nb (length l.keys) l.b (sought l.keys l.key) l.p
+abbrev pub invariant-loop-here : goal.invariant-loop-here
+invariant-loop-here l = Walk l.m l.at l.nb (length l.keys) l.b (sought l.keys l.key) l.here
 
-abbrev pub decreases-loop-p : goal.decreases-loop-p
-decreases-loop-p l = left (length l.keys) l.p
+abbrev pub decreases-loop-here : goal.decreases-loop-here
+decreases-loop-here l = left (length l.keys) l.here

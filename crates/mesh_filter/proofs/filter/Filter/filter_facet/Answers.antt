@@ -1,4 +1,4 @@
-use Rattle.chains.specs.Links.{link_to}
+use Rattle.chains.specs.Links.{id_in, link_to}
 use Rattle.lists.specs.Regions.{view}
 use lib.Dec.{eqb}
 use Rattle.mesh_filter.proofs.Steps.{dropped, tail_low, through}
@@ -43,8 +43,8 @@ corners_key-key-requires c =
     let k = c.args.self.now in
     subst (Below 2097152) (sym c.corners_of-t.ensures) (facet_small k.welded k.vertices.now k.facets.now k.at k.n c.args.m.now c.requires.numbered c.args.f)
 
-pub returns-then-find_key-ne0 : goal.returns-then-find_key-ne0
-returns-then-find_key-ne0 c =
+pub returns-then-is_some : goal.returns-then-is_some
+returns-then-is_some c =
     let k = c.args.self.now in
     let m = c.args.m.now in
     let N = c.requires.numbered in
@@ -56,8 +56,8 @@ returns-then-find_key-ne0 c =
     (duplicate_stops k.eps P F (passed k.eps P F f) (facet_at F f)
     (is_duplicate_lem k.welded k.vertices.now k.facets.now k.at k.n m N (facet_at F f)
     (facet_small k.welded k.vertices.now k.facets.now k.at k.n m N f) (passed k.eps P F f) _ G.keys c.find_key.result
-    (c.find_key.ensures ∙ ap (λ (x : ℕ). link_to (eqb x) (view m (k.at + 9 * k.n) c.args.count))
-    (c.corners_key-key.ensures ∙ ap corners_key c.corners_of-t.ensures)) c.if-find_key-ne0.true))
+    (c.find_key.ensures ∙ ap (λ (x : ℕ). id_in (link_to (eqb x) (view m (k.at + 9 * k.n) c.args.count)))
+    (c.corners_key-key.ensures ∙ ap corners_key c.corners_of-t.ensures)) (sym c.is_some.ensures ∙ c.if-is_some.true)))
 
 pub enter-requires-clause-b_bound : goal.enter-requires-clause-b_bound
 enter-requires-clause-b_bound c =
@@ -90,5 +90,5 @@ returns c =
     (ap (λ (u : Triangle ℕ). is_flat k.eps P u) (sym e) ∙ sym c.is_flat.ensures ∙ c.if-is_flat.false)
     (no_duplicate k.welded k.vertices.now k.facets.now k.at k.n m N (facet_at F f)
     (facet_small k.welded k.vertices.now k.facets.now k.at k.n m N f) (passed k.eps P F f) _ G.keys c.find_key.result
-    (c.find_key.ensures ∙ ap (λ (x : ℕ). link_to (eqb x) (view m (k.at + 9 * k.n) n))
-    (c.corners_key-key.ensures ∙ ap corners_key e)) c.if-find_key-ne0.false)))
+    (c.find_key.ensures ∙ ap (λ (x : ℕ). id_in (link_to (eqb x) (view m (k.at + 9 * k.n) n)))
+    (c.corners_key-key.ensures ∙ ap corners_key e)) (sym c.is_some.ensures ∙ c.if-is_some.false))))

@@ -1,6 +1,6 @@
 use Rattle.chains.specs.ByWord.{word_bucket}
 use Rattle.chains.specs.Chains.{Linked}
-use Rattle.chains.specs.Links.{link_to}
+use Rattle.chains.specs.Links.{id_in, link_to}
 use Rattle.lists.proofs.Regions.{view_length}
 use Rattle.lists.specs.Regions.{view}
 use lib.ListN.{length, take, drop}
@@ -30,4 +30,4 @@ returns c =
     let a = s.args in
     let k = a.self.now in
     let e : k.at + 9 * k.n + a.count - (k.at + 9 * k.n) ≡ a.count = omega arith in
-    c.find_word.ensures ∙ ap (λ (x : ℕ). link_to (eqb a.key) (take x (drop (k.at + 9 * k.n) a.m.now))) e
+    c.find_word.ensures ∙ ap (λ (x : ℕ). id_in (link_to (eqb a.key) (take x (drop (k.at + 9 * k.n) a.m.now)))) e
