@@ -82,10 +82,10 @@ module _ (n nf k listed total : ℕ) (w : List ℕ) (R : Readable n nf k listed 
 
         pub done : 3 * listed ≤ length e → (c' l' t' e' : List ℕ) → c' ≡ sets c 0 (view w 8 (5 * count_at w)) → l' ≡ sets l 0 (list_words r.lists)
             → t' ≡ sets t 0 (constraint_words r.constraints) → e' ≡ sets e 0 (open_edge_words r.edges)
-            → Answer [] (candidate_outputs r c c' l l' t t' e e') (documented_reply (Ok (5 * count_at w ∷ 6 + numbers ∷ 3 * total ∷ 3 * listed ∷ [])))
+            → Answer [] (candidate_outputs r c c' l l' t t' e e') (documented_reply (Ok ((5 * count_at w) ∷ (6 + numbers) ∷ (3 * total) ∷ (3 * listed) ∷ [])))
         done hu c' l' t' e' hc hl ht he =
             let fit_four : length (open_edge_words r.edges) ≤ length e = let q = u_long in omega (arith, q, hu) in
-            all_done (first c' ∷ second l' ∷ third t' ∷ fourth e' ∷ []) (5 * count_at w ∷ 6 + numbers ∷ 3 * total ∷ 3 * listed ∷ [])
+            all_done (first c' ∷ second l' ∷ third t' ∷ fourth e' ∷ []) ((5 * count_at w) ∷ (6 + numbers) ∷ (3 * total) ∷ (3 * listed) ∷ [])
             (λ i. x_long i ∷ y_long i ∷ z_long i ∷ u_long i ∷ [])
             (fit_one, (fit_two, (fit_three, (fit_four, tt)))) (
               hc ∙ ap (sets c 0) (sym R.words) ∙ sets_overlay (candidate_words r.all) c fit_one,
