@@ -1,10 +1,10 @@
-// boundary_closure.rs, `BoxFace`: which faces a point lies on, and its coordinates there.
-ghost use Rattle.std.specs.Prelude.{◌≡◌, cond, ◌&&◌, ◌<◌, ◌≤◌};
-ghost use Rattle.root.specs.Doubles as doubles;
-ghost use Rattle.root.specs.Doubles.{◌⊖◌};
+// boundary_closure.rs, `BoxFace`: which faces a point lies on, and its coordinates there. A face stays a number, 0 to 5, and no enum: it is the C caller's number
+// for it, counts the lists of the lent room, and stands in its words.
+ghost use Rattle.std.specs.Prelude.{◌≡◌, ◌&&◌, ◌<◌};
 ghost use Rattle.geometry.specs.Points as points;
+ghost use Rattle.geometry.specs.Boxes.{plane};
 ghost use Rattle.box_faces.specs.Faces as defined;
-ghost use Rattle.box_faces.specs.Faces.{u_axis, v_axis, faces_of, face_bits, has_bit, bit_count, ccw_is_outward};
+ghost use Rattle.box_faces.specs.Faces.{u_axis, v_axis, on_face, faces_of, face_bits, has_bit, bit_count, ccw_is_outward};
 
 use crate::uv::Uv;
 use geometry::aabb::AABB;
@@ -26,20 +26,20 @@ pub fn v_axis(face: usize) -> usize
 }
 
 // A point's coordinate on an axis.
+#[tactic(auto, unfolding(geometry::specs::Points::along))]
 pub fn along(p: Point, axis: usize) -> f64
     requires { axis < 3 }
     ensures { result ≡ points.along p axis }
 {
-    if axis == 0 {
-        p.x
-    } else if axis == 1 {
-        p.y
-    } else {
-        p.z
+    match axis {
+        0 => p.x,
+        1 => p.y,
+        _ => p.z,
     }
 }
 
 // `project`
+#[tactic(auto, unfolding(crate::specs::Faces::project))]
 pub fn project(face: usize, p: Point) -> Uv
     ensures { result ≡ defined.project face p }
 {
@@ -51,68 +51,70 @@ pub fn project(face: usize, p: Point) -> Uv
     }
 }
 
-// The bit where both coordinates are within eps of the plane, else 0.
-fn both_on(a: f64, b: f64, plane: f64, eps: f64, bit: u64) -> u64
-    ensures { (result ≤ bit) × (result ≡ cond (doubles.within eps (a ⊖ plane) && doubles.within eps (b ⊖ plane)) bit 0) }
+// Where face f stands on its axis.
+fn plane(face: usize, extents: AABB) -> f64
+    requires { face < 6 }
+    ensures { result ≡ plane extents face }
 {
-    if within(a - plane, eps) {
-        if within(b - plane, eps) { bit } else { 0 }
+    if face % 2 == 0 {
+        extents.min_corner[face / 2]
     } else {
-        0
+        extents.max_corner[face / 2]
     }
+}
+
+// `point_on`
+#[tactic(auto, unfolding(crate::specs::Faces::on_face))]
+fn point_on(face: usize, p: Point, extents: AABB, eps: f64) -> bool
+    requires { face < 6 }
+    ensures { result ≡ on_face extents eps face p }
+{
+    within(along(p, face / 2) - plane(face, extents), eps)
+}
+
+fn both_on(face: usize, a: Point, b: Point, extents: AABB, eps: f64) -> bool
+    requires { face < 6 }
+    ensures { result ≡ (on_face extents eps face a && on_face extents eps face b) }
+{
+    point_on(face, a, extents, eps) && point_on(face, b, extents, eps)
 }
 
 // `aabb_face_mask`: bit f for each face f that both points lie on.
 pub fn aabb_face_mask(a: Point, b: Point, extents: AABB, eps: f64) -> u64
     ensures { result ≡ face_bits (faces_of extents eps a b) }
 {
-    let x_min = both_on(a.x, b.x, extents.min_corner[0], eps, 1);
-    let x_max = both_on(a.x, b.x, extents.max_corner[0], eps, 2);
-    let y_min = both_on(a.y, b.y, extents.min_corner[1], eps, 4);
-    let y_max = both_on(a.y, b.y, extents.max_corner[1], eps, 8);
-    let z_min = both_on(a.z, b.z, extents.min_corner[2], eps, 16);
-    let z_max = both_on(a.z, b.z, extents.max_corner[2], eps, 32);
-    x_min + (x_max + (y_min + (y_max + (z_min + z_max))))
+    let mut mask = 0;
+    for face in 0..6 {
+        if both_on(face, a, b, extents, eps) {
+            mask += 1 << face;
+        }
+    }
+    mask
 }
 
 // `FaceMask::contains`
+#[tactic(auto, unfolding(crate::specs::Faces::has_bit))]
 pub fn has_face(mask: u64, face: usize) -> bool
     requires { face < 6 }
     ensures { result ≡ has_bit mask face }
 {
-    (mask >> face as u64) % 2 == 1
-}
-
-// 1 or 0
-fn face_bit(mask: u64, face: usize) -> usize
-    requires { face < 6 }
-    ensures { (result ≤ 1) × (result ≡ cond (has_bit mask face) 1 0) }
-{
-    if has_face(mask, face) { 1 } else { 0 }
+    (mask >> face) % 2 == 1
 }
 
 // `FaceMask::len`
+#[tactic(auto, unfolding(crate::specs::Faces::bit_count))]
 pub fn count_faces(mask: u64) -> usize
     ensures { result ≡ bit_count mask }
 {
-    let x_min = face_bit(mask, 0);
-    let x_max = face_bit(mask, 1);
-    let y_min = face_bit(mask, 2);
-    let y_max = face_bit(mask, 3);
-    let z_min = face_bit(mask, 4);
-    let z_max = face_bit(mask, 5);
-    x_min + (x_max + (y_min + (y_max + (z_min + z_max))))
+    [0, 1, 2, 3, 4, 5]
+        .iter()
+        .filter(|face| has_face(mask, **face))
+        .count()
 }
 
 // `ccw_is_outward`
 pub fn ccw_is_outward(face: usize) -> bool
     ensures { result ≡ ccw_is_outward face }
 {
-    if face == 1 {
-        true
-    } else if face == 2 {
-        true
-    } else {
-        face == 5
-    }
+    matches!(face, 1 | 2 | 5)
 }

@@ -5,6 +5,7 @@ ghost use Rattle.box_faces.specs.Lines.{line_at, point_on_face};
 use geometry::point::Point;
 
 // The last line is the end itself.
+#[tactic(auto, using(rounding::proofs::Rounding::can_cast), unfolding(crate::specs::Lines::line_at))]
 pub fn axis_grid_coordinate(low: f64, high: f64, parts: usize, i: usize) -> f64
     requires { (i ≤ 256) × (parts ≤ 256) }
     ensures { result ≡ line_at low high parts i }
@@ -16,15 +17,14 @@ pub fn axis_grid_coordinate(low: f64, high: f64, parts: usize, i: usize) -> f64
     }
 }
 
+#[tactic(auto, unfolding(crate::specs::Lines::point_on_face))]
 pub fn point_on_face(face: usize, at: f64, u: f64, v: f64) -> Point
     requires { face < 6 }
     ensures { result ≡ point_on_face face at u v }
 {
-    if face / 2 == 0 {
-        Point { x: at, y: u, z: v }
-    } else if face / 2 == 1 {
-        Point { x: u, y: at, z: v }
-    } else {
-        Point { x: u, y: v, z: at }
+    match face / 2 {
+        0 => Point { x: at, y: u, z: v },
+        1 => Point { x: u, y: at, z: v },
+        _ => Point { x: u, y: v, z: at },
     }
 }

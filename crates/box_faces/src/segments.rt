@@ -18,6 +18,7 @@ pub fn sub(p: Uv, q: Uv) -> Uv
 }
 
 // of a segment with the extent d
+#[tactic(auto, unfolding(crate::specs::Segments::segment_length))]
 pub fn segment_length(d: Uv) -> f64
     requires { Within (2 ^ 1021) d.u × Within (2 ^ 1021) d.v }
     ensures { result ≡ segment_length d }
@@ -25,6 +26,7 @@ pub fn segment_length(d: Uv) -> f64
     hypot(d.u, d.v)
 }
 
+#[tactic(auto, unfolding(crate::specs::Segments::segment_bound))]
 pub fn segment_bound(tolerance: f64, a: Uv, b: Uv) -> f64
     requires { Within (2 ^ 1021) (b.u ⊖ a.u) × Within (2 ^ 1021) (b.v ⊖ a.v) }
     ensures { result ≡ segment_bound tolerance a b }
@@ -34,6 +36,7 @@ pub fn segment_bound(tolerance: f64, a: Uv, b: Uv) -> f64
 }
 
 // `point_on_segment2`
+#[tactic(auto, unfolding(crate::specs::Segments::on_segment_by))]
 pub fn point_on_segment2(p: Uv, a: Uv, b: Uv, bound: f64, tolerance: f64) -> bool
     ensures { result ≡ on_segment_by bound tolerance p a b }
 {
@@ -41,9 +44,5 @@ pub fn point_on_segment2(p: Uv, a: Uv, b: Uv, bound: f64, tolerance: f64) -> boo
     let ap = sub(p, a);
     let bp = sub(p, b);
     let cross = ab.u * ap.v - ab.v * ap.u;
-    if bound < abs(cross) {
-        false
-    } else {
-        ap.u * bp.u + ap.v * bp.v <= tolerance * tolerance
-    }
+    !(bound < abs(cross)) && ap.u * bp.u + ap.v * bp.v <= tolerance * tolerance
 }

@@ -24,43 +24,26 @@ pub fn face_boundary_side(face: usize, k: usize, extents: AABB) -> Side
         u: extents.max_corner[u],
         v: extents.max_corner[v],
     };
-    if k == 0 {
-        return Side {
-            start: low,
-            end: Uv {
-                u: high.u,
-                v: low.v,
-            },
-        };
-    }
-    if k == 1 {
-        return Side {
-            start: Uv {
-                u: high.u,
-                v: low.v,
-            },
-            end: high,
-        };
-    }
-    if k == 2 {
-        return Side {
-            start: high,
-            end: Uv {
-                u: low.u,
-                v: high.v,
-            },
-        };
-    }
-    Side {
-        start: Uv {
+    let corners = [
+        low,
+        Uv {
+            u: high.u,
+            v: low.v,
+        },
+        high,
+        Uv {
             u: low.u,
             v: high.v,
         },
-        end: low,
+    ];
+    Side {
+        start: corners[k],
+        end: corners[(k + 1) % 4],
     }
 }
 
 // The fraction t where it is no further than `slack` beyond the ends, 0 and 1.
+#[tactic(auto, unfolding(crate::specs::Sides::between_ends))]
 fn between_ends(t: f64, slack: f64) -> Option<f64>
     ensures { result ≡ between_ends t slack }
 {
@@ -73,6 +56,7 @@ fn between_ends(t: f64, slack: f64) -> Option<f64>
 
 // For a side of the extent d, and a point `from` its start along the side and w away from its line. The quotient may be infinite: then the answer is
 // `None`.
+#[tactic(auto, unfolding(crate::specs::Sides::along_side))]
 fn along_side(d: f64, from: f64, w: f64, eps: f64) -> Option<f64>
     ensures { result ≡ along_side eps d (from ⊘ d) w }
 {
@@ -85,6 +69,7 @@ fn along_side(d: f64, from: f64, w: f64, eps: f64) -> Option<f64>
 }
 
 // `candidate_on_face_side`, of a candidate at p
+#[tactic(auto, unfolding(crate::specs::Sides::on_side))]
 pub fn candidate_on_face_side(side: Side, p: Uv, eps: f64) -> Option<f64>
     ensures { result ≡ on_side eps side p }
 {

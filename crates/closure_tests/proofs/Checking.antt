@@ -24,8 +24,7 @@ use Rattle.edges.specs.Table.{next_side}
 use Rattle.edges.proofs.Sides.{side_at_lem, next_in}
 use Rattle.refusals.specs.declared.refusal.Refusal.{Refusal}
 use Rattle.refusals.specs.declared.refusal.Refusal.TheVariants.{BadNumber, BadBox, GridTooFine, NoWorkRoom, KeyRange, OpenEdge}
-use Rattle.refusals.specs.declared.refusal.Checked.{Checked}
-use Rattle.refusals.specs.declared.refusal.Checked.TheVariants.{Passed, Refused}
+use Rattle.std.specs.Prelude.{Option, Some, None, Result, Ok, Err}
 use Rattle.refusals.specs.Refusals.{Test, first_refusal, Passes}
 use Rattle.input_tests.specs.Front.{Limits, list_tests, in_range, eps_in_range, resolution_in_range, box_in_range, bad_box, grid_too_fine, work_need, far_keys, box_far_keys}
 use Rattle.refusals.proofs.Refusals.{holds, passes, none_left, row_passed, row_refused}
@@ -41,7 +40,7 @@ use Rattle.candidate_pool.specs.Offsets.{edge_table_at}
 
 -- ---- no count wraps
 
-pub need_small : (vs : List Float) (fs : List ℕ) (q : Asked) (ceiling caps m : ℕ) → first_refusal (list_tests ceiling vs fs caps) ≡ Passed
+pub need_small : (vs : List Float) (fs : List ℕ) (q : Asked) (ceiling caps m : ℕ) → first_refusal (list_tests ceiling vs fs caps) ≡ Ok tt
     → grid_too_fine q.box q.eps (one_resolution q.resolution) ≡ false → m ≡ grid_size q.box q.eps (one_resolution q.resolution) → length vs / 3 + length fs / 3 + caps
     / 4 + m ≤ 4294967296
 need_small vs fs q ceiling caps m e f g =
@@ -75,33 +74,33 @@ module _ (vs : List Float) (fs : List ℕ) (q : Asked) (caps : ℕ) (l : Limits)
   abbrev rest : List Test
   rest = (bad, BadNumber) ∷ boxes
 
-  abbrev found : Checked
+  abbrev found : Result (Unit {0}) Refusal
   found = first_refusal (closure_tests vs fs q caps l)
 
-  pub lists_refused : (x : Checked) (r : Refusal) → x ≡ first_refusal lists → x ≡ Refused r → x ≡ found
+  pub lists_refused : (x : Result (Unit {0}) Refusal) (r : Refusal) → x ≡ first_refusal lists → x ≡ Err r → x ≡ found
   unfolding closure_tests
   lists_refused x r e f = f ∙ sym (row_refused lists rest r (sym e ∙ f))
 
-  module _ (e : first_refusal lists ≡ Passed) where
+  module _ (e : first_refusal lists ≡ Ok tt) where
     after_lists : found ≡ first_refusal rest
     unfolding closure_tests
     after_lists = row_passed lists rest e
 
-    pub number_refused : bad ≡ true → Refused BadNumber ≡ found
+    pub number_refused : bad ≡ true → Err BadNumber ≡ found
     number_refused h = sym (after_lists ∙ holds bad BadNumber boxes h)
 
     module _ (h : bad ≡ false) where
       after_numbers : found ≡ first_refusal boxes
       after_numbers = after_lists ∙ passes bad BadNumber boxes h
 
-      pub box_refused : bad_box q.box ≡ true → Refused BadBox ≡ found
+      pub box_refused : bad_box q.box ≡ true → Err BadBox ≡ found
       box_refused g = sym (after_numbers ∙ holds (bad_box q.box) BadBox grids g)
 
       module _ (g : bad_box q.box ≡ false) where
         after_box : found ≡ first_refusal grids
         after_box = after_numbers ∙ passes (bad_box q.box) BadBox grids g
 
-        pub grid_refused : fine ≡ true → Refused GridTooFine ≡ found
+        pub grid_refused : fine ≡ true → Err GridTooFine ≡ found
         grid_refused f = sym (after_box ∙ holds fine GridTooFine work f)
 
         module _ (f : fine ≡ false) (m : ℕ) (em : m ≡ grid_size q.box q.eps (one_resolution q.resolution)) (n : ℕ)
@@ -111,28 +110,28 @@ module _ (vs : List Float) (fs : List ℕ) (q : Asked) (caps : ℕ) (l : Limits)
               after_box ∙ passes fine GridTooFine work f
               ∙ ap (λ (k : ℕ). first_refusal ((ltb l.lent k, NoWorkRoom k) ∷ [])) (sym (en ∙ ap (work_need (length vs / 3) (length fs / 3) (caps / 4)) em))
 
-          pub room_refused : l.lent < n → Refused (NoWorkRoom n) ≡ found
+          pub room_refused : l.lent < n → Err (NoWorkRoom n) ≡ found
           room_refused k = sym (after_grid ∙ holds (ltb l.lent n) (NoWorkRoom n) [] (lt-ltb l.lent n k))
 
-          pub all_passed_lem : n ≤ l.lent → Passed ≡ found
+          pub all_passed_lem : n ≤ l.lent → Ok tt ≡ found
           all_passed_lem k = sym (after_grid ∙ passes (ltb l.lent n) (NoWorkRoom n) [] (le-ltb l.lent n k) ∙ none_left)
 
-  module _ (e : found ≡ Passed) where
+  module _ (e : found ≡ Ok tt) where
     pub lists_passed : Passes lists
     unfolding closure_tests
     lists_passed = row_front lists rest e
 
-    rest_passed : first_refusal rest ≡ Passed
+    rest_passed : first_refusal rest ≡ Ok tt
     unfolding closure_tests
     rest_passed = row_rest lists rest e
 
-    boxes_passed : first_refusal boxes ≡ Passed
+    boxes_passed : first_refusal boxes ≡ Ok tt
     boxes_passed = tail_passed bad BadNumber boxes rest_passed
 
-    grids_passed : first_refusal grids ≡ Passed
+    grids_passed : first_refusal grids ≡ Ok tt
     grids_passed = tail_passed (bad_box q.box) BadBox grids boxes_passed
 
-    work_passed : first_refusal work ≡ Passed
+    work_passed : first_refusal work ≡ Ok tt
     work_passed = tail_passed fine GridTooFine work grids_passed
 
     numbers_good : (every in_range vs && (box_in_range q.box && (eps_in_range q.eps && resolution_in_range q.resolution))) ≡ true
@@ -175,10 +174,10 @@ module _ (vs : List Float) (fs : List ℕ) (q : Asked) where
   abbrev edges : List Test
   edges = (ltb stray (length es), OpenEdge (pair_at stray).0 (pair_at stray).1) ∷ []
 
-  abbrev told : Checked
+  abbrev told : Result (Unit {0}) Refusal
   told = first_refusal (edge_tests vs fs q)
 
-  pub key_refused : far ≡ true → Refused KeyRange ≡ told
+  pub key_refused : far ≡ true → Err KeyRange ≡ told
   unfolding edge_tests stray_edge
   key_refused h = sym (holds far KeyRange edges h)
 
@@ -187,10 +186,10 @@ module _ (vs : List Float) (fs : List ℕ) (q : Asked) where
     unfolding edge_tests stray_edge
     after_keys = passes far KeyRange edges h ∙ (λ t. first_refusal ((ltb (sym e t) (sym ek t), OpenEdge (pair_at (sym e t)).0 (pair_at (sym e t)).1) ∷ []))
 
-    pub edge_refused : (a b : ℕ) → a ≡ (pair_at s).0 → b ≡ (pair_at s).1 → s < k → Refused (OpenEdge a b) ≡ told
-    edge_refused a b ea eb l = (λ t. Refused (OpenEdge (ea t) (eb t))) ∙ sym (after_keys ∙ holds (ltb s k) (OpenEdge (pair_at s).0 (pair_at s).1) [] (lt-ltb s k l))
+    pub edge_refused : (a b : ℕ) → a ≡ (pair_at s).0 → b ≡ (pair_at s).1 → s < k → Err (OpenEdge a b) ≡ told
+    edge_refused a b ea eb l = (λ t. Err (OpenEdge (ea t) (eb t))) ∙ sym (after_keys ∙ holds (ltb s k) (OpenEdge (pair_at s).0 (pair_at s).1) [] (lt-ltb s k l))
 
-    pub edges_passed : k ≤ s → Passed ≡ told
+    pub edges_passed : k ≤ s → Ok tt ≡ told
     edges_passed l = sym (after_keys ∙ passes (ltb s k) (OpenEdge (pair_at s).0 (pair_at s).1) [] (le-ltb s k l) ∙ none_left)
 
 -- the key of an open edge is its sorted pair

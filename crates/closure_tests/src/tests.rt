@@ -9,28 +9,22 @@ ghost use Rattle.closure_tests.specs.Tests.{closure_tests, edge_tests};
 ghost use Rattle.candidate_surface.specs.Steps.{Tabled};
 
 use candidate_edges::open::stray_edge;
-use candidate_pool::room::edge_table_at;
+use candidate_pool::room::Room;
 use geometry::aabb::AABB;
 use input_tests::boxes::{box_in_range, is_bad_box};
 use input_tests::grid::{box_has_far_key, grid_size, has_far_key, is_grid_too_fine};
 use input_tests::{all_in_range, check_lists, eps_in_range, resolution_in_range, work_need};
-use refusals::refusal::{Checked, Refusal};
+use refusals::refusal::Refusal;
 use words::{pair_first, pair_second};
 
 // 4
 fn numbers_in_range(vertices: &[f64], extents: AABB, eps: f64, resolution: f64) -> bool
     ensures { result ≡ (every in_range vertices.now && (box_in_range extents && (eps_in_range eps && resolution_in_range resolution))) }
 {
-    if !all_in_range(vertices) {
-        return false;
-    }
-    if !box_in_range(extents) {
-        return false;
-    }
-    if !eps_in_range(eps) {
-        return false;
-    }
-    resolution_in_range(resolution)
+    all_in_range(vertices)
+        && box_in_range(extents)
+        && eps_in_range(eps)
+        && resolution_in_range(resolution)
 }
 
 // Tests 1 to 7, for a cap list of the length `caps`.
@@ -43,29 +37,26 @@ pub fn check_closure(
     resolution: f64,
     ceiling: u64,
     lent: usize,
-) -> Checked
+) -> Result<(), Refusal>
     ensures { result ≡ first_refusal (closure_tests vertices.now facets.now (asked extents eps resolution) caps (limits ceiling lent)) }
 {
-    let lists = check_lists(ceiling, vertices, facets, caps);
-    if let Checked::Refused(_) = lists {
-        return lists;
-    }
+    check_lists(ceiling, vertices, facets, caps)?;
     if !numbers_in_range(vertices, extents, eps, resolution) {
-        return Checked::Refused(Refusal::BadNumber);
+        return Err(Refusal::BadNumber);
     }
     if is_bad_box(extents) {
-        return Checked::Refused(Refusal::BadBox);
+        return Err(Refusal::BadBox);
     }
-    let by_axis = [resolution, resolution, resolution];
+    let by_axis = [resolution; 3];
     if is_grid_too_fine(extents, eps, by_axis) {
-        return Checked::Refused(Refusal::GridTooFine);
+        return Err(Refusal::GridTooFine);
     }
     let grid = grid_size(extents, eps, by_axis);
     let need = work_need(vertices.len() / 3, facets.len() / 3, caps / 4, grid);
     if lent < need {
-        return Checked::Refused(Refusal::NoWorkRoom(need));
+        return Err(Refusal::NoWorkRoom(need));
     }
-    Checked::Passed
+    Ok(())
 }
 
 // Tests 8 and 9, of a mesh whose k open edges stand in the room.
@@ -78,24 +69,23 @@ pub fn check_edges(
     w: &[u64],
     n: usize,
     k: usize,
-) -> Checked
+) -> Result<(), Refusal>
     requires mesh_fits { MeshFits vertices.now facets.now n w.now }
     requires tabled { Tabled facets.now n k w.now }
     ensures { result ≡ first_refusal (edge_tests vertices.now facets.now (asked extents eps resolution)) }
 {
-    if has_far_key(vertices, eps) {
-        return Checked::Refused(Refusal::KeyRange);
+    if has_far_key(vertices, eps) || box_has_far_key(extents, eps) {
+        return Err(Refusal::KeyRange);
     }
-    if box_has_far_key(extents, eps) {
-        return Checked::Refused(Refusal::KeyRange);
-    }
-    let stray = stray_edge(w, vertices, facets, n, k, extents, eps);
-    if stray < k {
-        let table = edge_table_at(n, facets.len() / 3);
-        let key = w[table + 2 * stray];
+    if let Some(stray) = stray_edge(w, vertices, facets, n, k, extents, eps) {
+        let room = Room {
+            n,
+            nf: facets.len() / 3,
+        };
+        let key = w[room.edge_table_at() + 2 * stray];
         let smaller = pair_first(key);
         let greater = pair_second(key);
-        return Checked::Refused(Refusal::OpenEdge(smaller as usize, greater as usize));
+        return Err(Refusal::OpenEdge(smaller as usize, greater as usize));
     }
-    Checked::Passed
+    Ok(())
 }
