@@ -3,7 +3,7 @@
 --   ample, inside                        outputs that hold whatever the facets could give, and a mesh wholly inside
 --   short_vertices, short_facets, done   test 12, and the mesh written
 --   Ready, ready                         what is known once the tests in front have passed
---   lists_refused, number_refused, box_refused, room_refused, all_passed_lem   the tests in front, one after the other
+--   numbers_fine, lists_refused, number_refused, box_refused, room_refused, all_passed_lem   the tests in front, one after the other
 use Prim.Native.Nat.{ℕ, ◌+◌, ◌*◌, ◌/◌, ◌≤◌, ◌<◌}
 use mathlib.Core.Bool.{Bool, true, false, not, ◌&&◌}
 use mathlib.Core.List.{List, [], ◌∷◌, ◌++◌}
@@ -15,6 +15,7 @@ use lib.ListN.{length}
 use lib.Seq.{sets}
 use lib.Ieee.{Float}
 use Rattle.lists.specs.Lists.{every}
+use Rattle.lists.proofs.Bools.{and_next}
 use Rattle.words.proofs.Overlay.{sets_overlay}
 use Rattle.geometry.specs.Triangles.{flat}
 use Rattle.geometry.specs.Meshes.{Mesh, mesh_of, points_of, coordinates}
@@ -22,17 +23,14 @@ use Rattle.geometry.proofs.Threes.{length_threes}
 use Rattle.geometry.proofs.Meshes.{length_coordinates}
 use Rattle.refusals.specs.declared.refusal.Refusal.{Refusal}
 use Rattle.refusals.specs.declared.refusal.Refusal.TheVariants.{BadNumber, BadBox, NoWorkRoom, NoRoom}
-use Rattle.refusals.specs.declared.refusal.Checked.{Checked}
-use Rattle.refusals.specs.declared.refusal.Checked.TheVariants.{Passed, Refused}
-use Rattle.refusals.specs.declared.reply.Reply.TheVariants.{DoneTwo}
-use Rattle.refusals.specs.declared.reply.Reply.TheVariants as reply
+use Rattle.std.specs.Prelude.{Ok, Err}
 use Rattle.refusals.specs.Refusals.{documented_reply, Test, first_refusal}
 use Rattle.refusals.specs.Answers.{Output, output, mesh_outputs, Answer}
 use Rattle.input_tests.specs.Front.{Limits, list_tests, bad_index, in_range, eps_in_range, box_in_range, bad_box, work_need}
 use Rattle.refusals.proofs.Refusals.{holds, passes, none_left, row_passed, row_refused}
 use Rattle.refusals.proofs.Replies.{head_passed, tail_passed, row_front, row_rest}
 use Rattle.input_tests.proofs.Lists.{listed}
-use Rattle.refusals.proofs.Answers.{short, done_two}
+use Rattle.refusals.proofs.Answers.{short, done as all_done}
 use Rattle.aabb_facets.specs.Clipped.{inside_box}
 use Rattle.aabb_facets.proofs.Bounds.{most, inside_most}
 use Rattle.aabb_clipping.specs.Clip.{ClipAsked, clip_tests, clip_result}
@@ -72,18 +70,18 @@ module _ (m : Mesh) (v v' : List Float) (f f' : List ℕ) (k j : ℕ) (ek : k �
   abbrev out_f : Output
   out_f = output (flat m.facets) f f'
 
-  pub short_vertices : length v < 3 * k → v' ≡ v → f' ≡ f → Answer [] (mesh_outputs m v v' f f') (documented_reply (reply.Refused (NoRoom (3 * k))))
+  pub short_vertices : length v < 3 * k → v' ≡ v → f' ≡ f → Answer [] (mesh_outputs m v v' f f') (documented_reply (Err (NoRoom (3 * k))))
   short_vertices h a b = short [] out_v (out_f ∷ []) (3 * k) length_is tt h (a, (b, tt))
 
-  pub short_facets : 3 * k ≤ length v → length f < j → v' ≡ v → f' ≡ f → Answer [] (mesh_outputs m v v' f f') (documented_reply (reply.Refused (NoRoom j)))
+  pub short_facets : 3 * k ≤ length v → length f < j → v' ≡ v → f' ≡ f → Answer [] (mesh_outputs m v v' f f') (documented_reply (Err (NoRoom j)))
   short_facets h g a b = short (out_v ∷ []) out_f [] j ej (omega (arith, length_is, h), tt) g (a, (b, tt))
 
   pub done : 3 * k ≤ length v → j ≤ length f → v' ≡ sets v 0 (coordinates m.points) → f' ≡ sets f 0 (flat m.facets)
-      → Answer [] (mesh_outputs m v v' f f') (documented_reply (DoneTwo (3 * k) j))
+      → Answer [] (mesh_outputs m v v' f f') (documented_reply (Ok (3 * k ∷ j ∷ [])))
   done h g a b =
       let fit_v : nv ≤ length v = omega (arith, length_is, h) in
       let fit_f : nf ≤ length f = omega (arith, ej, g) in
-      done_two out_v out_f (3 * k) j length_is ej (fit_v, (fit_f, tt))
+      all_done (out_v ∷ out_f ∷ []) (3 * k ∷ j ∷ []) (λ i. length_is i ∷ ej i ∷ []) (fit_v, (fit_f, tt))
       (a ∙ sets_overlay (coordinates m.points) v fit_v, (b ∙ sets_overlay (flat m.facets) f fit_f, tt))
 
 pub record Ready (vs : List Float) (fs : List ℕ) (lent : ℕ) : Type 0 where
@@ -91,7 +89,7 @@ pub record Ready (vs : List Float) (fs : List ℕ) (lent : ℕ) : Type 0 where
   pub below : bad_index (length vs / 3) fs ≡ false
   pub room : length vs / 3 ≤ lent
 
-pub ready : (vs : List Float) (fs : List ℕ) (q : ClipAsked) (l : Limits) → first_refusal (clip_tests vs fs q l) ≡ Passed → Ready vs fs l.lent
+pub ready : (vs : List Float) (fs : List ℕ) (q : ClipAsked) (l : Limits) → first_refusal (clip_tests vs fs q l) ≡ Ok tt → Ready vs fs l.lent
 unfolding clip_tests work_need
 ready vs fs q l e =
     let need = 128 * (length vs / 3 + length fs / 3 + 0 + 0) + 1024 in
@@ -107,6 +105,11 @@ ready vs fs q l e =
     record { few = (p.few_vertices, p.few_facets); below = p.below; room = omega arith }
 
 -- ---- the tests in front, one after the other
+
+-- all numbers are in range, by the three functions that say so
+pub numbers_fine : (a b d x y z : Bool) → a ≡ x → b ≡ y → d ≡ z → a ≡ true → b ≡ true → d ≡ true → not (x && (y && z)) ≡ false
+numbers_fine a b d x y z ea eb ed ha hb hd = ap not (and_next x (y && z) true (sym ea ∙ ha) (and_next y z true (sym eb ∙ hb) (sym ed ∙ hd)))
+
 module _ (vs : List Float) (fs : List ℕ) (q : ClipAsked) (l : Limits) where
   abbrev lists : List Test
   lists = list_tests l.ceiling vs fs 0
@@ -120,12 +123,12 @@ module _ (vs : List Float) (fs : List ℕ) (q : ClipAsked) (l : Limits) where
   abbrev rest : List Test
   rest = (bad_number, BadNumber) ∷ (bad_box q.box, BadBox) ∷ (ltb l.lent need, NoWorkRoom need) ∷ []
 
-  pub lists_refused : (x : Checked) (r : Refusal) → x ≡ first_refusal lists → x ≡ Refused r → x ≡ first_refusal (clip_tests vs fs q l)
+  pub lists_refused : (r : Refusal) → first_refusal lists ≡ Err r → Err r ≡ first_refusal (clip_tests vs fs q l)
   unfolding clip_tests
-  lists_refused x r e f = f ∙ sym (row_refused lists rest r (sym e ∙ f))
+  lists_refused r e = sym (row_refused lists rest r e)
 
-  module _ (e : first_refusal lists ≡ Passed) where
-    pub number_refused : bad_number ≡ true → Refused BadNumber ≡ first_refusal (clip_tests vs fs q l)
+  module _ (e : first_refusal lists ≡ Ok tt) where
+    pub number_refused : bad_number ≡ true → Err BadNumber ≡ first_refusal (clip_tests vs fs q l)
     unfolding clip_tests
     number_refused h = sym (row_passed lists rest e ∙ holds bad_number BadNumber ((bad_box q.box, BadBox) ∷ (ltb l.lent need, NoWorkRoom need) ∷ []) h)
 
@@ -134,7 +137,7 @@ module _ (vs : List Float) (fs : List ℕ) (q : ClipAsked) (l : Limits) where
       unfolding clip_tests
       after_numbers = row_passed lists rest e ∙ passes bad_number BadNumber ((bad_box q.box, BadBox) ∷ (ltb l.lent need, NoWorkRoom need) ∷ []) h
 
-      pub box_refused : bad_box q.box ≡ true → Refused BadBox ≡ first_refusal (clip_tests vs fs q l)
+      pub box_refused : bad_box q.box ≡ true → Err BadBox ≡ first_refusal (clip_tests vs fs q l)
       box_refused g = sym (after_numbers ∙ holds (bad_box q.box) BadBox ((ltb l.lent need, NoWorkRoom need) ∷ []) g)
 
       module _ (g : bad_box q.box ≡ false) (n : ℕ) (en : n ≡ need) where
@@ -143,8 +146,8 @@ module _ (vs : List Float) (fs : List ℕ) (q : ClipAsked) (l : Limits) where
             after_numbers ∙ passes (bad_box q.box) BadBox ((ltb l.lent need, NoWorkRoom need) ∷ []) g
             ∙ ap (λ (k : ℕ). first_refusal ((ltb l.lent k, NoWorkRoom k) ∷ [])) (sym en)
 
-        pub room_refused : l.lent < n → Refused (NoWorkRoom n) ≡ first_refusal (clip_tests vs fs q l)
+        pub room_refused : l.lent < n → Err (NoWorkRoom n) ≡ first_refusal (clip_tests vs fs q l)
         room_refused k = sym (after_box ∙ holds (ltb l.lent n) (NoWorkRoom n) [] (lt-ltb l.lent n k))
 
-        pub all_passed_lem : n ≤ l.lent → Passed ≡ first_refusal (clip_tests vs fs q l)
+        pub all_passed_lem : n ≤ l.lent → Ok tt ≡ first_refusal (clip_tests vs fs q l)
         all_passed_lem k = sym (after_box ∙ passes (ltb l.lent n) (NoWorkRoom n) [] (le-ltb l.lent n k) ∙ none_left)

@@ -11,10 +11,11 @@ ghost use Rattle.aabb_clipping.specs.Steps.{Fits};
 
 use aabb_facets::marks::wholly_inside;
 use aabb_facets::passes::run_pass;
+use aabb_planes::clip::Clip;
 use geometry::aabb::AABB;
 use input_tests::boxes::{box_in_range, is_bad_box};
 use input_tests::{all_in_range, check_lists, eps_in_range, work_need};
-use refusals::refusal::{Checked, Refusal};
+use refusals::refusal::Refusal;
 use refusals::reply::Reply;
 use words::zero_front;
 
@@ -22,34 +23,24 @@ use words::zero_front;
 fn check(
     vertices: &[f64],
     facets: &[u32],
-    extents: AABB,
-    eps: f64,
+    clip: Clip,
     ceiling: u64,
     lent: usize,
-) -> Checked
-    ensures { result ≡ first_refusal (clip_tests vertices.now facets.now (clip_asked extents eps) (limits ceiling lent)) }
+) -> Result<(), Refusal>
+    ensures { result ≡ first_refusal (clip_tests vertices.now facets.now (clip_asked clip.extents clip.eps) (limits ceiling lent)) }
 {
-    let lists = check_lists(ceiling, vertices, facets, 0);
-    if let Checked::Refused(_) = lists {
-        return lists;
+    check_lists(ceiling, vertices, facets, 0)?;
+    if !all_in_range(vertices) || !box_in_range(clip.extents) || !eps_in_range(clip.eps) {
+        return Err(Refusal::BadNumber);
     }
-    if !all_in_range(vertices) {
-        return Checked::Refused(Refusal::BadNumber);
-    }
-    if !box_in_range(extents) {
-        return Checked::Refused(Refusal::BadNumber);
-    }
-    if !eps_in_range(eps) {
-        return Checked::Refused(Refusal::BadNumber);
-    }
-    if is_bad_box(extents) {
-        return Checked::Refused(Refusal::BadBox);
+    if is_bad_box(clip.extents) {
+        return Err(Refusal::BadBox);
     }
     let need = work_need(vertices.len() / 3, facets.len() / 3, 0, 0);
     if lent < need {
-        return Checked::Refused(Refusal::NoWorkRoom(need));
+        return Err(Refusal::NoWorkRoom(need));
     }
-    Checked::Passed
+    Ok(())
 }
 
 // Whether the outputs hold whatever the facets could give, so that 12 cannot arise: 28 corners and 26 facets of each facet, or of a mesh
@@ -57,52 +48,44 @@ fn check(
 fn is_ample(
     vertices: &[f64],
     facets: &[u32],
-    extents: AABB,
-    eps: f64,
+    clip: Clip,
     vertex_room: usize,
     facet_room: usize,
 ) -> bool
     requires vertices_len_bound { (length vertices.now / 3 ≤ 65536) × (length facets.now / 3 ≤ 65536) }
     requires facets_value { bad_index (length vertices.now / 3) facets.now ≡ false }
-    ensures { result ≡ true → Fits (clip_result vertices.now facets.now (clip_asked extents eps)) vertex_room facet_room }
+    ensures { result ≡ true → Fits (clip_result vertices.now facets.now (clip_asked clip.extents clip.eps)) vertex_room facet_room }
 {
     let n = facets.len() / 3;
-    if 84 * n <= vertex_room {
-        if 78 * n <= facet_room {
-            return true;
-        }
+    if 84 * n <= vertex_room && 78 * n <= facet_room {
+        return true;
     }
-    if vertex_room < vertices.len() {
+    if vertex_room < vertices.len() || facet_room < facets.len() {
         return false;
     }
-    if facet_room < facets.len() {
-        return false;
-    }
-    wholly_inside(vertices, extents, eps)
+    wholly_inside(vertices, clip)
 }
 
 // Two passes: the first counts, into no room, and the second writes.
 fn clip_counted(
     vertices: &[f64],
     facets: &[u32],
-    extents: AABB,
-    eps: f64,
+    clip: Clip,
     ids: &mut [u64],
     out_vertices: &mut [f64],
     out_facets: &mut [u32],
-) -> Reply
+) -> Reply<2>
     requires vertices_len_bound { (length vertices.now / 3 ≤ 65536) × (length facets.now / 3 ≤ 65536) }
     requires facets_value { bad_index (length vertices.now / 3) facets.now ≡ false }
     requires ids_len { length ids.old ≡ length vertices.now / 3 }
     ensures { Answer []
-        (mesh_outputs (clip_result vertices.now facets.now (clip_asked extents eps)) out_vertices.old out_vertices.new out_facets.old
+        (mesh_outputs (clip_result vertices.now facets.now (clip_asked clip.extents clip.eps)) out_vertices.old out_vertices.new out_facets.old
         out_facets.new) (documented_reply result) }
 {
     let need = run_pass(
         vertices,
         facets,
-        extents,
-        eps,
+        clip,
         ids,
         &mut out_vertices[..0],
         &mut out_facets[..0],
@@ -110,102 +93,62 @@ fn clip_counted(
     let need_vertices = 3 * need.vertices;
     let need_facets = need.numbers;
     if out_vertices.len() < need_vertices {
-        return Reply::Refused(Refusal::NoRoom(need_vertices));
+        return Err(Refusal::NoRoom(need_vertices));
     }
     if out_facets.len() < need_facets {
-        return Reply::Refused(Refusal::NoRoom(need_facets));
+        return Err(Refusal::NoRoom(need_facets));
     }
-    run_pass(
-        vertices,
-        facets,
-        extents,
-        eps,
-        ids,
-        out_vertices,
-        out_facets,
-    );
-    Reply::DoneTwo(need_vertices, need_facets)
+    run_pass(vertices, facets, clip, ids, out_vertices, out_facets);
+    Ok([need_vertices, need_facets])
 }
 
 // One pass where the outputs are ample.
 fn clip_checked(
     vertices: &[f64],
     facets: &[u32],
-    extents: AABB,
-    eps: f64,
+    clip: Clip,
     ids: &mut [u64],
     out_vertices: &mut [f64],
     out_facets: &mut [u32],
-) -> Reply
+) -> Reply<2>
     requires vertices_len_bound { (length vertices.now / 3 ≤ 65536) × (length facets.now / 3 ≤ 65536) }
     requires facets_value { bad_index (length vertices.now / 3) facets.now ≡ false }
     requires ids_len { length ids.old ≡ length vertices.now / 3 }
     ensures { Answer []
-        (mesh_outputs (clip_result vertices.now facets.now (clip_asked extents eps)) out_vertices.old out_vertices.new out_facets.old
+        (mesh_outputs (clip_result vertices.now facets.now (clip_asked clip.extents clip.eps)) out_vertices.old out_vertices.new out_facets.old
         out_facets.new) (documented_reply result) }
 {
-    if !is_ample(
-        vertices,
-        facets,
-        extents,
-        eps,
-        out_vertices.len(),
-        out_facets.len(),
-    ) {
-        return clip_counted(
-            vertices,
-            facets,
-            extents,
-            eps,
-            ids,
-            out_vertices,
-            out_facets,
-        );
+    if !is_ample(vertices, facets, clip, out_vertices.len(), out_facets.len()) {
+        return clip_counted(vertices, facets, clip, ids, out_vertices, out_facets);
     }
-    let made = run_pass(
-        vertices,
-        facets,
-        extents,
-        eps,
-        ids,
-        out_vertices,
-        out_facets,
-    );
-    Reply::DoneTwo(3 * made.vertices, made.numbers)
+    let made = run_pass(vertices, facets, clip, ids, out_vertices, out_facets);
+    Ok([3 * made.vertices, made.numbers])
 }
 
-// The refusal found, or the mesh clipped.
-fn clip_or_refuse(
-    found: Checked,
+// The tests, and the mesh where they pass. The work room is left as it came out.
+fn clip_lent(
     vertices: &[f64],
     facets: &[u32],
-    extents: AABB,
-    eps: f64,
+    clip: Clip,
     ceiling: u64,
     work: &mut [u64],
     out_vertices: &mut [f64],
     out_facets: &mut [u32],
-) -> Reply
-    requires { found ≡ first_refusal (clip_tests vertices.now facets.now (clip_asked extents eps) (limits ceiling (length work.old))) }
-    ensures { Answer (clip_tests vertices.now facets.now (clip_asked extents eps) (limits ceiling (length work.old)))
-        (mesh_outputs (clip_result vertices.now facets.now (clip_asked extents eps)) out_vertices.old out_vertices.new out_facets.old
+) -> Reply<2>
+    ensures { Answer (clip_tests vertices.now facets.now (clip_asked clip.extents clip.eps) (limits ceiling (length work.old)))
+        (mesh_outputs (clip_result vertices.now facets.now (clip_asked clip.extents clip.eps)) out_vertices.old out_vertices.new out_facets.old
         out_facets.new) (documented_reply result) }
 {
-    match found {
-        Checked::Passed => {
-            let n = vertices.len() / 3;
-            clip_checked(
-                vertices,
-                facets,
-                extents,
-                eps,
-                &mut work[..n],
-                out_vertices,
-                out_facets,
-            )
-        }
-        Checked::Refused(r) => Reply::Refused(r),
-    }
+    check(vertices, facets, clip, ceiling, work.len())?;
+    let n = vertices.len() / 3;
+    clip_checked(
+        vertices,
+        facets,
+        clip,
+        &mut work[..n],
+        out_vertices,
+        out_facets,
+    )
 }
 
 pub fn clip_mesh_to_aabb(
@@ -217,19 +160,17 @@ pub fn clip_mesh_to_aabb(
     work: &mut [u64],
     out_vertices: &mut [f64],
     out_facets: &mut [u32],
-) -> Reply
+) -> Reply<2>
     ensures { Answered (clip_tests vertices.now facets.now (clip_asked extents eps) (limits ceiling (length work.old)))
         (mesh_outputs (clip_result vertices.now facets.now (clip_asked extents eps)) out_vertices.old out_vertices.new out_facets.old
         out_facets.new) work.old work.new (documented_reply result) }
 {
+    let clip = Clip { extents, eps };
     let lent = work.len();
-    let found = check(vertices, facets, extents, eps, ceiling, lent);
-    let reply = clip_or_refuse(
-        found,
+    let reply = clip_lent(
         vertices,
         facets,
-        extents,
-        eps,
+        clip,
         ceiling,
         work,
         out_vertices,

@@ -10,7 +10,7 @@ use borrow.Author.Tests.{eq-eqb, ltb-true, not-false}
 use lib.Dec.{eqb, ltb}
 use lib.ListN.{get_or, length, length-append, length-map}
 use lib.Ieee.{Float}
-use Rattle.lists.specs.Lists.{every, some, up_to}
+use Rattle.lists.specs.Lists.{every, up_to}
 use Rattle.lists.proofs.Bools.{and_next, or_none_left, or_none_right}
 use Rattle.lists.proofs.Every.{every_at, none_at}
 use Rattle.lists.proofs.Mapped.{Each, Pairwise, each_places, each_at, pairwise_at}

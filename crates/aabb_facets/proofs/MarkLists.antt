@@ -1,7 +1,8 @@
 -- Laws of the words of the vertices: 0 outside the box, else 1 more than the vertex's link. Assumes nothing.
 --   marked_is, word_less, new_word   what a word says, and the store of a new number
 --   words_length, words_low     how many, and how large before any is shared
---   MarkedTo, marking-..        the loop that makes the words;   mark_a, mark_b, mark_c   the three tests of a facet
+--   mark_byte                   the word of a vertex, by the test alone
+--   MarkedTo, marking-..        the loop that makes the words;   by_places   a test of each point, place by place
 --   all_below                   facet numbers are below the count of vertices
 use Prim.Native.Nat.{ℕ, zero, suc, ◌+◌, ◌*◌, ◌-◌, ◌/◌, ◌≤◌, ◌<◌}
 use mathlib.Core.Bool.{Bool, true, false, cond, not, ◌&&◌}
@@ -10,18 +11,21 @@ use mathlib.Core.Path.{◌≡◌, refl, sym, ap, ◌∙◌}
 use native.Mathlib.Omega.{arith}
 use native.Mathlib.Numerals.{add-one}
 use lib.Dec.{ltb, eqb}
+use mir.Val.{bool_byte}
 use lib.ListN.{get_or, drop, set, length, length-append, length-map, length-drop, drop_of_length-le}
 use lib.Seq.{drop-cons, set_at}
 use lib.Ieee.{Float}
 use Rattle.geometry.specs.declared.aabb.AABB.{AABB}
 use borrow.Author.Tests.{ne_eqb, eq-eqb, ltb-true, not-false}
-use Rattle.lists.specs.Lists.{up_from, up_to}
+use Rattle.std.specs.List.{range_with_len}
+use Rattle.lists.specs.Lists.{every, up_from, up_to}
 use Rattle.lists.proofs.Every.{none_at}
 use Rattle.lists.proofs.Places.{of_up, length_up, at_map_up}
 use Rattle.lists.proofs.Sequences.{up_snoc, map_same}
 use Rattle.input_tests.specs.Front.{bad_index}
-use Rattle.geometry.specs.Meshes.{vertex_of}
-use Rattle.lists.proofs.Bools.{and_next, and_stop}
+use Rattle.geometry.specs.declared.point.Point.{Point}
+use Rattle.geometry.specs.Points.{origin}
+use Rattle.geometry.specs.Meshes.{vertex, vertex_of}
 use Rattle.aabb_facets.specs.Clipped.{inside_box}
 use Rattle.aabb_facets.specs.Rooms.{link, mark, mark_word, mark_words, marked}
 
@@ -86,6 +90,11 @@ module _ (vs : List Float) (box : AABB) (eps : Float) where
   words_low k (suc n) zero = low_mark (in_box k)
   words_low k (suc n) (suc w) = words_low (suc k) n w
 
+-- the word that the test itself is
+pub mark_byte : (b : Bool) → bool_byte b ≡ mark b 0
+mark_byte true = refl
+mark_byte false = refl
+
 -- ---- the words made, from the front
 abbrev pub MarkedTo : List Float → AABB → Float → List ℕ → List ℕ → ℕ → Type 0
 MarkedTo vs box eps w v i = v ≡ mark_words vs box eps i [] ++ drop i w
@@ -116,23 +125,6 @@ module _ (vs : List Float) (box : AABB) (eps : Float) (w : List ℕ) where
       e ∙ ap (λ (l : List ℕ). mark_words vs box eps i [] ++ l) (drop_of_length-le w {i = i} (omega arith))
       ∙ append-nil (mark_words vs box eps i []) ∙ ap (λ (k : ℕ). mark_words vs box eps k []) n
 
--- ---- the three tests
-module _ (l : List ℕ) (a b c : ℕ) where
-  abbrev three_marked : Bool
-  three_marked = marked l a && (marked l b && marked l c)
-
-  pub mark_a : get_or l a 0 ≡ 0 → false ≡ three_marked
-  mark_a h = sym (and_stop (marked l a) (marked l b && marked l c) (ap not (eq-eqb (get_or l a 0) 0 h)))
-
-  pub mark_b : (get_or l a 0 ≡ 0 → ⊥) → get_or l b 0 ≡ 0 → false ≡ three_marked
-  mark_b g h =
-      sym (and_next (marked l a) (marked l b && marked l c) false (ap not (ne_eqb (get_or l a 0) 0 g)) (and_stop (marked l b) (marked l c) (ap not (eq-eqb (get_or l b 0) 0 h))))
-
-  pub mark_c : (get_or l a 0 ≡ 0 → ⊥) → (get_or l b 0 ≡ 0 → ⊥) → marked l c ≡ three_marked
-  mark_c g h =
-      sym (and_next (marked l a) (marked l b && marked l c) (marked l c) (ap not (ne_eqb (get_or l a 0) 0 g)) (and_next (marked l b) (marked l c) (marked l c) (ap not (ne_eqb
-      (get_or l b 0) 0 h)) refl))
-
 pub marking_none : (vs : List Float) (box : AABB) (eps : Float) (w : List ℕ) → MarkedTo vs box eps w w 0
 unfolding up_from
 marking_none vs box eps w = refl
@@ -145,3 +137,10 @@ unfolding bad_index
 all_below vs fs box eps ids₀ ids e g l j h =
     let b = ltb-true (get_or fs j 0) (length vs / 3) (not-false (ltb (get_or fs j 0) (length vs / 3)) (none_at (λ k. not (ltb k (length vs / 3))) fs j 0 e h)) in
     (omega (arith, b, l, ap length g ∙ words_length vs box eps (length vs / 3) []), omega (arith, b))
+
+-- ---- a test of each point, place by place
+pub by_places : (p : Point → Bool) (l : List Point) (n i : ℕ) → i + n ≡ length l → every (λ k. p (vertex l k)) (range_with_len i n) ≡ every p (drop i l)
+by_places p l zero i h = sym (ap (every p) (drop_of_length-le l {i = i} (omega arith)))
+by_places p l (suc n) i h =
+    ap (λ (b : Bool). p (vertex l i) && b) (by_places p l n (i + 1) (omega arith) ∙ ap (λ (k : ℕ). every p (drop k l)) (add-one i))
+    ∙ sym (ap (every p) (drop-cons l i origin (omega arith)))

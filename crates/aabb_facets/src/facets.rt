@@ -7,18 +7,17 @@ ghost use Rattle.geometry.specs.Numbers.{mesh_vertices_of};
 ghost use Rattle.geometry.specs.Meshes.{vertex_of};
 ghost use Rattle.aabb_planes.specs.Planes.{snapped};
 ghost use Rattle.aabb_polygons.specs.Polygons.{clip_polygon};
-ghost use Rattle.aabb_polygons.specs.Steps.{corners};
 ghost use Rattle.aabb_facets.specs.Rooms.{room, share_room, share_to, fan_room, facet_room};
 
 use crate::marks::all_marked;
 use crate::outputs::{push_vertex, put_corners, put_fan};
-use aabb_planes::snapping::snap_near_bbox;
-use aabb_polygons::polygon::clip_polygon;
-use geometry::aabb::AABB;
+use aabb_planes::clip::Clip;
+use aabb_polygons::polygon::Polygon;
 use geometry::numbers::MeshVertexId;
-use geometry::triangle::MeshTriangle;
+use geometry::point::Point;
+use geometry::triangle::{MeshTriangle, Triangle3};
 use geometry::vertices::{corner_at, facet_at, vertex_at};
-use words::put_number;
+use words::put;
 
 // How many vertices and how many facet numbers have been made.
 #[derive(Clone, Copy)]
@@ -31,8 +30,7 @@ pub struct Counts {
 fn share_vertex(
     vertices: &[f64],
     v: MeshVertexId,
-    extents: AABB,
-    eps: f64,
+    clip: Clip,
     ids: &mut [u64],
     out_vertices: &mut [f64],
     out_facets: &mut [u32],
@@ -42,7 +40,7 @@ fn share_vertex(
         ((get_or ids.old v.0 0 ≤ at.vertices + 1) × ((at.vertices < 4294967000) × (at.numbers < 4294967296)))) }
     ensures { room result ids.new out_vertices.new out_facets.new ≡ share_room
         (room at ids.old out_vertices.old out_facets.old) v.0
-        (snapped extents eps (vertex_of vertices.now v.0)) }
+        (snapped clip.extents clip.eps (vertex_of vertices.now v.0)) }
 {
     let nv = at.vertices;
     let nf = at.numbers;
@@ -52,16 +50,16 @@ fn share_vertex(
         push_vertex(
             out_vertices,
             MeshVertexId(nv),
-            snap_near_bbox(vertex_at(vertices, v), extents, eps),
+            clip.snap_near_bbox(vertex_at(vertices, v)),
         );
-        put_number(out_facets, nf, nv as u32);
+        put(out_facets, nf, nv as u32);
         ids[i] = (nv + 2) as u64;
         return Counts {
             vertices: nv + 1,
             numbers: nf + 1,
         };
     }
-    put_number(out_facets, nf, (k - 2) as u32);
+    put(out_facets, nf, (k - 2) as u32);
     Counts {
         vertices: nv,
         numbers: nf + 1,
@@ -73,8 +71,7 @@ fn share_facet(
     vertices: &[f64],
     facets: &[u32],
     i: usize,
-    extents: AABB,
-    eps: f64,
+    clip: Clip,
     ids: &mut [u64],
     out_vertices: &mut [f64],
     out_facets: &mut [u32],
@@ -85,7 +82,7 @@ fn share_facet(
     requires by_index_2 { (w : ℕ) → get_or ids.old w 0 ≤ at.vertices + 1 }
     requires vertices_bound { (at.vertices < 4200000000) × (at.numbers < 4200000000) }
     ensures out_facets_after { room result ids.new out_vertices.new out_facets.new ≡ share_to vertices.now facets.now
-        extents eps (room at ids.old out_vertices.old out_facets.old) i 3 }
+        clip.extents clip.eps (room at ids.old out_vertices.old out_facets.old) i 3 }
     ensures vertices_bound_2 { (result.vertices ≤ at.vertices + 3) × (result.numbers ≡ at.numbers + 3) }
 {
     let mut to = at;
@@ -93,8 +90,7 @@ fn share_facet(
         to = share_vertex(
             vertices,
             corner_at(facets, 3 * i + j),
-            extents,
-            eps,
+            clip,
             ids,
             out_vertices,
             out_facets,
@@ -106,24 +102,23 @@ fn share_facet(
 
 // The fan of a clipped facet, with vertices of its own; nothing of one with fewer than three corners.
 fn put_fanned(
-    polygon: &[f64],
-    n: usize,
+    corners: &[Point],
     out_vertices: &mut [f64],
     out_facets: &mut [u32],
     at: Counts,
 ) -> Counts
-    requires in_bounds { 84 ≤ length polygon.now }
-    requires n_bound { (n ≤ 28) × ((at.vertices < 4294967000) × (at.numbers < 4294967296)) }
+    requires { (length corners.now ≤ 28) × ((at.vertices < 4294967000) × (at.numbers < 4294967296)) }
     ensures { (i : List ℕ) → room result i out_vertices.new out_facets.new ≡ fan_room (room at i out_vertices.old out_facets.old)
-        (corners polygon.now n) }
+        corners.now }
 {
     let nv = at.vertices;
     let nf = at.numbers;
+    let n = corners.len();
     if n < 3 {
         return at;
     }
     let base = MeshVertexId(nv);
-    put_corners(out_vertices, base, polygon, n);
+    put_corners(out_vertices, base, corners);
     put_fan(out_facets, nf, base, n - 2);
     Counts {
         vertices: nv + n,
@@ -131,30 +126,30 @@ fn put_fanned(
     }
 }
 
-// A facet that is not wholly inside.
+// A facet that is not wholly inside. Not inlined, so that the loop over facets that are inside stays short.
+#[inline(never)]
 fn cut_facet(
     vertices: &[f64],
     t: MeshTriangle,
-    extents: AABB,
-    eps: f64,
-    polygon: &mut [f64],
-    spare: &mut [f64],
+    clip: Clip,
+    polygon: &mut Polygon,
     out_vertices: &mut [f64],
     out_facets: &mut [u32],
     at: Counts,
 ) -> Counts
-    requires in_bounds { (84 ≤ length polygon.old) × (84 ≤ length spare.old) }
     requires a_in_bounds { (3 * t.a.0 + 2 < length vertices.now) × ((3 * t.b.0 + 2 < length vertices.now) × (3 * t.c.0 + 2 < length vertices.now)) }
     requires vertices_bound { (at.vertices < 4200000000) × (at.numbers < 4200000000) }
     ensures by_index { (i : List ℕ) → room result i out_vertices.new out_facets.new ≡ fan_room (room at i out_vertices.old out_facets.old)
-        (clip_polygon extents eps faces (triangles.vertices (mapped (vertex_of vertices.now) (mesh_vertices_of t)))) }
+        (clip_polygon clip.extents clip.eps faces (triangles.vertices (mapped (vertex_of vertices.now) (mesh_vertices_of t)))) }
     ensures vertices_bound_2 { (result.vertices ≤ at.vertices + 28) × (result.numbers ≤ at.numbers + 78) }
 {
-    let p = vertex_at(vertices, t.a);
-    let q = vertex_at(vertices, t.b);
-    let s = vertex_at(vertices, t.c);
-    let n = clip_polygon(polygon, spare, p, q, s, extents, eps);
-    put_fanned(polygon, n, out_vertices, out_facets, at)
+    let facet = Triangle3 {
+        a: vertex_at(vertices, t.a),
+        b: vertex_at(vertices, t.b),
+        c: vertex_at(vertices, t.c),
+    };
+    polygon.clip_triangle(facet, clip);
+    put_fanned(polygon.corners(), out_vertices, out_facets, at)
 }
 
 // The facet i.
@@ -162,47 +157,24 @@ pub fn clip_facet(
     vertices: &[f64],
     facets: &[u32],
     i: usize,
-    extents: AABB,
-    eps: f64,
-    polygon: &mut [f64],
-    spare: &mut [f64],
+    clip: Clip,
+    polygon: &mut Polygon,
     ids: &mut [u64],
     out_vertices: &mut [f64],
     out_facets: &mut [u32],
     at: Counts,
 ) -> Counts
-    requires in_bounds { (84 ≤ length polygon.old) × (84 ≤ length spare.old) }
     requires i_in_bounds { (3 * i + 2 < length facets.now) × (i < 4294967296) }
     requires by_index { (j : ℕ) → j < length facets.now → (get_or facets.now j 0 < length ids.old) × (3 * get_or facets.now j 0 + 2 < length vertices.now) }
     requires by_index_2 { (w : ℕ) → get_or ids.old w 0 ≤ at.vertices + 1 }
     requires vertices_bound { (at.vertices < 4200000000) × (at.numbers < 4200000000) }
     ensures out_facets_after { room result ids.new out_vertices.new out_facets.new ≡ facet_room vertices.now facets.now
-        extents eps (room at ids.old out_vertices.old out_facets.old) i }
+        clip.extents clip.eps (room at ids.old out_vertices.old out_facets.old) i }
     ensures vertices_bound_2 { (result.vertices ≤ at.vertices + 28) × (result.numbers ≤ at.numbers + 78) }
 {
     let t = facet_at(facets, i);
     if all_marked(ids, t) {
-        return share_facet(
-            vertices,
-            facets,
-            i,
-            extents,
-            eps,
-            ids,
-            out_vertices,
-            out_facets,
-            at,
-        );
+        return share_facet(vertices, facets, i, clip, ids, out_vertices, out_facets, at);
     }
-    cut_facet(
-        vertices,
-        t,
-        extents,
-        eps,
-        polygon,
-        spare,
-        out_vertices,
-        out_facets,
-        at,
-    )
+    cut_facet(vertices, t, clip, polygon, out_vertices, out_facets, at)
 }

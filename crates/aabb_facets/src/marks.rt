@@ -4,31 +4,19 @@ ghost use Rattle.lists.specs.Lists.{every};
 ghost use Rattle.geometry.specs.Numbers.{mesh_vertices_of};
 ghost use Rattle.geometry.specs.Meshes.{points_of};
 ghost use Rattle.aabb_facets.specs.Clipped.{inside_box};
-ghost use Rattle.aabb_facets.specs.Rooms.{mark, all_marked, mark_words};
+ghost use Rattle.aabb_facets.specs.Rooms.{all_marked, mark_words};
 
-use aabb_planes::plane::point_inside_aabb;
-use geometry::aabb::AABB;
+use aabb_planes::clip::Clip;
 use geometry::numbers::MeshVertexId;
-use geometry::point::Point;
 use geometry::triangle::MeshTriangle;
 use geometry::vertices::vertex_at;
 
-fn mark_of(p: Point, extents: AABB, eps: f64) -> u64
-    ensures { result ≡ mark (inside_box extents eps p) 0 }
-{
-    if point_inside_aabb(p, extents, eps) {
-        1
-    } else {
-        0
-    }
-}
-
-pub fn mark_all(vertices: &[f64], extents: AABB, eps: f64, ids: &mut [u64])
+pub fn mark_all(vertices: &[f64], clip: Clip, ids: &mut [u64])
     requires { 3 * length ids.old ≤ length vertices.now }
-    ensures { ids.new ≡ mark_words vertices.now extents eps (length ids.old) [] }
+    ensures { ids.new ≡ mark_words vertices.now clip.extents clip.eps (length ids.old) [] }
 {
-    for v in 0..ids.len() {
-        ids[v] = mark_of(vertex_at(vertices, MeshVertexId(v)), extents, eps);
+    for (v, id) in ids.iter_mut().enumerate() {
+        *id = clip.point_inside_aabb(vertex_at(vertices, MeshVertexId(v))) as u64;
     }
 }
 
@@ -36,27 +24,12 @@ pub fn all_marked(ids: &[u64], t: MeshTriangle) -> bool
     requires { (t.a.0 < length ids.now) × ((t.b.0 < length ids.now) × (t.c.0 < length ids.now)) }
     ensures { result ≡ all_marked ids.now (mesh_vertices_of t) }
 {
-    let i = t.a.0;
-    if ids[i] == 0 {
-        return false;
-    }
-    let j = t.b.0;
-    if ids[j] == 0 {
-        return false;
-    }
-    let k = t.c.0;
-    ids[k] != 0
+    ids[t.a.0] != 0 && ids[t.b.0] != 0 && ids[t.c.0] != 0
 }
 
 // No vertex is outside, so no facet is cut.
-pub fn wholly_inside(vertices: &[f64], extents: AABB, eps: f64) -> bool
-    ensures { result ≡ every (inside_box extents eps) (points_of vertices.now) }
+pub fn wholly_inside(vertices: &[f64], clip: Clip) -> bool
+    ensures { result ≡ every (inside_box clip.extents clip.eps) (points_of vertices.now) }
 {
-    let n = vertices.len() / 3;
-    for k in 0..n {
-        if !point_inside_aabb(vertex_at(vertices, MeshVertexId(k)), extents, eps) {
-            return false;
-        }
-    }
-    true
+    (0..vertices.len() / 3).all(|v| clip.point_inside_aabb(vertex_at(vertices, MeshVertexId(v))))
 }

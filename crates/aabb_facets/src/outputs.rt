@@ -3,32 +3,29 @@ ghost use Rattle.std.specs.Prelude.{◌≡◌, [], ◌∷◌, ◌+◌, ◌*◌, 
 ghost use Rattle.std.proofs.lemmas.List.Edits.{sets};
 ghost use Rattle.geometry.specs.Meshes.{coordinates};
 ghost use Rattle.geometry.specs.Triangles.{flat};
-ghost use Rattle.aabb_polygons.specs.Steps.{corners};
 ghost use Rattle.aabb_facets.specs.Clipped.{fan};
 
 use geometry::numbers::MeshVertexId;
 use geometry::point::Point;
-use geometry::vertices::point_at;
-use words::{put_double, put_number};
+use words::put;
 
 // `push_vertex`, as the vertex v
 pub fn push_vertex(out: &mut [f64], v: MeshVertexId, p: Point)
     requires { v.0 < 4294967296 }
     ensures { out.new ≡ sets out.old (3 * v.0) (coordinates (p ∷ [])) }
 {
-    put_double(out, 3 * v.0, p.x);
-    put_double(out, 3 * v.0 + 1, p.y);
-    put_double(out, 3 * v.0 + 2, p.z);
+    put(out, 3 * v.0, p.x);
+    put(out, 3 * v.0 + 1, p.y);
+    put(out, 3 * v.0 + 2, p.z);
 }
 
 // The corners of a polygon, from the vertex `base` on.
-pub fn put_corners(out: &mut [f64], base: MeshVertexId, polygon: &[f64], n: usize)
-    requires in_bounds { 84 ≤ length polygon.now }
-    requires base_bound { (base.0 < 4294967000) × (n ≤ 28) }
-    ensures { out.new ≡ sets out.old (3 * base.0) (coordinates (corners polygon.now n)) }
+pub fn put_corners(out: &mut [f64], base: MeshVertexId, corners: &[Point])
+    requires { (base.0 < 4294967000) × (length corners.now ≤ 28) }
+    ensures { out.new ≡ sets out.old (3 * base.0) (coordinates corners.now) }
 {
-    for j in 0..n {
-        push_vertex(out, MeshVertexId(base.0 + j), point_at(polygon, j));
+    for (j, p) in corners.iter().enumerate() {
+        push_vertex(out, MeshVertexId(base.0 + j), *p);
     }
 }
 
@@ -39,8 +36,8 @@ pub fn put_fan(out: &mut [u32], at: usize, base: MeshVertexId, n: usize)
 {
     for j in 0..n {
         let prev = base.0 + j + 1;
-        put_number(out, at + 3 * j, base.0 as u32);
-        put_number(out, at + 3 * j + 1, prev as u32);
-        put_number(out, at + 3 * j + 2, (prev + 1) as u32);
+        put(out, at + 3 * j, base.0 as u32);
+        put(out, at + 3 * j + 1, prev as u32);
+        put(out, at + 3 * j + 2, (prev + 1) as u32);
     }
 }

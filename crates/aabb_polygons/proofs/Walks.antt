@@ -3,6 +3,7 @@
 --   Walked, walked-..     the loop over the corners: start, turn, end, and that there is room
 --   most                  how many corners a facet can have after the plane k
 --   Cut, cut-..           the loop over the planes: start, turn, the two ends, and that there is room
+--   few                   no more than 28 corners
 use Prim.Native.Nat.{ℕ, zero, suc, ◌+◌, ◌*◌, ◌-◌, ◌/◌, ◌≤◌, ◌<◌}
 use mathlib.Core.Bool.{Bool, true, false, cond, beq, not}
 use mathlib.Core.List.{List, [], ◌∷◌, ◌++◌, map, append_assoc, append-nil}
@@ -201,3 +202,36 @@ other_at (suc (suc (suc (suc (suc i))))) d h = absurd (omega arith)
 -- three corners pushed onto no corner
 pub pushed : (a b c : Point) (k l m n : List Point) → k ≡ [] → l ≡ k ++ (a ∷ []) → m ≡ l ++ (b ∷ []) → n ≡ m ++ (c ∷ []) → n ≡ a ∷ b ∷ c ∷ []
 pushed a b c k l m n hk hl hm hn = simp (hn, hm, hl, hk)
+
+-- ---- no more than 28
+either_few : (b : Bool) (x y : List Point) (n m : ℕ) → length x ≤ n → n ≤ m → length y ≤ m → length (cond b x y) ≤ m
+either_few true x y n m g e h = omega arith
+either_few false x y n m g e h = h
+
+pub few : (p q s : Point) (box : AABB) (eps : Float) → length (clip_polygon box eps faces (p ∷ q ∷ s ∷ [])) ≤ 28
+unfolding clip_polygon
+few p q s box eps =
+    let l1 = clip_to_plane box eps (p ∷ q ∷ s ∷ []) 0 in
+    let l2 = clip_to_plane box eps l1 1 in
+    let l3 = clip_to_plane box eps l2 2 in
+    let l4 = clip_to_plane box eps l3 3 in
+    let l5 = clip_to_plane box eps l4 4 in
+    let l6 = clip_to_plane box eps l5 5 in
+    let a1 : length l1 ≤ 4 = omega (arith, clip_short box eps 0 (p ∷ q ∷ s ∷ [])) in
+    let a2 : length l2 ≤ 6 = omega (arith, clip_short box eps 1 l1) in
+    let a3 : length l3 ≤ 9 = omega (arith, clip_short box eps 2 l2) in
+    let a4 : length l4 ≤ 13 = omega (arith, clip_short box eps 3 l3) in
+    let a5 : length l5 ≤ 19 = omega (arith, clip_short box eps 4 l4) in
+    let a6 : length l6 ≤ 28 = omega (arith, clip_short box eps 5 l5) in
+    let o : 4 ≤ 28 = omega arith in
+    let u2 : 6 ≤ 28 = omega arith in
+    let u3 : 9 ≤ 28 = omega arith in
+    let u4 : 13 ≤ 28 = omega arith in
+    let u5 : 19 ≤ 28 = omega arith in
+    let u6 : 28 ≤ 28 = omega arith in
+    either_few (ltb (length l1) 3) l1 _ 4 28 a1 o
+    (either_few (ltb (length l2) 3) l2 _ 6 28 a2 u2
+    (either_few (ltb (length l3) 3) l3 _ 9 28 a3 u3
+    (either_few (ltb (length l4) 3) l4 _ 13 28 a4 u4
+    (either_few (ltb (length l5) 3) l5 _ 19 28 a5 u5
+    (either_few (ltb (length l6) 3) l6 l6 28 28 a6 u6 a6)))))

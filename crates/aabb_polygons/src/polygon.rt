@@ -93,6 +93,7 @@ impl Polygon {
     }
 
     // What one side adds: a crossing, unless both ends are inside or both outside; and an inside corner, as it is.
+    #[inline(always)]
     fn add_side(&mut self, prev: Point, curr: Point, plane: BoxPlane, clip: Clip)
         requires { length self.old + length (side_unsnapped clip.extents clip.eps (face_of plane) prev curr) ≤ 28 }
         ensures { self.new ≡ self.old ++ side_unsnapped clip.extents clip.eps (face_of plane) prev curr }

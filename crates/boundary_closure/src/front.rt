@@ -14,10 +14,10 @@ ghost use Rattle.boundary_closure.specs.Steps.{surface_result};
 
 use candidate_constraints::constraints::all_constraints;
 use candidate_outputs::outputs::deliver;
+use candidate_pool::room::Room;
 use candidate_surface::surface::{complete, enter_surface, most_candidates, table_edges};
 use closure_tests::tests::{check_closure, check_edges};
 use geometry::aabb::AABB;
-use refusals::refusal::Checked;
 use refusals::reply::Reply;
 use words::zero;
 
@@ -35,7 +35,7 @@ fn list_candidates(
     face_lists: &mut [u64],
     constraints: &mut [u64],
     open_edges: &mut [u64],
-) -> Reply
+) -> Reply<4>
     requires sound { Sound vertices.now facets.now (asked extents eps resolution) }
     requires mesh_fits { MeshFits vertices.now facets.now n w.old × (n ≡ most_candidates vertices.now (asked extents eps resolution)) }
     requires tabled { Tabled facets.now n k w.old }
@@ -46,15 +46,17 @@ fn list_candidates(
 {
     let listed = enter_surface(vertices, facets, extents, eps, w, n, k);
     if listed == 0 {
-        return Reply::DoneFour(0, 0, 0, 0);
+        return Ok([0; 4]);
     }
     complete(vertices, facets, extents, eps, resolution, w, n, k);
-    let nf = facets.len() / 3;
-    let total = all_constraints(w, n, nf, k, extents, eps);
+    let room = Room {
+        n,
+        nf: facets.len() / 3,
+    };
+    let total = all_constraints(w, room, k, extents, eps);
     deliver(
         w,
-        n,
-        nf,
+        room,
         k,
         listed,
         total,
@@ -77,7 +79,7 @@ fn make_candidates(
     face_lists: &mut [u64],
     constraints: &mut [u64],
     open_edges: &mut [u64],
-) -> Reply
+) -> Reply<4>
     requires sound { Sound vertices.now facets.now (asked extents eps resolution) }
     requires facets_in_bounds { room_end (most_candidates vertices.now (asked extents eps resolution)) (length facets.now / 3) ≤ length w.old }
     ensures { Answer (edge_tests vertices.now facets.now (asked extents eps resolution))
@@ -87,23 +89,21 @@ fn make_candidates(
 {
     let n = most_candidates(vertices, extents, eps, resolution);
     let k = table_edges(facets, w, n);
-    match check_edges(vertices, facets, extents, eps, resolution, w, n, k) {
-        Checked::Passed => list_candidates(
-            vertices,
-            facets,
-            extents,
-            eps,
-            resolution,
-            w,
-            n,
-            k,
-            candidates,
-            face_lists,
-            constraints,
-            open_edges,
-        ),
-        Checked::Refused(r) => Reply::Refused(r),
-    }
+    check_edges(vertices, facets, extents, eps, resolution, w, n, k)?;
+    list_candidates(
+        vertices,
+        facets,
+        extents,
+        eps,
+        resolution,
+        w,
+        n,
+        k,
+        candidates,
+        face_lists,
+        constraints,
+        open_edges,
+    )
 }
 
 // Every test, and the four results where they pass. A mesh with no facet has none. The work room is left as it came out.
@@ -119,41 +119,29 @@ fn candidates_lent(
     face_lists: &mut [u64],
     constraints: &mut [u64],
     open_edges: &mut [u64],
-) -> Reply
+) -> Reply<4>
     ensures { Answer (candidates_tests vertices.now facets.now (asked extents eps resolution) (limits ceiling (length work.old)))
         (candidate_outputs (candidates_result vertices.now facets.now (asked extents eps resolution)) candidates.old candidates.new
         face_lists.old face_lists.new constraints.old constraints.new open_edges.old open_edges.new)
         (documented_reply result) }
 {
-    match check_closure(
+    let lent = work.len();
+    check_closure(vertices, facets, 0, extents, eps, resolution, ceiling, lent)?;
+    if facets.len() == 0 {
+        return Ok([0, 0, 0, 0]);
+    }
+    make_candidates(
         vertices,
         facets,
-        0,
         extents,
         eps,
         resolution,
-        ceiling,
-        work.len(),
-    ) {
-        Checked::Passed => {
-            if facets.len() == 0 {
-                return Reply::DoneFour(0, 0, 0, 0);
-            }
-            make_candidates(
-                vertices,
-                facets,
-                extents,
-                eps,
-                resolution,
-                work,
-                candidates,
-                face_lists,
-                constraints,
-                open_edges,
-            )
-        }
-        Checked::Refused(r) => Reply::Refused(r),
-    }
+        work,
+        candidates,
+        face_lists,
+        constraints,
+        open_edges,
+    )
 }
 
 // The work room is cleared once, at the end: what was lent may hold anything.
@@ -169,7 +157,7 @@ pub fn cap_candidates(
     face_lists: &mut [u64],
     constraints: &mut [u64],
     open_edges: &mut [u64],
-) -> Reply
+) -> Reply<4>
     ensures { Answered (candidates_tests vertices.now facets.now (asked extents eps resolution) (limits ceiling (length work.old)))
         (candidate_outputs (candidates_result vertices.now facets.now (asked extents eps resolution)) candidates.old candidates.new
         face_lists.old face_lists.new constraints.old constraints.new open_edges.old open_edges.new)

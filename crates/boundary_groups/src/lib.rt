@@ -62,62 +62,68 @@ fn put_grouped(w: &mut [u64], k: usize, ends: usize, to: usize)
     }
 }
 
-// Whether the edge of record j has two ends, each of which is an end of two open edges. All open edges at a vertex are in one component.
-fn turns_once(w: &[u64], k: usize, m: usize, ends: usize, degrees: usize, j: usize) -> bool
-    requires ends_ready { EndsReady w.now k m ends degrees }
-    requires j_lt_k { j < k }
-    ensures { result ≡ turns_of w.now ends degrees (get_or w.now (2 * j) 0, get_or w.now (2 * j + 1) 0) }
-{
-    let i = w[2 * j + 1] as usize;
-    let a = w[ends + 2 * i];
-    let b = w[ends + 2 * i + 1];
-    if a == b {
-        return false;
-    }
-    if w[degrees + a as usize] != 2 {
-        return false;
-    }
-    w[degrees + b as usize] == 2
-}
-
-// Whether the edges of the records from i up to e, which are a component, are a ring.
-fn is_ring(w: &[u64], k: usize, m: usize, ends: usize, degrees: usize, i: usize, e: usize) -> bool
-    requires ends_ready { EndsReady w.now k m ends degrees }
-    requires i_le_e { (i ≤ e) × (e ≤ k) }
-    ensures { result ≡ every (turns_of w.now ends degrees) (records_at w.now (2 * i) (e - i)) }
-{
-    for j in i..e {
-        if !turns_once(w, k, m, ends, degrees, j) {
-            return false;
-        }
-    }
-    true
-}
-
-// Of each component its number of edges, and 1 if it is a ring, else 0, from `to` on. Answers how many components there are.
-fn put_components(
-    w: &mut [u64],
-    k: usize,
-    m: usize,
+// Where the ends of the open edges and the degrees of the vertices stand, and how many edges and vertices there are.
+#[derive(Clone, Copy)]
+struct EndTables {
+    edges: usize,
+    vertices: usize,
     ends: usize,
     degrees: usize,
-    to: usize,
-) -> usize
-    requires ends_ready { EndsReady w.old k m ends degrees }
-    requires k_bound { (ends + 2 * k ≤ to) × ((degrees + m ≤ to) × (to + 2 * k ≤ length w.old)) }
-    ensures { ComponentsPut w.old w.new k ends degrees to result }
-{
-    let mut c = 0;
-    let mut i = 0;
-    while i < k {
-        let e = run_end(w, 0, k, i);
-        let ring = is_ring(w, k, m, ends, degrees, i, e);
-        w[to + 2 * c] = (e - i) as u64;
-        w[to + 2 * c + 1] = ring as u64;
-        c += 1;
-        i = e;
+}
+
+impl EndTables {
+    // Whether the edge of record j has two ends, each of which is an end of two open edges. All open edges at a vertex are in one component.
+    fn turns_once(self, w: &[u64], j: usize) -> bool
+        requires ends_ready { EndsReady w.now self.edges self.vertices self.ends self.degrees }
+        requires j_lt_k { j < self.edges }
+        ensures { result ≡ turns_of w.now self.ends self.degrees (get_or w.now (2 * j) 0, get_or w.now (2 * j + 1) 0) }
+    {
+        let i = w[2 * j + 1] as usize;
+        let a = w[self.ends + 2 * i];
+        let b = w[self.ends + 2 * i + 1];
+        if a == b {
+            return false;
+        }
+        if w[self.degrees + a as usize] != 2 {
+            return false;
+        }
+        w[self.degrees + b as usize] == 2
     }
-    c
+
+    // Whether the edges of the records from i up to e, which are a component, are a ring.
+    fn is_ring(self, w: &[u64], i: usize, e: usize) -> bool
+        requires ends_ready { EndsReady w.now self.edges self.vertices self.ends self.degrees }
+        requires i_le_e { (i ≤ e) × (e ≤ self.edges) }
+        ensures { result ≡ every (turns_of w.now self.ends self.degrees) (records_at w.now (2 * i) (e - i)) }
+    {
+        for j in i..e {
+            if !self.turns_once(w, j) {
+                return false;
+            }
+        }
+        true
+    }
+
+    // Of each component its number of edges, and 1 if it is a ring, else 0, from `to` on. Answers how many components there are.
+    fn put_components(self, w: &mut [u64], to: usize) -> usize
+        requires ends_ready { EndsReady w.old self.edges self.vertices self.ends self.degrees }
+        requires k_bound { (self.ends + 2 * self.edges ≤ to) × ((self.degrees + self.vertices ≤ to) × (to + 2 * self.edges ≤ length w.old)) }
+        ensures { ComponentsPut w.old w.new self.edges self.ends self.degrees to result }
+    {
+        let k = self.edges;
+        let mut c = 0;
+        let mut i = 0;
+        // by runs of records: no index is counted
+        while i < k {
+            let e = run_end(w, 0, k, i);
+            let ring = self.is_ring(w, i, e);
+            w[to + 2 * c] = (e - i) as u64;
+            w[to + 2 * c + 1] = ring as u64;
+            c += 1;
+            i = e;
+        }
+        c
+    }
 }
 
 // The k open edges, whose records stand at the front, by components. From `at` on stand then: ends, as before (2n words, for n sides); the table of components
@@ -137,5 +143,11 @@ pub fn group_edges(w: &mut [u64], k: usize, n: usize, m: usize, at: usize) -> us
     number_records(w, k, table);
     sort_records(w, k);
     put_grouped(w, k, at, edges);
-    put_components(w, k, m, at, degrees, counts)
+    let tables = EndTables {
+        edges: k,
+        vertices: m,
+        ends: at,
+        degrees,
+    };
+    tables.put_components(w, counts)
 }

@@ -2,17 +2,17 @@
 ghost use Rattle.std.specs.Prelude.{◌+◌, ◌*◌, ◌≤◌};
 ghost use Rattle.candidate_constraints.specs.Steps.{Roomy, Distinct};
 
-use candidate_pool::room::{constraints_at, pairs_at};
+use candidate_pool::room::Room;
 use records::run_end;
 
 // Behind `total` constraints.
-pub fn keep_distinct(w: &mut [u64], n: usize, nf: usize, c: usize, total: usize) -> usize
-    requires roomy { Roomy n nf w.old }
-    requires c_bound { (c ≤ 4 * n + 3 * nf) × (total + (4 * n + 3 * nf) ≤ 24 * n + 18 * nf) }
-    ensures { Distinct n nf c total result w.old w.new }
+pub fn keep_distinct(w: &mut [u64], room: Room, c: usize, total: usize) -> usize
+    requires roomy { Roomy room.n room.nf w.old }
+    requires c_bound { (c ≤ 4 * room.n + 3 * room.nf) × (total + (4 * room.n + 3 * room.nf) ≤ 24 * room.n + 18 * room.nf) }
+    ensures { Distinct room.n room.nf c total result w.old w.new }
 {
-    let pairs = pairs_at(n);
-    let at = constraints_at(n, nf);
+    let pairs = room.pairs_at();
+    let at = room.constraints_at();
     let mut t = total;
     let mut i = 0;
     while i < c {

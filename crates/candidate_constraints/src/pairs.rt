@@ -7,7 +7,7 @@ ghost use Rattle.candidate_constraints.specs.Steps.{Shown, Roomy, Placed, pair_k
 
 use crate::places::place_of_candidate;
 use box_faces::faces::has_face;
-use candidate_pool::room::{open_edges_at, pairs_at};
+use candidate_pool::room::Room;
 use geometry::numbers::{CandidateVertexId, FacePlace};
 use words::pack_triple;
 
@@ -16,11 +16,7 @@ fn pair_key(face: usize, a: FacePlace, b: FacePlace) -> u64
     requires { (face < 6) × (a.0 < 2097152) × (b.0 < 2097152) }
     ensures { result ≡ pair_key face (a.0, b.0) }
 {
-    if a.0 <= b.0 {
-        pack_triple(face as u64, a.0 as u64, b.0 as u64)
-    } else {
-        pack_triple(face as u64, b.0 as u64, a.0 as u64)
-    }
+    pack_triple(face as u64, a.0.min(b.0) as u64, a.0.max(b.0) as u64)
 }
 
 pub fn put_pair(w: &mut [u64], at: usize, face: usize, a: FacePlace, b: FacePlace)
@@ -32,20 +28,20 @@ pub fn put_pair(w: &mut [u64], at: usize, face: usize, a: FacePlace, b: FacePlac
 }
 
 // The places of open edge i where the face is one of the edge's, behind c pairs.
-fn push_open_edge(w: &mut [u64], n: usize, nf: usize, i: usize, face: usize, c: usize) -> usize
-    requires shown { Shown n w.old }
-    requires roomy { Roomy n nf w.old }
-    requires placed { Placed n face w.old }
-    requires edges_held { EdgesHeld (pool_at n w.old) w.old (open_edges_at n nf) (i + 1) }
-    requires face_bound { (face < 6) × (i < 3 * nf) × (c < 4 * n + 3 * nf) }
-    ensures { Pushed n face (pairs_at n + 2 * c) 1 (edge_pairs (pool_at n w.old) face (edge_at w.old (open_edges_at n nf + 3 * i))) c result w.old w.new }
+fn push_open_edge(w: &mut [u64], room: Room, i: usize, face: usize, c: usize) -> usize
+    requires shown { Shown room.n w.old }
+    requires roomy { Roomy room.n room.nf w.old }
+    requires placed { Placed room.n face w.old }
+    requires edges_held { EdgesHeld (pool_at room.n w.old) w.old (open_edges_at room.n room.nf) (i + 1) }
+    requires face_bound { (face < 6) × (i < 3 * room.nf) × (c < 4 * room.n + 3 * room.nf) }
+    ensures { Pushed room.n face (pairs_at room.n + 2 * c) 1 (edge_pairs (pool_at room.n w.old) face (edge_at w.old (open_edges_at room.n room.nf + 3 * i))) c result w.old w.new }
 {
-    let at = open_edges_at(n, nf) + 3 * i;
+    let at = room.open_edges_at() + 3 * i;
     let mask = w[at + 2];
     if has_face(mask, face) {
-        let a = place_of_candidate(w, n, CandidateVertexId(w[at] as usize));
-        let b = place_of_candidate(w, n, CandidateVertexId(w[at + 1] as usize));
-        put_pair(w, pairs_at(n) + 2 * c, face, a, b);
+        let a = place_of_candidate(w, room, CandidateVertexId(w[at] as usize));
+        let b = place_of_candidate(w, room, CandidateVertexId(w[at + 1] as usize));
+        put_pair(w, room.pairs_at() + 2 * c, face, a, b);
         c + 1
     } else {
         c
@@ -53,26 +49,19 @@ fn push_open_edge(w: &mut [u64], n: usize, nf: usize, i: usize, face: usize, c: 
 }
 
 // The places of all open edges of the face, behind `count` pairs.
-pub fn push_open_edges(
-    w: &mut [u64],
-    n: usize,
-    nf: usize,
-    k: usize,
-    face: usize,
-    count: usize,
-) -> usize
-    requires shown { Shown n w.old }
-    requires roomy { Roomy n nf w.old }
-    requires placed { Placed n face w.old }
-    requires edges_held { EdgesHeld (pool_at n w.old) w.old (open_edges_at n nf) k }
-    requires face_bound { (face < 6) × (k ≤ 3 * nf) × (count ≤ 4 * n) }
-    ensures { Pushed n face (pairs_at n + 2 * count) k
-        (edge_pairs (pool_at n w.old) face (edges_at w.old (open_edges_at n nf) k)) count result w.old
+pub fn push_open_edges(w: &mut [u64], room: Room, k: usize, face: usize, count: usize) -> usize
+    requires shown { Shown room.n w.old }
+    requires roomy { Roomy room.n room.nf w.old }
+    requires placed { Placed room.n face w.old }
+    requires edges_held { EdgesHeld (pool_at room.n w.old) w.old (open_edges_at room.n room.nf) k }
+    requires face_bound { (face < 6) × (k ≤ 3 * room.nf) × (count ≤ 4 * room.n) }
+    ensures { Pushed room.n face (pairs_at room.n + 2 * count) k
+        (edge_pairs (pool_at room.n w.old) face (edges_at w.old (open_edges_at room.n room.nf) k)) count result w.old
         w.new }
 {
     let mut c = count;
     for i in 0..k {
-        c = push_open_edge(w, n, nf, i, face, c);
+        c = push_open_edge(w, room, i, face, c);
     }
     c
 }

@@ -10,10 +10,10 @@ use lib.Seq.{sets}
 use Rattle.lists.specs.Regions.{view}
 use Rattle.words.proofs.Overlay.{sets_overlay}
 use Rattle.refusals.specs.declared.refusal.Refusal.TheVariants.{NoRoom}
-use Rattle.refusals.specs.declared.reply.Reply.TheVariants.{DoneFour, Refused}
+use Rattle.std.specs.Prelude.{Ok, Err}
 use Rattle.refusals.specs.Refusals.{documented_reply}
 use Rattle.refusals.specs.Answers.{Output, output, Answer}
-use Rattle.refusals.proofs.Answers.{short, done_four}
+use Rattle.refusals.proofs.Answers.{short, done as all_done}
 use Rattle.candidate_pool.specs.OpenEdges.{open_edge_words}
 use Rattle.candidate_pool.specs.Standing.{count_at}
 use Rattle.candidate_constraints.specs.Constraints.{constraint_words}
@@ -54,7 +54,7 @@ module _ (n nf k listed total : ℕ) (w : List ℕ) (R : Readable n nf k listed 
   u_long = edges_long n nf k listed total w R
 
   abbrev Short : ℕ → Type 0
-  Short m = Answer [] (candidate_outputs r c c l l t t e e) (documented_reply (Refused (NoRoom m)))
+  Short m = Answer [] (candidate_outputs r c c l l t t e e) (documented_reply (Err (NoRoom m)))
 
   pub short_candidates : length c < 5 * count_at w → Short (5 * count_at w)
   short_candidates h = short [] (first c) (second l ∷ third t ∷ fourth e ∷ []) (5 * count_at w) x_long tt h (refl, (refl, (refl, (refl, tt))))
@@ -82,10 +82,11 @@ module _ (n nf k listed total : ℕ) (w : List ℕ) (R : Readable n nf k listed 
 
         pub done : 3 * listed ≤ length e → (c' l' t' e' : List ℕ) → c' ≡ sets c 0 (view w 8 (5 * count_at w)) → l' ≡ sets l 0 (list_words r.lists)
             → t' ≡ sets t 0 (constraint_words r.constraints) → e' ≡ sets e 0 (open_edge_words r.edges)
-            → Answer [] (candidate_outputs r c c' l l' t t' e e') (documented_reply (DoneFour (5 * count_at w) (6 + numbers) (3 * total) (3 * listed)))
+            → Answer [] (candidate_outputs r c c' l l' t t' e e') (documented_reply (Ok ((5 * count_at w) ∷ (6 + numbers) ∷ (3 * total) ∷ (3 * listed) ∷ [])))
         done hu c' l' t' e' hc hl ht he =
             let fit_four : length (open_edge_words r.edges) ≤ length e = let q = u_long in omega (arith, q, hu) in
-            done_four (first c') (second l') (third t') (fourth e') (5 * count_at w) (6 + numbers) (3 * total) (3 * listed) x_long y_long z_long u_long
+            all_done (first c' ∷ second l' ∷ third t' ∷ fourth e' ∷ []) ((5 * count_at w) ∷ (6 + numbers) ∷ (3 * total) ∷ (3 * listed) ∷ [])
+            (λ i. x_long i ∷ y_long i ∷ z_long i ∷ u_long i ∷ [])
             (fit_one, (fit_two, (fit_three, (fit_four, tt)))) (
               hc ∙ ap (sets c 0) (sym R.words) ∙ sets_overlay (candidate_words r.all) c fit_one,
               (
@@ -95,9 +96,9 @@ module _ (n nf k listed total : ℕ) (w : List ℕ) (R : Readable n nf k listed 
             )
 
 -- "with all four lengths 0"
-pub nothing : (r : Candidates) (c l k e : List ℕ) → r ≡ no_candidates → Answer [] (candidate_outputs r c c l l k k e e) (documented_reply (DoneFour 0 0 0 0))
+pub nothing : (r : Candidates) (c l k e : List ℕ) → r ≡ no_candidates → Answer [] (candidate_outputs r c c l l k k e e) (documented_reply (Ok (0 ∷ 0 ∷ 0 ∷ 0 ∷ [])))
 unfolding candidate_words list_words flat_map
 nothing r c l k e h =
-    subst (λ (r : Candidates). Answer [] (candidate_outputs r c c l l k k e e) (documented_reply (DoneFour 0 0 0 0))) (sym h)
-    (done_four (output [] c c) (output [] l l) (output [] k k) (output [] e e) 0 0 0 0 refl refl refl refl (omega arith, (omega arith, (omega arith, (omega arith, tt))))
+    subst (λ (r : Candidates). Answer [] (candidate_outputs r c c l l k k e e) (documented_reply (Ok (0 ∷ 0 ∷ 0 ∷ 0 ∷ [])))) (sym h)
+    (all_done (output [] c c ∷ output [] l l ∷ output [] k k ∷ output [] e e ∷ []) (0 ∷ 0 ∷ 0 ∷ 0 ∷ []) refl (omega arith, (omega arith, (omega arith, (omega arith, tt))))
     (refl, (refl, (refl, (refl, tt)))))

@@ -13,50 +13,41 @@ ghost use Rattle.refusals.specs.Answers.{Answer};
 ghost use Rattle.candidate_outputs.specs.Written.{face_words, candidates_standing, Readable};
 
 use box_faces::faces::has_face;
-use candidate_pool::room::{constraints_at, list_at, open_edges_at};
+use candidate_pool::room::Room;
 use refusals::refusal::Refusal;
 use refusals::reply::Reply;
-use words::{copy_words, triple_first, triple_second, triple_third};
+use words::{copy_front, triple_first, triple_second, triple_third, write_three};
 
 // The n words of w from `from` on, to out from `at` on.
 fn write_words(w: &[u64], from: usize, n: usize, out: &mut [u64], at: usize)
     requires { (from + n ≤ length w.now) × (at + n ≤ length out.old) }
     ensures { out.new ≡ sets out.old at (view w.now from n) }
 {
-    copy_words(&w[from..from + n], &mut out[at..at + n]);
-}
-
-fn write_three(out: &mut [u64], at: usize, a: u64, b: u64, c: u64)
-    requires { at + 2 < length out.old }
-    ensures { out.new ≡ sets out.old at (a ∷ b ∷ c ∷ []) }
-{
-    out[at] = a;
-    out[at + 1] = b;
-    out[at + 2] = c;
+    copy_front(&w[from..from + n], &mut out[at..at + n]);
 }
 
 // How many numbers the six face lists have.
-fn listed_numbers(w: &[u64], n: usize) -> usize
-    requires in_bounds { (6 ≤ length w.now) × (n < 268435456) }
-    requires by_index { (f : ℕ) → f < 6 → get_or w.now f 0 ≤ n }
+fn listed_numbers(w: &[u64], room: Room) -> usize
+    requires in_bounds { 6 ≤ length w.now }
+    requires by_index { (f : ℕ) → f < 6 → get_or w.now f 0 ≤ room.n }
     ensures { (result ≡ get_or w.now 0 0 + (get_or w.now 1 0 +
-        (get_or w.now 2 0 + (get_or w.now 3 0 + (get_or w.now 4 0 + get_or w.now 5 0))))) × (result ≤ 6 * n) }
+        (get_or w.now 2 0 + (get_or w.now 3 0 + (get_or w.now 4 0 + get_or w.now 5 0))))) × (result ≤ 6 * room.n) }
 {
     (w[0] + (w[1] + (w[2] + (w[3] + (w[4] + w[5]))))) as usize
 }
 
 // "six counts, then the numbers"
-fn write_face_lists(w: &[u64], n: usize, out: &mut [u64])
-    requires n_bound { (n < 268435456) × (pool_end n ≤ length w.now) }
-    requires by_index { (f : ℕ) → f < 6 → get_or w.now f 0 ≤ n }
-    requires w_in_bounds { length (list_words (pool_at n w.now).lists) ≤ length out.old }
-    ensures { out.new ≡ sets out.old 0 (list_words (pool_at n w.now).lists) }
+fn write_face_lists(w: &[u64], room: Room, out: &mut [u64])
+    requires n_bound { pool_end room.n ≤ length w.now }
+    requires by_index { (f : ℕ) → f < 6 → get_or w.now f 0 ≤ room.n }
+    requires w_in_bounds { length (list_words (pool_at room.n w.now).lists) ≤ length out.old }
+    ensures { out.new ≡ sets out.old 0 (list_words (pool_at room.n w.now).lists) }
 {
     write_words(w, 0, 6, out, 0);
     let mut at = 6;
     for face in 0..6 {
         let count = w[face] as usize;
-        write_words(w, list_at(n, face), count, out, at);
+        write_words(w, room.list_at(face), count, out, at);
         at += count;
     }
 }
@@ -121,8 +112,7 @@ fn write_edges(w: &[u64], edges: usize, k: usize, out: &mut [u64])
 // For k open edges, listed with `listed` faces in all, and `total` constraints. Every length is known before the first output is written.
 pub fn deliver(
     w: &[u64],
-    n: usize,
-    nf: usize,
+    room: Room,
     k: usize,
     listed: usize,
     total: usize,
@@ -130,32 +120,32 @@ pub fn deliver(
     face_lists: &mut [u64],
     constraints: &mut [u64],
     open_edges: &mut [u64],
-) -> Reply
-    requires { Readable n nf k listed total w.now }
+) -> Reply<4>
+    requires { Readable room.n room.nf k listed total w.now }
     ensures { Answer []
-        (candidate_outputs (candidates_standing n nf k total w.now) candidates.old candidates.new face_lists.old face_lists.new
+        (candidate_outputs (candidates_standing room.n room.nf k total w.now) candidates.old candidates.new face_lists.old face_lists.new
         constraints.old constraints.new open_edges.old open_edges.new) (documented_reply result) }
 {
     let count = w[6] as usize;
     let c = 5 * count;
-    let l = 6 + listed_numbers(w, n);
+    let l = 6 + listed_numbers(w, room);
     let t = 3 * total;
     let e = 3 * listed;
     if candidates.len() < c {
-        return Reply::Refused(Refusal::NoRoom(c));
+        return Err(Refusal::NoRoom(c));
     }
     if face_lists.len() < l {
-        return Reply::Refused(Refusal::NoRoom(l));
+        return Err(Refusal::NoRoom(l));
     }
     if constraints.len() < t {
-        return Reply::Refused(Refusal::NoRoom(t));
+        return Err(Refusal::NoRoom(t));
     }
     if open_edges.len() < e {
-        return Reply::Refused(Refusal::NoRoom(e));
+        return Err(Refusal::NoRoom(e));
     }
     write_words(w, 8, c, candidates, 0);
-    write_face_lists(w, n, face_lists);
-    write_constraints(w, constraints_at(n, nf), total, constraints);
-    write_edges(w, open_edges_at(n, nf), k, open_edges);
-    Reply::DoneFour(c, l, t, e)
+    write_face_lists(w, room, face_lists);
+    write_constraints(w, room.constraints_at(), total, constraints);
+    write_edges(w, room.open_edges_at(), k, open_edges);
+    Ok([c, l, t, e])
 }

@@ -13,7 +13,7 @@ use candidate_edges::corners::enter_corners;
 use candidate_edges::open::enter_edges;
 use candidate_grids::grids::enter_grids;
 use candidate_pool::pool::clear_pool;
-use candidate_pool::room::edge_table_at;
+use candidate_pool::room::Room;
 use geometry::aabb::AABB;
 use input_tests::grid::grid_size;
 
@@ -33,7 +33,7 @@ pub fn table_edges(facets: &[u32], w: &mut [u64], n: usize) -> usize
     ensures { Tabled facets.now n result w.new }
 {
     let nf = facets.len() / 3;
-    let table = edge_table_at(n, nf);
+    let table = Room { n, nf }.edge_table_at();
     edges::open_edges(facets, &mut w[table..table + 12 * nf])
 }
 
@@ -53,7 +53,8 @@ pub fn enter_surface(
     ensures { Surfaced vertices.now facets.now extents eps n k w.new ×
         (result ≡ length (edge_surface extents eps (by_key eps) (mesh_of vertices.now facets.now)).edges) }
 {
-    clear_pool(w, n, eps);
+    let nf = facets.len() / 3;
+    clear_pool(w, Room { n, nf }, eps);
     enter_edges(w, vertices, facets, n, k, extents, eps)
 }
 
@@ -73,17 +74,10 @@ pub fn complete(
     requires surfaced { Surfaced vertices.now facets.now extents eps n k w.old }
     ensures { Completed vertices.now facets.now (asked extents eps resolution) n k w.new }
 {
-    enter_corners(w, vertices, n, extents, eps);
+    let nf = facets.len() / 3;
+    let room = Room { n, nf };
+    enter_corners(w, vertices, room, extents, eps);
     let skip = resolution * 1.0e-9;
     let by_axis = [resolution, resolution, resolution];
-    enter_grids(
-        w,
-        n,
-        facets.len() / 3,
-        k,
-        extents,
-        eps,
-        by_axis,
-        [skip, skip, skip],
-    );
+    enter_grids(w, room, k, extents, eps, by_axis, [skip, skip, skip]);
 }

@@ -11,7 +11,6 @@ ghost use Rattle.cap_pairs.specs.Pairs.{PairsKnown};
 ghost use Rattle.cap_pairs.specs.Steps.{missing_face};
 
 use box_faces::faces::{count_faces, has_face};
-use candidate_pool::room::open_edges_at;
 use cap_triangles::room::CapRoom;
 
 // A face that has three or more candidates and is not among those that hold the edge.
@@ -27,16 +26,9 @@ fn first_missing(w: &[u64], mask: u64, held: u64) -> Option<usize>
     requires { 6 ≤ length w.now }
     ensures { FirstPlace (place (missing_face w.now held) (faces_in mask)) (bit_count mask) result }
 {
-    let mut count = 0;
-    for face in 0..6 {
-        if has_face(mask, face) {
-            if is_missing(w, held, face) {
-                return Some(count);
-            }
-            count += 1;
-        }
-    }
-    None
+    (0..6)
+        .filter(|face| has_face(mask, *face))
+        .position(|face| is_missing(w, held, face))
 }
 
 // 11: the place of the first such edge in the open-edge list, if there is one. The pairs are numbered, and the faces that hold them noted.
@@ -48,7 +40,7 @@ pub fn missing_place(w: &[u64], n: usize, nf: usize, k: usize, cap_list: &[u64])
 {
     let nc = cap_list.len() / 4;
     let room = CapRoom { n, nf, nc };
-    let edges = open_edges_at(n, nf);
+    let edges = room.open_edges_at();
     let numbers = room.numbers_at();
     let held = room.held_at();
     let mut place = 0;

@@ -7,7 +7,6 @@ ghost use Rattle.cap_pairs.specs.Pairs.{PairNumbers, PairsKnown};
 ghost use Rattle.cap_pairs.specs.Steps.{Added, Noted, edge_mask, edge_target, side_target, side_face, TablesFor};
 
 use box_faces::faces::has_face;
-use candidate_pool::room::open_edges_at;
 use cap_triangles::room::CapRoom;
 use words::zero_part;
 
@@ -57,7 +56,7 @@ fn note_edges(w: &mut [u64], room: CapRoom, k: usize)
         → (get_or w.old (up_at room.n room.nf room.nc + r) 0 ≡ 0) × (get_or w.old (down_at room.n room.nf room.nc + r) 0 ≡ 0) }
     ensures { Noted (edge_target room.n room.nf room.nc w.old) (λ j. has_bit (edge_mask room.n room.nf room.nc w.old j)) w.old w.new k }
 {
-    let edges = open_edges_at(room.n, room.nf);
+    let edges = room.open_edges_at();
     let numbers = room.numbers_at();
     let up = room.up_at();
     let down = room.down_at();

@@ -8,7 +8,6 @@ ghost use Rattle.cap_pairs.specs.Pairs.{edge_pair, Numbered};
 ghost use Rattle.cap_pairs.specs.Steps.{SmallEdge, side_words, Recorded, FirstsPut, TablesFor};
 ghost use Rattle.candidate_pool.specs.Offsets.{open_edges_at};
 
-use candidate_pool::room::open_edges_at;
 use cap_triangles::room::CapRoom;
 use edges::next_side;
 use records::{put_by_payload, run_end};
@@ -39,7 +38,7 @@ fn put_edges(w: &mut [u64], room: CapRoom, k: usize)
     requires by_index { (i : ℕ) → i < k → SmallEdge w.old (open_edges_at room.n room.nf + 3 * i) }
     ensures { Recorded (λ i. edge_pair w.old (open_edges_at room.n room.nf + 3 * i)) w.old w.new (pair_records_at room.n room.nf room.nc) 0 k }
 {
-    let edges = open_edges_at(room.n, room.nf);
+    let edges = room.open_edges_at();
     let records = room.records_at();
     for i in 0..k {
         w[records + 2 * i] = edge_word(w, edges + 3 * i);

@@ -45,7 +45,7 @@ fn all_listed(w: &[u64], face: usize, t: CandidateTriangle) -> bool
 fn has_repeat(t: CandidateTriangle) -> bool
     ensures { result ≡ (eqb t.a.0 t.b.0 || (eqb t.b.0 t.c.0 || eqb t.c.0 t.a.0)) }
 {
-    t.a.0 == t.b.0 || t.b.0 == t.c.0 || t.c.0 == t.a.0
+    t.a == t.b || t.b == t.c || t.c == t.a
 }
 
 // "face above 5 or descending, a repeated candidate, or one not in that face's list": `last` is the face of the triangle before.

@@ -17,9 +17,10 @@
 //   27 nf + 47 nc + 2 n   1                how many vertices there are so far
 // In all 9 + 65 (vertices + G) + 93 facets + 47 triangles, of the 128 (vertices + facets + triangles + G) + 1,024 that are lent.
 ghost use Rattle.std.specs.Prelude.{◌≡◌, ◌+◌, ◌*◌, ◌<◌};
+ghost use Rattle.candidate_pool.specs.Offsets.{open_edges_at};
 ghost use Rattle.cap_triangles.specs.Room.{turned_at, pair_records_at, numbers_at, up_at, down_at, held_at, labels_at, components_at, seeded_at, closing_at};
 
-use candidate_pool::room::room_end;
+use candidate_pool::room::Room;
 
 // How many of each the tables have room for.
 #[derive(Clone, Copy)]
@@ -31,10 +32,25 @@ pub struct CapRoom {
 }
 
 impl CapRoom {
+    // among the tables of candidates
+    pub fn open_edges_at(self) -> usize
+        ensures { result ≡ open_edges_at self.n self.nf }
+    {
+        Room {
+            n: self.n,
+            nf: self.nf,
+        }
+        .open_edges_at()
+    }
+
     pub fn turned_at(self) -> usize
         ensures { result ≡ turned_at self.n self.nf }
     {
-        room_end(self.n, self.nf)
+        Room {
+            n: self.n,
+            nf: self.nf,
+        }
+        .end()
     }
 
     pub fn records_at(self) -> usize

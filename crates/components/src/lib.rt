@@ -88,29 +88,41 @@ fn tally(w: &mut [u64], at: usize, n: usize)
     }
 }
 
-// Enters the labels of item i.
-fn join_item(w: &mut [u64], labels: usize, n: usize, k: usize, m: usize, at: usize, i: usize)
-    requires label_room { LabelRoom w.old labels n k m at }
-    requires i_lt_n { i < n }
-    requires swept { Swept (view w.old labels (n * k)) n k m at w.old w.old (i * k) }
-    ensures { Swept (view w.old labels (n * k)) n k m at w.old w.new (i * k + k) }
-{
-    let firsts = at + n + n;
-    let from = labels + i * k;
-    let mut r = find(w, at, n, i);
-    for j in 0..k {
-        let q = w[from + j] as usize;
-        r = enter(w, at, n, firsts + q, i, r);
-    }
+// Where the labels stand, k an item and all below m, and where the table of the n items does.
+#[derive(Clone, Copy)]
+struct Labels {
+    labels: usize,
+    n: usize,
+    k: usize,
+    m: usize,
+    at: usize,
 }
 
-fn join(w: &mut [u64], labels: usize, n: usize, k: usize, m: usize, at: usize)
-    requires label_room { LabelRoom w.old labels n k m at }
-    requires swept { Swept (view w.old labels (n * k)) n k m at w.old w.old 0 }
-    ensures { Swept (view w.old labels (n * k)) n k m at w.old w.new (n * k) }
-{
-    for i in 0..n {
-        join_item(w, labels, n, k, m, at, i);
+impl Labels {
+    // Enters the labels of item i.
+    fn join_item(self, w: &mut [u64], i: usize)
+        requires label_room { LabelRoom w.old self.labels self.n self.k self.m self.at }
+        requires i_lt_n { i < self.n }
+        requires swept { Swept (view w.old self.labels (self.n * self.k)) self.n self.k self.m self.at w.old w.old (i * self.k) }
+        ensures { Swept (view w.old self.labels (self.n * self.k)) self.n self.k self.m self.at w.old w.new (i * self.k + self.k) }
+    {
+        let firsts = self.at + self.n + self.n;
+        let from = self.labels + i * self.k;
+        let mut r = find(w, self.at, self.n, i);
+        for j in 0..self.k {
+            let q = w[from + j] as usize;
+            r = enter(w, self.at, self.n, firsts + q, i, r);
+        }
+    }
+
+    fn join(self, w: &mut [u64])
+        requires label_room { LabelRoom w.old self.labels self.n self.k self.m self.at }
+        requires swept { Swept (view w.old self.labels (self.n * self.k)) self.n self.k self.m self.at w.old w.old 0 }
+        ensures { Swept (view w.old self.labels (self.n * self.k)) self.n self.k self.m self.at w.old w.new (self.n * self.k) }
+    {
+        for i in 0..self.n {
+            self.join_item(w, i);
+        }
     }
 }
 
@@ -121,7 +133,14 @@ pub fn components(w: &mut [u64], labels: usize, n: usize, k: usize, m: usize, at
 {
     own(w, at, n);
     words::zero_part(w, at + n, n + m);
-    join(w, labels, n, k, m, at);
+    let rows = Labels {
+        labels,
+        n,
+        k,
+        m,
+        at,
+    };
+    rows.join(w);
     flatten(w, at, n);
     tally(w, at, n);
 }

@@ -8,7 +8,7 @@ use Rattle.aabb_clipping.proofs.clip_mesh_to_aabb.Goals as goal
 
 pub returns : goal.returns
 returns c =
-    let p = c.clip_or_refuse-reply in
+    let p = c.clip_lent-reply in
     let z = c.zero_front in
     let a = c.args
     in

@@ -1,4 +1,4 @@
-use Prim.Native.Nat.{◌-◌, ◌≤◌}
+use Prim.Native.Nat.{◌≤◌}
 use Rattle.boundary_groups.specs.Staged.{edge_in}
 use Rattle.boundary_groups.proofs.Stores.{PairsPut}
 use Rattle.boundary_groups.proofs.put_ends.Given as goal

@@ -1,4 +1,4 @@
-use Prim.Native.Nat.{◌+◌, ◌*◌, ◌-◌, ◌≤◌}
+use Prim.Native.Nat.{◌+◌, ◌*◌, ◌≤◌}
 use lib.ListN.{get_or}
 use Rattle.boundary_groups.proofs.Stores.{PairsPut}
 use Rattle.boundary_groups.proofs.put_grouped.Given as goal

@@ -1,4 +1,3 @@
-use Prim.Native.Nat.{◌-◌}
 use Rattle.boundary_groups.proofs.Stores.{Tallying}
 use Rattle.boundary_groups.proofs.tally_ends.Given as goal
 

@@ -1,4 +1,4 @@
-use Prim.Native.Nat.{◌≤◌, ◌-◌}
+use Prim.Native.Nat.{◌≤◌}
 use Rattle.components.specs.Forest.{TreesKept}
 use Rattle.components.proofs.Forest.{Flat-below}
 use Rattle.components.proofs.flatten.Given as goal

@@ -1,4 +1,4 @@
-use Prim.Native.Nat.{◌≤◌, ◌-◌}
+use Prim.Native.Nat.{◌≤◌}
 use Rattle.lists.proofs.Regions.{Filled}
 use Rattle.components.proofs.own.Given as goal
 

@@ -1,4 +1,3 @@
-use Prim.Native.Nat.{◌-◌}
 use Rattle.components.proofs.Counting.{Counting}
 use Rattle.components.proofs.tally.Given as goal
 

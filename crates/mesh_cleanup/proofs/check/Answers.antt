@@ -4,6 +4,7 @@ use Rattle.input_tests.specs.Front.{limits}
 use Rattle.input_tests.proofs.Lists.{listed}
 use Rattle.lists.proofs.Bools.{and_next, and_stop}
 use native.Mathlib.Omega.{arith}
+use Rattle.std.proofs.lemmas.Result.{err_from_is_err_and}
 use mathlib.Core.Bool.{not}
 use mathlib.Core.Path.{sym, ap, ◌∙◌}
 use Rattle.mesh_cleanup.proofs.check.Goals as goal
@@ -12,14 +13,15 @@ use Rattle.mesh_cleanup.proofs.check.Goals.{then-not-all_in_range-via-then-not-a
 pub returns-in_err-check_lists : goal.returns-in_err-check_lists
 returns-in_err-check_lists c =
     let a = c.args in
-    lists_refused a.vertices.now a.facets.now (clean_asked a.eps) (limits a.ceiling a.lent) _ (sym c.check_lists.ensures ∙ c.in_err-check_lists.was)
+    let p = err_from_is_err_and c.from_residual.result c.from_residual.ensures.1 in
+    rw (p.1, p.2) (lists_refused a.vertices.now a.facets.now (clean_asked a.eps) (limits a.ceiling a.lent) _ (sym c.check_lists.ensures ∙ c.in_err-check_lists.was))
 
 pub returns-then-not-all_in_range : goal.returns-then-not-all_in_range
 returns-then-not-all_in_range c =
     let a = c.args in
     number_refused a.vertices.now a.facets.now (clean_asked a.eps) (limits a.ceiling a.lent) (sym c.check_lists.ensures ∙ c.in_ok-check_lists.was)
     (elim c.then-not-all_in_range.branch [
-      then-not-all_in_range-via-then-not-all_in_range w ↦ ap not (and_stop _ _ (sym c.all_in_range.ensures ∙ w.if-not-all_in_range.true))
+      | then-not-all_in_range-via-then-not-all_in_range w ↦ ap not (and_stop _ _ (sym c.all_in_range.ensures ∙ w.if-not-all_in_range.true))
       | then-not-all_in_range-via-else-not-all_in_range+then-not-eps_in_range w ↦
           ap not (and_next _ _ _ (sym c.all_in_range.ensures ∙ w.if-not-all_in_range.false) (sym w.eps_in_range.ensures ∙ w.if-not-eps_in_range.true))
     ])

@@ -1,7 +1,12 @@
 use Rattle.mesh_cleanup.specs.Clean.{clean_asked, clean_result}
 use Rattle.mesh_cleanup.proofs.Delivery.{short_vertices, short_facets, done}
 use native.Mathlib.Omega.{arith}
-use mathlib.Core.Path.{refl}
+use Rattle.mesh_cleanup.proofs.Outputs.{part_is}
+use Rattle.words.specs.Overlay.{overlay}
+use Rattle.geometry.specs.Meshes.{coordinates, vertex_of}
+use Prim.Native.Nat.{ℕ}
+use mathlib.Core.List.{List, map}
+use mathlib.Core.Path.{refl, ap, ◌∙◌}
 use Rattle.mesh_cleanup.proofs.clean_checked.Goals as goal
 
 pub returns-then-out_vertices-need : goal.returns-then-out_vertices-need
@@ -21,7 +26,9 @@ returns-then-out_facets-s c =
 pub returns : goal.returns
 returns c =
     let a = c.args in
+    let s = c.stage-s.result in
     done a.vertices.now (clean_result a.vertices.now a.facets.now (clean_asked a.eps)) c.stage-s.result c.stage-s.new.work c.stage-s.ensures
     a.out_vertices.now c.write_vertices.new.out a.out_facets.now c.write_numbers.new.out
     (omega (arith, c.if-out_vertices-need.false)) (omega (arith, c.if-out_facets-s.false))
-    c.write_vertices.ensures c.write_numbers.ensures
+    (c.write_vertices.ensures ∙ ap (λ (l : List ℕ). overlay (coordinates (map (vertex_of a.vertices.now) l)) a.out_vertices.now) (part_is c.stage-s.new.work s.order s.vertices))
+    (c.write_numbers.ensures ∙ ap (λ (l : List ℕ). overlay l a.out_facets.now) (part_is c.stage-s.new.work s.corners s.numbers))

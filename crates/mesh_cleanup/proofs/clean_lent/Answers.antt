@@ -4,6 +4,7 @@ use Rattle.refusals.proofs.Answers.{refused, behind}
 use Rattle.refusals.specs.Answers.{mesh_outputs}
 use Rattle.input_tests.specs.Front.{limits}
 use Rattle.mesh_cleanup.specs.Clean.{clean_asked, clean_tests, clean_result}
+use Rattle.std.proofs.lemmas.Result.{err_from_is_err_and}
 use mathlib.Core.Path.{refl, sym, ◌∙◌}
 use Rattle.mesh_cleanup.proofs.clean_lent.Goals as goal
 
@@ -21,6 +22,8 @@ returns c =
 pub returns-in_err-check : goal.returns-in_err-check
 returns-in_err-check c =
     let a = c.args in
-    refused (clean_tests a.vertices.now a.facets.now (clean_asked a.eps) (limits a.ceiling (length a.work.now)))
+    let p = err_from_is_err_and c.from_residual.result c.from_residual.ensures.1 in
+    rw (p.1, p.2)
+    (refused (clean_tests a.vertices.now a.facets.now (clean_asked a.eps) (limits a.ceiling (length a.work.now)))
     (mesh_outputs (clean_result a.vertices.now a.facets.now (clean_asked a.eps)) a.out_vertices.now a.out_vertices.now a.out_facets.now a.out_facets.now) _
-    (sym c.check.ensures ∙ c.in_err-check.was) (refl, (refl, tt))
+    (sym c.check.ensures ∙ c.in_err-check.was) (refl, (refl, tt)))

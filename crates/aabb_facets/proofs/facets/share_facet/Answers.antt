@@ -11,7 +11,7 @@ pub loop-j-init : goal.loop-j-init
 loop-j-init c =
     let s = c in
     let a = s.args in
-    sharing_start a.vertices.now a.facets.now a.extents a.eps a.at a.i a.ids.now a.out_vertices.now a.out_facets.now s.requires.by_index_2
+    sharing_start a.vertices.now a.facets.now a.clip.extents a.clip.eps a.at a.i a.ids.now a.out_vertices.now a.out_facets.now s.requires.by_index_2
 
 pub overflow_mul-i : goal.overflow_mul-i
 overflow_mul-i c = let s = c in omega (arith, s.requires.i_in_bounds)
@@ -62,9 +62,9 @@ loop-j-preserved c =
     let l = loop in
     let v = share-vertex in
     let r = room l.to l.ids l.out_vertices l.out_facets in
-    sharing_more a.vertices.now a.facets.now a.extents a.eps a.at a.i a.ids.now a.out_vertices.now a.out_facets.now l.ids
+    sharing_more a.vertices.now a.facets.now a.clip.extents a.clip.eps a.at a.i a.ids.now a.out_vertices.now a.out_facets.now l.ids
     l.out_vertices l.out_facets l.to l.j l.invariant loop-test.true v.new.ids v.new.out_vertices v.new.out_facets
-    v.result (v.ensures ∙ ap (λ (k : ℕ). share_room r k (snapped a.extents a.eps (vertex_of a.vertices.now k))) corner-at.ensures) v.auto.ids
+    v.result (v.ensures ∙ ap (λ (k : ℕ). share_room r k (snapped a.clip.extents a.clip.eps (vertex_of a.vertices.now k))) corner-at.ensures) v.auto.ids
     v.auto.out_vertices v.auto.out_facets
 
 pub shape_of-ids : goal.shape_of-ids
@@ -82,6 +82,6 @@ returns c =
     let a = s.args in
     let l = c.loop-j in
     let e : l.j ≡ 3 = omega (arith, l.invariant.few, c.loop-j-test.false) in record {
-      out_facets_after = l.invariant.shown ∙ ap (share_to a.vertices.now a.facets.now a.extents a.eps (room a.at a.ids.now a.out_vertices.now a.out_facets.now) a.i) e;
+      out_facets_after = l.invariant.shown ∙ ap (share_to a.vertices.now a.facets.now a.clip.extents a.clip.eps (room a.at a.ids.now a.out_vertices.now a.out_facets.now) a.i) e;
       vertices_bound_2 = (omega (arith, l.invariant.nv, e), omega (arith, l.invariant.nf, e));
     }

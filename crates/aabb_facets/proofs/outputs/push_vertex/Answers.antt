@@ -3,8 +3,8 @@ use Rattle.aabb_facets.proofs.outputs.push_vertex.Goals as goal
 
 pub returns : goal.returns
 returns c =
-    let put-double = c.put_double in
-    let put-double2 = c.put_double-2 in
-    let put-double3 = c.put_double-3 in
+    let put-double = c.put in
+    let put-double2 = c.put-2 in
+    let put-double3 = c.put-3 in
     let s = c in
     point_put_lem _ _ _ _ _ s.args.p put-double.ensures put-double2.ensures put-double3.ensures

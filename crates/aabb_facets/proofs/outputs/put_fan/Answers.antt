@@ -9,16 +9,16 @@ loop-j-init c = (search rules, (refl, fan_start _ _ _ _))
 
 pub loop-j-preserved : goal.loop-j-preserved
 loop-j-preserved c =
-    let put-number3 = c.put_number-in-loop-j-2 in
-    let put-number2 = c.put_number-in-loop-j in
-    let put-number = c.put_number in
+    let put-u323 = c.put-in-loop-j-2 in
+    let put-u322 = c.put-in-loop-j in
+    let put-u32 = c.put in
     let loop = c.loop-j in
     let loop-test = c.loop-j-test in (
       search rules,
       (
-        put-number3.auto.out ∙ put-number2.auto.out ∙ put-number.auto.out ∙ loop.invariant.1.0,
-        fan_more _ _ _ _ _ _ _ _ loop-test.true put-number.ensures
-            put-number2.ensures put-number3.ensures ∙ loop.invariant.1.1,
+        put-u323.auto.out ∙ put-u322.auto.out ∙ put-u32.auto.out ∙ loop.invariant.1.0,
+        fan_more _ _ _ _ _ _ _ _ loop-test.true put-u32.ensures
+            put-u322.ensures put-u323.ensures ∙ loop.invariant.1.1,
       ),
     )
 

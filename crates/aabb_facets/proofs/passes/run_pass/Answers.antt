@@ -11,7 +11,7 @@ clip_pass-requires c =
     let a = s.args in record {
       vertices_len_bound = s.requires.vertices_len_bound;
       facets_value = s.requires.facets_value;
-      ids_value = c.mark_all.ensures ∙ ap (λ (k : ℕ). mark_words a.vertices.now a.extents a.eps k []) s.requires.ids_len;
+      ids_value = c.mark_all.ensures ∙ ap (λ (k : ℕ). mark_words a.vertices.now a.clip.extents a.clip.eps k []) s.requires.ids_len;
     }
 
 pub returns : goal.returns

@@ -1,27 +1,26 @@
 use Rattle.candidate_constraints.proofs.Listing.{faced_start, faced_shown, faced_roomy, faced_held, faced_few, faced_turn, faced_end}
 use Rattle.candidate_constraints.proofs.Showing.{holds_shown}
-use native.Mathlib.Omega.{arith}
 use Rattle.candidate_constraints.proofs.constraints.all_constraints.Goals as goal
 
 pub loop-face-init : goal.loop-face-init
-loop-face-init c = faced_start c.args.extents c.args.eps c.args.n c.args.nf c.args.k c.args.w.now
+loop-face-init c = faced_start c.args.extents c.args.eps c.args.room.n c.args.room.nf c.args.k c.args.w.now
 
 pub face_constraints-total-requires : goal.face_constraints-total-requires
 face_constraints-total-requires c =
     let s = c in
     let a = s.args in
     let l = c.loop-face in record {
-      shown = faced_shown a.extents a.eps a.n a.nf a.k a.w.now (holds_shown a.eps a.n a.w.now s.requires.holds) s.requires.edges_held s.requires.n_bound.0 s.requires.n_bound.1
-          s.requires.n_bound.3 l.w l.total l.face l.invariant;
-      roomy = faced_roomy a.extents a.eps a.n a.nf a.k a.w.now
-          (holds_shown a.eps a.n a.w.now s.requires.holds) s.requires.edges_held s.requires.n_bound.0 s.requires.n_bound.1 s.requires.n_bound.3 l.w l.total l.face l.invariant;
-      edges_held = faced_held a.extents a.eps a.n a.nf a.k a.w.now (holds_shown a.eps a.n a.w.now s.requires.holds) s.requires.edges_held s.requires.n_bound.0 s.requires.n_bound.1
-          s.requires.n_bound.3 l.w l.total l.face l.invariant;
+      shown = faced_shown a.extents a.eps a.room.n a.room.nf a.k a.w.now (holds_shown a.eps a.room.n a.w.now s.requires.holds) s.requires.edges_held s.requires.n_bound.0 s.args.room.small.1
+          s.requires.n_bound.2 l.w l.total l.face l.invariant;
+      roomy = faced_roomy a.extents a.eps a.room.n a.room.nf a.k a.w.now
+          (holds_shown a.eps a.room.n a.w.now s.requires.holds) s.requires.edges_held s.requires.n_bound.0 s.args.room.small.1 s.requires.n_bound.2 l.w l.total l.face l.invariant;
+      edges_held = faced_held a.extents a.eps a.room.n a.room.nf a.k a.w.now (holds_shown a.eps a.room.n a.w.now s.requires.holds) s.requires.edges_held s.requires.n_bound.0 s.args.room.small.1
+          s.requires.n_bound.2 l.w l.total l.face l.invariant;
       face_bound = (
         c.loop-face-test.true,
-        s.requires.n_bound.2,
-        faced_few a.extents a.eps a.n a.nf a.k a.w.now
-            (holds_shown a.eps a.n a.w.now s.requires.holds) s.requires.edges_held s.requires.n_bound.0 s.requires.n_bound.1 s.requires.n_bound.3 l.w l.total l.face l.invariant
+        s.requires.n_bound.1,
+        faced_few a.extents a.eps a.room.n a.room.nf a.k a.w.now
+            (holds_shown a.eps a.room.n a.w.now s.requires.holds) s.requires.edges_held s.requires.n_bound.0 s.args.room.small.1 s.requires.n_bound.2 l.w l.total l.face l.invariant
             c.loop-face-test.true,
       );
     }
@@ -32,8 +31,8 @@ loop-face-preserved c =
     let a = s.args in
     let l = c.loop-face in
     let face-constraints' = c.face_constraints-total in
-    faced_turn a.extents a.eps a.n a.nf a.k a.w.now (holds_shown a.eps a.n a.w.now s.requires.holds) s.requires.edges_held s.requires.n_bound.0 s.requires.n_bound.1
-    s.requires.n_bound.3 l.w l.total l.face l.invariant face-constraints'.new.w face-constraints'.result c.loop-face-test.true
+    faced_turn a.extents a.eps a.room.n a.room.nf a.k a.w.now (holds_shown a.eps a.room.n a.w.now s.requires.holds) s.requires.edges_held s.requires.n_bound.0 s.args.room.small.1
+    s.requires.n_bound.2 l.w l.total l.face l.invariant face-constraints'.new.w face-constraints'.result c.loop-face-test.true
     face-constraints'.ensures
 
 pub shape_of-w : goal.shape_of-w
@@ -43,5 +42,5 @@ pub returns : goal.returns
 returns c =
     let s = c in
     let a = s.args in
-    faced_end a.extents a.eps a.n a.nf a.k a.w.now (holds_shown a.eps a.n a.w.now s.requires.holds) s.requires.edges_held s.requires.n_bound.0 s.requires.n_bound.1
-    s.requires.n_bound.3 c.loop-face.w c.loop-face.total c.loop-face.face c.loop-face.invariant c.loop-face-test.false
+    faced_end a.extents a.eps a.room.n a.room.nf a.k a.w.now (holds_shown a.eps a.room.n a.w.now s.requires.holds) s.requires.edges_held s.requires.n_bound.0 s.args.room.small.1
+    s.requires.n_bound.2 c.loop-face.w c.loop-face.total c.loop-face.face c.loop-face.invariant c.loop-face-test.false

@@ -9,7 +9,7 @@ pub returns-then-w-face-lt3 : goal.returns-then-w-face-lt3
 returns-then-w-face-lt3 c =
     let s = c in
     let a = s.args in
-    face_none a.extents a.eps a.n a.nf a.k a.face a.total a.w.now s.requires.shown s.requires.roomy s.requires.face_bound.0 s.requires.face_bound.2
+    face_none a.extents a.eps a.room.n a.room.nf a.k a.face a.total a.w.now s.requires.shown s.requires.roomy s.requires.face_bound.0 s.requires.face_bound.2
     (omega (arith, c.if-w-face-lt3.true))
 
 pub list_pairs-c-requires : goal.list_pairs-c-requires
@@ -23,7 +23,7 @@ keep_distinct-requires c =
     let list-pairs' = c.list_pairs-c in
     let pairs-at' = c.pairs_at-pairs in
     let sort-records' = c.sort_records in record {
-      roomy = sorted_roomy a.extents a.eps a.n a.nf a.k a.face a.total a.w.now s.requires.shown s.requires.roomy s.requires.face_bound.0 s.requires.face_bound.2
+      roomy = sorted_roomy a.extents a.eps a.room.n a.room.nf a.k a.face a.total a.w.now s.requires.shown s.requires.roomy s.requires.face_bound.0 s.requires.face_bound.2
           list-pairs'.new.w (put_mid pairs-at'.result (pairs-at'.result + 4 * list-pairs'.result - pairs-at'.result) list-pairs'.new.w sort-records'.new.m)
           (put_mid pairs-at'.result (pairs-at'.result + 4 * list-pairs'.result - pairs-at'.result) list-pairs'.new.w sort-records'.new.m) list-pairs'.result 0
           pairs-at'.result list-pairs'.ensures pairs-at'.ensures
@@ -40,7 +40,7 @@ returns c =
     let pairs-at' = c.pairs_at-pairs in
     let sort-records' = c.sort_records in
     let keep-distinct' = c.keep_distinct in
-    face_listed a.extents a.eps a.n a.nf a.k a.face a.total a.w.now s.requires.shown s.requires.roomy s.requires.face_bound.0 s.requires.face_bound.2
+    face_listed a.extents a.eps a.room.n a.room.nf a.k a.face a.total a.w.now s.requires.shown s.requires.roomy s.requires.face_bound.0 s.requires.face_bound.2
     list-pairs'.new.w (put_mid pairs-at'.result (pairs-at'.result + 4 * list-pairs'.result - pairs-at'.result) list-pairs'.new.w sort-records'.new.m)
     keep-distinct'.new.w list-pairs'.result keep-distinct'.result pairs-at'.result list-pairs'.ensures pairs-at'.ensures
     (sorted_part list-pairs'.new.w sort-records'.new.m pairs-at'.result list-pairs'.result

@@ -7,7 +7,7 @@ push_sides-c-requires c =
     let s = c in
     let a = s.args in
     let note-places' = c.note_places in record {
-      shown = shown1 a.extents a.eps a.n a.nf a.k a.face a.w.now note-places'.new.w s.requires.shown s.requires.roomy s.requires.edges_held s.requires.face_bound.0
+      shown = shown1 a.extents a.eps a.room.n a.room.nf a.k a.face a.w.now note-places'.new.w s.requires.shown s.requires.roomy s.requires.edges_held s.requires.face_bound.0
           s.requires.face_bound.1 note-places'.ensures.0 note-places'.ensures.1;
       n_bound = (s.requires.roomy.small, s.requires.face_bound.0, omega (arith, s.requires.roomy.room, note-places'.ensures.0.long));
     }
@@ -18,18 +18,18 @@ push_open_edges-requires c =
     let a = s.args in
     let note-places' = c.note_places in
     let push-sides' = c.push_sides-c in record {
-      shown = shown2 a.extents a.eps a.n a.nf a.k a.face a.w.now note-places'.new.w s.requires.shown s.requires.roomy s.requires.edges_held s.requires.face_bound.0
+      shown = shown2 a.extents a.eps a.room.n a.room.nf a.k a.face a.w.now note-places'.new.w s.requires.shown s.requires.roomy s.requires.edges_held s.requires.face_bound.0
           s.requires.face_bound.1 note-places'.ensures.0 note-places'.ensures.1 push-sides'.new.w push-sides'.result push-sides'.ensures;
-      roomy = roomy2 a.extents a.eps a.n a.nf a.k a.face a.w.now note-places'.new.w s.requires.shown s.requires.roomy s.requires.edges_held s.requires.face_bound.0
+      roomy = roomy2 a.extents a.eps a.room.n a.room.nf a.k a.face a.w.now note-places'.new.w s.requires.shown s.requires.roomy s.requires.edges_held s.requires.face_bound.0
           s.requires.face_bound.1 note-places'.ensures.0 note-places'.ensures.1 push-sides'.new.w push-sides'.result push-sides'.ensures;
-      placed = placed2 a.extents a.eps a.n a.nf a.k a.face a.w.now note-places'.new.w s.requires.shown s.requires.roomy s.requires.edges_held s.requires.face_bound.0
+      placed = placed2 a.extents a.eps a.room.n a.room.nf a.k a.face a.w.now note-places'.new.w s.requires.shown s.requires.roomy s.requires.edges_held s.requires.face_bound.0
           s.requires.face_bound.1 note-places'.ensures.0 note-places'.ensures.1 push-sides'.new.w push-sides'.result push-sides'.ensures;
-      edges_held = held2 a.extents a.eps a.n a.nf a.k a.face a.w.now note-places'.new.w s.requires.shown s.requires.roomy s.requires.edges_held s.requires.face_bound.0
+      edges_held = held2 a.extents a.eps a.room.n a.room.nf a.k a.face a.w.now note-places'.new.w s.requires.shown s.requires.roomy s.requires.edges_held s.requires.face_bound.0
           s.requires.face_bound.1 note-places'.ensures.0 note-places'.ensures.1 push-sides'.new.w push-sides'.result push-sides'.ensures;
       face_bound = (
         s.requires.face_bound.0,
         s.requires.face_bound.1,
-        few2 a.extents a.eps a.n a.nf a.k a.face a.w.now note-places'.new.w s.requires.shown s.requires.roomy
+        few2 a.extents a.eps a.room.n a.room.nf a.k a.face a.w.now note-places'.new.w s.requires.shown s.requires.roomy
             s.requires.edges_held s.requires.face_bound.0 s.requires.face_bound.1 note-places'.ensures.0 note-places'.ensures.1 push-sides'.new.w push-sides'.result
             push-sides'.ensures,
       );
@@ -42,6 +42,6 @@ returns c =
     let note-places' = c.note_places in
     let push-sides' = c.push_sides-c in
     let push-open-edges' = c.push_open_edges in
-    pairs_listed a.extents a.eps a.n a.nf a.k a.face a.w.now note-places'.new.w s.requires.shown s.requires.roomy s.requires.edges_held s.requires.face_bound.0
+    pairs_listed a.extents a.eps a.room.n a.room.nf a.k a.face a.w.now note-places'.new.w s.requires.shown s.requires.roomy s.requires.edges_held s.requires.face_bound.0
     s.requires.face_bound.1 note-places'.ensures.0 note-places'.ensures.1 push-sides'.new.w push-sides'.result push-sides'.ensures push-open-edges'.new.w
     push-open-edges'.result push-open-edges'.ensures

@@ -2,16 +2,10 @@ use Rattle.candidate_constraints.proofs.Once.{keeping_start, keeping_turn, keepi
 use native.Mathlib.Omega.{arith}
 use Rattle.candidate_constraints.proofs.distinct.keep_distinct.Goals as goal
 
-pub pairs_at-pairs-requires : goal.pairs_at-pairs-requires
-pairs_at-pairs-requires c = omega arith
-
-pub constraints_at-at-requires : goal.constraints_at-at-requires
-constraints_at-at-requires c = (omega arith, omega arith)
-
 pub loop-i-init : goal.loop-i-init
 loop-i-init c =
     let s = c in
-    (keeping_start s.args.n s.args.nf s.args.c s.args.total s.args.w.now, c.pairs_at-pairs.ensures, c.constraints_at-at.ensures)
+    (keeping_start s.args.room.n s.args.room.nf s.args.c s.args.total s.args.w.now, c.pairs_at-pairs.ensures, c.constraints_at-at.ensures)
 
 pub run_end-end-requires : goal.run_end-end-requires
 run_end-end-requires c = (omega arith, omega arith)
@@ -47,7 +41,7 @@ pub loop-i-preserved : goal.loop-i-preserved
 loop-i-preserved c =
     let s = c in
     let l = c.loop-i in (
-      keeping_turn s.args.n s.args.nf s.args.c s.args.total s.args.w.now s.requires.roomy s.requires.c_bound.0 s.requires.c_bound.1 l.w l.t l.i l.invariant.0
+      keeping_turn s.args.room.n s.args.room.nf s.args.c s.args.total s.args.w.now s.requires.roomy s.requires.c_bound.0 s.requires.c_bound.1 l.w l.t l.i l.invariant.0
           c.pairs_at-pairs.result c.constraints_at-at.result c.run_end-end.result
           l.invariant.1 l.invariant.2 c.run_end-end.ensures,
       l.invariant.1,
@@ -61,5 +55,5 @@ pub returns : goal.returns
 returns c =
     let s = c in
     let l = c.loop-i in
-    keeping_end s.args.n s.args.nf s.args.c s.args.total s.args.w.now s.requires.roomy s.requires.c_bound.0 s.requires.c_bound.1 l.w l.t l.i l.invariant.0
+    keeping_end s.args.room.n s.args.room.nf s.args.c s.args.total s.args.w.now s.requires.roomy s.requires.c_bound.0 s.requires.c_bound.1 l.w l.t l.i l.invariant.0
     c.loop-i-test.false

@@ -15,37 +15,25 @@ use Rattle.candidate_constraints.proofs.pairs.push_open_edge.Goals as goal
 -- the candidates of the edge's two ends are in the face's list
 ends : (c : Then-has_face) →
     let edge : ℕ = c.open_edges_at.result + 3 * c.args.i in
-    let listed : List ℕ = face_list (pool_at c.args.n c.args.w.now) c.args.face in
+    let listed : List ℕ = face_list (pool_at c.args.room.n c.args.w.now) c.args.face in
     (has listed (get_or c.args.w.now edge 0) ≡ true) × (has listed (get_or c.args.w.now (edge + 1) 0) ≡ true)
 ends c =
     let s = c in
     let at = c.open_edges_at in
-    edge_ends s.args.n s.args.nf s.args.i s.args.face s.args.w.now s.requires.edges_held s.requires.face_bound.0 at.result at.ensures
+    edge_ends s.args.room.n s.args.room.nf s.args.i s.args.face s.args.w.now s.requires.edges_held s.requires.face_bound.0 at.result at.ensures
     (sym c.has_face.ensures ∙ c.if-has_face.true)
 
 pub place_of_candidate-a-requires : goal.place_of_candidate-a-requires
 place_of_candidate-a-requires c =
     let ends = ends (goal.at.place_of_candidate-a-requires c).Then-has_face in
-    let s = c in (
-      omega (arith, s.requires.roomy.small),
-      omega (
-        arith,
-        member_low s.args.n s.args.face s.args.w.now s.requires.shown s.requires.face_bound.0 _ ends.0,
-        s.requires.roomy.room,
-      ),
-    )
+    let s = c in
+    omega (arith, member_low s.args.room.n s.args.face s.args.w.now s.requires.shown s.requires.face_bound.0 _ ends.0, s.requires.roomy.room)
 
 pub place_of_candidate-b-requires : goal.place_of_candidate-b-requires
 place_of_candidate-b-requires c =
     let ends = ends (goal.at.place_of_candidate-b-requires c).Then-has_face in
-    let s = c in (
-      omega (arith, s.requires.roomy.small),
-      omega (
-        arith,
-        member_low s.args.n s.args.face s.args.w.now s.requires.shown s.requires.face_bound.0 _ ends.1,
-        s.requires.roomy.room,
-      ),
-    )
+    let s = c in
+    omega (arith, member_low s.args.room.n s.args.face s.args.w.now s.requires.shown s.requires.face_bound.0 _ ends.1, s.requires.roomy.room)
 
 pub put_pair-requires : goal.put_pair-requires
 put_pair-requires c =
@@ -57,14 +45,14 @@ put_pair-requires c =
       omega (
         arith,
         c.place_of_candidate-a.ensures,
-        noted_place s.args.n s.args.face s.args.w.now s.requires.shown
+        noted_place s.args.room.n s.args.face s.args.w.now s.requires.shown
             s.requires.face_bound.0 s.requires.placed _ ends.0,
         s.requires.roomy.small,
       ),
       omega (
         arith,
         c.place_of_candidate-b.ensures,
-        noted_place s.args.n s.args.face s.args.w.now s.requires.shown s.requires.face_bound.0
+        noted_place s.args.room.n s.args.face s.args.w.now s.requires.shown s.requires.face_bound.0
             s.requires.placed _ ends.1,
         s.requires.roomy.small,
       ),
@@ -78,7 +66,7 @@ returns-then-has_face c =
     let place-of-candidate2' = c.place_of_candidate-b in
     let pairs-at' = c.pairs_at in
     let put-pair' = c.put_pair in
-    edge_pushed s.args.n s.args.nf s.args.i s.args.face s.args.c s.args.w.now s.requires.roomy s.requires.placed s.requires.edges_held
+    edge_pushed s.args.room.n s.args.room.nf s.args.i s.args.face s.args.c s.args.w.now s.requires.roomy s.requires.placed s.requires.edges_held
     s.requires.face_bound.0 s.requires.face_bound.2 open-edges-at'.result open-edges-at'.ensures (sym c.has_face.ensures ∙ c.if-has_face.true)
     place-of-candidate'.result.0 place-of-candidate2'.result.0 pairs-at'.result put-pair'.new.w
     place-of-candidate'.ensures place-of-candidate2'.ensures pairs-at'.ensures put-pair'.ensures
@@ -87,6 +75,6 @@ pub returns-else-has_face : goal.returns-else-has_face
 returns-else-has_face c =
     let s = c in
     let open-edges-at' = c.open_edges_at in
-    edge_skipped s.args.n s.args.nf s.args.i s.args.face s.args.c s.args.w.now s.requires.face_bound.0 open-edges-at'.result
+    edge_skipped s.args.room.n s.args.room.nf s.args.i s.args.face s.args.c s.args.w.now s.requires.face_bound.0 open-edges-at'.result
     open-edges-at'.ensures
     (sym c.has_face.ensures ∙ c.if-has_face.false)

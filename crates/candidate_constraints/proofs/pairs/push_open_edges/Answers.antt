@@ -5,7 +5,7 @@ use Rattle.candidate_constraints.proofs.pairs.push_open_edges.Goals as goal
 
 pub loop-i-init : goal.loop-i-init
 loop-i-init c =
-    edging_start c.args.n c.args.face (open_edges_at c.args.n c.args.nf) c.args.count c.args.w.now
+    edging_start c.args.room.n c.args.face (open_edges_at c.args.room.n c.args.room.nf) c.args.count c.args.w.now
     c.args.k
 
 pub push_open_edge-c-requires : goal.push_open_edge-c-requires
@@ -13,13 +13,13 @@ push_open_edge-c-requires c =
     let s = c in
     let a = s.args in
     let l = c.loop-i in record {
-      shown = edging_shown a.n a.face (open_edges_at a.n a.nf) a.count a.w.now a.nf a.k s.requires.shown s.requires.roomy s.requires.placed s.requires.edges_held
+      shown = edging_shown a.room.n a.face (open_edges_at a.room.n a.room.nf) a.count a.w.now a.room.nf a.k s.requires.shown s.requires.roomy s.requires.placed s.requires.edges_held
           s.requires.face_bound.0 (omega (arith, s.requires.face_bound)) l.w l.c l.i l.invariant;
-      roomy = edging_roomy a.n a.face (open_edges_at a.n a.nf) a.count a.w.now a.nf a.k s.requires.shown s.requires.roomy s.requires.placed s.requires.edges_held
+      roomy = edging_roomy a.room.n a.face (open_edges_at a.room.n a.room.nf) a.count a.w.now a.room.nf a.k s.requires.shown s.requires.roomy s.requires.placed s.requires.edges_held
           s.requires.face_bound.0 (omega (arith, s.requires.face_bound)) l.w l.c l.i l.invariant;
-      placed = edging_placed a.n a.face (open_edges_at a.n a.nf) a.count a.w.now a.nf a.k s.requires.shown s.requires.roomy s.requires.placed s.requires.edges_held
+      placed = edging_placed a.room.n a.face (open_edges_at a.room.n a.room.nf) a.count a.w.now a.room.nf a.k s.requires.shown s.requires.roomy s.requires.placed s.requires.edges_held
           s.requires.face_bound.0 (omega (arith, s.requires.face_bound)) l.w l.c l.i l.invariant;
-      edges_held = edging_held a.n a.face (open_edges_at a.n a.nf) a.count a.w.now a.nf a.k s.requires.shown s.requires.roomy s.requires.placed s.requires.edges_held
+      edges_held = edging_held a.room.n a.face (open_edges_at a.room.n a.room.nf) a.count a.w.now a.room.nf a.k s.requires.shown s.requires.roomy s.requires.placed s.requires.edges_held
           s.requires.face_bound.0 (omega (arith, s.requires.face_bound)) l.w l.c l.i l.invariant c.loop-i-test.true;
       face_bound = (
         s.requires.face_bound.0,
@@ -35,7 +35,7 @@ loop-i-preserved c =
     let a = s.args in
     let l = c.loop-i in
     let push-open-edge' = c.push_open_edge-c in
-    edging_next a.n a.face (open_edges_at a.n a.nf) a.count a.w.now a.nf a.k s.requires.shown s.requires.roomy s.requires.placed s.requires.edges_held
+    edging_next a.room.n a.face (open_edges_at a.room.n a.room.nf) a.count a.w.now a.room.nf a.k s.requires.shown s.requires.roomy s.requires.placed s.requires.edges_held
     s.requires.face_bound.0 (omega (arith, s.requires.face_bound)) l.w l.c l.i l.invariant push-open-edge'.new.w push-open-edge'.result
     c.loop-i-test.true push-open-edge'.ensures
 
@@ -46,5 +46,5 @@ pub returns : goal.returns
 returns c =
     let s = c in
     let a = s.args in
-    edging_end a.n a.face (open_edges_at a.n a.nf) a.count a.w.now a.k c.loop-i.w c.loop-i.c c.loop-i.i c.loop-i.invariant
+    edging_end a.room.n a.face (open_edges_at a.room.n a.room.nf) a.count a.w.now a.k c.loop-i.w c.loop-i.c c.loop-i.i c.loop-i.invariant
     c.loop-i-test.false

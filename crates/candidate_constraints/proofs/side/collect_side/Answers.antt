@@ -1,12 +1,15 @@
 use Prim.Native.Nat.{ℕ, ◌+◌, ◌*◌, ◌≤◌, ◌<◌}
-use mathlib.Core.Path.{refl, ap, ◌∙◌}
+use mathlib.Core.Path.{◌≡◌, refl, sym, ap, subst, ◌∙◌}
+use mathlib.Core.List.{List}
 use lib.ListN.{get_or, length}
 use native.Mathlib.Omega.{arith}
 use Rattle.candidate_pool.specs.Offsets.{entry_at}
 use Rattle.candidate_pool.specs.Standing.{point_at}
+use Rattle.rounding.specs.Ordering.{order_key}
+use Rattle.candidate_constraints.specs.Steps.{Fractioned}
 use Rattle.candidate_constraints.proofs.Showing.{in_list}
-use Rattle.candidate_constraints.proofs.Along.{collecting_start, collected_stored, on_side_no_nan, collecting_named, collecting_end}
-use Rattle.candidate_constraints.proofs.side.collect_side.Goals.{In-loop-i}
+use Rattle.candidate_constraints.proofs.Along.{Collecting, fraction_one, fraction_none, collecting_start, collected_stored, on_side_no_nan, collecting_named, collecting_end}
+use Rattle.candidate_constraints.proofs.side.collect_side.Goals.{In-loop-i, in-Some, in_default}
 use Rattle.candidate_constraints.proofs.side.collect_side.Goals as goal
 
 -- the place that a turn reads, the two that it writes, and that no more are kept than were read
@@ -15,18 +18,13 @@ turn_in : (c : In-loop-i) → (c.list_at-list.result + c.loop-i.i < length c.loo
 turn_in c =
     let s = c in
     let l = c.loop-i in
-    let h = in_list s.args.n s.args.w.now s.requires.shown s.args.face s.requires.n_bound.1 c.list_at-list.result
+    let h = in_list s.args.room.n s.args.w.now s.requires.shown s.args.face s.requires.n_bound.1 c.list_at-list.result
     (get_or s.args.w.now s.args.face 0) l.i l.invariant.1 refl (omega (arith, l.invariant.3, c.loop-i-test.true)) in
     let e = l.invariant.0.kept.long in
     (omega (arith, h.0, e, s.requires.shown.size), omega (arith, h.1, l.invariant.0.few, l.invariant.2, e, s.requires.n_bound.2), l.invariant.0.few)
 
 pub list_at-list-requires : goal.list_at-list-requires
-list_at-list-requires c =
-    let s = c in
-    (omega (arith, s.requires.n_bound.0), s.requires.n_bound.1)
-
-pub side_at-at-requires : goal.side_at-at-requires
-side_at-at-requires c = omega (arith, c.requires.n_bound.0)
+list_at-list-requires c = c.requires.n_bound.1
 
 pub offset_bounds-w-face : goal.offset_bounds-w-face
 offset_bounds-w-face c = omega (arith, c.requires.n_bound.1)
@@ -39,7 +37,7 @@ bounds-w-face c =
 pub loop-i-init : goal.loop-i-init
 loop-i-init c =
     let s = c in (
-      collecting_start s.args.eps s.args.n s.args.face s.args.side s.args.w.now,
+      collecting_start s.args.eps s.args.room.n s.args.face s.args.side s.args.w.now,
       c.list_at-list.ensures,
       c.side_at-at.ensures,
       refl,
@@ -54,59 +52,47 @@ pub point_of-requires : goal.point_of-requires
 point_of-requires c =
     let s = c in
     let loop' = c.loop-i in
-    rw c.candidate_of_place.ensures (collected_stored s.args.eps s.args.n s.args.face s.args.side s.args.w.now s.requires.shown s.requires.n_bound.1 loop'.w
+    rw c.candidate_of_place.ensures (collected_stored s.args.eps s.args.room.n s.args.face s.args.side s.args.w.now s.requires.shown s.requires.n_bound.1 loop'.w
     loop'.m loop'.i loop'.invariant.0
     c.list_at-list.result loop'.invariant.1 (omega (arith, loop'.invariant.3, c.loop-i-test.true)))
 
-pub project-p-requires : goal.project-p-requires
-project-p-requires c = tt
+pub note_fraction-requires : goal.note_fraction-requires
+note_fraction-requires c =
+    let turn_in = turn_in (goal.at.note_fraction-requires c).In-loop-i in
+    let t = c.candidate_on_face_side in
+    (omega (arith, turn_in), on_side_no_nan c.args.eps c.args.side c.project-p.result t.result t.ensures c.in-Some.t c.in-Some.is)
 
-pub candidate_on_face_side-t-requires : goal.candidate_on_face_side-t-requires
-candidate_on_face_side-t-requires c = tt
-
-pub overflow_mul-m : goal.overflow_mul-m
-overflow_mul-m c =
-    let turn_in = turn_in (goal.at.overflow_mul-m c).In-loop-i in
-    omega (arith, turn_in)
-
-pub overflow_add-at : goal.overflow_add-at
-overflow_add-at c =
-    let turn_in = turn_in (goal.at.overflow_add-at c).In-loop-i in
-    omega (arith, turn_in)
-
-pub note_fraction-m-requires : goal.note_fraction-m-requires
-note_fraction-m-requires c =
-    let turn_in = turn_in (goal.at.note_fraction-m-requires c).In-loop-i in
-    let s = c in
-    let candidate-on-face-side' = c.candidate_on_face_side-t in (
-      omega (arith, turn_in),
-      on_side_no_nan s.args.eps s.args.side c.project-p.result candidate-on-face-side'.result candidate-on-face-side'.ensures,
-    )
-
-pub overflow_add-m : goal.overflow_add-m
-overflow_add-m c =
-    let turn_in = turn_in (goal.at.overflow_add-m c).In-loop-i in
-    omega (arith, c.note_fraction-m.ensures.few, turn_in)
+-- a turn leaves r more records
+turned : (c : goal.Joined-candidate_on_face_side) (w : List ℕ) (r : ℕ)
+    → Fractioned (c.side_at-at.result + 2 * c.loop-i.m) c.candidate_on_face_side.result c.loop-i.i r c.loop-i.w w
+    → Collecting c.args.eps c.args.room.n c.args.face c.args.side c.args.w.now w (c.loop-i.m + r) (c.loop-i.i + 1)
+turned c w r f =
+    let a = c.args in
+    let l = c.loop-i in
+    let read = c.point_of.ensures ∙ ap (λ (d : ℕ). point_at l.w (entry_at d)) c.candidate_of_place.ensures in
+    collecting_named a.eps a.room.n a.face a.side a.w.now c.requires.shown c.requires.n_bound.1 l.w l.m l.i l.invariant.0 c.list_at-list.result l.invariant.1
+    c.side_at-at.result w c.point_of.result c.project-p.result c.candidate_on_face_side.result r l.invariant.2
+    (omega (arith, l.invariant.3, c.loop-i-test.true)) read c.project-p.ensures c.candidate_on_face_side.ensures f
 
 pub loop-i-preserved : goal.loop-i-preserved
 loop-i-preserved c =
-    let point-of' = c.point_of in
-    let loop' = c.loop-i in
-    let s = c in
-    let note-fraction' = c.note_fraction-m in
-    let project' = c.project-p in
-    let candidate-on-face-side' = c.candidate_on_face_side-t in
-    let read = point-of'.ensures ∙ ap (λ (d : ℕ). point_at loop'.w (entry_at d)) c.candidate_of_place.ensures in (
-      collecting_named s.args.eps s.args.n s.args.face s.args.side s.args.w.now s.requires.shown s.requires.n_bound.1 loop'.w loop'.m loop'.i
-          loop'.invariant.0
-          c.list_at-list.result loop'.invariant.1
-          c.side_at-at.result note-fraction'.new.w point-of'.result
-          project'.result candidate-on-face-side'.result note-fraction'.result
-          loop'.invariant.2 (omega (arith, loop'.invariant.3, c.loop-i-test.true)) read project'.ensures
-          candidate-on-face-side'.ensures note-fraction'.ensures,
-      loop'.invariant.1,
-      loop'.invariant.2,
-      loop'.invariant.3,
+    let a = c.args in
+    let l = c.loop-i in
+    let j = c.match-candidate_on_face_side in
+    let inside : c.side_at-at.result + 2 * l.m + 1 < length l.w = let turn_in = turn_in (goal.at.loop-i-preserved c).In-loop-i in omega (arith, turn_in) in (
+      elim j.branch [
+        | in-Some w ↦ rw (w.w-is, w.m-is)
+            (turned c w.note_fraction.new.w 1
+            (subst (λ (u : List ℕ). Fractioned (c.side_at-at.result + 2 * l.m) c.candidate_on_face_side.result l.i 1 l.w u) (sym w.note_fraction.ensures)
+            (fraction_one (c.side_at-at.result + 2 * l.m) l.i c.candidate_on_face_side.result w.in-Some.t (order_key w.in-Some.t) l.w w.in-Some.is refl inside)))
+        | in_default w ↦ rw (w.w-is, w.m-is)
+            (let none : l.m + 0 ≡ l.m = omega arith in
+            subst (λ (m : ℕ). Collecting a.eps a.room.n a.face a.side a.w.now l.w m (l.i + 1)) none
+            (turned c l.w 0 (fraction_none (c.side_at-at.result + 2 * l.m) l.i c.candidate_on_face_side.result l.w w.in_default.is)))
+      ],
+      l.invariant.1,
+      l.invariant.2,
+      l.invariant.3,
     )
 
 pub shape_of-w : goal.shape_of-w
@@ -116,6 +102,6 @@ pub returns : goal.returns
 returns c =
     let s = c in
     let loop' = c.loop-i in
-    collecting_end s.args.eps s.args.n s.args.face s.args.side s.args.w.now s.requires.shown s.requires.n_bound.1 loop'.w loop'.m loop'.i
+    collecting_end s.args.eps s.args.room.n s.args.face s.args.side s.args.w.now s.requires.shown s.requires.n_bound.1 loop'.w loop'.m loop'.i
     loop'.invariant.0
     (omega (arith, loop'.invariant.3, c.loop-i-test.false))

@@ -15,21 +15,11 @@ turn_in c =
       omega (arith, c.requires.n_bound, o.sum, o.pushed.kept.long, l.invariant.2, c.loop-j-test.true),
     )
 
-pub side_at-at-requires : goal.side_at-at-requires
-side_at-at-requires c = omega (arith, c.requires.n_bound)
-
-pub pairs_at-pairs-requires : goal.pairs_at-pairs-requires
-pairs_at-pairs-requires c = omega (arith, c.requires.n_bound)
-
 pub loop-j-init : goal.loop-j-init
 loop-j-init c =
     let s = c in
     let a = s.args in
-    (nearing_start a.n a.face a.m a.count a.w.now, c.side_at-at.ensures, c.pairs_at-pairs.ensures)
-
-pub overflow_add-j : goal.overflow_add-j
-overflow_add-j c =
-    omega (arith, c.requires.n_bound, c.loop-j.invariant.0.sum, c.loop-j.invariant.0.within, c.loop-j.invariant.0.pushed.kept.long, c.loop-j.invariant.1, c.loop-j.invariant.2)
+    (nearing_start a.room.n a.face a.m a.count a.w.now, c.side_at-at.ensures, c.pairs_at-pairs.ensures)
 
 pub overflow_mul-a : goal.overflow_mul-a
 overflow_mul-a c =
@@ -96,7 +86,7 @@ put_pair-requires c =
     let turn_in = turn_in (goal.at.put_pair-requires c).In-loop-j in
     let s = c in
     let loop' = c.loop-j in
-    let places = near_named s.args.n s.args.face s.args.m s.args.count s.args.w.now s.requires.n_bound.2 s.requires.n_bound.3 loop'.w loop'.c loop'.j
+    let places = near_named s.args.room.n s.args.face s.args.m s.args.count s.args.w.now s.requires.n_bound.2 s.requires.n_bound.3 loop'.w loop'.c loop'.j
     loop'.invariant.0
     c.side_at-at.result loop'.invariant.1 s.requires.low_places (omega (arith, c.loop-j-test.true)) in
     (omega (arith, turn_in), s.requires.n_bound.1, places.0, places.1)
@@ -106,24 +96,16 @@ overflow_add-c c =
     let turn_in = turn_in (goal.at.overflow_add-c c).In-loop-j in
     omega (arith, turn_in)
 
-pub overflow_add-j-in-loop-j : goal.overflow_add-j-in-loop-j
-overflow_add-j-in-loop-j c =
-    let turn_in = turn_in (goal.at.overflow_add-j-in-loop-j c).In-loop-j in
-    omega (arith, turn_in)
-
-pub loop-j-smaller : goal.loop-j-smaller
-loop-j-smaller c = omega (arith, c.loop-j-test.true)
-
 pub loop-j-preserved : goal.loop-j-preserved
 loop-j-preserved c =
     let s = c in
     let a = s.args in
     let l = c.loop-j in
     let put-pair' = c.put_pair in (
-      nearing_named a.n a.face a.m a.count a.w.now s.requires.n_bound.2 s.requires.n_bound.3 l.w l.c l.j l.invariant.0
+      nearing_named a.room.n a.face a.m a.count a.w.now s.requires.n_bound.2 s.requires.n_bound.3 l.w l.c l.j l.invariant.0
           c.side_at-at.result
           c.pairs_at-pairs.result put-pair'.new.w l.invariant.1 l.invariant.2
-          c.loop-j-test.true put-pair'.ensures,
+          (omega (arith, c.loop-j-test.true)) put-pair'.ensures,
       l.invariant.1,
       l.invariant.2,
     )
@@ -135,5 +117,5 @@ pub returns : goal.returns
 returns c =
     let s = c in
     let a = s.args in
-    nearing_end a.n a.face a.m a.count a.w.now s.requires.n_bound.2 s.requires.n_bound.3 c.loop-j.w c.loop-j.c c.loop-j.j
-    c.loop-j.invariant.0 c.loop-j-test.false
+    nearing_end a.room.n a.face a.m a.count a.w.now s.requires.n_bound.2 s.requires.n_bound.3 c.loop-j.w c.loop-j.c c.loop-j.j
+    c.loop-j.invariant.0 (omega (arith, c.loop-j-test.false))

@@ -38,13 +38,13 @@ push_neighbours-requires c =
         s.requires.n_bound.1,
         omega (
           arith,
-          side_long a.eps a.n a.face a.side a.count collect-side'.result a.w.now collect-side'.new.w
+          side_long a.eps a.room.n a.face a.side a.count collect-side'.result a.w.now collect-side'.new.w
               (put_mid side-at'.result (side-at'.result + 4 * collect-side'.result - side-at'.result) collect-side'.new.w sort-records'.new.m) s.requires.shown
               s.requires.n_bound.1 s.requires.n_bound.0 s.requires.n_bound.2 s.requires.n_bound.3 collect-side'.ensures side-at'.result side-at'.ensures
               (sorted_part collect-side'.new.w sort-records'.new.m side-at'.result collect-side'.result
               (omega (arith, s.requires.n_bound, side-at'.ensures, collect-side'.ensures.few, collect-side'.ensures.kept.long, s.requires.shown.lengths a.face s.requires.n_bound.1))
               sort-records'.ensures),
-          side_few a.eps a.n a.face a.side a.count collect-side'.result a.w.now collect-side'.new.w
+          side_few a.eps a.room.n a.face a.side a.count collect-side'.result a.w.now collect-side'.new.w
               (put_mid side-at'.result (side-at'.result + 4 * collect-side'.result - side-at'.result) collect-side'.new.w sort-records'.new.m) s.requires.shown
               s.requires.n_bound.1 s.requires.n_bound.0 s.requires.n_bound.2 s.requires.n_bound.3 collect-side'.ensures side-at'.result side-at'.ensures
               (sorted_part collect-side'.new.w sort-records'.new.m side-at'.result collect-side'.result
@@ -52,7 +52,7 @@ push_neighbours-requires c =
               sort-records'.ensures),
           s.requires.n_bound,
         ),
-        side_few a.eps a.n a.face a.side a.count collect-side'.result a.w.now collect-side'.new.w
+        side_few a.eps a.room.n a.face a.side a.count collect-side'.result a.w.now collect-side'.new.w
             (put_mid side-at'.result (side-at'.result + 4 * collect-side'.result - side-at'.result) collect-side'.new.w sort-records'.new.m) s.requires.shown
             s.requires.n_bound.1 s.requires.n_bound.0 s.requires.n_bound.2 s.requires.n_bound.3 collect-side'.ensures side-at'.result side-at'.ensures
             (sorted_part collect-side'.new.w sort-records'.new.m side-at'.result collect-side'.result
@@ -60,7 +60,7 @@ push_neighbours-requires c =
             sort-records'.ensures),
         omega (arith, s.requires.n_bound),
       );
-      low_places = side_low a.eps a.n a.face a.side a.count collect-side'.result a.w.now collect-side'.new.w
+      low_places = side_low a.eps a.room.n a.face a.side a.count collect-side'.result a.w.now collect-side'.new.w
           (put_mid side-at'.result (side-at'.result + 4 * collect-side'.result - side-at'.result) collect-side'.new.w sort-records'.new.m) s.requires.shown
           s.requires.n_bound.1 s.requires.n_bound.0 s.requires.n_bound.2 s.requires.n_bound.3 collect-side'.ensures side-at'.result side-at'.ensures
           (sorted_part collect-side'.new.w sort-records'.new.m side-at'.result collect-side'.result
@@ -76,7 +76,7 @@ returns c =
     let side-at' = c.side_at-at in
     let sort-records' = c.sort_records in
     let push-neighbours' = c.push_neighbours in
-    side_pushed a.eps a.n a.face a.side a.count collect-side'.result a.w.now collect-side'.new.w
+    side_pushed a.eps a.room.n a.face a.side a.count collect-side'.result a.w.now collect-side'.new.w
     (put_mid side-at'.result (side-at'.result + 4 * collect-side'.result - side-at'.result) collect-side'.new.w sort-records'.new.m) s.requires.shown
     s.requires.n_bound.1 s.requires.n_bound.0 s.requires.n_bound.2 s.requires.n_bound.3 collect-side'.ensures side-at'.result side-at'.ensures
     (sorted_part collect-side'.new.w sort-records'.new.m side-at'.result collect-side'.result

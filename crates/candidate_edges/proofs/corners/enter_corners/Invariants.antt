@@ -1,4 +1,3 @@
-use Prim.Native.Nat.{◌-◌}
 use Rattle.candidate_edges.proofs.Passes.{CornersGoing}
 use Rattle.candidate_edges.proofs.corners.enter_corners.Given as goal
 

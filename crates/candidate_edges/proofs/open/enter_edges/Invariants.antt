@@ -1,4 +1,3 @@
-use Prim.Native.Nat.{◌-◌}
 use Rattle.candidate_edges.proofs.Passes.{EdgesGoing}
 use Rattle.candidate_edges.proofs.open.enter_edges.Given as goal
 

@@ -7,7 +7,6 @@ use borrow.Author.Tests.{eq-eqb, ne_eqb}
 use lib.Dec.{eqb}
 use lib.ListN.{set}
 use lib.Seq.{sets}
-use Rattle.lists.specs.Lists.{keep}
 use Rattle.box_faces.specs.Faces.{has_bit, bit_count}
 use Rattle.candidate_edges.proofs.open.put_edge.Goals.{then-a-b, else-a-b}
 use Rattle.candidate_edges.proofs.open.put_edge.Goals as goal

@@ -1,4 +1,4 @@
-use Prim.Native.Nat.{◌+◌, ◌*◌, ◌-◌, ◌≤◌}
+use Prim.Native.Nat.{◌+◌, ◌*◌, ◌≤◌}
 use mathlib.Core.List.{flat_map}
 use Rattle.lists.specs.Lists.{up_to}
 use Rattle.candidate_grids.specs.Steps.{skips_near, row_cell, row_at, PointsEntered}

@@ -1,4 +1,3 @@
-use native.Mathlib.Omega.{arith}
 use Rattle.candidate_grids.proofs.Gridding.{gridding_start, gridding_ready, gridding_turn, gridding_end}
 use Rattle.candidate_grids.proofs.grids.enter_grids.Goals as goal
 

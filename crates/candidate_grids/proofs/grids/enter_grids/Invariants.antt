@@ -1,4 +1,3 @@
-use Prim.Native.Nat.{◌-◌}
 use Rattle.candidate_grids.proofs.Gridding.{Gridding}
 use Rattle.candidate_grids.proofs.grids.enter_grids.Given as goal
 

@@ -1,4 +1,3 @@
-use Prim.Native.Nat.{◌-◌}
 use Rattle.candidate_grids.proofs.Gathering.{Gathering}
 use Rattle.candidate_grids.proofs.grids.gather_segments.Given as goal
 

@@ -17,43 +17,43 @@ pub overflow_mul-e : goal.overflow_mul-e
 overflow_mul-e c =
     let s = c in
     let a = s.args in
-    let h = edges_few a.n a.nf a.k a.listed a.total a.w.now s.requires in
+    let h = edges_few a.room.n a.room.nf a.k a.listed a.total a.w.now s.requires in
     omega (arith, h, s.requires.small_facets)
 
 pub returns-then-candidates-c : goal.returns-then-candidates-c
 returns-then-candidates-c c =
     let s = c in
     let a = s.args in
-    short_candidates a.n a.nf a.k a.listed a.total a.w.now s.requires _ c.listed_numbers-l.ensures.0 a.candidates.now
+    short_candidates a.room.n a.room.nf a.k a.listed a.total a.w.now s.requires _ c.listed_numbers-l.ensures.0 a.candidates.now
     a.face_lists.now a.constraints.now a.open_edges.now c.if-candidates-c.true
 
 pub returns-then-face_lists-l : goal.returns-then-face_lists-l
 returns-then-face_lists-l c =
     let s = c in
     let a = s.args in
-    short_lists a.n a.nf a.k a.listed a.total a.w.now s.requires _ c.listed_numbers-l.ensures.0 a.candidates.now
+    short_lists a.room.n a.room.nf a.k a.listed a.total a.w.now s.requires _ c.listed_numbers-l.ensures.0 a.candidates.now
     a.face_lists.now a.constraints.now a.open_edges.now c.if-candidates-c.false c.if-face_lists-l.true
 
 pub returns-then-constraints-t : goal.returns-then-constraints-t
 returns-then-constraints-t c =
     let s = c in
     let a = s.args in
-    short_constraints a.n a.nf a.k a.listed a.total a.w.now s.requires _ c.listed_numbers-l.ensures.0 a.candidates.now
+    short_constraints a.room.n a.room.nf a.k a.listed a.total a.w.now s.requires _ c.listed_numbers-l.ensures.0 a.candidates.now
     a.face_lists.now a.constraints.now a.open_edges.now c.if-candidates-c.false (omega arith) c.if-constraints-t.true
 
 pub returns-then-open_edges-e : goal.returns-then-open_edges-e
 returns-then-open_edges-e c =
     let s = c in
     let a = s.args in
-    short_edges a.n a.nf a.k a.listed a.total a.w.now s.requires _ c.listed_numbers-l.ensures.0 a.candidates.now
+    short_edges a.room.n a.room.nf a.k a.listed a.total a.w.now s.requires _ c.listed_numbers-l.ensures.0 a.candidates.now
     a.face_lists.now a.constraints.now a.open_edges.now c.if-candidates-c.false c.if-face_lists-l.false c.if-constraints-t.false c.if-open_edges-e.true
 
 pub write_face_lists-requires : goal.write_face_lists-requires
 write_face_lists-requires c =
     let s = c in
     let a = s.args in
-    let l = all_lists_long a.n a.nf a.k a.listed a.total a.w.now s.requires _
-    c.listed_numbers-l.ensures.0 in record { n_bound = (s.requires.small, omega (arith, s.requires.size)); by_index = s.requires.short; w_in_bounds = omega (arith, c.if-face_lists-l.false, l) }
+    let l = all_lists_long a.room.n a.room.nf a.k a.listed a.total a.w.now s.requires _
+    c.listed_numbers-l.ensures.0 in record { n_bound = omega (arith, s.requires.size); by_index = s.requires.short; w_in_bounds = omega (arith, c.if-face_lists-l.false, l) }
 
 pub write_edges-requires : goal.write_edges-requires
 write_edges-requires c =
@@ -61,7 +61,7 @@ write_edges-requires c =
     let s = fit in
     let a = s.args in
     let e = ap (λ (x : ℕ). length (open_edge_words (edges_at a.w.now x a.k))) c.open_edges_at.ensures in
-    let l = edges_long a.n a.nf a.k a.listed a.total a.w.now s.requires in
+    let l = edges_long a.room.n a.room.nf a.k a.listed a.total a.w.now s.requires in
     record {
       k_in_bounds = omega (arith, s.requires.size, s.requires.edges, c.open_edges_at.ensures);
       k_in_bounds_2 = omega (arith, fit.if-open_edges-e.false, l, e);
@@ -79,7 +79,7 @@ returns c =
     let s = numbers in
     let a = s.args in
     let w = a.w.now in
-    done a.n a.nf a.k a.listed a.total w s.requires _ numbers.listed_numbers-l.ensures.0 a.candidates.now a.face_lists.now a.constraints.now
+    done a.room.n a.room.nf a.k a.listed a.total w s.requires _ numbers.listed_numbers-l.ensures.0 a.candidates.now a.face_lists.now a.constraints.now
     a.open_edges.now fit.if-candidates-c.false fit.if-face_lists-l.false fit.if-constraints-t.false fit.if-open_edges-e.false _ _ _ _ words.write_words.ensures
     lists.write_face_lists.ensures
     (constraints.write_constraints.ensures ∙ ap (λ (x : ℕ). sets a.constraints.now 0 (constraint_words (map unpacked (view w x a.total))))

@@ -11,29 +11,26 @@ use Rattle.candidate_outputs.proofs.outputs.write_face_lists.Goals as goal
 pub write_words-requires : goal.write_words-requires
 write_words-requires c =
     let a = c.args in
-    let l = lists_long a.n a.w.now c.requires.n_bound.1 c.requires.by_index in
-    omega (arith, l, c.requires.n_bound.1, c.requires.w_in_bounds)
+    let l = lists_long a.room.n a.w.now c.requires.n_bound c.requires.by_index in
+    omega (arith, l, c.requires.n_bound, c.requires.w_in_bounds)
 
 pub loop-face-init : goal.loop-face-init
 loop-face-init c =
     let a = c.args in
-    (omega arith, blocks_start (list_block a.n a.w.now) c.write_words.new.out 6 _ refl)
+    (omega arith, blocks_start (list_block a.room.n a.w.now) c.write_words.new.out 6 _ refl)
 
 pub offset_bounds-w-face : goal.offset_bounds-w-face
 offset_bounds-w-face c = omega arith
 
 pub bounds-w-face : goal.bounds-w-face
-bounds-w-face c = omega (arith, c.requires.n_bound.1)
-
-pub list_at-requires : goal.list_at-requires
-list_at-requires c = omega arith
+bounds-w-face c = omega (arith, c.requires.n_bound)
 
 pub write_words-requires-in-loop-face : goal.write_words-requires-in-loop-face
 write_words-requires-in-loop-face c =
     let a = c.args in
-    let l = lists_long a.n a.w.now c.requires.n_bound.1
+    let l = lists_long a.room.n a.w.now c.requires.n_bound
     c.requires.by_index in
-    let r = blocks_room (list_block a.n a.w.now) c.write_words.new.out
+    let r = blocks_room (list_block a.room.n a.w.now) c.write_words.new.out
     c.loop-face.out 6 c.loop-face.face c.loop-face.at
     c.loop-face.invariant.1 6 c.loop-face-test.true
     (omega (
@@ -42,7 +39,7 @@ write_words-requires-in-loop-face c =
       l,
       c.requires.w_in_bounds,
     )) in
-    let q = block_long a.n a.w.now c.requires.n_bound.1
+    let q = block_long a.room.n a.w.now c.requires.n_bound
     c.requires.by_index c.loop-face.face
     c.loop-face-test.true in
     omega (arith, r, q.0, q.1, c.list_at.ensures)
@@ -50,9 +47,9 @@ write_words-requires-in-loop-face c =
 pub overflow_add-at : goal.overflow_add-at
 overflow_add-at c =
     let a = c.args in
-    let l = lists_long a.n a.w.now c.requires.n_bound.1
+    let l = lists_long a.room.n a.w.now c.requires.n_bound
     c.requires.by_index in
-    let r = blocks_room (list_block a.n a.w.now) c.write_words.new.out
+    let r = blocks_room (list_block a.room.n a.w.now) c.write_words.new.out
     c.loop-face.out 6 c.loop-face.face
     c.loop-face.at c.loop-face.invariant.1 6
     c.loop-face-test.true
@@ -62,14 +59,14 @@ overflow_add-at c =
       l,
       c.requires.w_in_bounds,
     )) in
-    let q = block_long a.n a.w.now c.requires.n_bound.1
+    let q = block_long a.room.n a.w.now c.requires.n_bound
     c.requires.by_index
     c.loop-face.face c.loop-face-test.true in
     omega (
       arith,
       r,
       q.0,
-      blocks_long (list_block a.n a.w.now)
+      blocks_long (list_block a.room.n a.w.now)
           c.write_words.new.out
           c.loop-face.out 6 c.loop-face.face
           c.loop-face.at c.loop-face.invariant.1,
@@ -79,11 +76,11 @@ overflow_add-at c =
 pub loop-face-preserved : goal.loop-face-preserved
 loop-face-preserved c =
     let a = c.args in
-    let q = block_long a.n a.w.now c.requires.n_bound.1
+    let q = block_long a.room.n a.w.now c.requires.n_bound
     c.requires.by_index
     c.loop-face.face c.loop-face-test.true in (
       omega arith,
-      blocks_turn (list_block a.n a.w.now) c.write_words.new.out
+      blocks_turn (list_block a.room.n a.w.now) c.write_words.new.out
           c.loop-face.out 6 c.loop-face.face
           c.loop-face.at c.loop-face.invariant.1 _ _
           (c.write_words-in-loop-face.ensures ∙ ap (λ (x : ℕ). sets c.loop-face.out
@@ -95,13 +92,13 @@ loop-face-preserved c =
 pub shape_of-out : goal.shape_of-out
 shape_of-out c =
     let a = c.args in
-    blocks_long (list_block a.n a.w.now) c.write_words.new.out c.loop-face.out 6 c.loop-face.face
+    blocks_long (list_block a.room.n a.w.now) c.write_words.new.out c.loop-face.out 6 c.loop-face.face
     c.loop-face.at c.loop-face.invariant.1 ∙ c.write_words.auto.out
 
 pub returns : goal.returns
 returns c =
     let a = c.args in
-    blocks_end (list_block a.n a.w.now) c.write_words.new.out c.loop-face.out 6 c.loop-face.face c.loop-face.at
-    c.loop-face.invariant.1 6 c.loop-face.invariant.0 c.loop-face-test.false _ refl ∙ lists_stored a.n a.w.now
-    c.requires.n_bound.1 c.requires.by_index a.out.now _
+    blocks_end (list_block a.room.n a.w.now) c.write_words.new.out c.loop-face.out 6 c.loop-face.face c.loop-face.at
+    c.loop-face.invariant.1 6 c.loop-face.invariant.0 c.loop-face-test.false _ refl ∙ lists_stored a.room.n a.w.now
+    c.requires.n_bound c.requires.by_index a.out.now _
     c.write_words.ensures

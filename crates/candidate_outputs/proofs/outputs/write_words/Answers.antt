@@ -5,4 +5,4 @@ pub returns : goal.returns
 returns c =
     let a = c.args in
     part_copied a.w.now a.out.now _ a.from a.n a.at c.requires.0
-    c.requires.1 c.copy_words.ensures
+    c.requires.1 c.copy_front.ensures

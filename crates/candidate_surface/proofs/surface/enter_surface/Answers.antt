@@ -3,7 +3,7 @@ use Rattle.candidate_surface.proofs.Completing.{fits_same, table_left, surfaced}
 use Rattle.candidate_surface.proofs.surface.enter_surface.Goals as goal
 
 pub clear_pool-requires : goal.clear_pool-requires
-clear_pool-requires c = ((c.requires.mesh_fits.small, omega (arith, c.requires.mesh_fits.size)))
+clear_pool-requires c = omega (arith, c.requires.mesh_fits.size)
 
 pub enter_edges-requires : goal.enter_edges-requires
 enter_edges-requires c =

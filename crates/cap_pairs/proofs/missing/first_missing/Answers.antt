@@ -1,41 +1,21 @@
-use Rattle.cap_pairs.proofs.Walking.{FaceWalk, walk_start, walk_skip, walk_pass, walk_stop, walk_end}
+use Rattle.std.proofs.Common.{rules, tests}
+use Rattle.std.proofs.lemmas.Iterator.{YieldsList-from_range}
+use Rattle.std.proofs.lemmas.Iterator.Consumers.{YieldsList-from_filter, YieldsList-at}
+use Rattle.std.proofs.lemmas.Iterator.Search.{position_from_yields_List}
+use Rattle.box_faces.specs.Faces.{has_bit, bit_count}
+use Rattle.candidate_pool.specs.Standing.{faces_in}
 use Rattle.cap_pairs.specs.Steps.{missing_face}
-use native.Mathlib.Omega.{arith}
-use mathlib.Core.Path.{sym, subst, ◌∙◌}
-use Prim.Native.Nat.{ℕ, ◌+◌}
-use Rattle.cap_pairs.proofs.missing.first_missing.Goals.{then-has_face+else-is_missing, else-has_face}
+use Rattle.cap_pairs.proofs.Walking.{first_place}
+use mathlib.Core.Path.{refl}
 use Rattle.cap_pairs.proofs.missing.first_missing.Goals as goal
 
-pub loop-face-init : goal.loop-face-init
-loop-face-init c = walk_start (missing_face c.args.w.now c.args.held) c.args.mask
-
-pub returns-then-is_missing : goal.returns-then-is_missing
-returns-then-is_missing c =
-    let a = c.args in
-    let l = c.loop-face in
-    let has-face' = c.has_face in
-    let branch = c.if-has_face in
-    let is-missing' = c.is_missing in
-    let if2' = c.if-is_missing in
-    walk_stop (missing_face a.w.now a.held) a.mask l.count l.face l.invariant (omega arith) (sym has-face'.ensures ∙ branch.true)
-    (sym is-missing'.ensures ∙ if2'.true)
-
-pub loop-face-preserved : goal.loop-face-preserved
-loop-face-preserved c =
-    let a = c.args in
-    let l = c.loop-face in
-    let has-face' = c.has_face in
-    let branch = c.if-has_face in
-    elim branch.branch [
-      | then-has_face+else-is_missing w ↦ subst (λ (x : ℕ). FaceWalk (missing_face a.w.now a.held) a.mask x (l.face + 1)) (sym w.count-is)
-          (walk_pass (missing_face a.w.now a.held) a.mask l.count l.face l.invariant (omega arith) (sym has-face'.ensures ∙ w.if-has_face.true)
-          (sym w.is_missing.ensures ∙ w.if-is_missing.false))
-      | else-has_face w ↦ subst (λ (x : ℕ). FaceWalk (missing_face a.w.now a.held) a.mask x (l.face + 1)) (sym w.count-is)
-          (walk_skip (missing_face a.w.now a.held) a.mask l.count l.face l.invariant (omega arith) (sym has-face'.ensures ∙ w.if-has_face.false))
-    ]
-
+-- `first_missing` meets its contract: the place that the chain answers is that of the definition. Assumes nothing.
 pub returns : goal.returns
+unfolding bit_count
 returns c =
     let a = c.args in
-    let l = c.loop-face in
-    walk_end (missing_face a.w.now a.held) a.mask l.count l.face l.invariant (omega arith)
+    first_place (missing_face a.w.now a.held) (faces_in a.mask) c.position.result
+    (position_from_yields_List (missing_face a.w.now a.held) _ _ c.position.result c.position.ensures.ran
+    (YieldsList-from_filter _ (has_bit a.mask) (YieldsList-at c.filter.ensures.source (YieldsList-from_range 0 6 6 refl refl)) c.filter.ensures.closure
+    (λ x r q k. search (rules, tests)))
+    (λ x b q k. search (rules, tests)))

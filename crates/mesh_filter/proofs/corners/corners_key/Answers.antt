@@ -17,7 +17,7 @@ pub pack_triple-requires : goal.pack_triple-requires
 pack_triple-requires c =
     let t = c.args.t in
     let e = sorted_is c.sorted_vertices-s.result (mesh_vertices_of t)
-        (ap numbers c.sorted_vertices-s.ensures ∙ sorted_numbers (λ (v : MeshVertexId). v.0) _ (λ x y. number_less x.0 y.0) t) in
+    (ap numbers c.sorted_vertices-s.ensures ∙ sorted_numbers (λ (v : MeshVertexId). v.0) _ (λ x y. number_less x.0 y.0) t) in
     let h = subst (Below 2097152) (sym e) (ascending_below 2097152 (mesh_vertices_of t) c.requires) in
     (h.a, (h.b, h.c))
 

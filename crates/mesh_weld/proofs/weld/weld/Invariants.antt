@@ -1,6 +1,5 @@
 use Rattle.mesh_weld.specs.Room.{WeldedSoFar}
 use lib.ListN.{length}
-use Prim.Native.Nat.{◌-◌}
 use mathlib.Core.Path.{◌≡◌}
 use Rattle.mesh_weld.proofs.weld.weld.Given as goal
 

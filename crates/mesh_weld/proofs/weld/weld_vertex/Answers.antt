@@ -2,7 +2,7 @@ use Rattle.mesh_weld.proofs.Steps.{taken, tail_low, kept_new}
 use Rattle.mesh_weld.specs.Room.{kept_points, words_of, KeyIn, WeldedSoFar}
 use Rattle.mesh_weld.specs.Cells.{key_of, cells}
 use Rattle.geometry.specs.declared.point.Point.{Point}
-use lib.ListN.{length-set, set}
+use lib.ListN.{set}
 use native.Mathlib.Omega.{arith}
 use Prim.Native.Nat.{ℕ, ◌+◌, ◌*◌}
 use mathlib.Core.List.{List}

@@ -30,7 +30,7 @@ returns-then-has_repeated_corner c =
     let f = c.args.f in
     dropped k.eps P F k.at k.n f c.args.count m c.requires.filtered_so_far c.requires.numbered.room c.requires.f_lt_n
     (elim c.then-has_repeated_corner.branch [
-      then-has_repeated_corner-via-then-has_repeated_corner w ↦
+      | then-has_repeated_corner-via-then-has_repeated_corner w ↦
           repeated_stops k.eps P F (passed k.eps P F f) (facet_at F f)
           (ap has_repeated_corner (sym c.corners_of-t.ensures) ∙ sym c.has_repeated_corner.ensures ∙ w.if-has_repeated_corner.true)
       | then-has_repeated_corner-via-else-has_repeated_corner+then-is_flat w ↦

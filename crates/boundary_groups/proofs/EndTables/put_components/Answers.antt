@@ -3,11 +3,11 @@ use lib.ListN.{length-set}
 use mathlib.Core.Path.{refl}
 use native.Mathlib.Omega.{arith}
 use Rattle.boundary_groups.proofs.Walks.{TurnBounds, putting_start, putting_ready, putting_turn, putting_end, flag}
-use Rattle.boundary_groups.proofs.put_components.Goals.{After-is_ring-ring}
-use Rattle.boundary_groups.proofs.put_components.Goals as goal
+use Rattle.boundary_groups.proofs.EndTables.put_components.Goals.{After-is_ring-ring}
+use Rattle.boundary_groups.proofs.EndTables.put_components.Goals as goal
 
 -- what bounds a turn's numbers
-turn : (c : After-is_ring-ring) → TurnBounds c.args.w.now c.args.k c.args.to c.loop-i.w c.loop-i.c c.loop-i.i c.run_end-e.result
+turn : (c : After-is_ring-ring) → TurnBounds c.args.w.now c.args.self.edges c.args.to c.loop-i.w c.loop-i.c c.loop-i.i c.run_end-e.result
 turn c =
     let inv = c.loop-i.invariant in
     let run = c.run_end-e.ensures in
@@ -19,7 +19,7 @@ loop-i-preserved c =
     let s = c.args in
     let run = c.run_end-e in
     let ring = c.is_ring-ring in
-    putting_turn s.w.now s.k s.ends s.degrees s.to l.w s.m l.c l.i c.requires.ends_ready c.requires.k_bound.0 c.requires.k_bound.1.0 c.requires.k_bound.1.1 l.invariant
+    putting_turn s.w.now s.self.edges s.self.ends s.self.degrees s.to l.w s.self.vertices l.c l.i c.requires.ends_ready c.requires.k_bound.0 c.requires.k_bound.1.0 c.requires.k_bound.1.1 l.invariant
     (omega arith) run.result run.ensures ring.result ring.ensures _ _ _ _ refl refl refl (flag ring.result)
 
 pub returns : goal.returns
@@ -39,7 +39,7 @@ is_ring-ring-requires c =
     let l = c.loop-i in
     let s = c.args in
     let run = c.run_end-e.ensures in record {
-      ends_ready = putting_ready s.w.now s.k s.ends s.degrees s.to l.w s.m l.c l.i c.requires.ends_ready c.requires.k_bound.0 c.requires.k_bound.1.0 c.requires.k_bound.1.1 l.invariant
+      ends_ready = putting_ready s.w.now s.self.edges s.self.ends s.self.degrees s.to l.w s.self.vertices l.c l.i c.requires.ends_ready c.requires.k_bound.0 c.requires.k_bound.1.0 c.requires.k_bound.1.1 l.invariant
           (omega arith);
       i_le_e = (omega (arith, run.more), run.within);
     }
