@@ -2,15 +2,15 @@
 // `facet_fully_inside_aabb` is left out, since no operation uses it.
 #![tactic(auto)]
 
-ghost use Rattle.std.specs.Prelude.{◌≡◌, true, false, [], ◌/◌, ◌≤◌, length};
-ghost use Rattle.input_tests.specs.Front.{limits, bad_index};
+ghost use Rattle.std.specs.Prelude.{◌≡◌, true, [], ◌/◌, length};
+ghost use Rattle.input_tests.specs.Front.{limits};
 ghost use Rattle.refusals.specs.Refusals.{documented_reply, first_refusal};
 ghost use Rattle.refusals.specs.Answers.{mesh_outputs, Answer, Answered};
 ghost use Rattle.aabb_clipping.specs.Clip.{clip_asked, clip_tests, clip_result};
 ghost use Rattle.aabb_clipping.specs.Steps.{Fits};
 
 use aabb_facets::marks::wholly_inside;
-use aabb_facets::passes::run_pass;
+use aabb_facets::passes::Admitted;
 use aabb_planes::clip::Clip;
 use geometry::aabb::AABB;
 use input_tests::boxes::{box_in_range, is_bad_box};
@@ -45,51 +45,33 @@ fn check(
 
 // Whether the outputs hold whatever the facets could give, so that 12 cannot arise: 28 corners and 26 facets of each facet, or of a mesh
 // wholly inside no more than it has.
-fn is_ample(
-    vertices: &[f64],
-    facets: &[u32],
-    clip: Clip,
-    vertex_room: usize,
-    facet_room: usize,
-) -> bool
-    requires vertices_len_bound { (length vertices.now / 3 ≤ 65536) × (length facets.now / 3 ≤ 65536) }
-    requires facets_value { bad_index (length vertices.now / 3) facets.now ≡ false }
-    ensures { result ≡ true → Fits (clip_result vertices.now facets.now (clip_asked clip.extents clip.eps)) vertex_room facet_room }
+fn is_ample(mesh: Admitted<'_>, clip: Clip, vertex_room: usize, facet_room: usize) -> bool
+    ensures { result ≡ true → Fits (clip_result mesh.entry.vertices.now mesh.entry.facets.now (clip_asked clip.extents clip.eps)) vertex_room facet_room }
 {
-    let n = facets.len() / 3;
+    let n = mesh.facets.len() / 3;
     if 84 * n <= vertex_room && 78 * n <= facet_room {
         return true;
     }
-    if vertex_room < vertices.len() || facet_room < facets.len() {
+    if vertex_room < mesh.vertices.len() || facet_room < mesh.facets.len() {
         return false;
     }
-    wholly_inside(vertices, clip)
+    wholly_inside(mesh.vertices, clip)
 }
 
 // Two passes: the first counts, into no room, and the second writes.
 fn clip_counted(
-    vertices: &[f64],
-    facets: &[u32],
+    mesh: Admitted<'_>,
     clip: Clip,
     ids: &mut [u64],
     out_vertices: &mut [f64],
     out_facets: &mut [u32],
 ) -> Reply<2>
-    requires vertices_len_bound { (length vertices.now / 3 ≤ 65536) × (length facets.now / 3 ≤ 65536) }
-    requires facets_value { bad_index (length vertices.now / 3) facets.now ≡ false }
-    requires ids_len { length ids.old ≡ length vertices.now / 3 }
+    requires { length ids.old ≡ length mesh.vertices.now / 3 }
     ensures { Answer []
-        (mesh_outputs (clip_result vertices.now facets.now (clip_asked clip.extents clip.eps)) out_vertices.old out_vertices.new out_facets.old
+        (mesh_outputs (clip_result mesh.entry.vertices.now mesh.entry.facets.now (clip_asked clip.extents clip.eps)) out_vertices.old out_vertices.new out_facets.old
         out_facets.new) (documented_reply result) }
 {
-    let need = run_pass(
-        vertices,
-        facets,
-        clip,
-        ids,
-        &mut out_vertices[..0],
-        &mut out_facets[..0],
-    );
+    let need = mesh.run_pass(clip, ids, &mut out_vertices[..0], &mut out_facets[..0]);
     let need_vertices = 3 * need.vertices;
     let need_facets = need.numbers;
     if out_vertices.len() < need_vertices {
@@ -98,30 +80,27 @@ fn clip_counted(
     if out_facets.len() < need_facets {
         return Err(Refusal::NoRoom(need_facets));
     }
-    run_pass(vertices, facets, clip, ids, out_vertices, out_facets);
+    mesh.run_pass(clip, ids, out_vertices, out_facets);
     Ok([need_vertices, need_facets])
 }
 
 // One pass where the outputs are ample.
 fn clip_checked(
-    vertices: &[f64],
-    facets: &[u32],
+    mesh: Admitted<'_>,
     clip: Clip,
     ids: &mut [u64],
     out_vertices: &mut [f64],
     out_facets: &mut [u32],
 ) -> Reply<2>
-    requires vertices_len_bound { (length vertices.now / 3 ≤ 65536) × (length facets.now / 3 ≤ 65536) }
-    requires facets_value { bad_index (length vertices.now / 3) facets.now ≡ false }
-    requires ids_len { length ids.old ≡ length vertices.now / 3 }
+    requires { length ids.old ≡ length mesh.vertices.now / 3 }
     ensures { Answer []
-        (mesh_outputs (clip_result vertices.now facets.now (clip_asked clip.extents clip.eps)) out_vertices.old out_vertices.new out_facets.old
+        (mesh_outputs (clip_result mesh.entry.vertices.now mesh.entry.facets.now (clip_asked clip.extents clip.eps)) out_vertices.old out_vertices.new out_facets.old
         out_facets.new) (documented_reply result) }
 {
-    if !is_ample(vertices, facets, clip, out_vertices.len(), out_facets.len()) {
-        return clip_counted(vertices, facets, clip, ids, out_vertices, out_facets);
+    if !is_ample(mesh, clip, out_vertices.len(), out_facets.len()) {
+        return clip_counted(mesh, clip, ids, out_vertices, out_facets);
     }
-    let made = run_pass(vertices, facets, clip, ids, out_vertices, out_facets);
+    let made = mesh.run_pass(clip, ids, out_vertices, out_facets);
     Ok([3 * made.vertices, made.numbers])
 }
 
@@ -141,14 +120,8 @@ fn clip_lent(
 {
     check(vertices, facets, clip, ceiling, work.len())?;
     let n = vertices.len() / 3;
-    clip_checked(
-        vertices,
-        facets,
-        clip,
-        &mut work[..n],
-        out_vertices,
-        out_facets,
-    )
+    let mesh = Admitted { vertices, facets };
+    clip_checked(mesh, clip, &mut work[..n], out_vertices, out_facets)
 }
 
 pub fn clip_mesh_to_aabb(

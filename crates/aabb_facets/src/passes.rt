@@ -10,60 +10,65 @@ use crate::marks::mark_all;
 use aabb_planes::clip::Clip;
 use aabb_polygons::polygon::Polygon;
 
-fn clip_pass(
-    vertices: &[f64],
-    facets: &[u32],
-    clip: Clip,
-    ids: &mut [u64],
-    out_vertices: &mut [f64],
-    out_facets: &mut [u32],
-) -> Counts
-    requires vertices_len_bound { (length vertices.now / 3 ≤ 65536) × (length facets.now / 3 ≤ 65536) }
-    requires facets_value { bad_index (length vertices.now / 3) facets.now ≡ false }
-    requires ids_value { ids.old ≡ mark_words vertices.now clip.extents clip.eps (length vertices.now / 3) [] }
-    ensures out_facets_after { room result ids.new out_vertices.new out_facets.new ≡ shows vertices.now clip.extents clip.eps
-        (length vertices.now / 3) (clip_facets clip.extents clip.eps (mesh_of vertices.now facets.now)) out_vertices.old
-        out_facets.old }
-    ensures vertices_bound { (result.vertices ≤ 28 * (length facets.now / 3)) × (result.numbers ≤ 78 * (length facets.now / 3)) }
-{
-    let n = facets.len() / 3;
-    let mut polygon = Polygon::new();
-    let mut at = Counts {
-        vertices: 0,
-        numbers: 0,
-    };
-    for i in 0..n {
-        at = clip_facet(
-            vertices,
-            facets,
-            i,
-            clip,
-            &mut polygon,
-            ids,
-            out_vertices,
-            out_facets,
-            at,
-        );
-    }
-    at
+// A mesh that tests 1 to 3 have let pass: few enough vertices and facets, and the facets' numbers are numbers of vertices.
+#[derive(Clone, Copy)]
+pub struct Admitted<'a> {
+    pub vertices: &'a [f64],
+    pub facets: &'a [u32],
+    pub ghost few: { (length vertices.now / 3 ≤ 65536) × (length facets.now / 3 ≤ 65536) },
+    pub ghost below: { bad_index (length vertices.now / 3) facets.now ≡ false },
 }
 
-// The same with words of work room whatever they hold.
-pub fn run_pass(
-    vertices: &[f64],
-    facets: &[u32],
-    clip: Clip,
-    ids: &mut [u64],
-    out_vertices: &mut [f64],
-    out_facets: &mut [u32],
-) -> Counts
-    requires vertices_len_bound { (length vertices.now / 3 ≤ 65536) × (length facets.now / 3 ≤ 65536) }
-    requires facets_value { bad_index (length vertices.now / 3) facets.now ≡ false }
-    requires ids_len { length ids.old ≡ length vertices.now / 3 }
-    ensures ran { Ran (clipped clip.extents clip.eps (mesh_of vertices.now facets.now)) result out_vertices.old
-        out_vertices.new out_facets.old out_facets.new }
-    ensures vertices_bound { (result.vertices ≤ 28 * (length facets.now / 3)) × (result.numbers ≤ 78 * (length facets.now / 3)) }
-{
-    mark_all(vertices, clip, ids);
-    clip_pass(vertices, facets, clip, ids, out_vertices, out_facets)
+impl<'a> Admitted<'a> {
+    fn clip_pass(
+        self,
+        clip: Clip,
+        ids: &mut [u64],
+        out_vertices: &mut [f64],
+        out_facets: &mut [u32],
+    ) -> Counts
+        requires { ids.old ≡ mark_words self.vertices.now clip.extents clip.eps (length self.vertices.now / 3) [] }
+        ensures out_facets_after { room result ids.new out_vertices.new out_facets.new ≡ shows self.entry.vertices.now clip.extents clip.eps
+            (length self.entry.vertices.now / 3) (clip_facets clip.extents clip.eps (mesh_of self.entry.vertices.now self.entry.facets.now)) out_vertices.old
+            out_facets.old }
+        ensures vertices_bound { (result.vertices ≤ 28 * (length self.entry.facets.now / 3)) × (result.numbers ≤ 78 * (length self.entry.facets.now / 3)) }
+    {
+        let n = self.facets.len() / 3;
+        let mut polygon = Polygon::new();
+        let mut at = Counts {
+            vertices: 0,
+            numbers: 0,
+        };
+        for i in 0..n {
+            at = clip_facet(
+                self.vertices,
+                self.facets,
+                i,
+                clip,
+                &mut polygon,
+                ids,
+                out_vertices,
+                out_facets,
+                at,
+            );
+        }
+        at
+    }
+
+    // The same with words of work room whatever they hold.
+    pub fn run_pass(
+        self,
+        clip: Clip,
+        ids: &mut [u64],
+        out_vertices: &mut [f64],
+        out_facets: &mut [u32],
+    ) -> Counts
+        requires { length ids.old ≡ length self.vertices.now / 3 }
+        ensures ran { Ran (clipped clip.extents clip.eps (mesh_of self.entry.vertices.now self.entry.facets.now)) result out_vertices.old
+            out_vertices.new out_facets.old out_facets.new }
+        ensures vertices_bound { (result.vertices ≤ 28 * (length self.entry.facets.now / 3)) × (result.numbers ≤ 78 * (length self.entry.facets.now / 3)) }
+    {
+        mark_all(self.vertices, clip, ids);
+        self.clip_pass(clip, ids, out_vertices, out_facets)
+    }
 }

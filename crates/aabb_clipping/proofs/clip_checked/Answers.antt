@@ -13,7 +13,7 @@ returns c =
     let a = s.args in
     let p = run-pass in
     let fits = is-ample.ensures if1.false in
-    let m = clip_result a.vertices.now a.facets.now (clip_asked a.clip.extents a.clip.eps) in
+    let m = clip_result a.mesh.vertices.now a.mesh.facets.now (clip_asked a.clip.extents a.clip.eps) in
     done m a.out_vertices.now _ a.out_facets.now _ p.result.vertices p.result.numbers p.ensures.ran.count p.ensures.ran.numbers (omega (
       arith,
       p.ensures.ran.count,

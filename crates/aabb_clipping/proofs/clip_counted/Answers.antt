@@ -20,7 +20,7 @@ returns-then-out_vertices-need_vertices c =
     let p = run-pass in
     let nv = none_front p.new.out_vertices a.out_vertices.now p.auto.out_vertices in
     let nf = none_front p.new.out_facets a.out_facets.now p.auto.out_facets in
-    let m = clip_result a.vertices.now a.facets.now (clip_asked a.clip.extents a.clip.eps) in
+    let m = clip_result a.mesh.vertices.now a.mesh.facets.now (clip_asked a.clip.extents a.clip.eps) in
     short_vertices m a.out_vertices.now _ a.out_facets.now _ p.result.vertices p.result.numbers p.ensures.ran.count p.ensures.ran.numbers (omega
     (arith, c.if-out_vertices-need_vertices.true, ap length nv)) nv nf
 
@@ -32,14 +32,12 @@ returns-then-out_facets-need_facets c =
     let p = c.run_pass-need in
     let nv = none_front p.new.out_vertices a.out_vertices.now p.auto.out_vertices in
     let nf = none_front p.new.out_facets a.out_facets.now p.auto.out_facets in
-    let m = clip_result a.vertices.now a.facets.now (clip_asked a.clip.extents a.clip.eps) in
+    let m = clip_result a.mesh.vertices.now a.mesh.facets.now (clip_asked a.clip.extents a.clip.eps) in
     short_facets m a.out_vertices.now _ a.out_facets.now _ p.result.vertices p.result.numbers p.ensures.ran.count p.ensures.ran.numbers
     (omega (arith, c.if-out_vertices-need_vertices.false, ap length nv)) (omega (arith, c.if-out_facets-need_facets.true, ap length nf)) nv nf
 
 pub run_pass-requires : goal.run_pass-requires
-run_pass-requires c =
-    let s = c in
-    let a = s.args in record { vertices_len_bound = s.requires.vertices_len_bound; facets_value = s.requires.facets_value; ids_len = c.run_pass-need.auto.ids ∙ s.requires.ids_len }
+run_pass-requires c = c.run_pass-need.auto.ids ∙ c.requires
 
 pub returns : goal.returns
 unfolding clip_result
@@ -53,7 +51,7 @@ returns c =
     let p = run-pass in
     let nv = none_front p.new.out_vertices a.out_vertices.now p.auto.out_vertices in
     let nf = none_front p.new.out_facets a.out_facets.now p.auto.out_facets in
-    let m = clip_result a.vertices.now a.facets.now (clip_asked a.clip.extents a.clip.eps) in
+    let m = clip_result a.mesh.vertices.now a.mesh.facets.now (clip_asked a.clip.extents a.clip.eps) in
     let w = run-pass2 in
     done m a.out_vertices.now _ a.out_facets.now _ p.result.vertices p.result.numbers p.ensures.ran.count p.ensures.ran.numbers (omega (
       arith,

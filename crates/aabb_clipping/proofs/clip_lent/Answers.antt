@@ -23,11 +23,17 @@ slice_bounds-clip_checked-end-2 c =
     let k = ready a.vertices.now a.facets.now (clip_asked a.clip.extents a.clip.eps) (limits a.ceiling (length a.work.now)) (sym c.check.ensures ∙ c.in_ok-check.was) in
     sym (length-take-le (length a.vertices.now / 3) a.work.now k.room)
 
+pub invariant_of-mesh : goal.invariant_of-mesh
+invariant_of-mesh c =
+    let a = c.args in
+    let k = ready a.vertices.now a.facets.now (clip_asked a.clip.extents a.clip.eps) (limits a.ceiling (length a.work.now)) (sym c.check.ensures ∙ c.in_ok-check.was) in
+    record { few = k.few; below = k.below }
+
 pub clip_checked-requires : goal.clip_checked-requires
 clip_checked-requires c =
     let a = c.args in
     let k = ready a.vertices.now a.facets.now (clip_asked a.clip.extents a.clip.eps) (limits a.ceiling (length a.work.now)) (sym c.check.ensures ∙ c.in_ok-check.was) in
-    record { vertices_len_bound = k.few; facets_value = k.below; ids_len = length-take-le (length a.vertices.now / 3) a.work.now k.room }
+    length-take-le (length a.vertices.now / 3) a.work.now k.room
 
 pub returns : goal.returns
 returns c =

@@ -3,16 +3,12 @@ use Rattle.aabb_facets.specs.Clipped.{clipped}
 use mathlib.Core.List.{[]}
 use mathlib.Core.Path.{ap, ◌∙◌}
 use Prim.Native.Nat.{ℕ}
-use Rattle.aabb_facets.proofs.passes.run_pass.Goals as goal
+use Rattle.aabb_facets.proofs.passes.Admitted.run_pass.Goals as goal
 
 pub clip_pass-requires : goal.clip_pass-requires
 clip_pass-requires c =
-    let s = c in
-    let a = s.args in record {
-      vertices_len_bound = s.requires.vertices_len_bound;
-      facets_value = s.requires.facets_value;
-      ids_value = c.mark_all.ensures ∙ ap (λ (k : ℕ). mark_words a.vertices.now a.clip.extents a.clip.eps k []) s.requires.ids_len;
-    }
+    let a = c.args in
+    c.mark_all.ensures ∙ ap (λ (k : ℕ). mark_words a.self.vertices.now a.clip.extents a.clip.eps k []) c.requires
 
 pub returns : goal.returns
 unfolding clipped

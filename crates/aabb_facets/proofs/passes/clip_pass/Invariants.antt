@@ -1,5 +1,0 @@
-use Rattle.aabb_facets.proofs.Shown.{Passed}
-use Rattle.aabb_facets.proofs.passes.clip_pass.Given as goal
-
-abbrev pub invariant-loop-i : goal.invariant-loop-i
-invariant-loop-i l = Passed l.vertices l.facets l.clip.extents l.clip.eps l.initial.ids l.initial.out_vertices l.initial.out_facets l.ids l.out_vertices l.out_facets l.at l.i
