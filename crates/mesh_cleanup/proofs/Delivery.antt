@@ -141,10 +141,9 @@ module _ (vs : List Float) (m : Mesh) (s : Staged) (w : List ℕ) (S : Staging v
 
 pub cleaned_up : (vs : List Float) (fs : List ℕ) (q : CleanAsked) (ceiling : ℕ) (r : Result (List ℕ) Refusal) (w u w' : List ℕ) (v v' : List Float) (f f' : List ℕ)
     → Answer (clean_tests vs fs q (limits ceiling (length w))) (mesh_outputs (clean_result vs fs q) v v' f f') (documented_reply r)
-    → length u ≡ length w → w' ≡ overlay (replicate (length u) 0) u → Cleaned vs fs q ceiling r w w' v v' f f'
+    → length u ≡ length w → w' ≡ replicate (length u) 0 → Cleaned vs fs q ceiling r w w' v v' f f'
 cleaned_up vs fs q ceiling r w u w' v v' f f' a e z =
     record {
-      answered = answered (clean_tests vs fs q (limits ceiling (length w))) (mesh_outputs (clean_result vs fs q) v v' f f') w u w' (documented_reply r) a e
-          (z ∙ overlay_whole (replicate (length u) 0) u (omega (arith, length-replicate {A = ℕ} (length u) 0)));
+      answered = answered (clean_tests vs fs q (limits ceiling (length w))) (mesh_outputs (clean_result vs fs q) v v' f f') w u w' (documented_reply r) a e z;
       rule = rule q.eps _ _ 2;
     }

@@ -20,65 +20,112 @@ use mesh_filter::filter::Filter;
 use mesh_weld::weld::weld;
 use refusals::refusal::Refusal;
 use refusals::reply::Reply;
-use words::zero_front;
+use words::zero;
 
 // `MIN_CONNECTED_COMPONENT_FACETS`
 const MIN_COMPONENT_FACETS: u64 = 2;
 
-// Tests 1, 2, 3, 4, 7 and 8, in that order.
-fn check(
-    vertices: &[f64],
-    facets: &[u32],
+// What is to be cleaned, and by which eps.
+#[derive(Clone, Copy)]
+struct Cleaning<'a> {
+    vertices: &'a [f64],
+    facets: &'a [u32],
     eps: f64,
-    ceiling: u64,
-    lent: usize,
-) -> Result<(), Refusal>
-    ensures { result ≡ first_refusal (clean_tests vertices.now facets.now (clean_asked eps) (limits ceiling lent)) }
-{
-    check_lists(ceiling, vertices, facets, 0)?;
-    if !all_in_range(vertices) || !eps_in_range(eps) {
-        return Err(Refusal::BadNumber);
-    }
-    let need = work_need(vertices.len() / 3, facets.len() / 3, 0, 0);
-    if lent < need {
-        return Err(Refusal::NoWorkRoom(need));
-    }
-    if has_far_key(vertices, eps) {
-        return Err(Refusal::KeyRange);
-    }
-    Ok(())
 }
 
-// The cleaned mesh in the work room: 14 words a vertex for welding, 14 a facet for the filter, then 2 a vertex and 8 a facet for components and numbers.
-fn stage(vertices: &[f64], facets: &[u32], eps: f64, work: &mut [u64]) -> Staged
-    requires { CleanReady vertices.now facets.now (clean_asked eps) (length work.old) }
-    ensures { Staging vertices.now (clean_result vertices.now facets.now (clean_asked eps)) result work.new }
-{
-    let nv = vertices.len() / 3;
-    let nf = facets.len() / 3;
-    let count = weld(work, vertices, nv, eps);
-    let filter = Filter {
-        welded: WeldedAt {
-            kept: 9 * nv,
+impl Cleaning<'_> {
+    // Tests 1, 2, 3, 4, 7 and 8, in that order.
+    fn check(&self, ceiling: u64, lent: usize) -> Result<(), Refusal>
+        ensures { result ≡ first_refusal (clean_tests self.now.vertices.now self.now.facets.now (clean_asked self.now.eps) (limits ceiling lent)) }
+    {
+        check_lists(ceiling, self.vertices, self.facets, 0)?;
+        if !all_in_range(self.vertices) || !eps_in_range(self.eps) {
+            return Err(Refusal::BadNumber);
+        }
+        let need = work_need(self.vertices.len() / 3, self.facets.len() / 3, 0, 0);
+        if lent < need {
+            return Err(Refusal::NoWorkRoom(need));
+        }
+        if has_far_key(self.vertices, self.eps) {
+            return Err(Refusal::KeyRange);
+        }
+        Ok(())
+    }
+
+    // The cleaned mesh in the work room: 14 words a vertex for welding, 14 a facet for the filter, then 2 a vertex and 8 a facet for components and numbers.
+    fn stage(&self, work: &mut [u64]) -> Staged
+        requires { CleanReady self.now.vertices.now self.now.facets.now (clean_asked self.now.eps) (length work.old) }
+        ensures { Staging self.now.vertices.now (clean_result self.now.vertices.now self.now.facets.now (clean_asked self.now.eps)) result work.new }
+    {
+        let nv = self.vertices.len() / 3;
+        let nf = self.facets.len() / 3;
+        let count = weld(work, self.vertices, nv, self.eps);
+        let filter = Filter {
+            welded: WeldedAt {
+                kept: 9 * nv,
+                count,
+                numbers: 10 * nv,
+            },
+            vertices: self.vertices,
+            facets: self.facets,
+            at: 14 * nv,
+            n: nf,
+            eps: self.eps,
+        };
+        let passed = filter.filter(work);
+        remove_small_disconnected_components(
+            work,
+            9 * nv,
             count,
-            numbers: 10 * nv,
-        },
-        vertices,
-        facets,
-        at: 14 * nv,
-        n: nf,
-        eps,
-    };
-    let passed = filter.filter(work);
-    remove_small_disconnected_components(
-        work,
-        9 * nv,
-        count,
-        14 * nv + 11 * nf,
-        passed,
-        14 * nv + 14 * nf,
-        MIN_COMPONENT_FACETS,
-    )
+            14 * nv + 11 * nf,
+            passed,
+            14 * nv + 14 * nf,
+            MIN_COMPONENT_FACETS,
+        )
+    }
+
+    // Every length is known before the first output is written.
+    fn clean_checked(
+        &self,
+        work: &mut [u64],
+        out_vertices: &mut [f64],
+        out_facets: &mut [u32],
+    ) -> Reply<2>
+        requires { CleanReady self.now.vertices.now self.now.facets.now (clean_asked self.now.eps) (length work.old) }
+        ensures { Answer []
+            (mesh_outputs (clean_result self.now.vertices.now self.now.facets.now (clean_asked self.now.eps)) out_vertices.old out_vertices.new out_facets.old
+            out_facets.new) (documented_reply result) }
+    {
+        let s = self.stage(work);
+        let need = 3 * s.vertices;
+        if out_vertices.len() < need {
+            return Err(Refusal::NoRoom(need));
+        }
+        if out_facets.len() < s.numbers {
+            return Err(Refusal::NoRoom(s.numbers));
+        }
+        let order_end = s.order + s.vertices;
+        write_vertices(&work[s.order..order_end], self.vertices, out_vertices);
+        let corners_end = s.corners + s.numbers;
+        write_numbers(&work[s.corners..corners_end], out_facets);
+        Ok([need, s.numbers])
+    }
+
+    // The tests, and the mesh where they pass. The work room is left as it came out.
+    fn clean_lent(
+        &self,
+        ceiling: u64,
+        work: &mut [u64],
+        out_vertices: &mut [f64],
+        out_facets: &mut [u32],
+    ) -> Reply<2>
+        ensures { Answer (clean_tests self.now.vertices.now self.now.facets.now (clean_asked self.now.eps) (limits ceiling (length work.old)))
+            (mesh_outputs (clean_result self.now.vertices.now self.now.facets.now (clean_asked self.now.eps)) out_vertices.old out_vertices.new out_facets.old
+            out_facets.new) (documented_reply result) }
+    {
+        self.check(ceiling, work.len())?;
+        self.clean_checked(work, out_vertices, out_facets)
+    }
 }
 
 // The coordinates of the vertices whose numbers stand in `order`.
@@ -102,53 +149,6 @@ fn write_numbers(numbers: &[u64], out: &mut [u32])
     }
 }
 
-// Every length is known before the first output is written.
-fn clean_checked(
-    vertices: &[f64],
-    facets: &[u32],
-    eps: f64,
-    work: &mut [u64],
-    out_vertices: &mut [f64],
-    out_facets: &mut [u32],
-) -> Reply<2>
-    requires { CleanReady vertices.now facets.now (clean_asked eps) (length work.old) }
-    ensures { Answer []
-        (mesh_outputs (clean_result vertices.now facets.now (clean_asked eps)) out_vertices.old out_vertices.new out_facets.old
-        out_facets.new) (documented_reply result) }
-{
-    let s = stage(vertices, facets, eps, work);
-    let need = 3 * s.vertices;
-    if out_vertices.len() < need {
-        return Err(Refusal::NoRoom(need));
-    }
-    if out_facets.len() < s.numbers {
-        return Err(Refusal::NoRoom(s.numbers));
-    }
-    let order_end = s.order + s.vertices;
-    write_vertices(&work[s.order..order_end], vertices, out_vertices);
-    let corners_end = s.corners + s.numbers;
-    write_numbers(&work[s.corners..corners_end], out_facets);
-    Ok([need, s.numbers])
-}
-
-// The tests, and the mesh where they pass. The work room is left as it came out.
-fn clean_lent(
-    vertices: &[f64],
-    facets: &[u32],
-    eps: f64,
-    ceiling: u64,
-    work: &mut [u64],
-    out_vertices: &mut [f64],
-    out_facets: &mut [u32],
-) -> Reply<2>
-    ensures { Answer (clean_tests vertices.now facets.now (clean_asked eps) (limits ceiling (length work.old)))
-        (mesh_outputs (clean_result vertices.now facets.now (clean_asked eps)) out_vertices.old out_vertices.new out_facets.old
-        out_facets.new) (documented_reply result) }
-{
-    check(vertices, facets, eps, ceiling, work.len())?;
-    clean_checked(vertices, facets, eps, work, out_vertices, out_facets)
-}
-
 // Cleans a mesh. The work room is cleared once, at the end: each table clears what it needs before.
 pub fn clean_mesh(
     vertices: &[f64],
@@ -162,16 +162,12 @@ pub fn clean_mesh(
     ensures { Cleaned vertices.now facets.now (clean_asked eps) ceiling result work.old work.new out_vertices.old
         out_vertices.new out_facets.old out_facets.new }
 {
-    let reply = clean_lent(
+    let cleaning = Cleaning {
         vertices,
         facets,
         eps,
-        ceiling,
-        work,
-        out_vertices,
-        out_facets,
-    );
-    let lent = work.len();
-    zero_front(work, lent);
+    };
+    let reply = cleaning.clean_lent(ceiling, work, out_vertices, out_facets);
+    zero(work);
     reply
 }

@@ -9,7 +9,7 @@ ghost use Rattle.mesh_filter.specs.Room.{points_in_room, facets_in_room, Corners
 use crate::corners::{WeldedAt, corners_key, has_repeated_corner};
 use chains::{bucket, enter, find_word};
 use geometry::triangle::MeshTriangle;
-use words::zero_part;
+use words::{write_three, zero_part};
 
 // The filter of the n facets of a mesh: where its welded vertices stand in the work room, and where the filter's table stands.
 #[derive(Clone, Copy)]
@@ -47,9 +47,7 @@ impl Filter<'_> {
         m[self.at + 9 * self.n + count] = key;
         m[self.at + 10 * self.n + count] = f as u64;
         let corners = self.at + 11 * self.n + 3 * count;
-        m[corners] = t.a.0 as u64;
-        m[corners + 1] = t.b.0 as u64;
-        m[corners + 2] = t.c.0 as u64;
+        write_three(m, corners, t.a.0 as u64, t.b.0 as u64, t.c.0 as u64);
     }
 
     // Facet f after the `count` that passed before it; how many have passed then.

@@ -7,7 +7,7 @@ use crate::search::Kept;
 use chains::{bucket, enter};
 use geometry::numbers::MeshVertexId;
 use geometry::vertices::vertex_at;
-use words::zero_part;
+use words::{write_three, zero_part};
 
 // Enters the vertex v, of the cell c, as the kept vertex at `count`.
 fn keep(m: &mut [u64], n: usize, count: usize, v: MeshVertexId, c: Cell)
@@ -16,10 +16,7 @@ fn keep(m: &mut [u64], n: usize, count: usize, v: MeshVertexId, c: Cell)
         (11 * n + 3 * count + 1) c.y) (11 * n + 3 * count + 2) c.z }
 {
     m[9 * n + count] = v.0 as u64;
-    let at = 11 * n + 3 * count;
-    m[at] = c.x;
-    m[at + 1] = c.y;
-    m[at + 2] = c.z;
+    write_three(m, 11 * n + 3 * count, c.x, c.y, c.z);
 }
 
 // Welds the vertex v; how many are kept then.

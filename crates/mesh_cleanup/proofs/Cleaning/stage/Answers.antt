@@ -1,22 +1,24 @@
 use lib.ListN.{length}
 use Rattle.mesh_cleanup.specs.Clean.{clean_asked}
 use Rattle.mesh_cleanup.proofs.Staging.{keys_in, weld_room, numbered, last_room, staged}
-use Rattle.mesh_cleanup.proofs.stage.Goals as goal
+use Rattle.mesh_cleanup.proofs.Cleaning.stage.Goals as goal
 
 pub weld-count-requires : goal.weld-count-requires
 weld-count-requires c =
     let s = c in
-    let a = s.args in record {
-      n_bound = weld_room a.vertices.now a.facets.now (clean_asked a.eps) (length a.work.now) s.requires;
-      keys_in = keys_in a.vertices.now a.facets.now (clean_asked
-          a.eps) (length a.work.now) s.requires;
+    let a = s.args in
+    let k = a.self.now in record {
+      n_bound = weld_room k.vertices.now k.facets.now (clean_asked k.eps) (length a.work.now) s.requires;
+      keys_in = keys_in k.vertices.now k.facets.now (clean_asked
+          k.eps) (length a.work.now) s.requires;
     }
 
 pub filter-passed-requires : goal.filter-passed-requires
 filter-passed-requires c =
     let s = c in
     let a = s.args in
-    numbered a.vertices.now a.facets.now (clean_asked a.eps) (length a.work.now) s.requires c.weld-count.new.m
+    let k = a.self.now in
+    numbered k.vertices.now k.facets.now (clean_asked k.eps) (length a.work.now) s.requires c.weld-count.new.m
     c.weld-count.auto.m
     c.weld-count.result c.weld-count.ensures
 
@@ -24,7 +26,8 @@ pub remove_small_disconnected_components-requires : goal.remove_small_disconnect
 remove_small_disconnected_components-requires c =
     let s = c in
     let a = s.args in
-    last_room a.vertices.now a.facets.now (clean_asked a.eps) (length a.work.now) s.requires c.weld-count.new.m
+    let k = a.self.now in
+    last_room k.vertices.now k.facets.now (clean_asked k.eps) (length a.work.now) s.requires c.weld-count.new.m
     c.weld-count.auto.m c.weld-count.result
     c.weld-count.ensures c.filter-passed.new.m c.filter-passed.result
     c.filter-passed.ensures
@@ -33,7 +36,8 @@ pub returns : goal.returns
 returns c =
     let s = c in
     let a = s.args in
-    staged a.vertices.now a.facets.now (clean_asked a.eps) (length a.work.now) s.requires
+    let k = a.self.now in
+    staged k.vertices.now k.facets.now (clean_asked k.eps) (length a.work.now) s.requires
     c.weld-count.new.m
     c.weld-count.auto.m
     c.weld-count.result

@@ -7,19 +7,21 @@ use native.Mathlib.Omega.{arith}
 use Rattle.std.proofs.lemmas.Result.{err_from_is_err_and}
 use mathlib.Core.Bool.{not}
 use mathlib.Core.Path.{sym, ap, ◌∙◌}
-use Rattle.mesh_cleanup.proofs.check.Goals as goal
-use Rattle.mesh_cleanup.proofs.check.Goals.{then-not-all_in_range-via-then-not-all_in_range, then-not-all_in_range-via-else-not-all_in_range+then-not-eps_in_range}
+use Rattle.mesh_cleanup.proofs.Cleaning.check.Goals as goal
+use Rattle.mesh_cleanup.proofs.Cleaning.check.Goals.{then-not-all_in_range-via-then-not-all_in_range, then-not-all_in_range-via-else-not-all_in_range+then-not-eps_in_range}
 
 pub returns-in_err-check_lists : goal.returns-in_err-check_lists
 returns-in_err-check_lists c =
     let a = c.args in
+    let k = a.self.now in
     let p = err_from_is_err_and c.from_residual.result c.from_residual.ensures.1 in
-    rw (p.1, p.2) (lists_refused a.vertices.now a.facets.now (clean_asked a.eps) (limits a.ceiling a.lent) _ (sym c.check_lists.ensures ∙ c.in_err-check_lists.was))
+    rw (p.1, p.2) (lists_refused k.vertices.now k.facets.now (clean_asked k.eps) (limits a.ceiling a.lent) _ (sym c.check_lists.ensures ∙ c.in_err-check_lists.was))
 
 pub returns-then-not-all_in_range : goal.returns-then-not-all_in_range
 returns-then-not-all_in_range c =
     let a = c.args in
-    number_refused a.vertices.now a.facets.now (clean_asked a.eps) (limits a.ceiling a.lent) (sym c.check_lists.ensures ∙ c.in_ok-check_lists.was)
+    let k = a.self.now in
+    number_refused k.vertices.now k.facets.now (clean_asked k.eps) (limits a.ceiling a.lent) (sym c.check_lists.ensures ∙ c.in_ok-check_lists.was)
     (elim c.then-not-all_in_range.branch [
       | then-not-all_in_range-via-then-not-all_in_range w ↦ ap not (and_stop _ _ (sym c.all_in_range.ensures ∙ w.if-not-all_in_range.true))
       | then-not-all_in_range-via-else-not-all_in_range+then-not-eps_in_range w ↦
@@ -28,13 +30,14 @@ returns-then-not-all_in_range c =
 
 pub work_need-need-requires : goal.work_need-need-requires
 work_need-need-requires c =
-    let l = listed _ c.args.vertices.now c.args.facets.now _ (sym c.check_lists.ensures ∙ c.in_ok-check_lists.was) in
+    let l = listed _ c.args.self.now.vertices.now c.args.self.now.facets.now _ (sym c.check_lists.ensures ∙ c.in_ok-check_lists.was) in
     omega (arith, l.few_vertices, l.few_facets)
 
 pub returns-then-lent-need : goal.returns-then-lent-need
 returns-then-lent-need c =
     let a = c.args in
-    room_refused a.vertices.now a.facets.now (clean_asked a.eps) (limits a.ceiling a.lent)
+    let k = a.self.now in
+    room_refused k.vertices.now k.facets.now (clean_asked k.eps) (limits a.ceiling a.lent)
     (sym c.check_lists.ensures ∙ c.in_ok-check_lists.was)
     (ap not (and_next _ _ _ (sym c.all_in_range.ensures ∙ c.if-not-all_in_range.false)
     (sym c.eps_in_range.ensures ∙ c.if-not-eps_in_range.false))) _ c.work_need-need.ensures c.if-lent-need.true
@@ -42,7 +45,8 @@ returns-then-lent-need c =
 pub returns-then-has_far_key : goal.returns-then-has_far_key
 returns-then-has_far_key c =
     let a = c.args in
-    key_refused a.vertices.now a.facets.now (clean_asked a.eps) (limits a.ceiling a.lent)
+    let k = a.self.now in
+    key_refused k.vertices.now k.facets.now (clean_asked k.eps) (limits a.ceiling a.lent)
     (sym c.check_lists.ensures ∙ c.in_ok-check_lists.was) (ap not (and_next _ _ _ (sym c.all_in_range.ensures ∙ c.if-not-all_in_range.false)
     (sym c.eps_in_range.ensures ∙ c.if-not-eps_in_range.false))) _
     c.work_need-need.ensures c.if-lent-need.false (sym c.has_far_key.ensures ∙ c.if-has_far_key.true)
@@ -50,7 +54,8 @@ returns-then-has_far_key c =
 pub returns : goal.returns
 returns c =
     let a = c.args in
-    all_passed_lem a.vertices.now a.facets.now (clean_asked a.eps) (limits a.ceiling a.lent)
+    let k = a.self.now in
+    all_passed_lem k.vertices.now k.facets.now (clean_asked k.eps) (limits a.ceiling a.lent)
     (sym c.check_lists.ensures ∙ c.in_ok-check_lists.was) (ap not (and_next _ _ _ (sym c.all_in_range.ensures ∙ c.if-not-all_in_range.false)
     (sym c.eps_in_range.ensures ∙ c.if-not-eps_in_range.false))) _
     c.work_need-need.ensures c.if-lent-need.false (sym c.has_far_key.ensures ∙ c.if-has_far_key.false)
