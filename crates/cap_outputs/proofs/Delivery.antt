@@ -25,10 +25,10 @@ use Rattle.geometry.proofs.Threes.{length_flat, flat_append, flat_threes}
 use Rattle.geometry.proofs.Meshes.{coordinates_append, coordinates_points_of}
 use Rattle.refusals.specs.declared.refusal.Refusal.TheVariants.{NoRoom}
 use Rattle.candidate_pool.specs.Offsets.{entry_at}
-use Rattle.refusals.specs.declared.reply.Reply.TheVariants.{DoneTwo, Refused}
+use Rattle.std.specs.Prelude.{Ok, Err}
 use Rattle.refusals.specs.Refusals.{documented_reply}
 use Rattle.refusals.specs.Answers.{output, mesh_outputs, Answer}
-use Rattle.refusals.proofs.Answers.{short, done_two}
+use Rattle.refusals.proofs.Answers.{short, done as all_done}
 use Rattle.candidate_pool.specs.Standing.{PointStored}
 use Rattle.cap_closing.specs.Closing.{own_facets}
 use Rattle.cap_closing.specs.Entering.{fresh_at, left_at, firsts_at, vertices_at, fresh_in, facet_in, firsts_in}
@@ -38,16 +38,16 @@ use Rattle.cap_outputs.proofs.Blocks.{fresh_long, own_long, caps_are}
 -- ---- test 12: a mesh of x coordinates and y numbers
 
 module _ (m : Mesh) (x y : ℕ) (ex : x ≡ length (coordinates m.points)) (ey : y ≡ length (flat m.facets)) (v : List Float) (f : List ℕ) where
-  pub short_vertices : length v < x → Answer [] (mesh_outputs m v v f f) (documented_reply (Refused (NoRoom x)))
+  pub short_vertices : length v < x → Answer [] (mesh_outputs m v v f f) (documented_reply (Err (NoRoom x)))
   short_vertices h = short [] (output (coordinates m.points) v v) (output (flat m.facets) f f ∷ []) x ex tt h (refl, (refl, tt))
 
-  pub short_facets : x ≤ length v → length f < y → Answer [] (mesh_outputs m v v f f) (documented_reply (Refused (NoRoom y)))
+  pub short_facets : x ≤ length v → length f < y → Answer [] (mesh_outputs m v v f f) (documented_reply (Err (NoRoom y)))
   short_facets h g = short (output (coordinates m.points) v v ∷ []) (output (flat m.facets) f f) [] y ey (omega (arith, ex, h), tt) g (refl, (refl, tt))
 
   pub done : x ≤ length v → y ≤ length f → (v' : List Float) (f' : List ℕ) → v' ≡ overlay (coordinates m.points) v → f' ≡ overlay (flat m.facets) f
-      → Answer [] (mesh_outputs m v v' f f') (documented_reply (DoneTwo x y))
+      → Answer [] (mesh_outputs m v v' f f') (documented_reply (Ok (x ∷ y ∷ [])))
   done h g v' f' a b =
-      done_two (output (coordinates m.points) v v') (output (flat m.facets) f f') x y ex ey (omega (arith, ex, h), (omega (arith, ey, g), tt)) (a, (b, tt))
+      all_done (output (coordinates m.points) v v' ∷ output (flat m.facets) f f' ∷ []) (x ∷ y ∷ []) (λ t. ex t ∷ ey t ∷ []) (omega (arith, ex, h), (omega (arith, ey, g), tt)) (a, (b, tt))
 
 -- ---- the mesh as it came
 

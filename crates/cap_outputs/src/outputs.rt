@@ -12,12 +12,13 @@ ghost use Rattle.cap_closing.specs.Closing.{own_facets};
 ghost use Rattle.cap_outputs.specs.Written.{points_in, cap_words, all_cap_words, closed_mesh_in, Deliverable};
 
 use candidate_pool::pool::point_of;
-use cap_closing::room::{firsts_at, fresh_at, left_at, vertices_at};
+use cap_closing::closing::CapCount;
+use cap_triangles::room::CapRoom;
 use geometry::numbers::CandidateVertexId;
 use geometry::vertices::write_point;
 use refusals::refusal::Refusal;
 use refusals::reply::Reply;
-use words::{copy_doubles, copy_numbers};
+use words::{copy_front, write_three};
 
 // The mesh as it came.
 pub fn deliver_mesh(
@@ -25,30 +26,21 @@ pub fn deliver_mesh(
     facets: &[u32],
     out_vertices: &mut [f64],
     out_facets: &mut [u32],
-) -> Reply
+) -> Reply<2>
     requires { (length vertices.now % 3 ≡ 0) × (length facets.now % 3 ≡ 0) }
     ensures { Answer []
         (mesh_outputs (mesh_of vertices.now facets.now) out_vertices.old out_vertices.new out_facets.old
         out_facets.new) (documented_reply result) }
 {
     if out_vertices.len() < vertices.len() {
-        return Reply::Refused(Refusal::NoRoom(vertices.len()));
+        return Err(Refusal::NoRoom(vertices.len()));
     }
     if out_facets.len() < facets.len() {
-        return Reply::Refused(Refusal::NoRoom(facets.len()));
+        return Err(Refusal::NoRoom(facets.len()));
     }
-    copy_doubles(vertices, out_vertices);
-    copy_numbers(facets, out_facets);
-    Reply::DoneTwo(vertices.len(), facets.len())
-}
-
-fn write_three(out: &mut [u32], at: usize, a: u32, b: u32, c: u32)
-    requires { at + 2 < length out.old }
-    ensures { out.new ≡ sets out.old at (a ∷ b ∷ c ∷ []) }
-{
-    out[at] = a;
-    out[at + 1] = b;
-    out[at + 2] = c;
+    copy_front(vertices, out_vertices);
+    copy_front(facets, out_facets);
+    Ok([vertices.len(), facets.len()])
 }
 
 // The points of the `count` candidates that became new vertices, from `at` on.
@@ -84,7 +76,7 @@ fn write_own(facets: &[u32], positive: bool, out: &mut [u32])
     ensures { out.new ≡ sets out.old 0 (flat (own_facets positive (threes facets.now))) }
 {
     if positive {
-        copy_numbers(facets, out);
+        copy_front(facets, out);
     } else {
         write_reversed(facets, out);
     }
@@ -131,43 +123,37 @@ pub fn deliver_closed(
     n: usize,
     nc: usize,
     positive: bool,
-    left: usize,
-    caps: usize,
+    made: CapCount,
     out_vertices: &mut [f64],
     out_facets: &mut [u32],
-) -> Reply
-    requires { Deliverable vertices.now facets.now n nc left caps w.now }
+) -> Reply<2>
+    requires { Deliverable vertices.now facets.now n nc made.left made.caps w.now }
     ensures { Answer []
-        (mesh_outputs (closed_mesh_in vertices.now facets.now n nc positive left w.now) out_vertices.old out_vertices.new
+        (mesh_outputs (closed_mesh_in vertices.now facets.now n nc positive made.left w.now) out_vertices.old out_vertices.new
         out_facets.old out_facets.new) (documented_reply result) }
 {
     let nf = facets.len() / 3;
     let nv = vertices.len() / 3;
-    let count = w[vertices_at(n, nf, nc)] as usize;
+    let room = CapRoom { n, nf, nc };
+    let count = w[room.vertices_at()] as usize;
     let v = 3 * count;
-    let f = facets.len() + 3 * caps;
+    let f = facets.len() + 3 * made.caps;
     if out_vertices.len() < v {
-        return Reply::Refused(Refusal::NoRoom(v));
+        return Err(Refusal::NoRoom(v));
     }
     if out_facets.len() < f {
-        return Reply::Refused(Refusal::NoRoom(f));
+        return Err(Refusal::NoRoom(f));
     }
-    copy_doubles(vertices, out_vertices);
-    write_fresh(
-        w,
-        fresh_at(n, nf, nc),
-        count - nv,
-        out_vertices,
-        vertices.len(),
-    );
+    copy_front(vertices, out_vertices);
+    write_fresh(w, room.fresh_at(), count - nv, out_vertices, vertices.len());
     write_own(facets, positive, out_facets);
     write_caps(
         w,
-        left_at(n, nf, nc),
-        firsts_at(n, nf, nc),
-        left,
+        room.left_at(),
+        room.firsts_at(),
+        made.left,
         out_facets,
         facets.len(),
     );
-    Reply::DoneTwo(v, f)
+    Ok([v, f])
 }

@@ -33,5 +33,5 @@ returns c =
     let y = mesh_facets a.vertices.now a.facets.now c.requires.0 c.requires.1 in
     done (mesh_of a.vertices.now a.facets.now) (length a.vertices.now) (length a.facets.now) (ap length x) (ap length y) a.out_vertices.now a.out_facets.now
     c.if-out_vertices-vertices.false c.if-out_facets-facets.false _ _
-    (c.copy_doubles.ensures ∙ ap (λ (l : List Float). overlay l a.out_vertices.now) x)
-    (c.copy_numbers.ensures ∙ ap (λ (l : List ℕ). overlay l a.out_facets.now) y)
+    (c.copy_front.ensures ∙ ap (λ (l : List Float). overlay l a.out_vertices.now) x)
+    (c.copy_front-2.ensures ∙ ap (λ (l : List ℕ). overlay l a.out_facets.now) y)

@@ -9,15 +9,6 @@ use Rattle.cap_outputs.proofs.outputs.write_caps.Goals as goal
 pub loop-i-init : goal.loop-i-init
 loop-i-init c = let a = c.args in (omega arith, blocks_start (cap_block a.w.now a.facets a.firsts) a.out.now a.at _ refl)
 
-pub overflow_mul-i : goal.overflow_mul-i
-overflow_mul-i c = omega arith
-
-pub overflow_add-facets : goal.overflow_add-facets
-overflow_add-facets c = omega arith
-
-pub overflow_add-firsts : goal.overflow_add-firsts
-overflow_add-firsts c = omega arith
-
 pub write_cap-o-requires : goal.write_cap-o-requires
 write_cap-o-requires c =
     let a = c.args in

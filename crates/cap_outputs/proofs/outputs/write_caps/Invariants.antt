@@ -1,4 +1,4 @@
-use Prim.Native.Nat.{◌-◌, ◌≤◌}
+use Prim.Native.Nat.{◌≤◌}
 use Rattle.lists.proofs.Blocks.{BlocksStored}
 use Rattle.cap_outputs.proofs.Blocks.{cap_block}
 use Rattle.cap_outputs.proofs.outputs.write_caps.Given as goal

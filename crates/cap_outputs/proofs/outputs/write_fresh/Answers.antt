@@ -11,21 +11,6 @@ use Rattle.cap_outputs.proofs.outputs.write_fresh.Goals as goal
 pub loop-i-init : goal.loop-i-init
 loop-i-init c = let a = c.args in (omega arith, blocks_start (fresh_block a.w.now a.fresh) a.out.now a.at _ (omega arith))
 
-pub overflow_add-c : goal.overflow_add-c
-overflow_add-c c = omega arith
-
-pub offset_bounds-w-fresh : goal.offset_bounds-w-fresh
-offset_bounds-w-fresh c = omega arith
-
-pub bounds-w-fresh : goal.bounds-w-fresh
-bounds-w-fresh c = omega arith
-
-pub overflow_mul-i : goal.overflow_mul-i
-overflow_mul-i c = omega arith
-
-pub overflow_add-at : goal.overflow_add-at
-overflow_add-at c = omega arith
-
 pub point_of-requires : goal.point_of-requires
 point_of-requires c = c.requires.by_index c.loop-i.i c.loop-i-test.true
 

@@ -1,6 +1,6 @@
 use Rattle.lists.proofs.Blocks.{BlocksStored}
 use Rattle.cap_outputs.proofs.Blocks.{fresh_block}
-use Prim.Native.Nat.{◌+◌, ◌*◌, ◌-◌, ◌≤◌}
+use Prim.Native.Nat.{◌+◌, ◌*◌, ◌≤◌}
 use Rattle.cap_outputs.proofs.outputs.write_fresh.Given as goal
 
 abbrev pub invariant-loop-i : goal.invariant-loop-i

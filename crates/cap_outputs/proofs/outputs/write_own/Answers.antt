@@ -7,7 +7,7 @@ use Rattle.cap_outputs.proofs.outputs.write_own.Goals as goal
 pub returns-then-positive : goal.returns-then-positive
 returns-then-positive c =
     let a = c.args in
-    c.copy_numbers.ensures ∙ sym (sets_overlay a.facets.now a.out.now c.requires.1) ∙ ap
+    c.copy_front.ensures ∙ sym (sets_overlay a.facets.now a.out.now c.requires.1) ∙ ap
     (sets a.out.now 0) (own_positive a.facets.now c.requires.0 a.positive
     c.if-positive.true)
 

@@ -8,48 +8,12 @@ use Rattle.cap_outputs.proofs.outputs.write_reversed.Goals as goal
 pub loop-i-init : goal.loop-i-init
 loop-i-init c = let a = c.args in (omega arith, blocks_start (reversed_block a.facets.now) a.out.now 0 _ (omega arith))
 
-pub overflow_mul-i : goal.overflow_mul-i
-overflow_mul-i c = omega arith
-
-pub overflow_mul-i-in-loop-i : goal.overflow_mul-i-in-loop-i
-overflow_mul-i-in-loop-i c = omega arith
-
-pub offset_bounds-facets-i : goal.offset_bounds-facets-i
-offset_bounds-facets-i c = omega arith
-
-pub bounds-facets-i : goal.bounds-facets-i
-bounds-facets-i c = omega arith
-
-pub overflow_mul-i-in-loop-i-2 : goal.overflow_mul-i-in-loop-i-2
-overflow_mul-i-in-loop-i-2 c = omega arith
-
-pub offset_bounds-facets-i-in-loop-i : goal.offset_bounds-facets-i-in-loop-i
-offset_bounds-facets-i-in-loop-i c = omega arith
-
-pub bounds-facets-i-in-loop-i : goal.bounds-facets-i-in-loop-i
-bounds-facets-i-in-loop-i c = omega arith
-
-pub overflow_mul-i-in-loop-i-3 : goal.overflow_mul-i-in-loop-i-3
-overflow_mul-i-in-loop-i-3 c = omega arith
-
-pub overflow_add-i-in-loop-i : goal.overflow_add-i-in-loop-i
-overflow_add-i-in-loop-i c = omega arith
-
-pub offset_bounds-facets-i-in-loop-i-2 : goal.offset_bounds-facets-i-in-loop-i-2
-offset_bounds-facets-i-in-loop-i-2 c = omega arith
-
-pub bounds-facets-i-in-loop-i-2 : goal.bounds-facets-i-in-loop-i-2
-bounds-facets-i-in-loop-i-2 c = omega arith
-
 pub write_three-requires : goal.write_three-requires
 write_three-requires c =
     let a = c.args in
     let l = blocks_long (reversed_block a.facets.now) a.out.now c.loop-i.out 0 c.loop-i.i
     (3 * c.loop-i.i) c.loop-i.invariant.1 in
     omega (arith, l, c.requires.1)
-
-pub overflow_add-i-in-loop-i-2 : goal.overflow_add-i-in-loop-i-2
-overflow_add-i-in-loop-i-2 c = omega arith
 
 pub loop-i-preserved : goal.loop-i-preserved
 loop-i-preserved c =

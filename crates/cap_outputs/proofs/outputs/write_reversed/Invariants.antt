@@ -1,7 +1,7 @@
 use Rattle.lists.proofs.Blocks.{BlocksStored}
 use Rattle.cap_outputs.proofs.Blocks.{reversed_block}
 use lib.ListN.{length}
-use Prim.Native.Nat.{◌*◌, ◌/◌, ◌-◌, ◌≤◌}
+use Prim.Native.Nat.{◌*◌, ◌/◌, ◌≤◌}
 use Rattle.cap_outputs.proofs.outputs.write_reversed.Given as goal
 
 abbrev pub invariant-loop-i : goal.invariant-loop-i
