@@ -76,7 +76,7 @@ module _ (vertices : ℕ) (fs : List ℕ) (l : Limits) where
 
         pub room_refused : (n : ℕ) → n ≡ need → l.lent < n → ◌≡◌ {A = Result (Unit {0}) Refusal} (Err (NoWorkRoom n)) found
         room_refused n e h =
-            ap (λ (k : ℕ). Err {T = Unit {0}} (NoWorkRoom k)) e ∙ sym (after_index ∙ holds (ltb l.lent need) (NoWorkRoom need) [] (lt-ltb l.lent need (omega (arith, e, h))))
+            ap (λ (k : ℕ). Err (NoWorkRoom k)) e ∙ sym (after_index ∙ holds (ltb l.lent need) (NoWorkRoom need) [] (lt-ltb l.lent need (omega (arith, e, h))))
 
         pub all_passed_lem : (n : ℕ) → n ≡ need → n ≤ l.lent → ◌≡◌ {A = Result (Unit {0}) Refusal} (Ok tt) found
         all_passed_lem n e h =

@@ -13,7 +13,7 @@ use mathlib.Core.Path.{◌≡◌, refl, sym, ap, ◌∙◌, subst}
 use borrow.Author.Tests.{eq-eqb, eqb-true}
 use lib.Dec.{eqb}
 use lib.ListN.{length}
-use Rattle.lists.specs.Lists.{some, keep, up_from, sort_by, distinct_from, distinct}
+use Rattle.lists.specs.Lists.{keep, up_from, sort_by, distinct_from, distinct}
 use Rattle.lists.proofs.Bools.{yes, is_true, is_false}
 use Rattle.lists.proofs.Mapped.{each_of, keep_none}
 use Rattle.lists.proofs.Members.{keep_of, flat_map_of}

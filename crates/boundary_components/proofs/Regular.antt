@@ -10,7 +10,7 @@ use mathlib.Core.Path.{◌≡◌, refl, sym, ap, ◌∙◌}
 use borrow.Author.Tests.{ltb-false, le-ltb, eqb-true, eq-eqb}
 use lib.Dec.{eqb, ltb}
 use lib.ListN.{length}
-use Rattle.lists.specs.Lists.{keep, count}
+use Rattle.lists.specs.Lists.{count}
 use Rattle.lists.proofs.Bools.{or_next, or_none_left, or_none_right, and_left, and_next}
 use Rattle.lists.proofs.Counts.{keep_same, count_some}
 use Rattle.lists.proofs.Members.{mem_get_d}

@@ -9,7 +9,7 @@ use mathlib.Core.Logic.{◌⊎◌, inl, inr, ⊎_elim}
 use native.Mathlib.Decide.{ℕ_discrete}
 use native.Mathlib.Omega.{arith}
 use lib.ListN.{length, get_or}
-use Rattle.lists.specs.Lists.{keep, count, up_from, up_to}
+use Rattle.lists.specs.Lists.{count, up_from, up_to}
 use Rattle.records.specs.Buffer.{key_in, payload_in}
 use Rattle.records.specs.Runs.{Run, PayloadsPut}
 use Rattle.records.proofs.ByRuns.{run_at, KeysPart, part_start, part_next, run_first}

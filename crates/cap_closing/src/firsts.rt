@@ -17,6 +17,7 @@ fn mark_firsts(w: &mut [u64], records: usize, firsts: usize, left: usize) -> usi
 {
     let mut count = 0;
     let mut i = 0;
+    // from run to run: no range counts the places where runs begin
     while i < left {
         let end = run_end(w, records, left, i);
         put_by_payload(w, records, firsts, i, i + 1, 1);

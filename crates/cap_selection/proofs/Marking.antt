@@ -11,7 +11,7 @@ use borrow.Author.Tests.{eq-eqb, ne_eqb}
 use lib.Dec.{eqb}
 use lib.ListN.{length, get_or, set, length-set}
 use lib.Seq.{get_or-set_other}
-use Rattle.lists.specs.Lists.{some, up_from}
+use Rattle.lists.specs.Lists.{up_from}
 use Rattle.lists.proofs.Bools.{and_next, and_stop}
 use Rattle.lists.specs.Regions.{Above}
 use Rattle.lists.proofs.Regions.{at_set}

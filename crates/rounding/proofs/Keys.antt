@@ -1,43 +1,16 @@
--- Keys beyond 2 ^ 62 and keys as words (specs/Rounding.antt), as the machine works them out. Assumes nothing.
+-- Keys as words (specs/Rounding.antt), as the machine works them out. Assumes nothing.
 use mathlib.Core.Path.{◌≡◌, refl, sym, ap, ◌∙◌, subst}
 use mathlib.Core.Bool.{true, false, true≢false}
 use Prim.Native.Nat.{ℕ, zero, suc, ◌+◌, ◌-◌, ◌^◌, ◌<◌}
 use native.Mathlib.Nat.{lt_of_lt_of_le}
 use native.Mathlib.Omega.{arith}
 use lib.IntN.{ℤ, pos, negsuc, nat_abs, suc_ℤ, pred_ℤ, ◌-ℤ◌, pred_ℤ-+ℤ, +ℤ_idl}
-use lib.Dec.{T, ltb, ltb→lt, lt→ltb, lit≤}
+use lib.Dec.{T, ltb→lt, lit≤}
 use lib.Signed.{lt_z, non_neg}
 use mir.Syntax.{w64}
 use mir.Val.{Fits, SFits, to_z, of_z}
 use mir.ValLaws.{to_z-of_z}
-use Rattle.root.proofs.Doubles.{same_test}
-use Rattle.rounding.specs.Rounding.{beyond, key_word}
-
--- a key that is not above 2 ^ 62
-low : (k : ℤ) → lt_z (pos (2 ^ 62)) k ≡ false → lt_z k (negsuc (2 ^ 62 - 1)) ≡ beyond k
-unfolding beyond
-low (pos n) h = sym h
-low (negsuc n) h =
-    same_test (ltb (2 ^ 62 - 1) n) (ltb (2 ^ 62) (suc n)) (λ t. lt→ltb (2 ^ 62) (suc n) (to n (ltb→lt (2 ^ 62 - 1) n t)))
-    (λ t. lt→ltb (2 ^ 62 - 1) n (from n (ltb→lt (2 ^ 62) (suc n) t)))
-  where
-    to : (n : ℕ) → 2 ^ 62 - 1 < n → 2 ^ 62 < suc n
-    to n h = omega arith
-
-    from : (n : ℕ) → 2 ^ 62 < suc n → 2 ^ 62 - 1 < n
-    from n h = omega arith
-
-high : (k : ℤ) → lt_z (pos (2 ^ 62)) k ≡ true → true ≡ beyond k
-unfolding beyond
-high (pos n) h = sym h
-high (negsuc n) h = absurd (true≢false (sym h))
-
-module _ (k : ℤ) (fits : SFits w64 k) where
-  pub beyond_above : lt_z (pos (2 ^ 62)) (to_z w64 (of_z w64 k)) ≡ true → true ≡ beyond k
-  beyond_above h = high k (ap (lt_z (pos (2 ^ 62))) (sym (to_z-of_z w64 k fits)) ∙ h)
-
-  pub beyond_below : lt_z (pos (2 ^ 62)) (to_z w64 (of_z w64 k)) ≡ false → lt_z (to_z w64 (of_z w64 k)) (negsuc (2 ^ 62 - 1)) ≡ beyond k
-  beyond_below h = ap (λ (z : ℤ). lt_z z (negsuc (2 ^ 62 - 1))) (to_z-of_z w64 k fits) ∙ low k (ap (lt_z (pos (2 ^ 62))) (sym (to_z-of_z w64 k fits)) ∙ h)
+use Rattle.rounding.specs.Rounding.{key_word}
 
 -- ---- a key as a word
 

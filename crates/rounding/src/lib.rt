@@ -80,11 +80,7 @@ pub fn rounded(x: f64) -> i64
     let b: u64 = f64::to_bits(x);
     let c: u64 = b % SIGN;
     if WIDE <= c {
-        return if b < SIGN {
-            9223372036854775807
-        } else {
-            -9223372036854775808
-        };
+        return if b < SIGN { i64::MAX } else { i64::MIN };
     }
     let n: u64 = whole_of_bits(c);
     if b < SIGN { n as i64 } else { 0 - (n as i64) }
@@ -98,13 +94,11 @@ pub fn quantized_key(x: f64, eps: f64) -> i64
 }
 
 // Whether a key is beyond 2^62, either way. 2^62 itself is not.
+#[tactic(auto, unfolding(crate::specs::Rounding::beyond))]
 pub fn key_beyond(k: i64) -> bool
     ensures { result ≡ defined.beyond k }
 {
-    if k > 4611686018427387904 {
-        return true;
-    }
-    k < -4611686018427387904
+    k.unsigned_abs() > 4611686018427387904
 }
 
 // A key as a word without a sign: 2^63 more than it, so that words stand in the order of their keys.
@@ -119,7 +113,7 @@ pub fn key_word(k: i64) -> u64
     }
 }
 
-// Rust's `max`, of numbers that are no NaN.
+// Rust's `max`, of numbers that are no NaN. The library's tests for a NaN too, and may answer a zero of the other sign.
 pub fn max(x: f64, y: f64) -> f64
     ensures { result ≡ doubles.larger x y }
 {
@@ -147,7 +141,7 @@ pub fn abs(x: f64) -> f64
 pub fn within(d: f64, eps: f64) -> bool
     ensures { result ≡ doubles.within eps d }
 {
-    if d <= eps { -d <= eps } else { false }
+    d <= eps && -d <= eps
 }
 
 // Rust's `clamp(0.0, 1.0)`, which keeps -0.0.

@@ -13,9 +13,6 @@ first c = get_or c.args.w.now c.args.s 0 - 1
 first-in : (c : Else-f-eq0) → first c < c.args.n
 first-in c = c.requires.by_index (first c) (omega arith)
 
-pub shape_of-w-then-f-eq0 : goal.shape_of-w-then-f-eq0
-shape_of-w-then-f-eq0 c = simp length-set (omega arith)
-
 pub returns-then-f-eq0 : goal.returns-then-f-eq0
 returns-then-f-eq0 c =
     let s = c.args in

@@ -5,15 +5,6 @@ use Rattle.components.specs.Joined.{same}
 use Rattle.components.proofs.Forest.{kept_refl, halve_at}
 use Rattle.components.proofs.find.Goals as goal
 
-pub overflow_add-p : goal.overflow_add-p
-overflow_add-p c = omega arith
-
-pub offset_bounds-w-at : goal.offset_bounds-w-at
-offset_bounds-w-at c = omega arith
-
-pub bounds-w-at : goal.bounds-w-at
-bounds-w-at c = omega arith
-
 pub loop-p-init : goal.loop-p-init
 loop-p-init c = (omega arith, refl, kept_refl _ _ _ c.requires.forest, same)
 
@@ -25,15 +16,6 @@ offset_bounds-w-at-in-loop-p c = let l = c.loop-p in let a = l.invariant.2.fores
 
 pub bounds-w-at-in-loop-p : goal.bounds-w-at-in-loop-p
 bounds-w-at-in-loop-p c = let l = c.loop-p in let a = l.invariant.2.forest l.r (omega arith) in let b = l.invariant.2.forest l.p (omega arith) in omega arith
-
-pub overflow_add-w : goal.overflow_add-w
-overflow_add-w c = omega arith
-
-pub offset_bounds-w-at-in-loop-p-2 : goal.offset_bounds-w-at-in-loop-p-2
-offset_bounds-w-at-in-loop-p-2 c = omega arith
-
-pub bounds-w-at-in-loop-p-2 : goal.bounds-w-at-in-loop-p-2
-bounds-w-at-in-loop-p-2 c = omega arith
 
 pub overflow_add-p-in-loop-p : goal.overflow_add-p-in-loop-p
 overflow_add-p-in-loop-p c = let l = c.loop-p in let a = l.invariant.2.forest l.r (omega arith) in let b = l.invariant.2.forest l.p (omega arith) in omega arith
@@ -63,9 +45,6 @@ loop-p-preserved c =
     let s = c.args in
     let h = halve_at _ l.w s.at s.n _ l.r l.p (omega arith) (omega arith) l.invariant.1 l.invariant.2 l.invariant.3 in
     (omega arith, refl, h.0, h.1)
-
-pub shape_of-w : goal.shape_of-w
-shape_of-w c = omega arith
 
 pub returns : goal.returns
 returns c = let l = c.loop-p in record { kept = l.invariant.2; small = l.invariant.0; root = sym l.invariant.1 ∙ c.loop-p-test.false; tree = l.invariant.3 }

@@ -6,15 +6,6 @@ use Rattle.components.proofs.flatten.Goals as goal
 pub loop-i-init : goal.loop-i-init
 loop-i-init c = (omega arith, kept_refl _ _ _ c.requires.forest, λ j h. absurd (not-suc-le-zero h))
 
-pub overflow_add-p : goal.overflow_add-p
-overflow_add-p c = omega arith
-
-pub offset_bounds-w-at : goal.offset_bounds-w-at
-offset_bounds-w-at c = omega arith
-
-pub bounds-w-at : goal.bounds-w-at
-bounds-w-at c = omega arith
-
 pub overflow_add-w : goal.overflow_add-w
 overflow_add-w c = let l = c.loop-i in let a = l.invariant.1.forest l.i (omega arith) in omega arith
 
@@ -40,9 +31,6 @@ loop-i-preserved c =
     let kept = flatten_kept _ l.w s.at s.n l.i (omega arith) (omega arith) l.invariant.1 l.invariant.2 in
     let more = flatten_more _ l.w s.at s.n l.i (omega arith) (omega arith) l.invariant.1 l.invariant.2 in
     (omega arith, kept, more)
-
-pub shape_of-w : goal.shape_of-w
-shape_of-w c = omega arith
 
 pub returns : goal.returns
 returns c = let l = c.loop-i in record { kept = l.invariant.1; flat = λ i h. l.invariant.2 i (omega arith) }

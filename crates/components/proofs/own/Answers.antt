@@ -5,20 +5,8 @@ use Rattle.components.proofs.own.Goals as goal
 pub loop-i-init : goal.loop-i-init
 loop-i-init c = (omega arith, filled_none (λ j. j) _ _)
 
-pub overflow_add-w : goal.overflow_add-w
-overflow_add-w c = omega arith
-
-pub offset_bounds-w-at : goal.offset_bounds-w-at
-offset_bounds-w-at c = omega arith
-
-pub bounds-w-at : goal.bounds-w-at
-bounds-w-at c = omega arith
-
 pub loop-i-preserved : goal.loop-i-preserved
 loop-i-preserved c = let l = c.loop-i in (omega arith, filled_more (λ j. j) _ l.w c.args.at l.i (omega arith) l.invariant.1)
-
-pub shape_of-w : goal.shape_of-w
-shape_of-w c = omega arith
 
 pub returns : goal.returns
 returns c =

@@ -5,20 +5,8 @@ use lib.ListN.{get_or}
 use Rattle.components.proofs.Counting.{counting_start, counting_low, counting_turn, counting_end}
 use Rattle.components.proofs.tally.Goals as goal
 
-pub overflow_add-sizes : goal.overflow_add-sizes
-overflow_add-sizes c = omega arith
-
 pub loop-i-init : goal.loop-i-init
 loop-i-init c = counting_start _ _ _ c.requires.by_index
-
-pub overflow_add-r : goal.overflow_add-r
-overflow_add-r c = omega arith
-
-pub offset_bounds-w-at : goal.offset_bounds-w-at
-offset_bounds-w-at c = omega arith
-
-pub bounds-w-at : goal.bounds-w-at
-bounds-w-at c = omega arith
 
 pub overflow_add-w : goal.overflow_add-w
 overflow_add-w c =
@@ -84,9 +72,6 @@ loop-i-preserved c =
     let a = c.requires.forest l.i (omega arith) in
     let b = l.invariant.rest (s.at + l.i) (λ j h e. omega arith) in
     counting_turn s.w.now l.w s.at s.n l.i (omega arith) (omega arith) l.invariant (get_or l.w (s.at + l.i) 0) (omega arith) refl
-
-pub shape_of-w : goal.shape_of-w
-shape_of-w c = omega arith
 
 pub returns : goal.returns
 returns c =

@@ -17,4 +17,4 @@ returns-else-d-eps c =
     let held : T (fits binary64 c.args.d) = subst T (sym c.well_formed.0.1) tt in
     let d = c.args.d in
     let eps = c.args.eps in
-    sym (within_both eps d held ∙ ap (λ (k : Bool). k && le (neg d) eps) c.if-d-eps.false)
+    c.if-d-eps.false ∙ sym (within_both eps d held ∙ ap (λ (k : Bool). k && le (neg d) eps) c.if-d-eps.false)

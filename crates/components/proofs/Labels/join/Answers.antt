@@ -25,9 +25,6 @@ loop-i-preserved c =
     c.requires.label_room l.invariant.1 c.join_item.ensures in
     (omega arith, h)
 
-pub shape_of-w : goal.shape_of-w
-shape_of-w c = omega arith
-
 pub returns : goal.returns
 returns c =
     let l = c.loop-i in

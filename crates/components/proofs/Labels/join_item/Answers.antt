@@ -18,12 +18,6 @@ slot-in c =
     let l = c.loop-j in
     digits_lt {q = s.i} {m = s.self.n} {r = l.j} {c = s.self.k} (omega arith) (omega arith)
 
-pub overflow_add-firsts : goal.overflow_add-firsts
-overflow_add-firsts c = omega arith
-
-pub overflow_add-firsts-2 : goal.overflow_add-firsts-2
-overflow_add-firsts-2 c = omega arith
-
 pub overflow_mul-from : goal.overflow_mul-from
 overflow_mul-from c = let u = c.requires.label_room in let h = c.requires.swept.upto in omega arith
 
