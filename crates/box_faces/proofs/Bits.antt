@@ -7,6 +7,7 @@ use Prim.Native.Nat.{ℕ, zero, suc, ◌+◌, ◌*◌, ◌/◌, ◌%◌, ◌^◌
 use mathlib.Core.Path.{◌≡◌, refl, sym, ap, ◌∙◌}
 use mathlib.Core.Bool.{Bool, true, false, cond}
 use native.Mathlib.Omega.{arith}
+use borrow.Author.Tests.{eqb-true}
 use lib.Dec.{eqb}
 use lib.ListN.{length}
 use Rattle.lists.specs.Lists.{keep}
@@ -83,74 +84,36 @@ module _ (p : ℕ → Bool) where
 
 -- q passes what p does, and f
 module _ (p q : ℕ → Bool) where
-  differ : (f g : ℕ) → eqb g f ≡ false → ((g : ℕ) → eqb g f ≡ false → q g ≡ p g) → digit (q g) ≡ digit (p g)
-  differ f g e same = ap digit (same g e)
+  -- both words, and q's digits by p's
+  record Joins (f : ℕ) : Type 0 where
+    old : 1 * digit (p 0) + (2 * digit (p 1) + (4 * digit (p 2) + (8 * digit (p 3) + (16 * digit (p 4) + 32 * digit (p 5))))) ≡ face_bits (keep p faces)
+    new : 1 * digit (q 0) + (2 * digit (q 1) + (4 * digit (q 2) + (8 * digit (q 3) + (16 * digit (q 4) + 32 * digit (q 5))))) ≡ face_bits (keep q faces)
+    off : digit (p f) ≡ 0
+    at0 : digit (q 0) ≡ cond (eqb 0 f) 1 (digit (p 0))
+    at1 : digit (q 1) ≡ cond (eqb 1 f) 1 (digit (p 1))
+    at2 : digit (q 2) ≡ cond (eqb 2 f) 1 (digit (p 2))
+    at3 : digit (q 3) ≡ cond (eqb 3 f) 1 (digit (p 3))
+    at4 : digit (q 4) ≡ cond (eqb 4 f) 1 (digit (p 4))
+    at5 : digit (q 5) ≡ cond (eqb 5 f) 1 (digit (p 5))
+
+  joined : (f : ℕ) → q f ≡ true → ((g : ℕ) → eqb g f ≡ false → q g ≡ p g) → (g : ℕ) → digit (q g) ≡ cond (eqb g f) 1 (digit (p g))
+  joined f on same g = go (eqb g f) refl
+    where
+      go : (b : Bool) → eqb g f ≡ b → digit (q g) ≡ cond b 1 (digit (p g))
+      go true e = ap digit (ap q (eqb-true g f e) ∙ on)
+      go false e = ap digit (same g e)
+
+  adds : (f : ℕ) → f < 6 → Joins f → face_bits (keep q faces) ≡ face_bits (keep p faces) + 2 ^ f
+  adds zero h j = omega arith
+  adds (suc zero) h j = omega arith
+  adds (suc (suc zero)) h j = omega arith
+  adds (suc (suc (suc zero))) h j = omega arith
+  adds (suc (suc (suc (suc zero)))) h j = omega arith
+  adds (suc (suc (suc (suc (suc zero))))) h j = omega arith
+  adds (suc (suc (suc (suc (suc (suc f)))))) h j = absurd (omega arith)
 
   pub word_adds : (f : ℕ) → f < 6 → p f ≡ false → q f ≡ true → ((g : ℕ) → eqb g f ≡ false → q g ≡ p g) → face_bits (keep q faces) ≡ face_bits (keep p faces) + 2 ^ f
-  word_adds zero h off on same =
-      let a = word_is p in
-      let b = word_is q in
-      let o : digit (p 0) ≡ 0 = ap digit off in
-      let n : digit (q 0) ≡ 1 = ap digit on in
-      let e1 = differ 0 1 refl same in
-      let e2 = differ 0 2 refl same in
-      let e3 = differ 0 3 refl same in
-      let e4 = differ 0 4 refl same in
-      let e5 = differ 0 5 refl same in
-      omega arith
-  word_adds (suc zero) h off on same =
-      let a = word_is p in
-      let b = word_is q in
-      let o : digit (p 1) ≡ 0 = ap digit off in
-      let n : digit (q 1) ≡ 1 = ap digit on in
-      let e0 = differ 1 0 refl same in
-      let e2 = differ 1 2 refl same in
-      let e3 = differ 1 3 refl same in
-      let e4 = differ 1 4 refl same in
-      let e5 = differ 1 5 refl same in
-      omega arith
-  word_adds (suc (suc zero)) h off on same =
-      let a = word_is p in
-      let b = word_is q in
-      let o : digit (p 2) ≡ 0 = ap digit off in
-      let n : digit (q 2) ≡ 1 = ap digit on in
-      let e0 = differ 2 0 refl same in
-      let e1 = differ 2 1 refl same in
-      let e3 = differ 2 3 refl same in
-      let e4 = differ 2 4 refl same in
-      let e5 = differ 2 5 refl same in
-      omega arith
-  word_adds (suc (suc (suc zero))) h off on same =
-      let a = word_is p in
-      let b = word_is q in
-      let o : digit (p 3) ≡ 0 = ap digit off in
-      let n : digit (q 3) ≡ 1 = ap digit on in
-      let e0 = differ 3 0 refl same in
-      let e1 = differ 3 1 refl same in
-      let e2 = differ 3 2 refl same in
-      let e4 = differ 3 4 refl same in
-      let e5 = differ 3 5 refl same in
-      omega arith
-  word_adds (suc (suc (suc (suc zero)))) h off on same =
-      let a = word_is p in
-      let b = word_is q in
-      let o : digit (p 4) ≡ 0 = ap digit off in
-      let n : digit (q 4) ≡ 1 = ap digit on in
-      let e0 = differ 4 0 refl same in
-      let e1 = differ 4 1 refl same in
-      let e2 = differ 4 2 refl same in
-      let e3 = differ 4 3 refl same in
-      let e5 = differ 4 5 refl same in
-      omega arith
-  word_adds (suc (suc (suc (suc (suc zero))))) h off on same =
-      let a = word_is p in
-      let b = word_is q in
-      let o : digit (p 5) ≡ 0 = ap digit off in
-      let n : digit (q 5) ≡ 1 = ap digit on in
-      let e0 = differ 5 0 refl same in
-      let e1 = differ 5 1 refl same in
-      let e2 = differ 5 2 refl same in
-      let e3 = differ 5 3 refl same in
-      let e4 = differ 5 4 refl same in
-      omega arith
-  word_adds (suc (suc (suc (suc (suc (suc f)))))) h off on same = absurd (omega arith)
+  word_adds f h off on same =
+      let d = joined f on same in
+      adds f h
+      (record { old = word_is p; new = word_is q; off = ap digit off; at0 = d 0; at1 = d 1; at2 = d 2; at3 = d 3; at4 = d 4; at5 = d 5 })

@@ -24,7 +24,7 @@ use Rattle.edges.specs.Table.{next_side}
 use Rattle.edges.proofs.Sides.{side_at_lem, next_in}
 use Rattle.refusals.specs.declared.refusal.Refusal.{Refusal}
 use Rattle.refusals.specs.declared.refusal.Refusal.TheVariants.{BadNumber, BadBox, GridTooFine, NoWorkRoom, KeyRange, OpenEdge}
-use Rattle.std.specs.Prelude.{Option, Some, None, Result, Ok, Err}
+use Rattle.std.specs.Prelude.{Result, Ok, Err}
 use Rattle.refusals.specs.Refusals.{Test, first_refusal, Passes}
 use Rattle.input_tests.specs.Front.{Limits, list_tests, in_range, eps_in_range, resolution_in_range, box_in_range, bad_box, grid_too_fine, work_need, far_keys, box_far_keys}
 use Rattle.refusals.proofs.Refusals.{holds, passes, none_left, row_passed, row_refused}
@@ -77,9 +77,9 @@ module _ (vs : List Float) (fs : List ℕ) (q : Asked) (caps : ℕ) (l : Limits)
   abbrev found : Result (Unit {0}) Refusal
   found = first_refusal (closure_tests vs fs q caps l)
 
-  pub lists_refused : (x : Result (Unit {0}) Refusal) (r : Refusal) → x ≡ first_refusal lists → x ≡ Err r → x ≡ found
+  pub lists_refused : (r : Refusal) → first_refusal lists ≡ Err r → Err r ≡ found
   unfolding closure_tests
-  lists_refused x r e f = f ∙ sym (row_refused lists rest r (sym e ∙ f))
+  lists_refused r e = sym (row_refused lists rest r e)
 
   module _ (e : first_refusal lists ≡ Ok tt) where
     after_lists : found ≡ first_refusal rest
