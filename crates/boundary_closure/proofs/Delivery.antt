@@ -3,15 +3,13 @@
 --   refused_before, no_facet_lem, some_facet   the tests before 8 refused, or passed a mesh with no facet, or with one
 use Prim.Native.Nat.{ℕ}
 use mathlib.Core.Bool.{Bool, true, false, cond, ◌||◌}
-use mathlib.Core.List.{List, [], ◌++◌}
+use mathlib.Core.List.{List, [], ◌∷◌, ◌++◌}
 use mathlib.Core.Path.{◌≡◌, refl, sym, ap, subst, ◌∙◌}
 use lib.Ieee.{Float}
 use Rattle.lists.proofs.Bools.{cond_true, cond_false, or_stop, or_next}
 use Rattle.geometry.specs.Meshes.{mesh_of}
 use Rattle.refusals.specs.declared.refusal.Refusal.{Refusal}
-use Rattle.refusals.specs.declared.refusal.Checked.TheVariants as checked
-use Rattle.refusals.specs.declared.reply.Reply.{Reply}
-use Rattle.refusals.specs.declared.reply.Reply.TheVariants.{DoneFour, Refused}
+use Rattle.std.specs.Prelude.{Result, Ok, Err}
 use Rattle.refusals.specs.Refusals.{documented_reply, Test, first_refusal, Passes, unless}
 use Rattle.refusals.specs.Answers.{Answer}
 use Rattle.refusals.proofs.Refusals.{none_left, row_passed, row_refused}
@@ -37,14 +35,14 @@ module _ (vs : List Float) (fs : List ℕ) (q : Asked) (c c' l l' k k' e e' : Li
   abbrev edges : List Test
   edges = edge_tests vs fs q
 
-  abbrev Told : List Test → Candidates → Reply → Type 0
+  abbrev Told : List Test → Candidates → Result (List ℕ) Refusal → Type 0
   Told ts r x = Answer ts (candidate_outputs r c c' l l' k k' e e') (documented_reply x)
 
   -- an open edge keeps two ends
-  pub some_ends : no_two_ends vs fs q ≡ false → (r : Candidates) → r ≡ all → (x : Reply) → Told [] r x → Told [] surface x
+  pub some_ends : no_two_ends vs fs q ≡ false → (r : Candidates) → r ≡ all → (x : Result (List ℕ) Refusal) → Told [] r x → Told [] surface x
   some_ends h r g x = subst (λ (r : Candidates). Told [] r x) (g ∙ sym (cond_false (no_two_ends vs fs q) no_candidates all all h refl))
 
-  pub some_facet : (front : List Test) → Passes front → no_facet fs ≡ false → (x : Reply) → Told edges surface x → Told (front ++ unless (no_facet fs) edges) result x
+  pub some_facet : (front : List Test) → Passes front → no_facet fs ≡ false → (x : Result (List ℕ) Refusal) → Told edges surface x → Told (front ++ unless (no_facet fs) edges) result x
   unfolding candidates_result
   some_facet front h g x d =
       let same_result : result ≡ surface = ap (λ (b : Bool). cond b no_candidates all) (or_next (no_facet fs) (no_two_ends vs fs q) (no_two_ends vs fs q) g refl) in
@@ -58,21 +56,21 @@ module _ (vs : List Float) (fs : List ℕ) (q : Asked) (c l k e : List ℕ) wher
   inner = unless (no_facet fs) (edge_tests vs fs q)
 
   -- no open edge keeps two ends
-  pub no_ends : no_two_ends vs fs q ≡ true → Answer [] (candidate_outputs (surface_result vs fs q) c c l l k k e e) (documented_reply (DoneFour 0 0 0 0))
+  pub no_ends : no_two_ends vs fs q ≡ true → Answer [] (candidate_outputs (surface_result vs fs q) c c l l k k e e) (documented_reply (Ok (0 ∷ 0 ∷ 0 ∷ 0 ∷ [])))
   no_ends h =
       nothing (surface_result vs fs q) c l k e
       (cond_true (no_two_ends vs fs q) no_candidates (candidates (setting q) (mesh_of vs fs)) no_candidates h refl)
 
-  pub refused_before : (front : List Test) (x : Refusal) → first_refusal front ≡ checked.Refused x
-      → Answer (front ++ inner) (candidate_outputs (candidates_result vs fs q) c c l l k k e e) (documented_reply (Refused x))
+  pub refused_before : (front : List Test) (x : Refusal) → first_refusal front ≡ Err x
+      → Answer (front ++ inner) (candidate_outputs (candidates_result vs fs q) c c l l k k e e) (documented_reply (Err x))
   refused_before front x h =
       refused (front ++ inner) (candidate_outputs (candidates_result vs fs q) c c l l k k e e) x (row_refused front inner x h) (refl, (refl, (refl, (refl, tt))))
 
   pub no_facet_lem : (front : List Test) → Passes front → no_facet fs ≡ true
-      → Answer (front ++ inner) (candidate_outputs (candidates_result vs fs q) c c l l k k e e) (documented_reply (DoneFour 0 0 0 0))
+      → Answer (front ++ inner) (candidate_outputs (candidates_result vs fs q) c c l l k k e e) (documented_reply (Ok (0 ∷ 0 ∷ 0 ∷ 0 ∷ [])))
   unfolding candidates_result
   no_facet_lem front h g =
-      behind (front ++ inner) (candidate_outputs (candidates_result vs fs q) c c l l k k e e) (documented_reply (DoneFour 0 0 0 0))
+      behind (front ++ inner) (candidate_outputs (candidates_result vs fs q) c c l l k k e e) (documented_reply (Ok (0 ∷ 0 ∷ 0 ∷ 0 ∷ [])))
       (row_passed front inner h ∙ ap first_refusal (cond_true (no_facet fs) [] (edge_tests vs fs q) [] g refl) ∙ none_left)
       (nothing (candidates_result vs fs q) c l k e
       (cond_true (no_facet fs || no_two_ends vs fs q) no_candidates (candidates (setting q) (mesh_of vs fs)) no_candidates (or_stop (no_facet fs) (no_two_ends vs fs q) g) refl))

@@ -1,6 +1,7 @@
 use mathlib.Core.Path.{sym, ◌∙◌}
 use borrow.Author.Tests.{eq-eqb, ne_eqb}
 use lib.ListN.{length}
+use Rattle.std.proofs.lemmas.Result.{err_from_is_err_and}
 use Rattle.closure_tests.specs.Tests.{closure_tests}
 use Rattle.input_tests.specs.Front.{limits}
 use Rattle.candidate_surface.specs.Asked.{asked}
@@ -14,31 +15,33 @@ returns-then-facets-eq0 c =
     let a = c.args in
     no_facet_lem a.vertices.now a.facets.now (asked a.extents a.eps a.resolution) a.candidates.now a.face_lists.now a.constraints.now a.open_edges.now
     (closure_tests a.vertices.now a.facets.now (asked a.extents a.eps a.resolution) 0 (limits a.ceiling (length a.work.now)))
-    (sym c.check_closure.ensures ∙ c.in-Passed.is) (eq-eqb _ 0 c.if-facets-eq0.true)
+    (sym c.check_closure.ensures ∙ c.in_ok-check_closure.was) (eq-eqb _ 0 c.if-facets-eq0.true)
 
 pub make_candidates-requires : goal.make_candidates-requires
 make_candidates-requires c =
     let a = c.args in
     let s = sound a.vertices.now a.facets.now (asked a.extents a.eps a.resolution) 0 (limits a.ceiling (length a.work.now))
-    (sym c.check_closure.ensures ∙ c.in-Passed.is) in record {
+    (sym c.check_closure.ensures ∙ c.in_ok-check_closure.was) in record {
       sound = s;
       facets_in_bounds = room_for a.vertices.now a.facets.now (asked a.extents a.eps a.resolution) s 0 (length a.work.now)
           (room_passed a.vertices.now a.facets.now (asked a.extents a.eps a.resolution) 0 (limits a.ceiling (length a.work.now))
-          (sym c.check_closure.ensures ∙ c.in-Passed.is));
+          (sym c.check_closure.ensures ∙ c.in_ok-check_closure.was));
     }
 
-pub returns-else-facets-eq0 : goal.returns-else-facets-eq0
-returns-else-facets-eq0 c =
+pub returns : goal.returns
+returns c =
     let a = c.args in
     some_facet a.vertices.now a.facets.now (asked a.extents a.eps a.resolution) a.candidates.now _ a.face_lists.now _ a.constraints.now _
     a.open_edges.now _ (closure_tests a.vertices.now a.facets.now (asked a.extents a.eps a.resolution) 0 (limits a.ceiling (length a.work.now)))
-    (sym c.check_closure.ensures ∙ c.in-Passed.is)
+    (sym c.check_closure.ensures ∙ c.in_ok-check_closure.was)
     (ne_eqb _ 0 c.if-facets-eq0.false) _
     c.make_candidates.ensures
 
-pub returns-in-Refused : goal.returns-in-Refused
-returns-in-Refused c =
+pub returns-in_err-check_closure : goal.returns-in_err-check_closure
+returns-in_err-check_closure c =
     let a = c.args in
-    refused_before a.vertices.now a.facets.now (asked a.extents a.eps a.resolution) a.candidates.now a.face_lists.now a.constraints.now
+    let p = err_from_is_err_and c.from_residual.result c.from_residual.ensures.1 in
+    rw (p.1, p.2)
+    (refused_before a.vertices.now a.facets.now (asked a.extents a.eps a.resolution) a.candidates.now a.face_lists.now a.constraints.now
     a.open_edges.now (closure_tests a.vertices.now a.facets.now (asked a.extents a.eps a.resolution) 0 (limits a.ceiling (length a.work.now))) _
-    (sym c.check_closure.ensures ∙ c.in-Refused.is)
+    (sym c.check_closure.ensures ∙ c.in_err-check_closure.was))

@@ -37,6 +37,9 @@ complete-requires c =
       surfaced = c.enter_surface-listed.ensures.0;
     }
 
+pub invariant_of-room : goal.invariant_of-room
+invariant_of-room c = let M = c.requires.mesh_fits.0 in record { small = (M.small, M.few) }
+
 pub all_constraints-total-requires : goal.all_constraints-total-requires
 all_constraints-total-requires c =
     let s = c in
@@ -47,7 +50,6 @@ all_constraints-total-requires c =
       edges_held = c.complete.ensures.held;
       n_bound = (
         omega (arith, s.requires.mesh_fits.1, m),
-        M.few,
         omega (arith, M.threes, s.requires.tabled.table.within),
         omega (arith, M.size, c.enter_surface-listed.auto.w, c.complete.auto.w),
       );

@@ -1,4 +1,5 @@
 use mathlib.Core.Path.{refl, sym, ◌∙◌}
+use Rattle.std.proofs.lemmas.Result.{err_from_is_err_and}
 use Rattle.boundary_closure.specs.Steps.{surface_result}
 use Rattle.refusals.proofs.Answers.{refused, behind}
 use Rattle.closure_tests.specs.Tests.{edge_tests}
@@ -43,18 +44,18 @@ list_candidates-requires c =
       tabled = c.table_edges-k.ensures;
     }
 
-pub returns-in-Passed : goal.returns-in-Passed
-returns-in-Passed c =
+pub returns : goal.returns
+returns c =
     let a = c.args in
-    behind (edge_tests a.vertices.now a.facets.now (asked a.extents a.eps a.resolution)) _ _
-    (sym c.check_edges.ensures ∙
-    c.in-Passed.is)
+    behind (edge_tests a.vertices.now a.facets.now (asked a.extents a.eps a.resolution)) _ _ (sym c.check_edges.ensures ∙ c.in_ok-check_edges.was)
     c.list_candidates.ensures
 
-pub returns-in-Refused : goal.returns-in-Refused
-returns-in-Refused c =
+pub returns-in_err-check_edges : goal.returns-in_err-check_edges
+returns-in_err-check_edges c =
     let a = c.args in
-    refused (edge_tests a.vertices.now a.facets.now (asked a.extents a.eps a.resolution))
+    let p = err_from_is_err_and c.from_residual.result c.from_residual.ensures.1 in
+    rw (p.1, p.2)
+    (refused (edge_tests a.vertices.now a.facets.now (asked a.extents a.eps a.resolution))
     (candidate_outputs (surface_result a.vertices.now a.facets.now (asked a.extents a.eps a.resolution)) a.candidates.now a.candidates.now
     a.face_lists.now a.face_lists.now a.constraints.now a.constraints.now a.open_edges.now a.open_edges.now) _
-    (sym c.check_edges.ensures ∙ c.in-Refused.is) (refl, (refl, (refl, (refl, tt))))
+    (sym c.check_edges.ensures ∙ c.in_err-check_edges.was) (refl, (refl, (refl, (refl, tt)))))
