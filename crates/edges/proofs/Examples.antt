@@ -2,7 +2,7 @@
 use Prim.Native.Nat.{ℕ}
 use mathlib.Core.List.{List, [], ◌∷◌, flat_map}
 use mathlib.Core.Path.{◌≡◌, refl}
-use Rattle.lists.specs.Lists.{keep, insert_by, sort_by}
+use Rattle.lists.specs.Lists.{insert_by, sort_by}
 use Rattle.geometry.specs.Triangles.{threes}
 use Rattle.edges.specs.Edges.{same_pair, pair_before, open_edges}
 

@@ -11,7 +11,6 @@ use borrow.Author.Tests.{lt-ltb, le-ltb}
 use lib.Dec.{eqb, ltb}
 use lib.ListN.{length, get_or, take, drop}
 use lib.Seq.{drop-cons}
-use Rattle.lists.specs.Lists.{keep}
 use Rattle.lists.specs.Regions.{view, Above}
 use Rattle.lists.proofs.Mapped.{Each, each_at}
 use Rattle.lists.proofs.Multiplicity.{keep_yes, keep_no}

@@ -26,50 +26,8 @@ returns c =
 pub loop-i-init : goal.loop-i-init
 loop-i-init c = (omega arith, pairs_none _ _ _ _)
 
-pub overflow_mul-key : goal.overflow_mul-key
-overflow_mul-key c = omega arith
-
-pub offset_bounds-w-i : goal.offset_bounds-w-i
-offset_bounds-w-i c = omega arith
-
-pub bounds-w-i : goal.bounds-w-i
-bounds-w-i c = omega arith
-
-pub pair_first-requires : goal.pair_first-requires
-pair_first-requires c = omega arith
-
-pub overflow_mul-w : goal.overflow_mul-w
-overflow_mul-w c = omega arith
-
-pub overflow_add-w : goal.overflow_add-w
-overflow_add-w c = omega arith
-
-pub offset_bounds-w-to : goal.offset_bounds-w-to
-offset_bounds-w-to c = omega arith
-
-pub bounds-w-to : goal.bounds-w-to
-bounds-w-to c = omega arith
-
-pub pair_second-requires : goal.pair_second-requires
-pair_second-requires c = omega arith
-
-pub overflow_mul-w-in-loop-i : goal.overflow_mul-w-in-loop-i
-overflow_mul-w-in-loop-i c = omega arith
-
-pub overflow_add-w-in-loop-i : goal.overflow_add-w-in-loop-i
-overflow_add-w-in-loop-i c = omega arith
-
-pub overflow_add-w-in-loop-i-2 : goal.overflow_add-w-in-loop-i-2
-overflow_add-w-in-loop-i-2 c = omega arith
-
-pub offset_bounds-w-to-in-loop-i : goal.offset_bounds-w-to-in-loop-i
-offset_bounds-w-to-in-loop-i c = omega arith
-
 pub bounds-w-to-in-loop-i : goal.bounds-w-to-in-loop-i
 bounds-w-to-in-loop-i c =
     let l = c.loop-i in
     let s = c.args in
     omega (arith, l.invariant.1.long, length-set l.w (s.to + 2 * l.i) c.pair_first.result)
-
-pub shape_of-w : goal.shape_of-w
-shape_of-w c = omega arith

@@ -26,18 +26,6 @@ returns c =
 pub loop-j-init : goal.loop-j-init
 loop-j-init c = (omega arith, pairs_none _ _ _ _)
 
-pub overflow_mul-i : goal.overflow_mul-i
-overflow_mul-i c = omega arith
-
-pub overflow_add-i : goal.overflow_add-i
-overflow_add-i c = omega arith
-
-pub offset_bounds-w-j : goal.offset_bounds-w-j
-offset_bounds-w-j c = omega arith
-
-pub bounds-w-j : goal.bounds-w-j
-bounds-w-j c = omega arith
-
 pub overflow_mul-from : goal.overflow_mul-from
 overflow_mul-from c =
     let l = c.loop-j in
@@ -110,35 +98,8 @@ bounds-w-ends-in-loop-j c =
     let p = c.requires.by_index l.j (omega arith) in
     omega (arith, l.invariant.1.long)
 
-pub overflow_mul-w : goal.overflow_mul-w
-overflow_mul-w c = omega arith
-
-pub overflow_add-w : goal.overflow_add-w
-overflow_add-w c = omega arith
-
-pub offset_bounds-w-to : goal.offset_bounds-w-to
-offset_bounds-w-to c = omega arith
-
-pub bounds-w-to : goal.bounds-w-to
-bounds-w-to c = omega arith
-
-pub overflow_mul-w-in-loop-j : goal.overflow_mul-w-in-loop-j
-overflow_mul-w-in-loop-j c = omega arith
-
-pub overflow_add-w-in-loop-j : goal.overflow_add-w-in-loop-j
-overflow_add-w-in-loop-j c = omega arith
-
-pub overflow_add-w-in-loop-j-2 : goal.overflow_add-w-in-loop-j-2
-overflow_add-w-in-loop-j-2 c = omega arith
-
-pub offset_bounds-w-to-in-loop-j : goal.offset_bounds-w-to-in-loop-j
-offset_bounds-w-to-in-loop-j c = omega arith
-
 pub bounds-w-to-in-loop-j : goal.bounds-w-to-in-loop-j
 bounds-w-to-in-loop-j c =
     let l = c.loop-j in
     let s = c.args in
     omega (arith, l.invariant.1.long, length-set l.w (s.to + 2 * l.j) (get_or l.w (s.ends + 2 * get_or l.w (2 * l.j + 1) 0) 0))
-
-pub shape_of-w : goal.shape_of-w
-shape_of-w c = omega arith

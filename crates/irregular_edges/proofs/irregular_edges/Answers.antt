@@ -50,39 +50,6 @@ is_irregular-requires c =
       w_value = table_kept s.args.facets.now s.args.w.now l.w s.args.at s.requires.facets_len.1 (omega arith) l.invariant.above s.requires.w_value;
     }
 
-pub overflow_mul-key : goal.overflow_mul-key
-overflow_mul-key c = omega arith
-
-pub offset_bounds-w-i : goal.offset_bounds-w-i
-offset_bounds-w-i c = omega arith
-
-pub bounds-w-i : goal.bounds-w-i
-bounds-w-i c = omega arith
-
-pub overflow_mul-w : goal.overflow_mul-w
-overflow_mul-w c = omega arith
-
-pub overflow_add-w : goal.overflow_add-w
-overflow_add-w c = omega arith
-
-pub offset_bounds-w-at : goal.offset_bounds-w-at
-offset_bounds-w-at c = omega arith
-
-pub bounds-w-at : goal.bounds-w-at
-bounds-w-at c = omega arith
-
-pub overflow_mul-w-then-is_irregular : goal.overflow_mul-w-then-is_irregular
-overflow_mul-w-then-is_irregular c = omega arith
-
-pub overflow_add-w-then-is_irregular : goal.overflow_add-w-then-is_irregular
-overflow_add-w-then-is_irregular c = omega arith
-
-pub overflow_add-w-then-is_irregular-2 : goal.overflow_add-w-then-is_irregular-2
-overflow_add-w-then-is_irregular-2 c = omega arith
-
-pub offset_bounds-w-at-then-is_irregular : goal.offset_bounds-w-at-then-is_irregular
-offset_bounds-w-at-then-is_irregular c = omega arith
-
 pub bounds-w-at-then-is_irregular : goal.bounds-w-at-then-is_irregular
 bounds-w-at-then-is_irregular c =
     let s = c in
@@ -93,9 +60,6 @@ bounds-w-at-then-is_irregular c =
     walk_room s.args.facets.now s.args.w.now s.args.at s.requires.facets_len.1 s.requires.facets_len.2 l.w l.q l.i l.invariant run.result run.ensures
     asked.result asked.ensures c.if-is_irregular.true in
     simp length-set (omega (arith, room, run.ensures.within, l.invariant.above.long))
-
-pub overflow_add-q : goal.overflow_add-q
-overflow_add-q c = omega arith
 
 pub loop-i-smaller-then-is_irregular : goal.loop-i-smaller-then-is_irregular
 loop-i-smaller-then-is_irregular c = let run = c.run_end-e in omega (arith, run.ensures.more, run.ensures.within)

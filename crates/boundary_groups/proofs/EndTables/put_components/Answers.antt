@@ -86,6 +86,3 @@ overflow_add-c c = let b = turn (goal.at.overflow_add-c c).After-is_ring-ring in
 
 pub loop-i-smaller : goal.loop-i-smaller
 loop-i-smaller c = let b = turn (goal.at.loop-i-smaller c).After-is_ring-ring in omega arith
-
-pub shape_of-w : goal.shape_of-w
-shape_of-w c = omega (arith, c.loop-i.invariant.long)

@@ -2,25 +2,10 @@ use native.Mathlib.Omega.{arith}
 use Rattle.chains.proofs.Words.{words_start, words_tail, words_turn, words_end}
 use Rattle.chains.proofs.by_word.index_words.Goals as goal
 
-pub overflow_add-nb : goal.overflow_add-nb
-overflow_add-nb c = omega arith
-
-pub zero_part-requires : goal.zero_part-requires
-zero_part-requires c = omega arith
-
 pub loop-i-init : goal.loop-i-init
 loop-i-init c =
     let s = c.args in
     words_start s.keys.now s.at s.nb _ _ (omega arith) c.zero_part.ensures
-
-pub offset_bounds-keys-i : goal.offset_bounds-keys-i
-offset_bounds-keys-i c = omega arith
-
-pub bounds-keys-i : goal.bounds-keys-i
-bounds-keys-i c = omega arith
-
-pub bucket-b-requires : goal.bucket-b-requires
-bucket-b-requires c = omega arith
 
 pub enter-requires : goal.enter-requires
 enter-requires c =
@@ -38,9 +23,6 @@ loop-i-preserved c =
     let s = c.args in
     rw c.enter.ensures
     (words_turn s.keys.now s.at s.nb _ l.m l.i (omega arith) l.invariant (omega arith) _ c.bucket-b.ensures)
-
-pub shape_of-m : goal.shape_of-m
-shape_of-m c = omega arith
 
 pub returns : goal.returns
 returns c =

@@ -1,7 +1,7 @@
 use mathlib.Core.Path.{refl}
 use Prim.Native.Nat.{◌+◌}
 use native.Mathlib.Omega.{arith}
-use lib.ListN.{get_or, length-set}
+use lib.ListN.{get_or}
 use Rattle.chains.proofs.Entering.{place_in}
 use Rattle.chains.proofs.links.enter.Goals as goal
 
@@ -18,12 +18,6 @@ bounds-m-p c =
     let e = c.link_place-p.ensures in
     let h = place_in s.at s.nb s.id s.b (get_or s.m.now (s.at + s.nb + s.b) 0) (omega arith) (omega arith) in
     omega arith
-
-pub bounds-m-at-2 : goal.bounds-m-at-2
-bounds-m-at-2 c = simp length-set (omega arith)
-
-pub bounds-m-at-3 : goal.bounds-m-at-3
-bounds-m-at-3 c = simp length-set (omega arith)
 
 pub returns : goal.returns
 returns c = rw c.link_place-p.ensures refl

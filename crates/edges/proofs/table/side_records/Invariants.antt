@@ -1,5 +1,3 @@
-use lib.ListN.{length}
-use Prim.Native.Nat.{◌-◌}
 use Rattle.edges.proofs.Running.{Listing}
 use Rattle.edges.proofs.table.side_records.Given as goal
 
