@@ -7,7 +7,7 @@ use native.Mathlib.Omega.{arith}
 use mathlib.Core.Bool.{Bool, true, false, cond, ◌&&◌}
 use mathlib.Core.Path.{◌≡◌, ap, ◌∙◌}
 use mathlib.Core.List.{List, [], ◌∷◌, ◌++◌, map, flat_map, foldl}
-use mathlib.Core.Option.{Option, none, some}
+use Rattle.std.specs.Prelude.{Option, None, Some}
 use lib.Dec.{eqb, leb}
 use lib.ListN.{length, get_or, set, length-map}
 use lib.Ieee.{Float}
@@ -72,8 +72,8 @@ renewed_low m c e h k = go (eqb e.mesh 0)
 
 module _ (J : Joining Point) (m : ℕ) where
   entered_low : (l : List Candidate) (e : Candidate) (place : Option ℕ) → LowAll m l → Names m e → LowAll m (entered_as l e place)
-  entered_low l e none h k = low_append m l e h k
-  entered_low l e (some i) h k = low_set m l i (renewed (get_or l i no_candidate) e) h (renewed_low m (get_or l i no_candidate) e (h i) k)
+  entered_low l e None h k = low_append m l e h k
+  entered_low l e (Some i) h k = low_set m l i (renewed (get_or l i no_candidate) e) h (renewed_low m (get_or l i no_candidate) e (h i) k)
 
   pub low_insert : (p : Pool) (e : Candidate) → Low m p → Names m e → Low m (insert J p e)
   unfolding insert

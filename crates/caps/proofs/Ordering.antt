@@ -12,22 +12,19 @@ use mathlib.Core.Bool.{Bool, true, false, cond, ◌||◌}
 use mathlib.Core.List.{List, [], ◌++◌}
 use mathlib.Core.Path.{◌≡◌, refl, sym, ap, subst, ◌∙◌}
 use borrow.Author.Tests.{eq-eqb, ne_eqb}
-use lib.ListN.{length, replicate}
+use lib.ListN.{length, get_or, replicate}
 use lib.Ieee.{Float}
 use Rattle.lists.specs.Regions.{Above}
 use Rattle.lists.proofs.Bools.{cond_true, cond_false, or_stop, or_next}
 use Rattle.geometry.specs.Meshes.{Mesh, mesh_of}
 use Rattle.refusals.specs.declared.refusal.Refusal.{Refusal}
-use Rattle.refusals.specs.declared.refusal.Checked.TheVariants as checked
-use Rattle.refusals.specs.declared.reply.Reply.{Reply}
-use Rattle.refusals.specs.declared.reply.Reply.TheVariants.{Refused}
+use Rattle.std.specs.Prelude.{Result, Ok, Err, is_err}
 use Rattle.refusals.specs.Refusals.{documented_reply, Test, first_refusal, Passes, unless}
 use Rattle.refusals.specs.Answers.{mesh_outputs, Answer}
 use Rattle.refusals.proofs.Refusals.{none_left, row_passed, row_refused}
 use Rattle.input_tests.specs.Front.{limits}
 use Rattle.candidate_pool.specs.Offsets.{open_edges_at}
 use Rattle.refusals.proofs.Answers.{refused, after, behind, answered}
-use Rattle.refusals.proofs.Reports.{reply_zero}
 use Rattle.candidate_pool.specs.Pool.{by_key}
 use Rattle.candidate_pool.specs.Standing.{pool_at}
 use Rattle.candidate_edges.specs.Surface.{edge_surface}
@@ -42,6 +39,12 @@ use Rattle.caps.specs.declared.mode.BoundaryClosure.{BoundaryClosure}
 use Rattle.caps.specs.Operation.{leaves_open, is_positive, supplied_tests, surface, pool, cap_tests, passed_over, caps_tests, caps_result, Capped}
 use Rattle.caps.specs.Steps.{edges_in, closed_of, closed_mesh, surface_mesh}
 use Rattle.caps.proofs.Demands.{closes}
+
+-- a reply that is no refusal has the number 0
+reply_zero : (x : Result (List ℕ) Refusal) → is_err x ≡ false → get_or (documented_reply x) 0 0 ≡ 0
+unfolding documented_reply
+reply_zero (Ok l) e = refl
+reply_zero (Err r) e = cc
 
 module _ (vs : List Float) (fs cap_list : List ℕ) (q : Asked) (mode : BoundaryClosure) where
   abbrev mesh : Mesh
@@ -97,7 +100,7 @@ module _ (vs : List Float) (fs cap_list : List ℕ) (q : Asked) (mode : Boundary
   abbrev edges : List Test
   edges = edge_tests vs fs q
 
-  module _ (v v' : List Float) (f f' : List ℕ) (x : Reply) where
+  module _ (v v' : List Float) (f f' : List ℕ) (x : Result (List ℕ) Refusal) where
     abbrev Told : List Test → Mesh → Type 0
     Told ts m = Answer ts (mesh_outputs m v v' f f') (documented_reply x)
 
@@ -145,16 +148,16 @@ module _ (vs : List Float) (fs cap_list : List ℕ) (q : Asked) (mode : Boundary
 
   module _ (v : List Float) (f : List ℕ) (x : Refusal) where
     abbrev Down : List Test → Mesh → Type 0
-    Down ts m = Answer ts (mesh_outputs m v v f f) (documented_reply (Refused x))
+    Down ts m = Answer ts (mesh_outputs m v v f f) (documented_reply (Err x))
 
-    pub ends_refused : none ≡ false → first_refusal tests ≡ checked.Refused x → Down behind_nine made
+    pub ends_refused : none ≡ false → first_refusal tests ≡ Err x → Down behind_nine made
     ends_refused h e =
         refused behind_nine (mesh_outputs made v v f f) x (ap first_refusal (cond_false none [] tests tests h refl) ∙ e) (refl, (refl, tt))
 
-    pub edges_refused : first_refusal edges ≡ checked.Refused x → Down (edges ++ behind_nine) made
+    pub edges_refused : first_refusal edges ≡ Err x → Down (edges ++ behind_nine) made
     edges_refused e = refused (edges ++ behind_nine) (mesh_outputs made v v f f) x (row_refused edges behind_nine x e) (refl, (refl, tt))
 
-    pub front_refused : (front : List Test) → first_refusal front ≡ checked.Refused x → Down (front ++ unless over (edges ++ behind_nine)) result
+    pub front_refused : (front : List Test) → first_refusal front ≡ Err x → Down (front ++ unless over (edges ++ behind_nine)) result
     front_refused front e =
         let inner = unless over (edges ++ behind_nine) in
         refused (front ++ inner) (mesh_outputs result v v f f) x (row_refused front inner x e) (refl, (refl, tt))
@@ -172,7 +175,7 @@ module _ (vs : List Float) (fs cap_list : List ℕ) (q : Asked) (mode : Boundary
 
   -- ---- the work room cleared
 
-  pub capped : (ceiling : ℕ) (x : Reply) (w u w' : List ℕ) (v v' : List Float) (f f' : List ℕ)
+  pub capped : (ceiling : ℕ) (x : Result (List ℕ) Refusal) (w u w' : List ℕ) (v v' : List Float) (f f' : List ℕ)
       → Answer (caps_tests vs fs cap_list q mode (limits ceiling (length w))) (mesh_outputs result v v' f f') (documented_reply x)
       → length u ≡ length w → w' ≡ replicate (length u) 0 → Capped vs fs cap_list q mode ceiling x w w' v v' f f'
   capped ceiling x w u w' v v' f f' d h z =

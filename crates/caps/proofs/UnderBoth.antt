@@ -5,7 +5,8 @@ use Prim.Native.Nat.{ℕ}
 use mathlib.Core.List.{List}
 use lib.ListN.{length}
 use lib.Ieee.{Float}
-use Rattle.refusals.specs.declared.reply.Reply.{Reply}
+use Rattle.std.specs.Prelude.{Result}
+use Rattle.refusals.specs.declared.refusal.Refusal.{Refusal}
 use Rattle.refusals.specs.Refusals.{documented_reply}
 use Rattle.refusals.specs.Answers.{MeshesAlike}
 use Rattle.refusals.proofs.Answers.{meshes_alike}
@@ -16,7 +17,7 @@ use Rattle.caps.specs.declared.mode.BoundaryClosure.{BoundaryClosure}
 use Rattle.caps.specs.Operation.{caps_tests, caps_result, Capped}
 
 module _ (vs : List Float) (fs cap_list : List ℕ) (q : Asked) (mode : BoundaryClosure) (c d : ℕ) (hc : Admits c vs fs) (hd : Admits d vs fs) where
-  pub caps_under_both : (r₁ r₂ : Reply) (w w₁ w₂ : List ℕ) (v v₁ v₂ : List Float) (f f₁ f₂ : List ℕ)
+  pub caps_under_both : (r₁ r₂ : Result (List ℕ) Refusal) (w w₁ w₂ : List ℕ) (v v₁ v₂ : List Float) (f f₁ f₂ : List ℕ)
       → Capped vs fs cap_list q mode c r₁ w w₁ v v₁ f f₁ → Capped vs fs cap_list q mode d r₂ w w₂ v v₂ f f₂
       → MeshesAlike (documented_reply r₁) (documented_reply r₂) w₁ w₂ v₁ v₂ f₁ f₂
   caps_under_both r₁ r₂ w w₁ w₂ v v₁ v₂ f f₁ f₂ a b =

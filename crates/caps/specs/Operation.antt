@@ -7,13 +7,13 @@
 --   caps_tests      1 to 11                        caps_result  the mesh written
 --   Closes         demand 3 of what was written, without its computing
 --   Capped         what the operation promises: the answer; and of a call that is not turned down, on a mesh that has an open edge with two ends, demand 3
-use Rattle.std.specs.Prelude.{ℕ, ◌≡◌, Bool, true, false, cond, ◌||◌, List, [], ◌∷◌, ◌++◌, ltb, length, Float}
+use Rattle.std.specs.Prelude.{ℕ, ◌≡◌, Result, is_err, Bool, true, false, cond, ◌||◌, List, [], ◌∷◌, ◌++◌, ltb, length, Float}
 use Rattle.geometry.specs.Triangles.{flat}
 use Rattle.geometry.specs.Meshes.{Mesh, mesh_of, coordinates}
 use Rattle.words.specs.Overlay.{overlay}
+use Rattle.refusals.specs.declared.refusal.Refusal.{Refusal}
 use Rattle.refusals.specs.declared.refusal.Refusal.TheVariants.{BadCap, MissingEdge}
-use Rattle.refusals.specs.declared.reply.Reply.{Reply}
-use Rattle.refusals.specs.Refusals.{documented_reply, turned_down, Test, unless}
+use Rattle.refusals.specs.Refusals.{documented_reply, Test, unless}
 use Rattle.refusals.specs.Answers.{mesh_outputs, Answered}
 use Rattle.input_tests.specs.Front.{Limits, limits}
 use Rattle.candidate_pool.specs.OpenEdges.{OpenEdge}
@@ -81,6 +81,6 @@ module _ (vs : List Float) (fs cap_list : List ℕ) (q : Asked) (mode : Boundary
     pub facets : f' ≡ overlay (flat out.facets) f
 
   -- under a ceiling, from work room w and outputs v and f to w', v' and f', with the reply r
-  pub record Capped (ceiling : ℕ) (r : Reply) (w w' : List ℕ) (v v' : List Float) (f f' : List ℕ) : Type 0 where
+  pub record Capped (ceiling : ℕ) (r : Result (List ℕ) Refusal) (w w' : List ℕ) (v v' : List Float) (f f' : List ℕ) : Type 0 where
     pub answered : Answered (caps_tests (limits ceiling (length w))) (mesh_outputs caps_result v v' f f') w w' (documented_reply r)
-    pub rule : turned_down r ≡ false → unchanged ≡ false → Closes (documented_reply r) v v' f f'
+    pub rule : is_err r ≡ false → unchanged ≡ false → Closes (documented_reply r) v v' f f'

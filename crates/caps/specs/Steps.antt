@@ -5,11 +5,10 @@
 --   Closable       what is asked of mesh and room for it to be closed
 --   Listable       what is asked of the cap list, and the room for it
 --   surface_mesh    the result of a mesh with a facet, in a mode that closes
-use Rattle.std.specs.Prelude.{ℕ, ◌/◌, ◌≤◌, ◌≡◌, Bool, cond, List, length, Float}
+use Rattle.std.specs.Prelude.{ℕ, ◌/◌, ◌≤◌, ◌≡◌, Result, Ok, Bool, cond, List, length, Float}
 use Rattle.lists.specs.Regions.{Above}
 use Rattle.geometry.specs.Meshes.{Mesh, mesh_of}
-use Rattle.refusals.specs.declared.refusal.Checked.{Checked}
-use Rattle.refusals.specs.declared.refusal.Checked.TheVariants.{Passed}
+use Rattle.refusals.specs.declared.refusal.Refusal.{Refusal}
 use Rattle.candidate_pool.specs.Offsets.{open_edges_at}
 use Rattle.refusals.specs.Refusals.{first_refusal}
 use Rattle.input_tests.specs.Front.{ListsPass, CapListPass}
@@ -31,11 +30,11 @@ abbrev pub edges_in : ℕ → ℕ → ℕ → List ℕ → List OpenEdge
 edges_in n nf k w = edges_at w (open_edges_at n nf) k
 
 -- from work room w to w', with the answer r
-pub record CapsChecked (n nf k : ℕ) (cap_list : List ℕ) (r : Checked) (w w' : List ℕ) : Type 0 where
+pub record CapsChecked (n nf k : ℕ) (cap_list : List ℕ) (r : Result (Unit {0}) Refusal) (w w' : List ℕ) : Type 0 where
   pub found : r ≡ first_refusal (supplied_tests (pool_at n w) (caps_of cap_list) (edges_in n nf k w))
-  pub above : r ≡ Passed → Above (turned_at n nf) w w'
-  pub ready : r ≡ Passed → CapReady n nf k cap_list w'
-  pub known : r ≡ Passed → PairsKnown n nf k cap_list w'
+  pub above : r ≡ Ok tt → Above (turned_at n nf) w w'
+  pub ready : r ≡ Ok tt → CapReady n nf k cap_list w'
+  pub known : r ≡ Ok tt → PairsKnown n nf k cap_list w'
 
 abbrev pub closed_of : Pool → List Cap → List OpenEdge → Bool → Mesh → Mesh
 closed_of p l es positive mesh = closed p l positive mesh (selected es (outward_caps p l))

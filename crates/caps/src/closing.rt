@@ -1,11 +1,11 @@
 // Tests 10 and 11, and the mesh closed by a list that passed them.
-ghost use Rattle.std.specs.Prelude.{◌≡◌, [], ◌+◌, ◌*◌, ◌/◌, ◌≤◌, length};
+ghost use Rattle.std.specs.Prelude.{[], ◌*◌, ◌/◌, ◌≤◌, length};
 ghost use Rattle.candidate_pool.specs.Offsets.{open_edges_at};
 ghost use Rattle.refusals.specs.Refusals.{documented_reply};
 ghost use Rattle.refusals.specs.Answers.{mesh_outputs, Answer};
 ghost use Rattle.candidate_pool.specs.Standing.{pool_at, EdgesHeld};
 ghost use Rattle.cap_triangles.specs.Room.{Supplied};
-ghost use Rattle.caps.specs.Steps.{edges_in, CapsChecked, closed_mesh, Closable};
+ghost use Rattle.caps.specs.Steps.{CapsChecked, closed_mesh, Closable};
 
 use cap_closing::closing::close_caps;
 use cap_outputs::outputs::deliver_closed;
@@ -15,35 +15,31 @@ use cap_pairs::pairs::number_pairs;
 use cap_selection::seeds::select_caps;
 use cap_triangles::listed::bad_cap_place;
 use cap_triangles::turning::turn_caps;
-use refusals::refusal::{Checked, Refusal};
+use refusals::refusal::Refusal;
 use refusals::reply::Reply;
 
-// For the k open edges, listed with `listed` faces in all. What the selection needs of the list is then in the room.
+// For the k open edges. What the selection needs of the list is then in the room.
 pub fn check_caps(
     w: &mut [u64],
     n: usize,
     nf: usize,
     k: usize,
-    listed: usize,
     cap_list: &[u64],
-) -> Checked
+) -> Result<(), Refusal>
     requires supplied { Supplied n nf cap_list.now w.old }
     requires edges_held { EdgesHeld (pool_at n w.old) w.old (open_edges_at n nf) k × (k ≤ 3 * nf) }
-    requires listed_value { listed ≡ length (edges_in n nf k w.old) }
     ensures { CapsChecked n nf k cap_list.now result w.old w.new }
 {
-    let bad = bad_cap_place(w, n, cap_list);
-    if bad < cap_list.len() / 4 {
-        return Checked::Refused(Refusal::BadCap(bad));
+    if let Some(place) = bad_cap_place(w, n, cap_list) {
+        return Err(Refusal::BadCap(place));
     }
     turn_caps(w, n, nf, cap_list);
     number_pairs(w, n, nf, k, cap_list);
     note_faces(w, n, nf, k, cap_list);
-    let missing = missing_place(w, n, nf, k, cap_list);
-    if missing < listed {
-        return Checked::Refused(Refusal::MissingEdge(missing));
+    match missing_place(w, n, nf, k, cap_list) {
+        Some(place) => Err(Refusal::MissingEdge(place)),
+        None => Ok(()),
     }
-    Checked::Passed
 }
 
 // The closed mesh of a list that passed, with test 12.
@@ -57,7 +53,7 @@ pub fn close_mesh(
     positive: bool,
     out_vertices: &mut [f64],
     out_facets: &mut [u32],
-) -> Reply
+) -> Reply<2>
     requires { Closable vertices.now facets.now cap_list.now n k w.old }
     ensures { Answer []
         (mesh_outputs (closed_mesh vertices.now facets.now cap_list.now n k positive w.old) out_vertices.old
@@ -67,8 +63,6 @@ pub fn close_mesh(
     let nc = cap_list.len() / 4;
     select_caps(w, n, nf, k, cap_list);
     let made = close_caps(w, vertices, n, nf, cap_list, positive);
-    let left = made.left;
-    let caps = made.caps;
     deliver_closed(
         w,
         vertices,
@@ -76,8 +70,7 @@ pub fn close_mesh(
         n,
         nc,
         positive,
-        left,
-        caps,
+        made,
         out_vertices,
         out_facets,
     )

@@ -17,7 +17,6 @@ use candidate_surface::surface::{complete, enter_surface, most_candidates, table
 use cap_outputs::outputs::deliver_mesh;
 use closure_tests::tests::{check_closure, check_edges};
 use geometry::aabb::AABB;
-use refusals::refusal::Checked;
 use refusals::reply::Reply;
 use words::zero;
 
@@ -35,7 +34,7 @@ fn cap_edges(
     k: usize,
     out_vertices: &mut [f64],
     out_facets: &mut [u32],
-) -> Reply
+) -> Reply<2>
     requires sound { Sound vertices.now facets.now (asked extents eps resolution) }
     requires mesh_fits { MeshFits vertices.now facets.now n w.old × (n ≡ most_candidates vertices.now (asked extents eps resolution)) }
     requires listable { Listable vertices.now facets.now cap_list.now n w.old }
@@ -51,20 +50,18 @@ fn cap_edges(
         return deliver_mesh(vertices, facets, out_vertices, out_facets);
     }
     complete(vertices, facets, extents, eps, resolution, w, n, k);
-    match check_caps(w, n, facets.len() / 3, k, listed, cap_list) {
-        Checked::Passed => close_mesh(
-            w,
-            vertices,
-            facets,
-            cap_list,
-            n,
-            k,
-            is_positive(mode),
-            out_vertices,
-            out_facets,
-        ),
-        Checked::Refused(r) => Reply::Refused(r),
-    }
+    check_caps(w, n, facets.len() / 3, k, cap_list)?;
+    close_mesh(
+        w,
+        vertices,
+        facets,
+        cap_list,
+        n,
+        k,
+        is_positive(mode),
+        out_vertices,
+        out_facets,
+    )
 }
 
 // Tests 8 and 9 and all that follows, for a mesh that has passed those before.
@@ -79,7 +76,7 @@ fn make_caps(
     w: &mut [u64],
     out_vertices: &mut [f64],
     out_facets: &mut [u32],
-) -> Reply
+) -> Reply<2>
     requires sound { Sound vertices.now facets.now (asked extents eps resolution) }
     requires listable { Listable vertices.now facets.now cap_list.now (most_candidates vertices.now (asked extents eps resolution)) w.old }
     ensures { Answer
@@ -91,23 +88,21 @@ fn make_caps(
 {
     let n = most_candidates(vertices, extents, eps, resolution);
     let k = table_edges(facets, w, n);
-    match check_edges(vertices, facets, extents, eps, resolution, w, n, k) {
-        Checked::Passed => cap_edges(
-            vertices,
-            facets,
-            cap_list,
-            extents,
-            eps,
-            resolution,
-            mode,
-            w,
-            n,
-            k,
-            out_vertices,
-            out_facets,
-        ),
-        Checked::Refused(r) => Reply::Refused(r),
-    }
+    check_edges(vertices, facets, extents, eps, resolution, w, n, k)?;
+    cap_edges(
+        vertices,
+        facets,
+        cap_list,
+        extents,
+        eps,
+        resolution,
+        mode,
+        w,
+        n,
+        k,
+        out_vertices,
+        out_facets,
+    )
 }
 
 // Every test, and the mesh where they pass. The work room is left as it came out.
@@ -123,13 +118,13 @@ fn caps_lent(
     work: &mut [u64],
     out_vertices: &mut [f64],
     out_facets: &mut [u32],
-) -> Reply
+) -> Reply<2>
     ensures { Answer
         (caps_tests vertices.now facets.now cap_list.now (asked extents eps resolution) mode (limits ceiling (length work.old)))
         (mesh_outputs (caps_result vertices.now facets.now cap_list.now (asked extents eps resolution) mode) out_vertices.old
         out_vertices.new out_facets.old out_facets.new) (documented_reply result) }
 {
-    match check_closure(
+    check_closure(
         vertices,
         facets,
         cap_list.len(),
@@ -138,29 +133,25 @@ fn caps_lent(
         resolution,
         ceiling,
         work.len(),
-    ) {
-        Checked::Passed => {
-            if leaves_open(mode) {
-                return deliver_mesh(vertices, facets, out_vertices, out_facets);
-            }
-            if facets.len() == 0 {
-                return deliver_mesh(vertices, facets, out_vertices, out_facets);
-            }
-            make_caps(
-                vertices,
-                facets,
-                cap_list,
-                extents,
-                eps,
-                resolution,
-                mode,
-                work,
-                out_vertices,
-                out_facets,
-            )
-        }
-        Checked::Refused(r) => Reply::Refused(r),
+    )?;
+    if leaves_open(mode) {
+        return deliver_mesh(vertices, facets, out_vertices, out_facets);
     }
+    if facets.len() == 0 {
+        return deliver_mesh(vertices, facets, out_vertices, out_facets);
+    }
+    make_caps(
+        vertices,
+        facets,
+        cap_list,
+        extents,
+        eps,
+        resolution,
+        mode,
+        work,
+        out_vertices,
+        out_facets,
+    )
 }
 
 // The work room is cleared once, at the end: what was lent may hold anything.
@@ -176,7 +167,7 @@ pub fn cap_mesh_to_aabb(
     work: &mut [u64],
     out_vertices: &mut [f64],
     out_facets: &mut [u32],
-) -> Reply
+) -> Reply<2>
     ensures { Capped vertices.now facets.now cap_list.now (asked extents eps resolution) mode ceiling result work.old
         work.new out_vertices.old out_vertices.new out_facets.old out_facets.new }
 {

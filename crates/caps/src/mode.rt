@@ -2,7 +2,7 @@
 ghost use Rattle.std.specs.Prelude.{◌≡◌};
 ghost use Rattle.caps.specs.Operation.{leaves_open, is_positive};
 
-#[derive(Clone, Copy)]
+#[derive(Clone, Copy, PartialEq, Eq)]
 pub enum BoundaryClosure {
     // Do not add cap triangles; leave the clipped surface open.
     None,
@@ -15,19 +15,11 @@ pub enum BoundaryClosure {
 pub fn leaves_open(mode: BoundaryClosure) -> bool
     ensures { result ≡ leaves_open mode }
 {
-    match mode {
-        BoundaryClosure::None => true,
-        BoundaryClosure::ClosePositive => false,
-        BoundaryClosure::CloseNegative => false,
-    }
+    mode == BoundaryClosure::None
 }
 
 pub fn is_positive(mode: BoundaryClosure) -> bool
     ensures { result ≡ is_positive mode }
 {
-    match mode {
-        BoundaryClosure::None => false,
-        BoundaryClosure::ClosePositive => true,
-        BoundaryClosure::CloseNegative => false,
-    }
+    mode == BoundaryClosure::ClosePositive
 }

@@ -1,3 +1,4 @@
+use Rattle.std.proofs.lemmas.Result.{err_from_is_err_and}
 use Rattle.caps.specs.Steps.{closed_mesh}
 use Rattle.caps.proofs.Ordering.{no_ends_left, ends_left, tests_are, closed_is, no_ends, ends_refused, ends_closed}
 use Rattle.caps.proofs.Fitting.{closable}
@@ -6,7 +7,6 @@ use Rattle.candidate_surface.proofs.Completing.{fits_same}
 use Rattle.candidate_surface.proofs.Fitting.{vertices_in, most_small}
 use Rattle.refusals.specs.Refusals.{first_refusal}
 use native.Mathlib.Omega.{arith}
-use lib.ListN.{length}
 use mathlib.Core.Path.{sym, ap, ◌∙◌}
 use Rattle.candidate_surface.specs.Asked.{asked}
 use Rattle.caps.proofs.front.cap_edges.Goals as goal
@@ -66,8 +66,6 @@ check_caps-requires c =
             u = c.requires.mesh_fits.0.threes in omega
             (arith, t, u)),
       );
-      listed_value = c.enter_surface-listed.ensures.1 ∙ sym
-          (ap length c.complete.ensures.edges);
     }
 
 pub close_mesh-requires : goal.close_mesh-requires
@@ -78,16 +76,16 @@ close_mesh-requires c =
     c.complete.new.w
     c.check_caps.new.w _
     c.requires.sound c.enter_surface-listed.ensures.0 c.complete.ensures
-    c.check_caps.ensures c.in-Passed.is
+    c.check_caps.ensures c.in_ok-check_caps.was
 
-pub returns-in-Passed : goal.returns-in-Passed
-returns-in-Passed c =
+pub returns : goal.returns
+returns c =
     let a = c.args in
     ends_closed a.vertices.now a.facets.now a.cap_list.now (asked a.extents a.eps a.resolution) a.mode a.out_vertices.now _ a.out_facets.now _ _
     (ends_left a.vertices.now a.facets.now a.cap_list.now (asked a.extents a.eps a.resolution) a.mode
     c.enter_surface-listed.result c.enter_surface-listed.ensures.1
     (omega arith)) (ap first_refusal (sym (tests_are a.vertices.now a.facets.now a.cap_list.now (asked a.extents a.eps a.resolution) a.mode a.n a.k
-    c.complete.new.w c.complete.ensures)) ∙ sym c.check_caps.ensures.found ∙ c.in-Passed.is)
+    c.complete.new.w c.complete.ensures)) ∙ sym c.check_caps.ensures.found ∙ c.in_ok-check_caps.was)
     (closed_mesh a.vertices.now a.facets.now a.cap_list.now a.n a.k
     c.is_positive.result
     c.check_caps.new.w)
@@ -96,14 +94,16 @@ returns-in-Passed c =
     (pooled a.eps a.n c.complete.new.w c.complete.ensures.holds) (let t = c.requires.tabled.table.within in
     let u = c.requires.mesh_fits.0.threes in omega (arith, t, u))
     (c.check_caps.ensures.above
-    c.in-Passed.is)
+    c.in_ok-check_caps.was)
     c.is_positive.result
     c.is_positive.ensures) c.close_mesh.ensures
 
-pub returns-in-Refused : goal.returns-in-Refused
-returns-in-Refused c =
+pub returns-in_err-check_caps : goal.returns-in_err-check_caps
+returns-in_err-check_caps c =
     let a = c.args in
-    ends_refused a.vertices.now a.facets.now a.cap_list.now (asked a.extents a.eps a.resolution) a.mode a.out_vertices.now a.out_facets.now _
+    let p = err_from_is_err_and c.from_residual.result c.from_residual.ensures.1 in
+    rw (p.1, p.2)
+    (ends_refused a.vertices.now a.facets.now a.cap_list.now (asked a.extents a.eps a.resolution) a.mode a.out_vertices.now a.out_facets.now _
     (ends_left a.vertices.now a.facets.now a.cap_list.now (asked a.extents a.eps a.resolution) a.mode
     c.enter_surface-listed.result
     c.enter_surface-listed.ensures.1
@@ -111,4 +111,4 @@ returns-in-Refused c =
     (ap first_refusal (sym (tests_are a.vertices.now a.facets.now a.cap_list.now (asked a.extents a.eps a.resolution) a.mode a.n a.k
     c.complete.new.w
     c.complete.ensures)) ∙ sym c.check_caps.ensures.found ∙
-    c.in-Refused.is)
+    c.in_err-check_caps.was))

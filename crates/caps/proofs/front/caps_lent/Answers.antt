@@ -1,3 +1,4 @@
+use Rattle.std.proofs.lemmas.Result.{err_from_is_err_and}
 use Rattle.caps.proofs.Ordering.{front_refused, handed_back, gone_on, over_open, over_none, over_neither}
 use Rattle.caps.proofs.Fitting.{listable}
 use Rattle.closure_tests.proofs.Checking.{sound}
@@ -12,7 +13,7 @@ pub deliver_mesh-requires : goal.deliver_mesh-requires
 deliver_mesh-requires c =
     let a = c.args in
     let s = sound a.vertices.now a.facets.now (asked a.extents a.eps a.resolution) (length a.cap_list.now) (limits a.ceiling (length a.work.now))
-    (sym c.check_closure.ensures ∙ c.in-Passed.is) in
+    (sym c.check_closure.ensures ∙ c.in_ok-check_closure.was) in
     (s.lists.whole_vertices, s.lists.whole_facets)
 
 pub returns-then-leaves_open : goal.returns-then-leaves_open
@@ -20,7 +21,7 @@ returns-then-leaves_open c =
     let a = c.args in
     handed_back a.vertices.now a.facets.now a.cap_list.now (asked a.extents a.eps a.resolution) a.mode a.out_vertices.now _ a.out_facets.now _ _
     (closure_tests a.vertices.now a.facets.now (asked a.extents a.eps a.resolution) (length a.cap_list.now) (limits a.ceiling (length a.work.now)))
-    (sym c.check_closure.ensures ∙ c.in-Passed.is) (over_open a.vertices.now a.facets.now a.cap_list.now (asked a.extents a.eps a.resolution) a.mode
+    (sym c.check_closure.ensures ∙ c.in_ok-check_closure.was) (over_open a.vertices.now a.facets.now a.cap_list.now (asked a.extents a.eps a.resolution) a.mode
     (sym c.leaves_open.ensures ∙ c.if-leaves_open.true))
     c.deliver_mesh.ensures
 
@@ -28,7 +29,7 @@ pub deliver_mesh-requires-then-facets-eq0 : goal.deliver_mesh-requires-then-face
 deliver_mesh-requires-then-facets-eq0 c =
     let a = c.args in
     let s = sound a.vertices.now a.facets.now (asked a.extents a.eps a.resolution) (length a.cap_list.now) (limits a.ceiling (length a.work.now))
-    (sym c.check_closure.ensures ∙ c.in-Passed.is) in
+    (sym c.check_closure.ensures ∙ c.in_ok-check_closure.was) in
     (s.lists.whole_vertices, s.lists.whole_facets)
 
 pub returns-then-facets-eq0 : goal.returns-then-facets-eq0
@@ -36,31 +37,33 @@ returns-then-facets-eq0 c =
     let a = c.args in
     handed_back a.vertices.now a.facets.now a.cap_list.now (asked a.extents a.eps a.resolution) a.mode a.out_vertices.now _ a.out_facets.now _ _
     (closure_tests a.vertices.now a.facets.now (asked a.extents a.eps a.resolution) (length a.cap_list.now) (limits a.ceiling (length a.work.now)))
-    (sym c.check_closure.ensures ∙ c.in-Passed.is) (over_none a.vertices.now a.facets.now a.cap_list.now (asked a.extents a.eps a.resolution)
+    (sym c.check_closure.ensures ∙ c.in_ok-check_closure.was) (over_none a.vertices.now a.facets.now a.cap_list.now (asked a.extents a.eps a.resolution)
     a.mode (sym c.leaves_open.ensures ∙ c.if-leaves_open.false) c.if-facets-eq0.true) c.deliver_mesh-then-facets-eq0.ensures
 
 pub make_caps-requires : goal.make_caps-requires
 make_caps-requires c =
     let a = c.args in record {
       sound = sound a.vertices.now a.facets.now (asked a.extents a.eps a.resolution) (length a.cap_list.now) (limits a.ceiling (length a.work.now))
-          (sym c.check_closure.ensures ∙ c.in-Passed.is);
+          (sym c.check_closure.ensures ∙ c.in_ok-check_closure.was);
       listable = listable a.vertices.now a.facets.now a.cap_list.now (asked a.extents a.eps a.resolution) a.ceiling a.work.now
-          (sym c.check_closure.ensures ∙ c.in-Passed.is);
+          (sym c.check_closure.ensures ∙ c.in_ok-check_closure.was);
     }
 
-pub returns-else-facets-eq0 : goal.returns-else-facets-eq0
-returns-else-facets-eq0 c =
+pub returns : goal.returns
+returns c =
     let a = c.args in
     gone_on a.vertices.now a.facets.now a.cap_list.now (asked a.extents a.eps a.resolution) a.mode a.out_vertices.now _ a.out_facets.now _ _
     (closure_tests a.vertices.now a.facets.now (asked a.extents a.eps a.resolution) (length a.cap_list.now) (limits a.ceiling (length a.work.now)))
-    (sym c.check_closure.ensures ∙ c.in-Passed.is)
+    (sym c.check_closure.ensures ∙ c.in_ok-check_closure.was)
     (over_neither a.vertices.now a.facets.now a.cap_list.now (asked a.extents a.eps a.resolution) a.mode
     (sym c.leaves_open.ensures ∙ c.if-leaves_open.false) c.if-facets-eq0.false)
     c.make_caps.ensures
 
-pub returns-in-Refused : goal.returns-in-Refused
-returns-in-Refused c =
+pub returns-in_err-check_closure : goal.returns-in_err-check_closure
+returns-in_err-check_closure c =
     let a = c.args in
-    front_refused a.vertices.now a.facets.now a.cap_list.now (asked a.extents a.eps a.resolution) a.mode a.out_vertices.now a.out_facets.now _
+    let p = err_from_is_err_and c.from_residual.result c.from_residual.ensures.1 in
+    rw (p.1, p.2)
+    (front_refused a.vertices.now a.facets.now a.cap_list.now (asked a.extents a.eps a.resolution) a.mode a.out_vertices.now a.out_facets.now _
     (closure_tests a.vertices.now a.facets.now (asked a.extents a.eps a.resolution) (length a.cap_list.now) (limits a.ceiling (length a.work.now)))
-    (sym c.check_closure.ensures ∙ c.in-Refused.is)
+    (sym c.check_closure.ensures ∙ c.in_err-check_closure.was))

@@ -1,3 +1,4 @@
+use Rattle.std.proofs.lemmas.Result.{err_from_is_err_and}
 use Rattle.caps.proofs.Ordering.{edges_refused, edges_passed}
 use Rattle.caps.proofs.Fitting.{tabled_room, listable_same}
 use Rattle.candidate_surface.specs.Steps.{most_candidates}
@@ -58,14 +59,16 @@ cap_edges-requires c =
       tabled = c.table_edges-k.ensures;
     }
 
-pub returns-in-Passed : goal.returns-in-Passed
-returns-in-Passed c =
+pub returns : goal.returns
+returns c =
     let a = c.args in
     edges_passed a.vertices.now a.facets.now a.cap_list.now (asked a.extents a.eps a.resolution) a.mode a.out_vertices.now _ a.out_facets.now _ _
-    (sym c.check_edges.ensures ∙ c.in-Passed.is) c.cap_edges.ensures
+    (sym c.check_edges.ensures ∙ c.in_ok-check_edges.was) c.cap_edges.ensures
 
-pub returns-in-Refused : goal.returns-in-Refused
-returns-in-Refused c =
+pub returns-in_err-check_edges : goal.returns-in_err-check_edges
+returns-in_err-check_edges c =
     let a = c.args in
-    edges_refused a.vertices.now a.facets.now a.cap_list.now (asked a.extents a.eps a.resolution) a.mode a.out_vertices.now a.out_facets.now _
-    (sym c.check_edges.ensures ∙ c.in-Refused.is)
+    let p = err_from_is_err_and c.from_residual.result c.from_residual.ensures.1 in
+    rw (p.1, p.2)
+    (edges_refused a.vertices.now a.facets.now a.cap_list.now (asked a.extents a.eps a.resolution) a.mode a.out_vertices.now a.out_facets.now _
+    (sym c.check_edges.ensures ∙ c.in_err-check_edges.was))
