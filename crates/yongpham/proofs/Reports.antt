@@ -15,9 +15,6 @@ use Rattle.lists.proofs.Bools.{cond_true, cond_false}
 use Rattle.geometry.specs.declared.aabb.AABB.{AABB}
 use Rattle.refusals.specs.declared.refusal.Refusal.{Refusal}
 use Rattle.refusals.specs.declared.refusal.Refusal.TheVariants.{BadNumber}
-use Rattle.refusals.specs.declared.refusal.Checked.{Checked}
-use Rattle.refusals.specs.declared.refusal.Checked.TheVariants as checked
-use Rattle.refusals.specs.declared.reply.Reply.{Reply}
 use Rattle.refusals.specs.Refusals.{documented, documented_reply, Test, first_refusal, Passes, numbered, reply_to}
 use Rattle.refusals.specs.Answers.{Output, mesh_outputs, Answer, Answered}
 use Rattle.input_tests.specs.Front.{limits, list_tests}
@@ -67,24 +64,24 @@ module _ (ceiling : ℕ) (vs : List Float) (fs : List ℕ) (n : ℕ) where
   abbrev last : List Test
   last = (true, BadNumber) ∷ []
 
-  no_mode_passes : Passes lists → first_refusal (lists ++ last) ≡ checked.Refused BadNumber
+  no_mode_passes : Passes lists → first_refusal (lists ++ last) ≡ Err BadNumber
   no_mode_passes e = row_passed lists last e ∙ holds true BadNumber [] refl
 
-  pub no_mode_passed : (c : Checked) (r : ℕ) (ws : List ℕ) → c ≡ first_refusal lists → c ≡ checked.Passed → Reported (documented BadNumber) r ws → Reported
+  pub no_mode_passed : (c : Result (Unit {0}) Refusal) (r : ℕ) (ws : List ℕ) → c ≡ first_refusal lists → c ≡ Ok tt → Reported (documented BadNumber) r ws → Reported
       (reply_to (lists ++ last) []) r ws
-  no_mode_passed c r ws e p h = same_reply (documented BadNumber) _ r ws (ap (λ (x : Checked). numbered x []) (sym (no_mode_passes (sym e ∙ p)))) h
+  no_mode_passed c r ws e p h = same_reply (documented BadNumber) _ r ws (ap (λ (x : Result (Unit {0}) Refusal). numbered x []) (sym (no_mode_passes (sym e ∙ p)))) h
 
-  pub no_mode_refused : (c : Checked) (q : Refusal) (r : ℕ) (ws : List ℕ) → c ≡ first_refusal lists → c ≡ checked.Refused q → Reported (documented q) r ws → Reported
+  pub no_mode_refused : (c : Result (Unit {0}) Refusal) (q : Refusal) (r : ℕ) (ws : List ℕ) → c ≡ first_refusal lists → c ≡ Err q → Reported (documented q) r ws → Reported
       (reply_to (lists ++ last) []) r ws
-  no_mode_refused c q r ws e p h = same_reply (documented q) _ r ws (ap (λ (x : Checked). numbered x []) (sym (row_refused lists last q (sym e ∙ p)))) h
+  no_mode_refused c q r ws e p h = same_reply (documented q) _ r ws (ap (λ (x : Result (Unit {0}) Refusal). numbered x []) (sym (row_refused lists last q (sym e ∙ p)))) h
 
   -- one or the other
-  pub no_mode_is : (q : Refusal) × (first_refusal (lists ++ last) ≡ checked.Refused q)
+  pub no_mode_is : (q : Refusal) × (first_refusal (lists ++ last) ≡ Err q)
   no_mode_is = go (first_refusal lists) refl
     where
-      go : (c : Checked) → first_refusal lists ≡ c → (q : Refusal) × (first_refusal (lists ++ last) ≡ checked.Refused q)
-      go checked.Passed e = (BadNumber, no_mode_passes e)
-      go (checked.Refused q) e = (q, row_refused lists last q e)
+      go : (c : Result (Unit {0}) Refusal) → first_refusal lists ≡ c → (q : Refusal) × (first_refusal (lists ++ last) ≡ Err q)
+      go (Ok x) e = (BadNumber, no_mode_passes e)
+      go (Err q) e = (q, row_refused lists last q e)
 
 module _ (vs : List Float) (fs cap_list : List ℕ) (q : Asked) (mode ceiling : ℕ) (w w' : List ℕ) (v v' : List Float) (f f' : List ℕ) (r : ℕ) (ws : List ℕ) where
   abbrev tests : List Test
@@ -115,9 +112,9 @@ module _ (vs : List Float) (fs cap_list : List ℕ) (q : Asked) (mode ceiling : 
   caps_none h z a b g =
       let n = no_mode_is ceiling vs fs (length cap_list) in
       let t : no_mode_tests vs fs cap_list q mode ceiling ≡ tests = sym (cond_true (ltb 2 mode) (no_mode_tests vs fs cap_list q mode ceiling) _ _ (lt-ltb 2 mode h) refl) in
-      let e : first_refusal tests ≡ checked.Refused n.0 = ap first_refusal (sym t) ∙ n.1 in
+      let e : first_refusal tests ≡ Err n.0 = ap first_refusal (sym t) ∙ n.1 in
       let x = answered tests outs w w w' (documented n.0) (refused tests outs n.0 e (a, (b, tt))) refl z in
-      caps_called (documented n.0) x (same_reply _ (documented n.0) r ws (ap (λ (c : Checked). numbered c []) n.1) g)
+      caps_called (documented n.0) x (same_reply _ (documented n.0) r ws (ap (λ (c : Result (Unit {0}) Refusal). numbered c []) n.1) g)
 
   pub caps_reported : (x : BoundaryClosure) (m : Reply) → mode ≤ 2 → x ≡ mode_of mode → Capped vs fs cap_list q x ceiling m w w' v v' f f' → Reported (documented_reply m) r ws
       → CapsCalled vs fs cap_list q mode ceiling r ws w w' v v' f f'

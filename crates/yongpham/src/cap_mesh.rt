@@ -10,20 +10,18 @@ use caps::cap_mesh_to_aabb;
 use caps::mode::BoundaryClosure;
 use geometry::aabb::AABB;
 use input_tests::check_lists;
-use refusals::refusal::{Checked, Refusal};
+use refusals::refusal::Refusal;
 use refusals::report::{report_refusal, report_reply};
 use words::zero;
 
 fn mode_of(mode: u32) -> BoundaryClosure
     ensures { result ≡ mode_of mode }
 {
-    if mode == 0 {
-        return BoundaryClosure::None;
+    match mode {
+        0 => BoundaryClosure::None,
+        1 => BoundaryClosure::ClosePositive,
+        _ => BoundaryClosure::CloseNegative,
     }
-    if mode == 1 {
-        return BoundaryClosure::ClosePositive;
-    }
-    BoundaryClosure::CloseNegative
 }
 
 // Of a mode that is none: 4, after 1, 2 and 3.
@@ -37,8 +35,8 @@ fn refuse_mode(
     ensures { Reported (reply_to (list_tests ceiling vertices.now facets.now caps ++ (true, BadNumber) ∷ []) []) result values.new }
 {
     match check_lists(ceiling, vertices, facets, caps) {
-        Checked::Passed => report_refusal(values, Refusal::BadNumber),
-        Checked::Refused(refusal) => report_refusal(values, refusal),
+        Ok(()) => report_refusal(values, Refusal::BadNumber),
+        Err(refusal) => report_refusal(values, refusal),
     }
 }
 

@@ -1,14 +1,14 @@
 use Rattle.yongpham.proofs.Reports.{no_mode_passed, no_mode_refused}
 use Rattle.yongpham.proofs.cap_mesh.refuse_mode.Goals as goal
 
-pub returns-in-Passed : goal.returns-in-Passed
-returns-in-Passed c =
+pub returns-in-Ok : goal.returns-in-Ok
+returns-in-Ok c =
     let a = c.args in
-    no_mode_passed a.ceiling a.vertices.now a.facets.now a.caps _ _ _ c.check_lists.ensures c.in-Passed.is
+    no_mode_passed a.ceiling a.vertices.now a.facets.now a.caps _ _ _ c.check_lists.ensures c.in-Ok.is
     c.report_refusal.ensures
 
-pub returns-in-Refused : goal.returns-in-Refused
-returns-in-Refused c =
+pub returns-in-Err : goal.returns-in-Err
+returns-in-Err c =
     let a = c.args in
     no_mode_refused a.ceiling a.vertices.now a.facets.now a.caps _ _ _ _ c.check_lists.ensures
-    c.in-Refused.is c.report_refusal-in-Refused.ensures
+    c.in-Err.is c.report_refusal-in-Err.ensures
