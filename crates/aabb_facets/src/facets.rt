@@ -19,7 +19,8 @@ use geometry::triangle::{MeshTriangle, Triangle3};
 use geometry::vertices::{corner_at, facet_at, vertex_at};
 use words::put;
 
-// How many vertices and how many facet numbers have been made.
+// How many vertices and how many facet numbers have been made. The three lists that go with it stay parameters: a struct that holds `&mut` would need a
+// clause more in each function for each list, that it is still the caller's.
 #[derive(Clone, Copy)]
 pub struct Counts {
     pub vertices: usize,
@@ -126,8 +127,7 @@ fn put_fanned(
     }
 }
 
-// A facet that is not wholly inside. Not inlined, so that the loop over facets that are inside stays short.
-#[inline(never)]
+// A facet that is not wholly inside.
 fn cut_facet(
     vertices: &[f64],
     t: MeshTriangle,

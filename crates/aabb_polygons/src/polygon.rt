@@ -3,7 +3,7 @@
 ghost use Rattle.std.specs.Prelude.{◌≡◌, ◌+◌, ◌<◌, ◌≤◌, cond, List, [], ◌∷◌, ◌++◌, map, length, take};
 ghost use Rattle.geometry.specs.declared.point.Point.{Point as Corner};
 ghost use Rattle.geometry.specs.Boxes.{faces};
-ghost use Rattle.aabb_planes.specs.Planes.{face_of, snapped};
+ghost use Rattle.aabb_planes.specs.Planes.{face_of, inside, snapped};
 ghost use Rattle.aabb_polygons.specs.Polygons.{clip_to_plane, clip_polygon};
 ghost use Rattle.aabb_polygons.specs.Steps.{side_crossed, side_unsnapped, clip_unsnapped};
 
@@ -92,19 +92,30 @@ impl Polygon {
         }
     }
 
-    // What one side adds: a crossing, unless both ends are inside or both outside; and an inside corner, as it is.
+    // What one side adds: a crossing, unless both ends are inside or both outside; and an inside corner, as it is. Answers whether the corner is
+    // inside, so that the next side need not ask again.
     #[inline(always)]
-    fn add_side(&mut self, prev: Point, curr: Point, plane: BoxPlane, clip: Clip)
-        requires { length self.old + length (side_unsnapped clip.extents clip.eps (face_of plane) prev curr) ≤ 28 }
-        ensures { self.new ≡ self.old ++ side_unsnapped clip.extents clip.eps (face_of plane) prev curr }
+    fn add_side(
+        &mut self,
+        prev: Point,
+        prev_inside: bool,
+        curr: Point,
+        plane: BoxPlane,
+        clip: Clip,
+    ) -> bool
+        requires room { length self.old + length (side_unsnapped clip.extents clip.eps (face_of plane) prev curr) ≤ 28 }
+        requires prev { prev_inside ≡ inside clip.extents clip.eps (face_of plane) prev }
+        ensures corners { self.new ≡ self.old ++ side_unsnapped clip.extents clip.eps (face_of plane) prev curr }
+        ensures curr { result ≡ inside clip.extents clip.eps (face_of plane) curr }
     {
         let curr_inside = clip.point_inside_plane(curr, plane);
-        if curr_inside != clip.point_inside_plane(prev, plane) {
+        if curr_inside != prev_inside {
             self.add_crossing(prev, curr, plane, clip);
         }
         if curr_inside {
             self.push(curr);
         }
+        curr_inside
     }
 
     // "Walk from the last corner". Not inlined, so that what asks first whether the plane cuts at all is small enough to be inlined at each plane.
@@ -117,8 +128,9 @@ impl Polygon {
         let n = self.count;
         self.count = 0;
         let mut prev = corners[n - 1];
+        let mut prev_inside = clip.point_inside_plane(prev, plane);
         for curr in &corners[..n] {
-            self.add_side(prev, *curr, plane, clip);
+            prev_inside = self.add_side(prev, prev_inside, *curr, plane, clip);
             prev = *curr;
         }
     }
