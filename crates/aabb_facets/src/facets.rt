@@ -133,6 +133,7 @@ fn cut_facet(
     t: MeshTriangle,
     clip: Clip,
     polygon: &mut Polygon,
+    spare: &mut Polygon,
     out_vertices: &mut [f64],
     out_facets: &mut [u32],
     at: Counts,
@@ -148,7 +149,7 @@ fn cut_facet(
         b: vertex_at(vertices, t.b),
         c: vertex_at(vertices, t.c),
     };
-    polygon.clip_triangle(facet, clip);
+    polygon.clip_triangle(facet, clip, spare);
     put_fanned(polygon.corners(), out_vertices, out_facets, at)
 }
 
@@ -159,6 +160,7 @@ pub fn clip_facet(
     i: usize,
     clip: Clip,
     polygon: &mut Polygon,
+    spare: &mut Polygon,
     ids: &mut [u64],
     out_vertices: &mut [f64],
     out_facets: &mut [u32],
@@ -176,5 +178,14 @@ pub fn clip_facet(
     if all_marked(ids, t) {
         return share_facet(vertices, facets, i, clip, ids, out_vertices, out_facets, at);
     }
-    cut_facet(vertices, t, clip, polygon, out_vertices, out_facets, at)
+    cut_facet(
+        vertices,
+        t,
+        clip,
+        polygon,
+        spare,
+        out_vertices,
+        out_facets,
+        at,
+    )
 }
