@@ -19,7 +19,8 @@ use geometry::triangle::{MeshTriangle, Triangle3};
 use geometry::vertices::{corner_at, facet_at, vertex_at};
 use words::put;
 
-// How many vertices and how many facet numbers have been made.
+// How many vertices and how many facet numbers have been made. The three lists that go with it stay parameters: a struct that holds `&mut` would need a
+// clause more in each function for each list, that it is still the caller's.
 #[derive(Clone, Copy)]
 pub struct Counts {
     pub vertices: usize,
@@ -126,13 +127,13 @@ fn put_fanned(
     }
 }
 
-// A facet that is not wholly inside. Not inlined, so that the loop over facets that are inside stays short.
-#[inline(never)]
+// A facet that is not wholly inside.
 fn cut_facet(
     vertices: &[f64],
     t: MeshTriangle,
     clip: Clip,
     polygon: &mut Polygon,
+    spare: &mut Polygon,
     out_vertices: &mut [f64],
     out_facets: &mut [u32],
     at: Counts,
@@ -148,7 +149,7 @@ fn cut_facet(
         b: vertex_at(vertices, t.b),
         c: vertex_at(vertices, t.c),
     };
-    polygon.clip_triangle(facet, clip);
+    polygon.clip_triangle(facet, clip, spare);
     put_fanned(polygon.corners(), out_vertices, out_facets, at)
 }
 
@@ -159,6 +160,7 @@ pub fn clip_facet(
     i: usize,
     clip: Clip,
     polygon: &mut Polygon,
+    spare: &mut Polygon,
     ids: &mut [u64],
     out_vertices: &mut [f64],
     out_facets: &mut [u32],
@@ -176,5 +178,14 @@ pub fn clip_facet(
     if all_marked(ids, t) {
         return share_facet(vertices, facets, i, clip, ids, out_vertices, out_facets, at);
     }
-    cut_facet(vertices, t, clip, polygon, out_vertices, out_facets, at)
+    cut_facet(
+        vertices,
+        t,
+        clip,
+        polygon,
+        spare,
+        out_vertices,
+        out_facets,
+        at,
+    )
 }

@@ -11,6 +11,8 @@ use geometry::numbers::MeshVertexId;
 use geometry::triangle::MeshTriangle;
 use geometry::vertices::vertex_at;
 
+// Not inlined, so that the loop over the facets keeps its values in registers.
+#[inline(never)]
 pub fn mark_all(vertices: &[f64], clip: Clip, ids: &mut [u64])
     requires { 3 * length ids.old ≤ length vertices.now }
     ensures { ids.new ≡ mark_words vertices.now clip.extents clip.eps (length ids.old) [] }

@@ -35,6 +35,7 @@ impl<'a> Admitted<'a> {
     {
         let n = self.facets.len() / 3;
         let mut polygon = Polygon::new();
+        let mut spare = Polygon::new();
         let mut at = Counts {
             vertices: 0,
             numbers: 0,
@@ -46,6 +47,7 @@ impl<'a> Admitted<'a> {
                 i,
                 clip,
                 &mut polygon,
+                &mut spare,
                 ids,
                 out_vertices,
                 out_facets,

@@ -10,9 +10,9 @@ use mathlib.Core.List.{List, [], ◌∷◌, ◌++◌, map, append_assoc, append-
 use mathlib.Core.Path.{◌≡◌, refl, sym, ap, ◌∙◌}
 use native.Mathlib.Omega.{arith}
 use native.Mathlib.Numerals.{add-one}
-use lib.ListN.{get_or, drop, take, length, length-append, length-take}
+use lib.ListN.{get_or, drop, length, length-append}
 use lib.Seq.{drop-cons}
-use Rattle.std.proofs.lemmas.List.{get_or_default, get_or-take}
+use Rattle.std.proofs.lemmas.List.{get_or_default}
 use lib.Ieee.{Float}
 use lib.Dec.{ltb}
 use borrow.Author.Tests.{lt-ltb, le-ltb, not-true, not-false}
@@ -105,13 +105,6 @@ module _ (box : AABB) (eps : Float) (k : ℕ) (l : List Point) where
     pub walked_end : drop i l ≡ [] → out ≡ clip_unsnapped box eps k l
     unfolding walk_unsnapped
     walked_end e = sym (append-nil out) ∙ ap (λ (m : List Point). out ++ walk_unsnapped box eps k prev m) (sym e) ∙ w.rest
-
--- the last corner of the front of an array
-pub last_taken : (l : List Point) (n : ℕ) (d : Point) → 0 < n → n ≤ length l → get_or l (n - 1) d ≡ get_or (take n l) (length (take n l) - 1) d
-last_taken l n d z h =
-    let e : length (take n l) - 1 ≡ n - 1 = omega (arith, length-take n l) in
-    let lt : n - 1 < n = omega arith in
-    sym (ap (λ (k : ℕ). get_or (take n l) k d) e ∙ get_or-take n l (n - 1) d lt)
 
 -- ---- the loop over the planes
 pub most : ℕ → ℕ

@@ -3,7 +3,7 @@
 ghost use Rattle.std.specs.Prelude.{◌≡◌, ◌+◌, ◌<◌, ◌≤◌, cond, List, [], ◌∷◌, ◌++◌, map, length, take};
 ghost use Rattle.geometry.specs.declared.point.Point.{Point as Corner};
 ghost use Rattle.geometry.specs.Boxes.{faces};
-ghost use Rattle.aabb_planes.specs.Planes.{face_of, snapped};
+ghost use Rattle.aabb_planes.specs.Planes.{face_of, inside, snapped};
 ghost use Rattle.aabb_polygons.specs.Polygons.{clip_to_plane, clip_polygon};
 ghost use Rattle.aabb_polygons.specs.Steps.{side_crossed, side_unsnapped, clip_unsnapped};
 
@@ -71,6 +71,17 @@ impl Polygon {
         self.count += 1;
     }
 
+    // Corner by corner: with a copy of the whole array in place of this, clipping a soup of triangles took 1.16 times as long, not 1.04 to 1.08.
+    #[inline(never)]
+    fn copy_from(&mut self, other: &Polygon)
+        ensures { self.new ≡ other.now }
+    {
+        self.clear();
+        for p in other.corners() {
+            self.push(*p);
+        }
+    }
+
     // `snap_near_bbox` of each corner
     fn snap(&mut self, clip: Clip)
         ensures { self.new ≡ map (snapped clip.extents clip.eps) self.old }
@@ -92,40 +103,52 @@ impl Polygon {
         }
     }
 
-    // What one side adds: a crossing, unless both ends are inside or both outside; and an inside corner, as it is.
+    // What one side adds: a crossing, unless both ends are inside or both outside; and an inside corner, as it is. Answers whether the corner is
+    // inside, so that the next side need not ask again.
     #[inline(always)]
-    fn add_side(&mut self, prev: Point, curr: Point, plane: BoxPlane, clip: Clip)
-        requires { length self.old + length (side_unsnapped clip.extents clip.eps (face_of plane) prev curr) ≤ 28 }
-        ensures { self.new ≡ self.old ++ side_unsnapped clip.extents clip.eps (face_of plane) prev curr }
+    fn add_side(
+        &mut self,
+        prev: Point,
+        prev_inside: bool,
+        curr: Point,
+        plane: BoxPlane,
+        clip: Clip,
+    ) -> bool
+        requires room { length self.old + length (side_unsnapped clip.extents clip.eps (face_of plane) prev curr) ≤ 28 }
+        requires prev { prev_inside ≡ inside clip.extents clip.eps (face_of plane) prev }
+        ensures corners { self.new ≡ self.old ++ side_unsnapped clip.extents clip.eps (face_of plane) prev curr }
+        ensures curr { result ≡ inside clip.extents clip.eps (face_of plane) curr }
     {
         let curr_inside = clip.point_inside_plane(curr, plane);
-        if curr_inside != clip.point_inside_plane(prev, plane) {
+        if curr_inside != prev_inside {
             self.add_crossing(prev, curr, plane, clip);
         }
         if curr_inside {
             self.push(curr);
         }
+        curr_inside
     }
 
-    // "Walk from the last corner". Not inlined, so that what asks first whether the plane cuts at all is small enough to be inlined at each plane.
+    // "Walk from the last corner", into `out`. Not inlined, so that what asks first whether the plane cuts at all is small enough to be inlined at
+    // each plane.
     #[inline(never)]
-    fn walk_sides(&mut self, plane: BoxPlane, clip: Clip)
-        requires { (0 < length self.old) × (length self.old ≤ 19) }
-        ensures { self.new ≡ clip_unsnapped clip.extents clip.eps (face_of plane) self.old }
+    fn walk_sides(&self, plane: BoxPlane, clip: Clip, out: &mut Polygon)
+        requires { (0 < length self.now) × (length self.now ≤ 19) }
+        ensures { out.new ≡ clip_unsnapped clip.extents clip.eps (face_of plane) self.now }
     {
-        let corners = self.corners;
-        let n = self.count;
-        self.count = 0;
-        let mut prev = corners[n - 1];
-        for curr in &corners[..n] {
-            self.add_side(prev, *curr, plane, clip);
+        out.clear();
+        let corners = self.corners();
+        let mut prev = corners[corners.len() - 1];
+        let mut prev_inside = clip.point_inside_plane(prev, plane);
+        for curr in corners {
+            prev_inside = out.add_side(prev, prev_inside, *curr, plane, clip);
             prev = *curr;
         }
     }
 
-    // `clip_polygon_to_plane`, but that a corner that stays is not snapped.
+    // `clip_polygon_to_plane`, but that a corner that stays is not snapped. `spare` is scratch: its contents count for nothing.
     #[inline(always)]
-    pub fn clip_to_plane(&mut self, plane: BoxPlane, clip: Clip)
+    pub fn clip_to_plane(&mut self, plane: BoxPlane, clip: Clip, spare: &mut Polygon)
         requires { (0 < length self.old) × (length self.old ≤ 19) }
         ensures unsnapped { self.new ≡ clip_unsnapped clip.extents clip.eps (face_of plane) self.old }
         ensures if_snapped { map (snapped clip.extents clip.eps) self.old ≡ self.old → self.new ≡ clip_to_plane clip.extents clip.eps self.old (face_of plane) }
@@ -138,24 +161,25 @@ impl Polygon {
             self.clear();
             return;
         }
-        self.walk_sides(plane, clip);
+        self.walk_sides(plane, clip, spare);
+        self.copy_from(spare);
     }
 
     // A facet against all six planes, "in face order, stopping under three corners".
-    pub fn clip_triangle(&mut self, facet: Triangle3, clip: Clip)
+    pub fn clip_triangle(&mut self, facet: Triangle3, clip: Clip, spare: &mut Polygon)
         ensures { self.new ≡ clip_polygon clip.extents clip.eps faces (facet.a ∷ facet.b ∷ facet.c ∷ []) }
     {
         self.clear();
         self.push(facet.a);
         self.push(facet.b);
         self.push(facet.c);
-        self.clip_to_plane(BoxPlane::XMin, clip);
+        self.clip_to_plane(BoxPlane::XMin, clip, spare);
         self.snap(clip);
         for plane in &PLANES[1..] {
             if self.len() < 3 {
                 return;
             }
-            self.clip_to_plane(*plane, clip);
+            self.clip_to_plane(*plane, clip, spare);
         }
     }
 }

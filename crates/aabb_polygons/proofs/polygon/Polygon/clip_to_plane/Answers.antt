@@ -26,4 +26,4 @@ pub returns-then-not-any-clause-if_snapped : goal.returns-then-not-any-clause-if
 returns-then-not-any-clause-if_snapped c = λ s. returns-then-not-any-clause-unsnapped c ∙ unsnapped_same _ _ _ _ s
 
 pub returns-clause-if_snapped : goal.returns-clause-if_snapped
-returns-clause-if_snapped c = λ s. c.walk_sides.ensures ∙ unsnapped_same _ _ _ _ s
+returns-clause-if_snapped c = λ s. c.copy_from.ensures ∙ c.walk_sides.ensures ∙ unsnapped_same _ _ _ _ s

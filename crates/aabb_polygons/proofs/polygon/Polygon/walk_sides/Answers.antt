@@ -1,30 +1,38 @@
 use Rattle.std.proofs.Common.{arith}
 use mathlib.Core.List.{List}
 use mathlib.Core.Path.{refl, ap, ◌∙◌}
-use lib.ListN.{length, length-take, drop_of_length-le}
+use lib.ListN.{length, drop_of_length-le}
 use Rattle.geometry.specs.declared.point.Point.{Point}
 use Rattle.aabb_planes.specs.Planes.{face_of}
 use Rattle.aabb_polygons.specs.Steps.{clip_unsnapped}
-use Rattle.aabb_polygons.proofs.Walks.{walked_start, walked_room, walked_more, walked_end, last_taken}
+use Rattle.aabb_polygons.proofs.Walks.{walked_start, walked_room, walked_more, walked_end}
 use Rattle.aabb_polygons.proofs.polygon.Polygon.walk_sides.Goals as goal
 
 pub loop-curr-init : goal.loop-curr-init
 loop-curr-init c =
-    let few = c.requires in
-    let full = c.self.invariant in
-    let n = c.self.inside.count in
-    let l = c.self.inside.corners in
-    walked_start _ _ _ _ _ _ (omega (arith, ap length c.self.view_is)) (last_taken l n _ (omega (arith, ap length c.self.view_is, length-take n l)) (omega arith))
+    let some = c.requires.0 in
+    record {
+      walked = rw c.clear.ensures (walked_start _ _ _ _ _ _ (omega (arith, ap length c.corners-corners.ensures.all)) refl);
+      known = c.point_inside_plane-prev_inside.ensures;
+    }
 
-pub add_side-requires : goal.add_side-requires
-add_side-requires c =
+pub add_side-prev_inside-requires : goal.add_side-prev_inside-requires
+add_side-prev_inside-requires c =
     let few = c.requires in
-    walked_room _ _ _ _ _ _ _ c.loop-curr.invariant _ _ refl c.loop-curr-test.true (omega (arith, ap length c.self.view_is))
+    record {
+      room = walked_room _ _ _ _ _ _ _ c.loop-curr.invariant.walked _ _ refl c.loop-curr-test.true (omega (arith, ap length c.corners-corners.ensures.all));
+      prev = c.loop-curr.invariant.known;
+    }
 
 pub loop-curr-preserved : goal.loop-curr-preserved
-loop-curr-preserved c = walked_more _ _ _ _ _ _ _ c.loop-curr.invariant _ _ refl c.loop-curr-test.true _ c.add_side.ensures
+loop-curr-preserved c =
+    let side = c.add_side-prev_inside in
+    record {
+      walked = walked_more _ _ _ _ _ _ _ c.loop-curr.invariant.walked _ _ refl c.loop-curr-test.true _ side.ensures.corners;
+      known = side.ensures.curr;
+    }
 
 pub returns : goal.returns
 returns c =
-    walked_end _ _ _ _ _ _ _ c.loop-curr.invariant (drop_of_length-le _ {i = c.loop-curr.curr-index} (omega arith))
-    ∙ ap (λ (l : List Point). clip_unsnapped c.args.clip.extents c.args.clip.eps (face_of c.args.plane) l) c.self.view_is
+    walked_end _ _ _ _ _ _ _ c.loop-curr.invariant.walked (drop_of_length-le _ {i = c.loop-curr.curr-index} (omega arith))
+    ∙ ap (λ (l : List Point). clip_unsnapped c.args.clip.extents c.args.clip.eps (face_of c.args.plane) l) c.corners-corners.ensures.all

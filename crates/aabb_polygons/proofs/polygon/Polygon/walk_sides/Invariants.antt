@@ -1,6 +1,11 @@
-use Rattle.aabb_planes.specs.Planes.{face_of}
+use mathlib.Core.Path.{◌≡◌}
+use Rattle.aabb_planes.specs.Planes.{face_of, inside}
 use Rattle.aabb_polygons.proofs.Walks.{Walked}
 use Rattle.aabb_polygons.proofs.polygon.Polygon.walk_sides.Given as goal
 
 abbrev pub invariant-loop-curr : goal.invariant-loop-curr
-invariant-loop-curr l = Walked l.clip.extents l.clip.eps (face_of l.plane) l.initial.curr-items l.self l.prev l.curr-index
+invariant-loop-curr l =
+    record {
+      walked : Walked l.clip.extents l.clip.eps (face_of l.plane) l.corners l.out l.prev l.curr-index;
+      known : l.prev_inside ≡ inside l.clip.extents l.clip.eps (face_of l.plane) l.prev;
+    }
