@@ -14,23 +14,19 @@ use page::Page;
 use std::io;
 use std::io::Write;
 
-fn print_line<W: Write>(page: &mut Page<W>, name: &[u8], ok: bool) {
-    page.text(name);
-    if ok {
-        page.text(b"\tok\n");
-    } else {
-        page.text(b"\tbad\n");
-    }
+fn print_line<W: Write>(page: &mut Page<W>, name: &str, ok: bool) {
+    let outcome = if ok { "ok" } else { "bad" };
+    writeln!(page, "{name}\t{outcome}");
 }
 
 fn main(rt: HostRuntime) -> io::Result<()> {
     let mut page = Page::new(io::writer(&rt));
-    print_line(&mut page, b"C2", c2());
-    print_line(&mut page, b"C3b", c3b());
-    print_line(&mut page, b"C8", c8());
-    print_line(&mut page, b"C10", c10());
-    print_line(&mut page, b"C13", c13());
-    print_line(&mut page, b"C14", c14());
-    print_line(&mut page, b"C15", c15());
+    print_line(&mut page, "C2", c2());
+    print_line(&mut page, "C3b", c3b());
+    print_line(&mut page, "C8", c8());
+    print_line(&mut page, "C10", c10());
+    print_line(&mut page, "C13", c13());
+    print_line(&mut page, "C14", c14());
+    print_line(&mut page, "C15", c15());
     page.finish()
 }

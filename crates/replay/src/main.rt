@@ -21,26 +21,22 @@ use page::Page;
 use std::io::Write;
 use std::{fs, io};
 
-fn print_line<W: Write>(page: &mut Page<W>, name: &[u8], tally: Tally) {
-    page.text(name);
-    page.text(b"\t");
-    page.number(tally.requests);
-    page.text(b"\t");
-    page.number(tally.agreeing);
-    page.text(b"\n");
+fn print_line<W: Write>(page: &mut Page<W>, name: &str, tally: Tally) {
+    let Tally { requests, agreeing } = tally;
+    writeln!(page, "{name}\t{requests}\t{agreeing}");
 }
 
 fn replay<W: Write>(page: &mut Page<W>, file: &[u64]) {
     if !are_answers(file) {
-        page.text(b"malformed\n");
+        writeln!(page, "malformed");
         return;
     }
-    print_line(page, b"tolerance", count(file, 1));
-    print_line(page, b"clip", count(file, 2));
-    print_line(page, b"clean", count(file, 3));
-    print_line(page, b"candidates", count(file, 4));
-    print_line(page, b"caps", count(file, 5));
-    print_line(page, b"boundary_components", count(file, 6));
+    print_line(page, "tolerance", count(file, 1));
+    print_line(page, "clip", count(file, 2));
+    print_line(page, "clean", count(file, 3));
+    print_line(page, "candidates", count(file, 4));
+    print_line(page, "caps", count(file, 5));
+    print_line(page, "boundary_components", count(file, 6));
 }
 
 fn main(rt: HostRuntime) -> io::Result<()> {
