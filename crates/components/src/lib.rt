@@ -18,6 +18,7 @@ fn find(w: &mut [u64], at: usize, n: usize, x: usize) -> usize
 {
     let mut r = x;
     let mut p = w[at + r] as usize;
+    // along links, whose number is not known: no index is counted
     while p != r {
         let q = w[at + p];
         w[at + r] = q;

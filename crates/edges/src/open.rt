@@ -15,6 +15,7 @@ pub fn keep_open(w: &mut [u64], n: usize) -> usize
 {
     let mut k = 0;
     let mut i = 0;
+    // from run to run: a `for` would count single records
     while i < n {
         let end = records::run_end(w, 0, n, i);
         let key = w[2 * i];

@@ -38,6 +38,7 @@ pub fn irregular_edges(facets: &[u32], w: &mut [u64], at: usize) -> usize
     let n = facets.len();
     let mut q = 0;
     let mut i = 0;
+    // from run to run: a `for` would count single records
     while i < n {
         let e = run_end(w, 0, n, i);
         if is_irregular(facets, w, i, e) {

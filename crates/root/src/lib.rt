@@ -79,6 +79,7 @@ fn root_small(t: u64) -> u64
 {
     let mut d: u64 = t;
     let mut e: u64 = 1074;
+    // until it is large enough: no index is counted
     while d < LEAD {
         d = d * 2;
         e = e - 1;
