@@ -9,7 +9,8 @@ use lib.ListN.{length, get_or, replicate, length-replicate}
 use lib.Ieee.{Float}
 use Rattle.root.specs.Doubles.{zero_f, one_f}
 use Rattle.geometry.specs.declared.aabb.AABB.{AABB}
-use Rattle.refusals.specs.declared.reply.Reply.{Reply}
+use Rattle.std.specs.Prelude.{Result}
+use Rattle.refusals.specs.declared.refusal.Refusal.{Refusal}
 use Rattle.refusals.specs.Refusals.{documented_reply, settle}
 use Rattle.refusals.specs.Answers.{reply_in, Answered}
 use Rattle.refusals.specs.Reports.{Reported}
@@ -24,7 +25,7 @@ use Rattle.cases.specs.Cleaning.{values_of}
 zeros : length (replicate {A = ℕ} 8192 0) ≡ 8192
 zeros = length-replicate {A = ℕ} 8192 0
 
-module _ (vs : List Float) (fs : List ℕ) (q : Asked) (m : Reply) (w w' c c' l' k' e' : List ℕ) (r : ℕ) (ws : List ℕ) where
+module _ (vs : List Float) (fs : List ℕ) (q : Asked) (m : Result (List ℕ) Refusal) (w w' c c' l' k' e' : List ℕ) (r : ℕ) (ws : List ℕ) where
   pub listing : Answered (candidates_tests vs fs q (limits mesh_ceiling (length w))) (candidate_outputs (candidates_result vs fs q) c c'
       (replicate 8192 0) l' (replicate 8192 0) k' (replicate 8192 0) e') w w' (documented_reply m)
       → Reported (documented_reply m) r ws → Listing vs fs q (length w) r ws c c'

@@ -8,14 +8,15 @@ use lib.Ieee.{Float}
 use Rattle.root.specs.Doubles.{zero_f}
 use Rattle.geometry.specs.Triangles.{flat}
 use Rattle.geometry.specs.Meshes.{coordinates, mesh_lengths}
-use Rattle.refusals.specs.declared.reply.Reply.{Reply}
+use Rattle.std.specs.Prelude.{Result}
+use Rattle.refusals.specs.declared.refusal.Refusal.{Refusal}
 use Rattle.refusals.specs.Refusals.{documented_reply, settle}
 use Rattle.refusals.specs.Answers.{reply_in}
 use Rattle.input_tests.specs.Front.{mesh_ceiling, limits}
 use Rattle.mesh_cleanup.specs.Clean.{CleanAsked, clean_tests, clean_result, Cleaned}
 use Rattle.cases.specs.Cleaning.{is_mesh, is_key_range, reply_in_room, cleans_to, has_far_key}
 
-module _ (vs : List Float) (fs : List ℕ) (q : CleanAsked) (reply : Reply) (w w' : List ℕ) (v' : List Float) (f' : List ℕ) (long : length w ≡ 2048) where
+module _ (vs : List Float) (fs : List ℕ) (q : CleanAsked) (reply : Result (List ℕ) Refusal) (w w' : List ℕ) (v' : List Float) (f' : List ℕ) (long : length w ≡ 2048) where
   answer : Cleaned vs fs q mesh_ceiling reply w w' (replicate 12 zero_f) v' (replicate 6 0) f' → documented_reply reply ≡ reply_in_room vs fs q
   answer h = h.answered.answer.replied ∙ ap (λ (n : ℕ). reply_in (clean_tests vs fs q (limits mesh_ceiling n)) (mesh_lengths (clean_result vs fs q)) (12 ∷ 6 ∷ [])) long
 

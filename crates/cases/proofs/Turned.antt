@@ -23,7 +23,8 @@ use Rattle.lists.proofs.Places.{length_up, at_map_up}
 use Rattle.geometry.specs.declared.aabb.AABB.{AABB}
 use Rattle.geometry.specs.Triangles.{flat}
 use Rattle.geometry.specs.Meshes.{coordinates, mesh_lengths}
-use Rattle.refusals.specs.declared.reply.Reply.{Reply}
+use Rattle.std.specs.Prelude.{Result}
+use Rattle.refusals.specs.declared.refusal.Refusal.{Refusal}
 use Rattle.refusals.specs.Refusals.{documented_reply, settle}
 use Rattle.refusals.specs.Answers.{reply_in}
 use Rattle.input_tests.specs.Front.{mesh_ceiling, limits}
@@ -88,7 +89,7 @@ module _ (vs : List Float) (fs stated : List ℕ) (i : ℕ) (e : has_facets vs f
   unfolding has_facets
   corner_end h = row_end states 36 i e h
 
-module _ (mode : BoundaryClosure) (l : List ℕ) (b : AABB) (reply : Reply) (w w' : List ℕ) (v' : List Float) (f' : List ℕ) (e : b ≡ box_to one_f one_f one_f) (long : length w ≡ 8192)
+module _ (mode : BoundaryClosure) (l : List ℕ) (b : AABB) (reply : Result (List ℕ) Refusal) (w w' : List ℕ) (v' : List Float) (f' : List ℕ) (e : b ≡ box_to one_f one_f one_f) (long : length w ≡ 8192)
   where
     pub capped_to : Capped square_at_half two_facets l (asked b 1e-10 one_f) mode mesh_ceiling reply w w' (replicate 24 zero_f) v' (replicate 36 0) f' → (stated : List ℕ)
         → is_half (documented_reply reply) v' f' stated ≡ closes_to mode l stated

@@ -17,7 +17,7 @@ const FINE: f64 = 0.00000095367431640625;
 
 // The reply is a mesh of these lengths, and the outputs begin with it.
 fn is_mesh(
-    reply: Reply,
+    reply: Reply<2>,
     vertices: &[f64],
     facets: &[u32],
     stated_vertices: &[f64],
@@ -42,7 +42,7 @@ fn is_mesh(
 }
 
 // 8
-fn is_key_range(reply: Reply) -> bool
+fn is_key_range(reply: Reply<2>) -> bool
     ensures { result ≡ is_key_range (documented_reply reply) }
 {
     let mut values = [0u64; 4];

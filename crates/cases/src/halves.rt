@@ -119,7 +119,7 @@ fn has_facets(vertices: &[f64], facets: &[u32; 36], stated: &[usize; 36]) -> boo
 }
 
 // The reply is eight vertices and twelve facets, the stated ones.
-fn is_half(reply: Reply, vertices: &[f64], facets: &[u32; 36], stated: &[usize; 36]) -> bool
+fn is_half(reply: Reply<2>, vertices: &[f64], facets: &[u32; 36], stated: &[usize; 36]) -> bool
     ensures { result ≡ is_half (documented_reply reply) vertices.now facets.now stated.now }
 {
     let mut values = [0u64; 4];
