@@ -10,13 +10,12 @@ use mathlib.Core.List.{List, [], ◌∷◌, map}
 use mathlib.Core.Path.{◌≡◌, sym, ap, ◌∙◌}
 use borrow.Author.Tests.{ltb-false, lt-ltb, le-ltb}
 use lib.Dec.{ltb}
-use lib.ListN.{length, replicate, length-replicate, length-map}
+use lib.ListN.{length, replicate, length-map}
 use lib.Ieee.{Float}
 use Rattle.lists.specs.Lists.{every}
 use Rattle.lists.specs.Regions.{view}
 use Rattle.lists.proofs.Regions.{view_length}
 use Rattle.words.specs.Overlay.{overlay}
-use Rattle.words.proofs.Overlay.{overlay_whole}
 use Rattle.geometry.specs.Triangles.{flat}
 use Rattle.geometry.specs.Meshes.{Mesh, coordinates, vertex_of}
 use Rattle.geometry.proofs.Meshes.{length_coordinates}

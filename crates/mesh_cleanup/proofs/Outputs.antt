@@ -46,10 +46,6 @@ module _ (vs : List Float) (order : List ℕ) where
   vertices_start old h = writing_start (coordinates points) old (let e = flat_long in omega arith)
 
   module _ (old out : List Float) (k : ℕ) (R : Writing (coordinates points) old out (3 * k)) (h : k < length order) where
-    -- there is room for vertex k
-    pub vertex_room : 3 * k + 2 < length out
-    vertex_room = let a = flat_long in let b = R.room in let c = R.same in omega arith
-
     three_stores : (p : Point) → p ≡ vertex_of vs (get_or order k 0) → Writing (coordinates points) old (set (set (set out (3 * k) p.x) (3 * k + 1) p.y) (3 * k + 2) p.z) (3 * (k + 1))
     three_stores p e =
         let c = coordinates_at points k nan (let l = length-map order (vertex_of vs) in omega arith) in

@@ -139,6 +139,7 @@ fn write_vertices(order: &[u64], vertices: &[f64], out: &mut [f64])
     }
 }
 
+// Beside `write_vertices`: one function for both would be passed the closure that is its whole body.
 fn write_numbers(numbers: &[u64], out: &mut [u32])
     requires room { length numbers.now ≤ length out.old }
     requires small { (j : ℕ) → j < length numbers.now → get_or numbers.now j 0 < 196609 }

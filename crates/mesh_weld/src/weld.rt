@@ -19,7 +19,7 @@ fn keep(m: &mut [u64], n: usize, count: usize, v: MeshVertexId, c: Cell)
     write_three(m, 11 * n + 3 * count, c.x, c.y, c.z);
 }
 
-// Welds the vertex v; how many are kept then.
+// Welds the vertex v; how many are kept then. The room is written between two searches, so that `Kept`, which only reads it, is made anew for each.
 fn weld_vertex(
     m: &mut [u64],
     vs: &[f64],
