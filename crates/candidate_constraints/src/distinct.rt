@@ -15,6 +15,7 @@ pub fn keep_distinct(w: &mut [u64], room: Room, c: usize, total: usize) -> usize
     let at = room.constraints_at();
     let mut t = total;
     let mut i = 0;
+    // from run to run, so no `for`
     while i < c {
         let end = run_end(w, pairs, c, i);
         let key = w[pairs + 2 * i];

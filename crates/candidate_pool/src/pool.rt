@@ -120,6 +120,7 @@ fn push_face(w: &mut [u64], room: Room, id: CandidateVertexId, face: usize, eps:
     w[face] = k as u64 + 1;
 }
 
+// A loop, since a closure called for each face would borrow the room, and a proof would not know what it wrote.
 fn push_faces(w: &mut [u64], room: Room, id: CandidateVertexId, mask: u64, eps: f64)
     requires holds { Holds eps room.n w.old }
     requires id_bound { id.0 < count_at w.old }
