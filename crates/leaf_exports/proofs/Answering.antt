@@ -1,9 +1,10 @@
 -- One answer more; and what the tests of the exports give.
-use Prim.Native.Nat.{ℕ, ◌+◌, ◌*◌, ◌/◌, ◌≤◌, ◌<◌}
+use Prim.Native.Nat.{ℕ, zero, suc, ◌+◌, ◌*◌, ◌/◌, ◌≤◌, ◌<◌}
 use native.Mathlib.Omega.{arith}
 use native.Mathlib.Decide.{ℕ_discrete}
 use native.Mathlib.Nat.{le-div_iff_mul-le}
-use mathlib.Core.Path.{◌≡◌, ◌∙◌}
+use mathlib.Core.Bool.{Bool}
+use mathlib.Core.Path.{◌≡◌, refl, ◌∙◌}
 use mathlib.Core.List.{List}
 use lib.Dec.{eqb}
 use lib.ListN.{get_or, set, length}
@@ -11,7 +12,9 @@ use lib.Seq.{get_or-set_same, get_or-set_other}
 use Rattle.lists.specs.Regions.{view}
 use Rattle.lists.proofs.Regions.{view_length, view_at}
 use Rattle.components.specs.Table.{LabelsBelow}
-use Rattle.chains.specs.Links.{link_to}
+use Rattle.std.specs.Prelude.{IfSome}
+use Rattle.chains.specs.Links.{id_in, link_to}
+use Rattle.chains.proofs.Firsts.{link_found}
 use Rattle.leaf_exports.specs.Exports.{BelowUpTo, LinksFound}
 
 pub answers_more : (keys asked found : List ℕ) (i v : ℕ) → i < length found → LinksFound keys asked found i → v ≡ link_to (eqb (get_or asked i 0)) keys
@@ -28,3 +31,17 @@ labels_below w at e m fits f t h = let l = view_length w at e fits in rw (view_a
 -- as many items as the room has labels for
 pub labels_fit : (n k room : ℕ) → 0 < k → n ≤ room / k → n * k ≤ room
 labels_fit n k room p h = (le-div_iff_mul-le p).0 h
+
+-- a place as a link: the link is known by it, and small where the list is short
+pub same_link : (u v : ℕ) → id_in u ≡ id_in v → u ≡ v
+same_link zero zero e = refl
+same_link zero (suc v) e = cc
+same_link (suc u) zero e = cc
+same_link (suc u) (suc v) e = cc
+
+pub place_small : (t : ℕ → Bool) (l : List ℕ) (n : ℕ) → length l < n → IfSome (id_in (link_to t l)) (λ k. k < n)
+place_small t l n h = go (link_to t l) refl
+  where
+    go : (v : ℕ) → link_to t l ≡ v → IfSome (id_in v) (λ k. k < n)
+    go zero e = tt
+    go (suc k) e = let b = (link_found t 0 l k e).0 in omega arith

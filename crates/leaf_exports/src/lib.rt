@@ -2,10 +2,10 @@
 // root, length, rounding and cell key on any bit pattern, the root of a whole number; clearing and sorting; components and chains. None has a `requires`: what a table asks is tested first.
 #![tactic(auto)]
 
-ghost use Rattle.std.specs.Prelude.{false, true, ◌≡◌, ℕ, ◌*◌, ◌+◌, ◌/◌, ◌<◌, ◌≤◌, eqb, get_or, length, replicate};
+ghost use Rattle.std.specs.Prelude.{false, true, ◌≡◌, ℕ, ◌*◌, ◌+◌, ◌/◌, ◌<◌, ◌≤◌, eqb, get_or, length, replicate, IfSome, ◌^◌};
 ghost use Rattle.chains.specs.ByWord.{word_bucket};
 ghost use Rattle.chains.specs.Chains.{Linked};
-ghost use Rattle.chains.specs.Links.{link_to};
+ghost use Rattle.chains.specs.Links.{id_in, link_to};
 ghost use Rattle.components.specs.Table.{ComponentTable};
 ghost use Rattle.leaf_exports.specs.Exports.{LinksFound, BelowUpTo, RootOr, LengthOr, in_reach};
 ghost use Rattle.lists.specs.Regions.{view};
@@ -33,8 +33,8 @@ pub extern "C" fn export_sqrt(x: f64) -> f64
 fn in_reach(x: f64) -> bool
     ensures { result ≡ in_reach x }
 {
-    let bound: f64 = f64::from_bits(9205357638345293824);
-    if -bound <= x { x <= bound } else { false }
+    let bound = f64::from_bits(0x7fc0_0000_0000_0000);
+    -bound <= x && x <= bound
 }
 
 // The length of a segment with the extents x and y; x itself where one of them is a NaN or beyond 2^1021.
@@ -96,12 +96,7 @@ fn all_below(w: &[u64], at: usize, e: usize, m: usize) -> bool
     requires { at + e ≤ length w.now }
     ensures { result ≡ true → BelowUpTo w.now at e m }
 {
-    for t in 0..e {
-        if w[at + t] as usize >= m {
-            return false;
-        }
-    }
-    true
+    w[at..at + e].iter().all(|word| (*word as usize) < m)
 }
 
 // The components of n items, whose labels stand behind the table, which is at the front of w.
@@ -130,6 +125,17 @@ pub extern "C" fn table_components(w: &mut [u64], n: usize, k: usize, m: usize) 
     }
 }
 
+// A place, or none, as a word: 0 for none, else the place and 1.
+fn link(place: Option<usize>) -> u64
+    requires { IfSome place (λ k. k < 2 ^ 63) }
+    ensures { place ≡ id_in result }
+{
+    match place {
+        Some(k) => k as u64 + 1,
+        None => 0,
+    }
+}
+
 // Answers each word asked for by its link.
 fn answer(m: &[u64], nb: usize, keys: &[u64], asked: &[u64], found: &mut [u64])
     requires nb_nonzero { 0 < nb }
@@ -138,8 +144,8 @@ fn answer(m: &[u64], nb: usize, keys: &[u64], asked: &[u64], found: &mut [u64])
     requires asked_in_bounds { length asked.now ≤ length found.old }
     ensures { LinksFound keys.now asked.now found.new (length asked.now) }
 {
-    for i in 0..asked.len() {
-        found[i] = chains::find_word(m, 0, nb, keys, asked[i]);
+    for (i, word) in asked.iter().enumerate() {
+        found[i] = link(chains::find_word(m, 0, nb, keys, *word));
     }
 }
 

@@ -1,5 +1,5 @@
 use mathlib.Core.Path.{◌≡◌}
-use Prim.Native.Nat.{◌≤◌, ◌-◌}
+use Prim.Native.Nat.{◌≤◌}
 use lib.ListN.{length}
 use Rattle.leaf_exports.specs.Exports.{LinksFound}
 use Rattle.leaf_exports.proofs.answer.Given as goal

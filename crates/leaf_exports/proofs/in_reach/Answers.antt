@@ -1,4 +1,4 @@
-use mathlib.Core.Path.{sym, ap}
+use mathlib.Core.Path.{sym, ap, ◌∙◌}
 use mathlib.Core.Bool.{Bool, ◌&&◌}
 use lib.Ieee.{le, nan_bits}
 use Rattle.root.specs.Doubles.{bits}
@@ -15,4 +15,4 @@ returns-then-bound-x c = sym (ap (λ (b : Bool). b && le c.args.x (bits 0x7fc0_0
 
 pub returns-else-bound-x : goal.returns-else-bound-x
 unfolding in_reach
-returns-else-bound-x c = sym (ap (λ (b : Bool). b && le c.args.x (bits 0x7fc0_0000_0000_0000)) c.if-bound-x.false)
+returns-else-bound-x c = c.if-bound-x.false ∙ sym (ap (λ (b : Bool). b && le c.args.x (bits 0x7fc0_0000_0000_0000)) c.if-bound-x.false)
