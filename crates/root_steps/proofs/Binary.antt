@@ -134,10 +134,10 @@ on_ok : {T E : Type 0} (r : Result T E) {P Q : Type 0} → (P → Q) → OnOk r 
 on_ok (Ok x) f p = f p
 on_ok (Err e) f p = tt
 
-pub row_written : {T E : Type 0} (r : Result T E) (old new o : Option (List ℕ)) (label end : List ℕ) (n width : ℕ) → n < 2 ^ 64 → 0 < width
+pub row_written : {T E : Type 0} (r : Result T E) (old new o : Option (List ℕ)) (label end : List ℕ) (n width : ℕ) → n < 2 ^ 64
     → o ≡ Some (replicate (width - length (digits 2 false n)) 32 ++ digits 2 false n) → OnOk r (IfSome (Some label ++? (o ++? Some end)) (Appends old new))
     → OnOk r (RowWritten old new label n width end)
-row_written r old new o label end n width small positive e h =
+row_written r old new o label end n width small e h =
     on_ok r row (subst (λ (x : Option (List ℕ)). OnOk r (IfSome (Some label ++? (x ++? Some end)) (Appends old new))) e h)
   where
     done_n : Done (digits 2 false n) n
@@ -151,6 +151,6 @@ row_written r old new o label end n width small positive e h =
       text = replicate (width - length (digits 2 false n)) 32 ++ digits 2 false n;
       spelled = with_spaces n (width - length (digits 2 false n)) (digits 2 false n) done_n;
       wide = omega (arith, long);
-      fits = λ b. omega (arith, long, no_longer n (digits 2 false n) width done_n positive b);
+      fits = λ positive b. omega (arith, long, no_longer n (digits 2 false n) width done_n positive b);
       written = a;
     }

@@ -1,7 +1,7 @@
 -- A number in base two as text. Assumes nothing.
 --   glyph       the last digit of q as a byte; of 0 the byte `blank`
 --   Spelled     the digits of n stand right in the text, with spaces in front: j places before the last stands the digit of 2 ^ j
---   RowWritten  such a text was written between two others, right in a field of `width` places, which it fills where n has no more digits
+--   RowWritten  such a text was written between two others, right in a field of `width` places, which it fills where n has no more digits. One digit at least is written
 use Rattle.std.specs.Prelude.{◌≡◌, List, cond, ℕ, ◌+◌, ◌/◌, ◌%◌, ◌^◌, ◌≤◌, ◌<◌, ◌++◌, eqb, length, get_or, Option}
 use Rattle.std.specs.Io.KnownBytes.{Appends}
 
@@ -16,5 +16,5 @@ pub record RowWritten (old new : Option (List ℕ)) (label : List ℕ) (n width 
   pub text : List ℕ
   pub spelled : Spelled text n
   pub wide : width ≤ length text
-  pub fits : n < 2 ^ width → length text ≡ width
+  pub fits : 0 < width → n < 2 ^ width → length text ≡ width
   pub written : Appends old new (label ++ (text ++ end))

@@ -1,5 +1,5 @@
 // A number in base two as text.
-ghost use Rattle.std.specs.Prelude.{IsOk, OnOk, ◌<◌};
+ghost use Rattle.std.specs.Prelude.{IsOk, OnOk};
 ghost use Rattle.root_steps.specs.Spelling.{RowWritten};
 
 use page::Page;
@@ -7,7 +7,6 @@ use std::io::Write;
 
 // Writes n in base two between two texts, right in a field of `width` places.
 pub fn print_row<W: Write>(page: &mut Page<W>, label: &str, n: u64, width: usize, end: &str)
-    requires { 0 < width }
     ensures before { OnOk page.new.written (IsOk page.old.written) }
     ensures row { OnOk page.new.written (RowWritten (W.contents page.old.writer) (W.contents page.new.writer) label.now n width end.now) }
 {

@@ -16,7 +16,7 @@ fn print_step<W: Write>(
     before: Drawing,
     after: Drawing,
 )
-    requires { (before.root < 2 ^ 61) × (pair < 4) × (0 < width) }
+    requires { (before.root < 2 ^ 61) × (pair < 4) }
 {
     write!(page, "step {step:>2}  {pair:02b}");
     let brought_down = (before.rest << 2) + pair;
@@ -64,7 +64,7 @@ pub fn print_steps<W: Write>(
     done: u64,
     width: usize,
 ) -> Drawing
-    requires { (pairs ≤ 32) × (word < 2 ^ (2 * pairs)) × (s.root < 2 ^ 30) × (done < 2 ^ 32) × (0 < width) }
+    requires { (pairs ≤ 32) × (word < 2 ^ (2 * pairs)) × (s.root < 2 ^ 30) × (done < 2 ^ 32) }
     ensures { Appended pairs word s.root s.rest result.root result.rest }
 {
     let mut drawing = s;

@@ -9,7 +9,7 @@ use Rattle.root_steps.proofs.spelling.print_row.Goals as goal
 
 pub returns-clause-row : goal.returns-clause-row
 returns-clause-row g c =
-    row_written c.write.new.self.written _ _ _ c.args.label.now c.args.end.now c.args.n c.args.width (omega arith) c.requires
+    row_written c.write.new.self.written _ _ _ c.args.label.now c.args.end.now c.args.n c.args.width (omega arith)
     ((λ t.
     option_map (padded_integral (c.laid_out.ensures t) false (shown_prefix (c.laid_out.ensures t) (radix_prefix c.in_radix.result.base))) (c.in_radix.ensures t))
     ∙ ap Some (in_field c.args.width 18446744073709551615 (digits 2 false c.args.n))) c.write.ensures.appends

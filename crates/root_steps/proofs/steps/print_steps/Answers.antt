@@ -11,7 +11,7 @@ pub print_step-requires : goal.print_step-requires
 print_step-requires o c =
     let p = c.requires in
     let a = down_asks c.loop-left.invariant p.2 p.0 c.loop-left-test.true in
-    (a.0, a.1, p.4)
+    (a.0, a.1)
 
 pub loop-left-preserved : goal.loop-left-preserved
 loop-left-preserved o c = down_step c.loop-left.invariant c.loop-left-test.true c.draw-next.ensures
