@@ -116,7 +116,7 @@ module _ (vs : List Float) (fs cap_list : List ℕ) (q : Asked) (mode ceiling : 
       let x = answered tests outs w w w' (documented n.0) (refused tests outs n.0 e (a, (b, tt))) refl z in
       caps_called (documented n.0) x (same_reply _ (documented n.0) r ws (ap (λ (c : Result (Unit {0}) Refusal). numbered c []) n.1) g)
 
-  pub caps_reported : (x : BoundaryClosure) (m : Reply) → mode ≤ 2 → x ≡ mode_of mode → Capped vs fs cap_list q x ceiling m w w' v v' f f' → Reported (documented_reply m) r ws
+  pub caps_reported : (x : BoundaryClosure) (m : Result (List ℕ) Refusal) → mode ≤ 2 → x ≡ mode_of mode → Capped vs fs cap_list q x ceiling m w w' v v' f f' → Reported (documented_reply m) r ws
       → CapsCalled vs fs cap_list q mode ceiling r ws w w' v v' f f'
   caps_reported x m h e c g =
       let k = subst (λ (y : BoundaryClosure). Capped vs fs cap_list q y ceiling m w w' v v' f f') e c in
