@@ -139,7 +139,7 @@ pub record WorkedBlocks : Type 0 where
 
 pub computed : WorkedBlocks
 unfolding place insert_by sort_by distinct_from up_from flat_map magnitude within larger clamped before half_up rounded key beyond far_key ceil whole_up
-    rounding.segments_over along threes segments grid_line grid_size first key_of same_key same_pair pair_before open_edges documented first_refusal ragged too_many admitted bad_index in_range
+    rounding.segments_over along threes segments grid_line grid_size key_of same_key same_pair pair_before open_edges documented first_refusal ragged too_many admitted bad_index in_range
     eps_in_range resolution_in_range box_in_range bad_box grid_too_fine work_need far_keys room_tests project face_bits on_face faces_of face_sides between_ends along_side on_side by_key renewed
     listed number_for insert grid_point skipped grid_at face_grid grid consecutive side_order edge_places face_constraints enter_edge edge_surface corner_vertices mesh_pool candidates
     candidate_words list_words closure_tests stray_edge edge_tests no_two_ends candidates_result of_bits to_bits of_int round add sub mul div neg lt le eq

@@ -173,7 +173,7 @@ pub record Rules : Type 0 where
 
 pub computed : WorkedBlocks
 unfolding place insert_by sort_by distinct_from up_from flat_map magnitude within larger clamped before one units_of root root_of_square whole_root half_up rounded key
-    beyond far_key ceil whole_up rounding.segments_over along difference dot cross threes contains_oriented_edge sorted_vertices segments grid_line grid_size first components key_of
+    beyond far_key ceil whole_up rounding.segments_over along difference dot cross threes contains_oriented_edge sorted_vertices segments grid_line grid_size components key_of
     same_key same_corners same_pair pair_before open_edges documented first_refusal ragged too_many admitted bad_index in_range eps_in_range resolution_in_range box_in_range bad_box grid_too_fine
     work_need far_keys room_tests project on_face faces_of by_key renewed listed number_for insert grid_point skipped grid_at face_grid grid enter_edge edge_surface corner_vertices
     mesh_pool candidates closure_tests stray_edge edge_tests no_two_ends caps_of signed_area outward is_seed is_open_pair share_edge selected bad_cap bad_cap_place missing_edge missing_place
@@ -182,7 +182,7 @@ computed = record { c10 = refl; c9 = refl; c13 = refl; c14_near = refl; c14_far 
 
 pub rules : Rules
 unfolding place insert_by sort_by distinct_from up_from flat_map magnitude within larger clamped before one units_of root root_of_square whole_root half_up rounded key
-    beyond far_key ceil whole_up rounding.segments_over along difference dot cross threes contains_oriented_edge sorted_vertices segments grid_line grid_size first components key_of
+    beyond far_key ceil whole_up rounding.segments_over along difference dot cross threes contains_oriented_edge sorted_vertices segments grid_line grid_size components key_of
     same_key same_corners same_pair pair_before open_edges documented first_refusal ragged too_many admitted bad_index in_range eps_in_range resolution_in_range box_in_range bad_box grid_too_fine
     work_need far_keys room_tests project on_face faces_of by_key renewed listed number_for insert grid_point skipped grid_at face_grid grid enter_edge edge_surface corner_vertices
     mesh_pool candidates closure_tests stray_edge edge_tests no_two_ends caps_of signed_area outward is_seed is_open_pair share_edge selected bad_cap bad_cap_place missing_edge missing_place

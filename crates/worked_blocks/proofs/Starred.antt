@@ -216,8 +216,8 @@ of_all a (Memᴰ.tail {x} {xs} m) = of_all a.1 m
 computed : All starred
 unfolding distinct_from up_from threes magnitude within inside snap_to snapped crossing interpolated on_plane crossed side_clipped walk clip_to_plane clip_polygon along
     fan fanned inside_box shared_number share_once sharing clip_facet clip_facets clipped flat_map first_refusal documented ragged too_many admitted bad_index in_range eps_in_range
-    box_in_range bad_box work_need room_tests clip_tests clip_result keep place insert_by sort_by half_up rounded key beyond far_key far_keys difference dot cross key_of same_key around near
-    neighbours cells first weld_next weld has_repeated_corner is_flat sorted_vertices same_corners is_duplicate filtered passed_next passed components share_vertex is_alone status
+    box_in_range bad_box work_need room_tests clip_tests clip_result place insert_by sort_by half_up rounded key beyond far_key far_keys difference dot cross key_of same_key around near
+    neighbours cells weld_next weld has_repeated_corner is_flat sorted_vertices same_corners is_duplicate filtered passed_next passed components share_vertex is_alone status
     or_else kept_facets renumbered compacted welded_mesh cleaned_mesh clean_result clean_tests larger one units_of root root_of_square whole_root whole_up ceil rounding.segments_over segments
     grid_line axis_points grid_size resolution_in_range grid_too_fine same_pair pair_before open_edges on_face faces_of closure_tests stray_edge edge_tests of_bits of_int round add sub mul div
     neg lt le eq
