@@ -1,3 +1,4 @@
+use native.Mathlib.Omega.{arith}
 use mathlib.Core.Path.{refl}
 use Rattle.replay.proofs.Filling.{next_double, filling_start, filling_turn, filling_end}
 use Rattle.replay.proofs.contents.old_doubles.Goals as goal
@@ -7,10 +8,10 @@ loop-i-init c = (filling_start _ _, refl)
 
 pub loop-i-preserved : goal.loop-i-preserved
 loop-i-preserved c = (
-  filling_turn _ _ _ _ _ c.loop-i.invariant.0 c.loop-i-test.true c.loop-i.invariant.1,
+  filling_turn _ _ _ _ _ c.loop-i.invariant.0 (omega arith) c.loop-i.invariant.1,
   next_double c.loop-i.x c.loop-i.i
       c.loop-i.invariant.1,
 )
 
 pub returns : goal.returns
-returns c = filling_end _ _ _ _ c.loop-i.invariant.0 c.loop-i-test.false
+returns c = filling_end _ _ _ _ c.loop-i.invariant.0 (omega arith)

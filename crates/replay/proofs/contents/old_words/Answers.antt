@@ -7,7 +7,7 @@ pub loop-i-init : goal.loop-i-init
 loop-i-init c = (filling_start _ _, refl)
 
 pub loop-i-preserved : goal.loop-i-preserved
-loop-i-preserved c = (filling_turn _ _ _ _ _ c.loop-i.invariant.0 c.loop-i-test.true c.loop-i.invariant.1, omega arith)
+loop-i-preserved c = (filling_turn _ _ _ _ _ c.loop-i.invariant.0 (omega arith) c.loop-i.invariant.1, omega arith)
 
 pub returns : goal.returns
-returns c = filling_end _ _ _ _ c.loop-i.invariant.0 c.loop-i-test.false
+returns c = filling_end _ _ _ _ c.loop-i.invariant.0 (omega arith)
