@@ -19,7 +19,8 @@ loop-i-preserved c =
     let s = c.args in
     let run = c.run_end-e in
     let ring = c.is_ring-ring in
-    putting_turn s.w.now s.self.edges s.self.ends s.self.degrees s.to l.w s.self.vertices l.c l.i c.requires.ends_ready c.requires.k_bound.0 c.requires.k_bound.1.0 c.requires.k_bound.1.1 l.invariant
+    putting_turn s.w.now s.self.edges s.self.ends s.self.degrees s.to l.w s.self.vertices l.c l.i
+    c.requires.ends_ready c.requires.k_bound.0 c.requires.k_bound.1.0 c.requires.k_bound.1.1 l.invariant
     (omega arith) run.result run.ensures ring.result ring.ensures _ _ _ _ refl refl refl (flag ring.result)
 
 pub returns : goal.returns

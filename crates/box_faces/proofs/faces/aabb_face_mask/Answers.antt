@@ -22,4 +22,7 @@ loop-face-preserved c =
 
 pub returns : goal.returns
 unfolding faces_of up_from
-returns c = let e : c.loop-face.face ≡ 6 = omega arith in c.loop-face.invariant.word ∙ ap (λ (n : ℕ). face_bits (keep (λ f. on_face c.args.extents c.args.eps f c.args.a && on_face c.args.extents c.args.eps f c.args.b) (up_to n))) e
+returns c =
+    let e : c.loop-face.face ≡ 6 = omega arith in
+    c.loop-face.invariant.word
+    ∙ ap (λ (n : ℕ). face_bits (keep (λ f. on_face c.args.extents c.args.eps f c.args.a && on_face c.args.extents c.args.eps f c.args.b) (up_to n))) e
