@@ -39,8 +39,10 @@ pub is_ring-ring-requires : goal.is_ring-ring-requires
 is_ring-ring-requires c =
     let l = c.loop-i in
     let s = c.args in
+    let q = c.requires in
+    let b = q.k_bound in
     let run = c.run_end-e.ensures in record {
-      ends_ready = putting_ready s.w.now s.self.edges s.self.ends s.self.degrees s.to l.w s.self.vertices l.c l.i c.requires.ends_ready c.requires.k_bound.0 c.requires.k_bound.1.0 c.requires.k_bound.1.1 l.invariant
+      ends_ready = putting_ready s.w.now s.self.edges s.self.ends s.self.degrees s.to l.w s.self.vertices l.c l.i q.ends_ready b.0 b.1.0 b.1.1 l.invariant
           (omega arith);
       i_le_e = (omega (arith, run.more), run.within);
     }
