@@ -10,8 +10,8 @@ ghost use Rattle.cap_closing.specs.Closing.{is_large};
 ghost use Rattle.cap_closing.specs.Steps.{named_at, NamesEntering, NamesEntered, NewNumbers, Shaped, put_left, cap_at_room, Appended, Taking, Turned, Appending, bit};
 
 use crate::entering::{entered_point, materialize_candidate};
-use cap_triangles::room::CapRoom;
 use cap_selection::seeds::is_selected;
+use cap_triangles::room::CapRoom;
 use cap_triangles::turning::turned_cap;
 use geometry::triangle::{CandidateTriangle, MeshTriangle, Triangle3};
 use mesh_filter::corners::corners_key;
@@ -64,13 +64,7 @@ fn put_left(w: &mut [u64], room: CapRoom, left: usize, t: MeshTriangle)
 }
 
 // Triangle i: whether a facet of it is left.
-fn append_cap(
-    w: &mut [u64],
-    vertices: &[f64],
-    room: CapRoom,
-    i: usize,
-    left: usize,
-) -> bool
+fn append_cap(w: &mut [u64], vertices: &[f64], room: CapRoom, i: usize, left: usize) -> bool
     requires left_below { (i < room.nc) × (left < room.nc) }
     requires names_entering { NamesEntering (closing_at room.n room.nf room.nc) room.n room.nc (length vertices.now / 3) w.old }
     requires shaped { Shaped vertices.now w.old }
@@ -109,12 +103,7 @@ fn append_if_taken(
 }
 
 // The facets of the triangles that the mode takes, in the order supplied; how many are left.
-pub fn append_caps(
-    w: &mut [u64],
-    vertices: &[f64],
-    room: CapRoom,
-    positive: bool,
-) -> usize
+pub fn append_caps(w: &mut [u64], vertices: &[f64], room: CapRoom, positive: bool) -> usize
     requires names_entering { NamesEntering (closing_at room.n room.nf room.nc) room.n room.nc (length vertices.now / 3) w.old }
     requires shaped { Shaped vertices.now w.old }
     requires taking { Taking room.n room.nf room.nc w.old }

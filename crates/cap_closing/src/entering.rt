@@ -5,9 +5,9 @@ ghost use Rattle.candidate_pool.specs.Standing.{count_at};
 ghost use Rattle.cap_triangles.specs.Room.{closing_at};
 ghost use Rattle.cap_closing.specs.Steps.{named_at, NamesEntering, NamesEntered, Shaped, Started};
 
-use cap_triangles::room::CapRoom;
 use candidate_pool::pool::point_of;
 use candidate_pool::room::entry_at;
+use cap_triangles::room::CapRoom;
 use geometry::numbers::{CandidateVertexId, MeshVertexId};
 use geometry::point::Point;
 use geometry::vertices::vertex_at;
@@ -50,12 +50,7 @@ pub fn materialize_candidate(
 }
 
 // The candidate that became v, a new vertex behind the nv of the mesh.
-fn candidate_of_vertex(
-    w: &[u64],
-    room: CapRoom,
-    nv: usize,
-    v: MeshVertexId,
-) -> CandidateVertexId
+fn candidate_of_vertex(w: &[u64], room: CapRoom, nv: usize, v: MeshVertexId) -> CandidateVertexId
     requires own { (nv ≤ v.0) × (v.0 < get_or w.now (closing_at room.n room.nf room.nc + 2 * room.n + 8 * room.nc) 0) }
     requires names_entering { NamesEntering (closing_at room.n room.nf room.nc) room.n room.nc nv w.now }
     ensures { result.0 ≡ get_or w.now (closing_at room.n room.nf room.nc + room.n + (v.0 - nv)) 0 }
@@ -64,12 +59,7 @@ fn candidate_of_vertex(
 }
 
 // The point of a vertex of the mesh, or of a new one.
-pub fn entered_point(
-    w: &[u64],
-    vertices: &[f64],
-    room: CapRoom,
-    v: MeshVertexId,
-) -> Point
+pub fn entered_point(w: &[u64], vertices: &[f64], room: CapRoom, v: MeshVertexId) -> Point
     requires low { v.0 < get_or w.now (closing_at room.n room.nf room.nc + 2 * room.n + 8 * room.nc) 0 }
     requires names_entering { NamesEntering (closing_at room.n room.nf room.nc) room.n room.nc (length vertices.now / 3) w.now }
     requires shaped { Shaped vertices.now w.now }

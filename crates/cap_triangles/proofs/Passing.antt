@@ -137,9 +137,10 @@ module _ (n : ℕ) (w cap_list : List ℕ) where
     unfolding bad_cap_place
     passed_stop pooled e =
         let l = caps_length cap_list in
-        let u = length_up 0 (length caps) in
-        (sym (place_is (bad_cap (pool_at n w) caps) 0 (up_to (length caps)) i (omega arith) (λ j k. up_is j (omega arith) ∙ s.none j k) (up_is i (omega arith) ∙ bad_is pooled ∙ e)),
-        omega arith)
+        let u = length_up 0 (length caps) in (
+          sym (place_is (bad_cap (pool_at n w) caps) 0 (up_to (length caps)) i (omega arith) (λ j k. up_is j (omega arith) ∙ s.none j k) (up_is i (omega arith) ∙ bad_is pooled ∙ e)),
+          omega arith,
+        )
 
     pub passed_more : Pooled n w → bad_words w last (word (4 * i)) (word (4 * i + 1)) (word (4 * i + 2)) (word (4 * i + 3)) ≡ false → Passed n w cap_list (i + 1) (word (4 * i))
     passed_more pooled e =
