@@ -23,7 +23,10 @@ pub fn find_key(w: &[u64], room: Room, count: usize, key: Cell, b: usize) -> Opt
     requires b_value { (b ≡ key_bucket room.n key) × (b < room.n) }
     ensures { result ≡ first (λ i. same_cell (cell_at w.now (keys_at room.n + 3 * i)) key) (up_to count) }
 {
-    let chains = Chains { at: room.chain_at(), nb: room.n };
+    let chains = Chains {
+        at: room.chain_at(),
+        nb: room.n,
+    };
     let mut here = chains.first(w, b);
     while let Some(i) = here {
         if is_key_at(w, room.keys_at() + 3 * i, key) {

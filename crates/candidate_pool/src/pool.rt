@@ -71,7 +71,10 @@ fn push_candidate(
     w[at] = key.x;
     w[at + 1] = key.y;
     w[at + 2] = key.z;
-    let chains = Chains { at: room.chain_at(), nb: room.n };
+    let chains = Chains {
+        at: room.chain_at(),
+        nb: room.n,
+    };
     chains.enter(w, id.0, b);
     id
 }
@@ -91,7 +94,12 @@ fn place_candidate(
         (result.0 ≡ number_for (by_key eps) (pool_at room.n w.old) (candidate p (mesh_word mesh) [])) }
 {
     let key = cell_of(p, eps);
-    let table = Hashed { chains: Chains { at: room.chain_at(), nb: room.n } };
+    let table = Hashed {
+        chains: Chains {
+            at: room.chain_at(),
+            nb: room.n,
+        },
+    };
     let b = table.bucket(key.x, key.y, key.z);
     match find_key(w, room, w[6] as usize, key, b) {
         None => push_candidate(w, room, p, mesh, key, b),

@@ -176,7 +176,9 @@ pub extern "C" fn table_words(
     if asked.len() > found.len() {
         return false;
     }
-    let table = Hashed { chains: Chains { at: 0, nb } };
+    let table = Hashed {
+        chains: Chains { at: 0, nb },
+    };
     table.index_words(m, keys);
     answer(table, m, keys, asked, found);
     true

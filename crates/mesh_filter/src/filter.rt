@@ -32,7 +32,12 @@ impl Filter<'_> {
     {
         let keys = self.at + 9 * self.n;
         let end = keys + count;
-        let table = Hashed { chains: Chains { at: self.at, nb: 4 * self.n } };
+        let table = Hashed {
+            chains: Chains {
+                at: self.at,
+                nb: 4 * self.n,
+            },
+        };
         table.find_word(m, &m[keys..end], key)
     }
 
@@ -68,7 +73,12 @@ impl Filter<'_> {
         if self.find_key(m, count, key).is_some() {
             return count;
         }
-        let table = Hashed { chains: Chains { at: self.at, nb: 4 * self.n } };
+        let table = Hashed {
+            chains: Chains {
+                at: self.at,
+                nb: 4 * self.n,
+            },
+        };
         let b = table.bucket(key, 0, 0);
         table.chains.enter(m, count, b);
         self.put_facet(m, count, f, key, t);

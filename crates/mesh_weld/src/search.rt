@@ -42,7 +42,12 @@ impl Kept<'_> {
         requires { HashOf c s }
         ensures { result ≡ found_in self.now.vertices.now self.now.eps self.now.n self.now.count self.now.room.now p (c ∷ []) }
     {
-        let table = Hashed { chains: Chains { at: 0, nb: 4 * self.n } };
+        let table = Hashed {
+            chains: Chains {
+                at: 0,
+                nb: 4 * self.n,
+            },
+        };
         let b = table.bucket_at(s);
         let mut here = table.chains.first(self.room, b);
         while let Some(i) = here {

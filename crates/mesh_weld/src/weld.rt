@@ -47,7 +47,9 @@ fn weld_vertex(
         m[10 * n + i] = k as u64;
         return count;
     }
-    let table = Hashed { chains: Chains { at: 0, nb: 4 * n } };
+    let table = Hashed {
+        chains: Chains { at: 0, nb: 4 * n },
+    };
     let b = table.bucket(c.x, c.y, c.z);
     table.chains.enter(m, count, b);
     keep(m, n, count, v, c);
