@@ -11,7 +11,7 @@ ghost use Rattle.candidate_pool.specs.Steps.{BitsOf, point_put, candidate_put, F
 use crate::keys::find_key;
 use crate::room::{Room, entry_at};
 use box_faces::faces::has_face;
-use chains::{bucket, enter};
+use chains::{Chains, Hashed};
 use geometry::face::{BOX_FACES, BoxFace};
 use geometry::numbers::{CandidateVertexId, MeshVertexId};
 use geometry::point::Point;
@@ -73,7 +73,11 @@ fn push_candidate(
     w[at] = key.x;
     w[at + 1] = key.y;
     w[at + 2] = key.z;
-    enter(w, room.chain_at(), room.n, id.0, b);
+    let chains = Chains {
+        at: room.chain_at(),
+        nb: room.n,
+    };
+    chains.enter(w, id.0, b);
     id
 }
 
@@ -92,7 +96,13 @@ fn place_candidate(
         (result.0 ≡ number_for (by_key eps) (pool_at room.n w.old) (candidate p (mesh_word mesh) [])) }
 {
     let key = cell_of(p, eps);
-    let b = bucket(key.x, key.y, key.z, room.n as u64) as usize;
+    let table = Hashed {
+        chains: Chains {
+            at: room.chain_at(),
+            nb: room.n,
+        },
+    };
+    let b = table.bucket(key.x, key.y, key.z);
     match find_key(w, room, w[6] as usize, key, b) {
         None => push_candidate(w, room, p, mesh, key, b),
         Some(i) => {
