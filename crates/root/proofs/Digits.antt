@@ -19,11 +19,10 @@ use native.Mathlib.Nat.{
   div-eq_of_lt,
 }
 use native.Mathlib.Omega.{arith}
-use mathlib.Core.Bool.{Bool, true, false}
+use mathlib.Core.Bool.{true, false}
 use lib.Dec.{leb}
 use borrow.Author.Tests.{leb-true, leb-false}
-use mir.Syntax.{w64}
-use mir.Val.{Fits, bool_byte}
+use mir.Val.{bool_byte}
 use lib.Pow.{pow_pos, pow-add, pow_mono, shr-shr}
 use lib.Bits.{bit_and, and_mask}
 use Rattle.root.specs.Drawn.{WholeRoot, Drawn, Appended}
@@ -58,11 +57,6 @@ module _ (r y p : ℕ) (B : y ≤ 2 * r) (P : p < 4) where
     drawn = λ n d. drawn (n * 4 + p) (2 * r) (4 * y + p) (omega (arith, double r, d.left)) (omega arith);
     kept = omega arith;
   }
-
--- a digit is a truth value as a number, and the root has room for it
-pub digit_fits : (r : ℕ) (b : Bool) → r < 2 ^ 61 → Fits w64 (r * 2 % 2 ^ 64 + bool_byte b)
-digit_fits r true h = omega arith
-digit_fits r false h = omega arith
 
 -- as the code has it: R, t and z are the root moved up by one digit, 4 * root + 1, and the rest with the pair behind it
 module _ {r y p R t z : ℕ} (B : y ≤ 2 * r) (P : p < 4) (R= : R ≡ 2 * r) (t= : t ≡ 4 * r + 1) (z= : z ≡ 4 * y + p) where

@@ -75,10 +75,6 @@ module _ (t : Float) where
 
 -- ---- the magnitude
 
-zero_is : zero_f ≡ fin false 0 (pos 0)
-unfolding of_bits
-zero_is = refl
-
 -- a zero that fits has the exponent 0
 two_up : (p : ℕ) → 2 * p ≡ 1 → ⊥
 two_up p e = omega arith
@@ -224,11 +220,6 @@ eq_units (inf s) y F G p q = absurd p
 eq_units (fin s m e) nan F G p q = absurd q
 eq_units (fin s m e) (inf t) F G p q = absurd q
 eq_units (fin s m e) (fin t n d) F G p q = fin_level s t m n e d F G
-
-pub le_units : (x y : Float) → T (fits binary64 x) → T (fits binary64 y) → T (finite x) → T (finite y) → le x y ≡ below (negative x) (units_of x) (negative y) (units_of y) || level
-    (negative x) (units_of x) (negative y) (units_of y)
-unfolding le
-le_units x y F G p q = ap (λ (k : Bool). k || eq x y) (lt_units x y F G p q) ∙ ap (λ (k : Bool). below (negative x) (units_of x) (negative y) (units_of y) || k) (eq_units x y F G p q)
 
 -- ---- |d| is at most eps exactly if d and -d are
 

@@ -82,13 +82,3 @@ same_word (negsuc m) (negsuc n) f g e = ap negsuc (both m n f.sfits g.sfits e)
   where
     both : (m n : ℕ) → m < 2 ^ 63 → n < 2 ^ 63 → 2 ^ 63 - 1 - m ≡ 2 ^ 63 - 1 - n → m ≡ n
     both m n f g e = omega arith
-
--- the next key's word is the next word
-pub next_word : (k : ℤ) → SFits w64 k → key_word (suc_ℤ k) ≡ suc (key_word k)
-unfolding key_word
-next_word (pos n) f = omega arith
-next_word (negsuc zero) f = refl
-next_word (negsuc (suc n)) f = step n f.sfits
-  where
-    step : (n : ℕ) → suc n < 2 ^ 63 → 2 ^ 63 - 1 - n ≡ suc (2 ^ 63 - 1 - suc n)
-    step n h = omega arith

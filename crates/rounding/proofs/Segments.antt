@@ -251,9 +251,6 @@ capped_over n = same_test (ltb 256 (min n 257)) (ltb 256 n) (λ t. lt→ltb 256 
     from : 256 < n → 256 < min n 257
     from h = omega arith
 
-pub capped_same : (n : ℕ) → min n 257 ≤ 256 → min n 257 ≡ n
-capped_same n h = omega arith
-
 pub segments_some : (length spacing : Float) → 1 ≤ segments_over length spacing
 unfolding segments_over
 segments_some length spacing = at_least (whole_up (length ⊘ spacing))
