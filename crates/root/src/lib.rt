@@ -88,6 +88,7 @@ fn root_small(t: u64) -> u64
 
 // The pattern of the root of the double with the pattern b, which is above zero and finite.
 // Stays (plainer): no conversion; it is a root, from a pattern to a pattern, so that its proof is of whole numbers alone.
+#[tactic(auto, using(crate::proofs::RootAt::small_root, crate::proofs::RootAt::large_root))]
 fn root_of_bits(b: u64) -> u64
     requires { (0 < b) × (b < 2047 * 2 ^ 52) }
     ensures { RootAt (pattern_units b * 2 ^ 1074) result }
@@ -102,6 +103,7 @@ fn root_of_bits(b: u64) -> u64
 }
 
 // The double nearest to the square root of x; -0.0 of -0.0. Serves the tolerance and the cap area.
+#[tactic(auto, using(crate::proofs::RootAt::number, crate::proofs::RootAt::asked))]
 pub fn sqrt(x: f64) -> f64
     requires { T (rootable x) }
     ensures { Rooted x result }

@@ -1,11 +1,11 @@
 -- The total order of doubles that are no NaN: `before` is the order of their keys, and only equal doubles have equal keys. Assumes nothing.
-use mathlib.Core.Path.{◌≡◌, refl, sym, ap, ◌∙◌, subst}
+use mathlib.Core.Path.{◌≡◌, refl, sym, ap, ◌∙◌}
 use mathlib.Core.Logic.{inl, inr}
 use mathlib.Core.Bool.{Bool, true, false, not, cond, ◌&&◌, ◌||◌}
 use Prim.Native.Nat.{ℕ, zero, suc, ◌+◌, ◌-◌, ◌%◌, ◌^◌, ◌≤◌, ◌<◌}
-use native.Mathlib.Nat.{mod-lt, mod-eq_of_lt, le_antisymm, lt_irrefl, lt_trans}
+use native.Mathlib.Nat.{mod-lt, mod-eq_of_lt}
 use native.Mathlib.Omega.{arith}
-use lib.Dec.{T, ltb, ltb→lt, lt→ltb, nltb→le, not_T}
+use lib.Dec.{T, ltb, ltb→lt, lt→ltb, not_T}
 use lib.Pow.{pow_pos}
 use lib.Ieee.{Float, binary64, below, level, fits, eq, of_bits, to_bits, is_nan}
 use lib.Ieee.Bits.{of_bits-to_bits, to_bits-lt, is_true, is_false}
