@@ -7,7 +7,7 @@ ghost use Rattle.mesh_weld.specs.Room.{cell_at, same_cell};
 ghost use Rattle.candidate_pool.specs.Room.{key_bucket, KeyTable};
 
 use crate::room::Room;
-use chains::{first, next};
+use chains::Chains;
 use mesh_weld::cells::{Cell, cell_at};
 
 fn is_key_at(w: &[u64], at: usize, key: Cell) -> bool
@@ -23,12 +23,16 @@ pub fn find_key(w: &[u64], room: Room, count: usize, key: Cell, b: usize) -> Opt
     requires b_value { (b ≡ key_bucket room.n key) × (b < room.n) }
     ensures { result ≡ first (λ i. same_cell (cell_at w.now (keys_at room.n + 3 * i)) key) (up_to count) }
 {
-    let mut here = first(w, room.chain_at(), b);
+    let chains = Chains {
+        at: room.chain_at(),
+        nb: room.n,
+    };
+    let mut here = chains.first(w, b);
     while let Some(i) = here {
         if is_key_at(w, room.keys_at() + 3 * i, key) {
             return Some(i);
         }
-        here = next(w, room.chain_at(), room.n, i);
+        here = chains.next(w, i);
     }
     None
 }
