@@ -1,4 +1,5 @@
 // Tests 10 and 11, and the mesh closed by a list that passed them.
+// Stays (C interface), point 6: n, nf and k say where tables stand in the lent room, since C lends one buffer and there is no heap.
 ghost use Rattle.std.specs.Prelude.{[], ◌*◌, ◌/◌, ◌≤◌, length};
 ghost use Rattle.candidate_pool.specs.Offsets.{open_edges_at};
 ghost use Rattle.refusals.specs.Refusals.{documented_reply};
@@ -15,6 +16,7 @@ use cap_pairs::pairs::number_pairs;
 use cap_selection::seeds::select_caps;
 use cap_triangles::listed::bad_cap_place;
 use cap_triangles::turning::turn_caps;
+use geometry::mesh::MeshLists;
 use refusals::refusal::Refusal;
 use refusals::reply::Reply;
 
@@ -43,10 +45,10 @@ pub fn check_caps(
 }
 
 // The closed mesh of a list that passed, with test 12.
+// Stays (plainer): `positive` is handed on to the two functions that turn triangles; the mode has a third value, which has returned before.
 pub fn close_mesh(
     w: &mut [u64],
-    vertices: &[f64],
-    facets: &[u32],
+    mesh: MeshLists<'_>,
     cap_list: &[u64],
     n: usize,
     k: usize,
@@ -54,24 +56,14 @@ pub fn close_mesh(
     out_vertices: &mut [f64],
     out_facets: &mut [u32],
 ) -> Reply<2>
-    requires { Closable vertices.now facets.now cap_list.now n k w.old }
+    requires { Closable mesh.vertices.now mesh.facets.now cap_list.now n k w.old }
     ensures { Answer []
-        (mesh_outputs (closed_mesh vertices.now facets.now cap_list.now n k positive w.old) out_vertices.old
+        (mesh_outputs (closed_mesh mesh.entry.vertices.now mesh.entry.facets.now cap_list.now n k positive w.old) out_vertices.old
         out_vertices.new out_facets.old out_facets.new) (documented_reply result) }
 {
-    let nf = facets.len() / 3;
+    let nf = mesh.facets.len() / 3;
     let nc = cap_list.len() / 4;
     select_caps(w, n, nf, k, cap_list);
-    let made = close_caps(w, vertices, n, nf, cap_list, positive);
-    deliver_closed(
-        w,
-        vertices,
-        facets,
-        n,
-        nc,
-        positive,
-        made,
-        out_vertices,
-        out_facets,
-    )
+    let made = close_caps(w, mesh.vertices, n, nf, cap_list, positive);
+    deliver_closed(w, mesh, n, nc, positive, made, out_vertices, out_facets)
 }
