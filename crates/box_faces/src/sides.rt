@@ -16,14 +16,16 @@ pub fn face_boundary_side(face: BoxFace, k: usize, extents: AABB) -> Side
     requires { k < 4 }
     ensures { result ≡ get_or (face_sides extents (face_of face)) k (side_from (uv zero_f zero_f) (uv zero_f zero_f)) }
 {
-    let (u, v) = uv_axes(face);
+    let axes = uv_axes(face);
+    let u = axes.0.index();
+    let v = axes.1.index();
     let low = Uv {
-        u: extents.min_corner[u.index()],
-        v: extents.min_corner[v.index()],
+        u: extents.min_corner[u],
+        v: extents.min_corner[v],
     };
     let high = Uv {
-        u: extents.max_corner[u.index()],
-        v: extents.max_corner[v.index()],
+        u: extents.max_corner[u],
+        v: extents.max_corner[v],
     };
     let corners = [
         low,

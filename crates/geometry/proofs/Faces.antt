@@ -3,8 +3,11 @@
 --   faces_are, axes_are      `BOX_FACES` and `AXES` are the faces and the axes in their order
 --   face_at            the i-th of `BOX_FACES` has the number i
 --   face_back          of `BOX_FACES` a face's number picks the face
+--   kept_faces, count_kept   the faces whose numbers pass a test, as numbers; how many
 --   same_face          faces of one number are one
-use Rattle.std.proofs.Common.{ℕ, zero, suc, ◌+◌, ◌<◌, ◌≡◌, refl, sym, ap, ◌∙◌, map, get_or}
+use Rattle.std.proofs.Common.{ℕ, zero, suc, ◌+◌, ◌<◌, ◌≡◌, refl, sym, ap, ◌∙◌, Bool, true, false, cond, List, [], ◌∷◌, map, length, get_or}
+use Rattle.std.proofs.lemmas.List.{length-map}
+use Rattle.lists.specs.Lists.{keep}
 use native.Mathlib.Omega.{arith}
 use Rattle.geometry.specs.Boxes.{axes, faces, axis_of, face_of}
 use Rattle.geometry.specs.declared.face.TheConstants.{AXES, BOX_FACES}
@@ -51,3 +54,19 @@ face_back ZMax d = refl
 
 pub same_face : (f g : BoxFace) → face_of f ≡ face_of g → f ≡ g
 same_face f g h = sym (face_back f f) ∙ ap (λ i. get_or BOX_FACES i f) h ∙ face_back g f
+
+module _ {A B : Type 0} (f : A → B) (p : B → Bool) where
+  one_more : (b : Bool) (x : A) (l : List A) → map f (cond b (x ∷ l) l) ≡ cond b (f x ∷ map f l) (map f l)
+  one_more true x l = refl
+  one_more false x l = refl
+
+  map_keep : (l : List A) → map f (keep (λ x. p (f x)) l) ≡ keep p (map f l)
+  map_keep [] = refl
+  map_keep (x ∷ l) = one_more (p (f x)) x (keep (λ x. p (f x)) l) ∙ ap (λ m. cond (p (f x)) (f x ∷ m) m) (map_keep l)
+
+module _ (p : ℕ → Bool) where
+  pub kept_faces : map face_of (keep (λ f. p (face_of f)) BOX_FACES) ≡ keep p faces
+  kept_faces = map_keep face_of p BOX_FACES
+
+  pub count_kept : length (keep (λ f. p (face_of f)) BOX_FACES) ≡ length (keep p faces)
+  count_kept = sym (length-map (keep (λ f. p (face_of f)) BOX_FACES) face_of) ∙ ap length kept_faces
