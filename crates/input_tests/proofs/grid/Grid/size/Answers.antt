@@ -1,7 +1,7 @@
 use Rattle.input_tests.proofs.Grids.{small_product, size_is}
 use native.Mathlib.Omega.{arith}
 use Prim.Native.Nat.{◌+◌}
-use Rattle.input_tests.proofs.grid.grid_size.Goals as goal
+use Rattle.input_tests.proofs.grid.Grid.size.Goals as goal
 
 pub overflow_mul-result : goal.overflow_mul-result
 overflow_mul-result c = omega (arith, small_product (c.segments_of-x.result + 1) (c.segments_of-y.result + 1) (omega arith) (omega arith))
