@@ -1,6 +1,7 @@
 // boundary_closure.rs, `insert_candidate`: "One key, one candidate". A candidate is found by the bucket chain of its key. Its word of faces says whether
 // it is in a face's list already, where the Rust's `push_unique` searches the list.
 ghost use Rattle.std.specs.Prelude.{◌≡◌, [], ◌∷◌, ◌+◌, ◌*◌, ◌≤◌, ◌<◌, length};
+ghost use Rattle.geometry.specs.Boxes.{face_of};
 ghost use Rattle.candidate_pool.specs.Offsets.{entry_at, pool_end};
 ghost use Rattle.candidate_pool.specs.Pool.{by_key, number_for};
 ghost use Rattle.candidate_pool.specs.Room.{KeyTable};
@@ -11,6 +12,7 @@ use crate::keys::find_key;
 use crate::room::{Room, entry_at};
 use box_faces::faces::has_face;
 use chains::{bucket, enter};
+use geometry::face::{BOX_FACES, BoxFace};
 use geometry::numbers::{CandidateVertexId, MeshVertexId};
 use geometry::point::Point;
 use mesh_weld::cells::{Cell, cell_of};
@@ -104,20 +106,21 @@ fn place_candidate(
 }
 
 // "faces add up": the face is added to the candidate, and the candidate to the face's list, unless it is there.
-fn push_face(w: &mut [u64], room: Room, id: CandidateVertexId, face: usize, eps: f64)
+fn push_face(w: &mut [u64], room: Room, id: CandidateVertexId, face: BoxFace, eps: f64)
     requires holds { Holds eps room.n w.old }
-    requires id_bound { (id.0 < count_at w.old) × (face < 6) }
-    ensures { FaceAdded eps room.n id.0 face w.old w.new }
+    requires id_bound { id.0 < count_at w.old }
+    ensures { FaceAdded eps room.n id.0 (face_of face) w.old w.new }
 {
     let at = entry_at(id) + 4;
     let faces = w[at];
     if has_face(faces, face) {
         return;
     }
-    let k = w[face] as usize;
-    w[at] = faces + (1 << face as u64);
+    let f = face.index();
+    let k = w[f] as usize;
+    w[at] = faces + (1 << f as u64);
     w[room.list_at(face) + k] = id.0 as u64;
-    w[face] = k as u64 + 1;
+    w[f] = k as u64 + 1;
 }
 
 // A loop, since a closure called for each face would borrow the room, and a proof would not know what it wrote.
@@ -126,7 +129,7 @@ fn push_faces(w: &mut [u64], room: Room, id: CandidateVertexId, mask: u64, eps: 
     requires id_bound { id.0 < count_at w.old }
     ensures { FacesAdded eps room.n id.0 mask w.old w.new }
 {
-    for face in 0..6 {
+    for face in BOX_FACES {
         if has_face(mask, face) {
             push_face(w, room, id, face, eps);
         }
@@ -155,11 +158,11 @@ pub fn insert_candidate(
 }
 
 // `insert_candidate`, of a point of a face's grid
-pub fn insert_grid_point(w: &mut [u64], room: Room, p: Point, face: usize, eps: f64)
+pub fn insert_grid_point(w: &mut [u64], room: Room, p: Point, face: BoxFace, eps: f64)
     requires holds { Holds eps room.n w.old }
-    requires point_in { PointIn p × (face < 6) }
-    requires room_for { RoomFor eps room.n w.old (candidate p 0 (face ∷ [])) }
-    ensures { Inserted eps room.n (candidate p 0 (face ∷ [])) w.old w.new }
+    requires point_in { PointIn p }
+    requires room_for { RoomFor eps room.n w.old (candidate p 0 (face_of face ∷ [])) }
+    ensures { Inserted eps room.n (candidate p 0 (face_of face ∷ [])) w.old w.new }
 {
     let id = place_candidate(w, room, p, None, eps);
     push_face(w, room, id, face, eps);
