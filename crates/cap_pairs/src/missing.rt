@@ -38,8 +38,8 @@ fn first_missing(w: &[u64], mask: u64, held: u64) -> Option<usize>
 pub fn missing_place(w: &[u64], caps: SuppliedCaps<'_>) -> Option<usize>
     requires cap_ready { CapReady caps.n caps.nf caps.k caps.list.now w.now }
     requires pairs_known { PairsKnown caps.n caps.nf caps.k caps.list.now w.now }
-    ensures { FirstPlace (missing_place (pool_at caps.n w.now) (caps_of caps.entry.list.now) (edges_at w.now (open_edges_at caps.n caps.nf) caps.k))
-        (length (edges_at w.now (open_edges_at caps.n caps.nf) caps.k)) result }
+    ensures { FirstPlace (missing_place (pool_at caps.entry.n w.now) (caps_of caps.entry.list.now) (edges_at w.now (open_edges_at caps.entry.n caps.entry.nf) caps.entry.k))
+        (length (edges_at w.now (open_edges_at caps.entry.n caps.entry.nf) caps.entry.k)) result }
 {
     let nc = caps.list.len() / 4;
     let room = CapRoom {

@@ -80,7 +80,7 @@ fn note_sides(w: &mut [u64], caps: SuppliedCaps<'_>)
         → get_or w.old (numbers_at caps.n caps.nf (length caps.list.now / 4) + caps.k + s) 0 < caps.k + 3 * (length caps.list.now / 4) }
     requires by_index_2 { (r : ℕ) → r < caps.k + 3 * (length caps.list.now / 4) → get_or w.old (held_at caps.n caps.nf (length caps.list.now / 4) + r) 0 ≡ 0 }
     requires by_index_3 { (s : ℕ) → s < 3 * (length caps.list.now / 4) → side_face caps.list.now s < 6 }
-    ensures { Noted (side_target caps.n caps.nf (length caps.entry.list.now / 4) w.old caps.k) (λ s. eqb (side_face caps.entry.list.now s))
+    ensures { Noted (side_target caps.entry.n caps.entry.nf (length caps.entry.list.now / 4) w.old caps.entry.k) (λ s. eqb (side_face caps.entry.list.now s))
         w.old w.new (3 * (length caps.entry.list.now / 4)) }
 {
     let nc = caps.list.len() / 4;
@@ -101,7 +101,7 @@ fn note_sides(w: &mut [u64], caps: SuppliedCaps<'_>)
 pub fn note_faces(w: &mut [u64], caps: SuppliedCaps<'_>)
     requires cap_ready { CapReady caps.n caps.nf caps.k caps.list.now w.old }
     requires pair_numbers { PairNumbers caps.n caps.nf caps.k caps.list.now w.old }
-    ensures { Above (up_at caps.n caps.nf (length caps.entry.list.now / 4)) w.old w.new × PairsKnown caps.n caps.nf caps.k caps.entry.list.now w.new }
+    ensures { Above (up_at caps.entry.n caps.entry.nf (length caps.entry.list.now / 4)) w.old w.new × PairsKnown caps.entry.n caps.entry.nf caps.entry.k caps.entry.list.now w.new }
 {
     let nc = caps.list.len() / 4;
     let room = CapRoom {

@@ -78,7 +78,7 @@ fn number_records(w: &mut [u64], records: usize, numbers: usize, p: usize)
 
 pub fn number_pairs(w: &mut [u64], caps: SuppliedCaps<'_>)
     requires { CapReady caps.n caps.nf caps.k caps.list.now w.old }
-    ensures { Numbered caps.n caps.nf caps.k caps.entry.list.now w.old w.new }
+    ensures { Numbered caps.entry.n caps.entry.nf caps.entry.k caps.entry.list.now w.old w.new }
 {
     let nc = caps.list.len() / 4;
     let room = CapRoom {

@@ -54,7 +54,7 @@ fn mark_seed(w: &mut [u64], room: CapRoom, i: usize, face: BoxFace)
 // Of each component 1 if a seed has it.
 fn mark_seeds(w: &mut [u64], caps: SuppliedCaps<'_>)
     requires { Markable caps.n caps.nf (length caps.list.now / 4) caps.k caps.list.now w.old }
-    ensures { SeedsMarked caps.n caps.nf (length caps.entry.list.now / 4) caps.k caps.entry.list.now w.old w.new }
+    ensures { SeedsMarked caps.entry.n caps.entry.nf (length caps.entry.list.now / 4) caps.entry.k caps.entry.list.now w.old w.new }
 {
     let nc = caps.list.len() / 4;
     let room = CapRoom {
@@ -72,7 +72,7 @@ fn mark_seeds(w: &mut [u64], caps: SuppliedCaps<'_>)
 pub fn select_caps(w: &mut [u64], caps: SuppliedCaps<'_>)
     requires cap_ready { CapReady caps.n caps.nf caps.k caps.list.now w.old }
     requires pairs_known { PairsKnown caps.n caps.nf caps.k caps.list.now w.old }
-    ensures { Chosen caps.n caps.nf caps.k caps.entry.list.now w.old w.new }
+    ensures { Chosen caps.entry.n caps.entry.nf caps.entry.k caps.entry.list.now w.old w.new }
 {
     let nc = caps.list.len() / 4;
     let room = CapRoom {

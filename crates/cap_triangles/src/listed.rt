@@ -74,7 +74,7 @@ fn is_bad_cap(w: &[u64], last: u64, number: u64, t: CandidateTriangle) -> bool
 // 10: the place of the first such triangle, if there is one.
 pub fn bad_cap_place(w: &[u64], caps: SuppliedCaps<'_>) -> Option<usize>
     requires { Pooled caps.n w.now × (length caps.list.now % 4 ≡ 0) }
-    ensures { FirstPlace (bad_cap_place (pool_at caps.n w.now) (caps_of caps.entry.list.now)) (length (caps_of caps.entry.list.now)) result }
+    ensures { FirstPlace (bad_cap_place (pool_at caps.entry.n w.now) (caps_of caps.entry.list.now)) (length (caps_of caps.entry.list.now)) result }
 {
     let mut last = 0;
     for i in 0..caps.list.len() / 4 {

@@ -41,6 +41,7 @@ pub struct CapRoom {
     pub ghost small: { (n < 268435456) × (nf < 268435456) × (nc < 268435456) },
 }
 
+// Stays (plainer): a method for each table, by its name; one method for all would be told which by an enum of their names.
 impl CapRoom {
     // among the tables of candidates
     pub fn open_edges_at(self) -> usize

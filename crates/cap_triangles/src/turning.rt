@@ -1,3 +1,4 @@
+// Stays (C interface), point 6: the turned triangles stand at places of the one room that C lends, and there is no heap.
 // boundary_closure.rs, `orient_face_triangle`: the supplied triangles turned outward.
 ghost use Rattle.std.specs.Prelude.{◌≡◌, ◌+◌, ◌*◌, ◌/◌, ◌<◌, length, get_or};
 ghost use Rattle.lists.specs.Regions.{Above};
@@ -45,7 +46,7 @@ fn orient_face_triangle(w: &[u64], face: BoxFace, t: CandidateTriangle) -> Candi
 pub fn turn_caps(w: &mut [u64], caps: SuppliedCaps<'_>)
     requires supplied { Supplied caps.n caps.nf caps.list.now w.old }
     requires good { bad_cap_place (pool_at caps.n w.old) (caps_of caps.list.now) ≡ length (caps_of caps.list.now) }
-    ensures { Above (turned_at caps.n caps.nf) w.old w.new × TurnedReady caps.n caps.nf caps.entry.list.now w.new }
+    ensures { Above (turned_at caps.entry.n caps.entry.nf) w.old w.new × TurnedReady caps.entry.n caps.entry.nf caps.entry.list.now w.new }
 {
     let nc = caps.list.len() / 4;
     let turned = CapRoom {
