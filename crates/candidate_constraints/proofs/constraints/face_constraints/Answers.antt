@@ -2,17 +2,19 @@ use Rattle.candidate_constraints.proofs.Listing.{face_none, sorted_roomy, face_l
 use Rattle.sorting.proofs.Sorting.{sorted_part}
 use borrow.Rule.Slice.PartMut.{put_mid}
 use native.Mathlib.Omega.{arith}
-use Prim.Native.Nat.{◌+◌, ◌*◌, ◌-◌}
+use Prim.Native.Nat.{ℕ, ◌+◌, ◌*◌, ◌-◌, ◌≤◌, ◌<◌}
+use mathlib.Core.Path.{subst}
+use lib.ListN.{get_or}
 use Rattle.geometry.specs.Boxes.{face_of}
 use Rattle.geometry.proofs.Faces.{face_in}
 use Rattle.candidate_constraints.proofs.constraints.face_constraints.Goals as goal
 
-pub returns-then-w-face-lt3 : goal.returns-then-w-face-lt3
-returns-then-w-face-lt3 c =
+pub returns-then-w-index-lt3 : goal.returns-then-w-index-lt3
+returns-then-w-index-lt3 c =
     let s = c in
     let a = s.args in
     face_none a.extents a.eps a.edged.room.n a.edged.room.nf a.edged.k (face_of a.face) a.total a.w.now s.requires.shown s.requires.roomy (face_in s.args.face) s.requires.fits
-    (omega (arith, c.if-w-face-lt3.true))
+    (subst (λ (f : ℕ). get_or a.w.now f 0 < 3) c.index.ensures.value (omega (arith, c.if-w-index-lt3.true)))
 
 pub list_pairs-c-requires : goal.list_pairs-c-requires
 list_pairs-c-requires c =
@@ -47,4 +49,4 @@ returns c =
     keep-distinct'.new.w list-pairs'.result keep-distinct'.result pairs-at'.result list-pairs'.ensures pairs-at'.ensures
     (sorted_part list-pairs'.new.w sort-records'.new.m pairs-at'.result list-pairs'.result
     (omega (arith, s.requires.roomy.room, pairs-at'.ensures, list-pairs'.ensures.few, list-pairs'.ensures.kept.long)) sort-records'.ensures)
-    (omega (arith, c.if-w-face-lt3.false)) keep-distinct'.ensures
+    (subst (λ (f : ℕ). 3 ≤ get_or a.w.now f 0) c.index.ensures.value (omega (arith, c.if-w-index-lt3.false))) keep-distinct'.ensures

@@ -16,13 +16,13 @@ push_open_edge-c-requires c =
     let a = s.args in
     let l = c.loop-i in record {
       shown = edging_shown a.edged.room.n (face_of a.face) (open_edges_at a.edged.room.n a.edged.room.nf) a.count a.w.now a.edged.room.nf a.edged.k s.requires.shown s.requires.roomy s.requires.placed s.requires.edges_held
-          (face_in s.args.face) a.edged.few l.w l.c l.i l.invariant;
+          (face_in s.args.face) (omega (arith, s.requires.few, a.edged.few)) l.w l.c l.i l.invariant;
       roomy = edging_roomy a.edged.room.n (face_of a.face) (open_edges_at a.edged.room.n a.edged.room.nf) a.count a.w.now a.edged.room.nf a.edged.k s.requires.shown s.requires.roomy s.requires.placed s.requires.edges_held
-          (face_in s.args.face) a.edged.few l.w l.c l.i l.invariant;
+          (face_in s.args.face) (omega (arith, s.requires.few, a.edged.few)) l.w l.c l.i l.invariant;
       placed = edging_placed a.edged.room.n (face_of a.face) (open_edges_at a.edged.room.n a.edged.room.nf) a.count a.w.now a.edged.room.nf a.edged.k s.requires.shown s.requires.roomy s.requires.placed s.requires.edges_held
-          (face_in s.args.face) a.edged.few l.w l.c l.i l.invariant;
+          (face_in s.args.face) (omega (arith, s.requires.few, a.edged.few)) l.w l.c l.i l.invariant;
       edges_held = edging_held a.edged.room.n (face_of a.face) (open_edges_at a.edged.room.n a.edged.room.nf) a.count a.w.now a.edged.room.nf a.edged.k s.requires.shown s.requires.roomy s.requires.placed s.requires.edges_held
-          (face_in s.args.face) a.edged.few l.w l.c l.i l.invariant c.loop-i-test.true;
+          (face_in s.args.face) (omega (arith, s.requires.few, a.edged.few)) l.w l.c l.i l.invariant c.loop-i-test.true;
       bounds = (
         omega (arith, a.edged.few, c.loop-i-test.true),
         omega (arith, a.edged.few, s.requires.few, l.invariant.pushed.few, c.loop-i-test.true),
@@ -36,7 +36,7 @@ loop-i-preserved c =
     let l = c.loop-i in
     let push-open-edge' = c.push_open_edge-c in
     edging_next a.edged.room.n (face_of a.face) (open_edges_at a.edged.room.n a.edged.room.nf) a.count a.w.now a.edged.room.nf a.edged.k s.requires.shown s.requires.roomy s.requires.placed s.requires.edges_held
-    (face_in s.args.face) a.edged.few l.w l.c l.i l.invariant push-open-edge'.new.w push-open-edge'.result
+    (face_in s.args.face) (omega (arith, s.requires.few, a.edged.few)) l.w l.c l.i l.invariant push-open-edge'.new.w push-open-edge'.result
     c.loop-i-test.true push-open-edge'.ensures
 
 pub shape_of-w : goal.shape_of-w

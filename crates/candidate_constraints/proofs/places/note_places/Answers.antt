@@ -27,15 +27,15 @@ write-in c =
     (omega (arith, l.invariant.3, c.loop-i-test.true)) in
     omega (arith, h, ap (λ (x : ℕ). get_or l.w (x + l.i) 0) l.invariant.1, l.invariant.2, l.invariant.0.kept.long, s.requires.fits)
 
-pub bounds-w-face : goal.bounds-w-face
-bounds-w-face c =
+pub bounds-w-index : goal.bounds-w-index
+bounds-w-index c =
     let s = c in
-    omega (arith, s.requires.shown.size, (face_in s.args.face))
+    omega (arith, s.requires.shown.size, c.index.ensures.bound)
 
 pub loop-i-init : goal.loop-i-init
 loop-i-init c =
     let s = c in
-    (noting_start s.args.room.n (face_of s.args.face) s.args.w.now, c.list_at-list.ensures, c.places_at-places.ensures, refl)
+    (noting_start s.args.room.n (face_of s.args.face) s.args.w.now, c.list_at-list.ensures, c.places_at-places.ensures, ap (λ (f : ℕ). get_or s.args.w.now f 0) c.index.ensures.value)
 
 pub candidate_of_place-id-requires : goal.candidate_of_place-id-requires
 candidate_of_place-id-requires c =

@@ -25,10 +25,10 @@ turn_in c =
     let e = l.invariant.0.kept.long in
     (omega (arith, h.0, e, s.requires.shown.size), omega (arith, h.1, l.invariant.0.few, l.invariant.2, e, s.requires.fits), l.invariant.0.few)
 
-pub bounds-w-face : goal.bounds-w-face
-bounds-w-face c =
+pub bounds-w-index : goal.bounds-w-index
+bounds-w-index c =
     let s = c in
-    omega (arith, s.requires.shown.size, (face_in s.args.face))
+    omega (arith, s.requires.shown.size, c.index.ensures.bound)
 
 pub loop-i-init : goal.loop-i-init
 loop-i-init c =
@@ -36,7 +36,7 @@ loop-i-init c =
       collecting_start s.args.eps s.args.room.n (face_of s.args.face) s.args.side s.args.w.now,
       c.list_at-list.ensures,
       c.side_at-at.ensures,
-      refl,
+      ap (λ (f : ℕ). get_or s.args.w.now f 0) c.index.ensures.value,
     )
 
 pub candidate_of_place-requires : goal.candidate_of_place-requires

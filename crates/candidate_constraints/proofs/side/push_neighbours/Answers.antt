@@ -4,7 +4,6 @@ use Prim.Native.Nat.{◌+◌, ◌*◌, ◌<◌}
 use lib.ListN.{length}
 use Rattle.candidate_constraints.proofs.side.push_neighbours.Goals.{In-loop-j}
 use Rattle.geometry.specs.Boxes.{face_of}
-use Rattle.geometry.proofs.Faces.{face_in}
 use Rattle.candidate_constraints.proofs.side.push_neighbours.Goals as goal
 
 -- the two places that a turn reads, and the pair that it writes

@@ -4,7 +4,6 @@ use Rattle.box_faces.specs.Faces.{uv}
 use Rattle.root.specs.Doubles.{zero_f}
 use native.Mathlib.Omega.{arith}
 use Rattle.geometry.specs.Boxes.{face_of}
-use Rattle.geometry.proofs.Faces.{face_in}
 use Rattle.candidate_constraints.proofs.side.push_sides.Goals as goal
 
 pub loop-k-init : goal.loop-k-init
