@@ -1,5 +1,6 @@
 // boundary_closure.rs, `insert_candidate`: "One key, one candidate". A candidate is found by the bucket chain of its key. Its word of faces says whether
 // it is in a face's list already, where the Rust's `push_unique` searches the list.
+// Stays (C interface), point 6: candidates, keys and lists stand at places of the lent room, since C lends one buffer and there is no heap; `b` is a bucket.
 ghost use Rattle.std.specs.Prelude.{◌≡◌, [], ◌∷◌, ◌+◌, ◌*◌, ◌≤◌, ◌<◌, length};
 ghost use Rattle.geometry.specs.Boxes.{face_of};
 ghost use Rattle.candidate_pool.specs.Offsets.{entry_at, pool_end};
@@ -11,7 +12,7 @@ ghost use Rattle.candidate_pool.specs.Steps.{BitsOf, point_put, candidate_put, F
 use crate::keys::find_key;
 use crate::room::{Room, entry_at};
 use box_faces::faces::has_face;
-use chains::{bucket, enter};
+use chains::{Chains, Hashed};
 use geometry::face::{BOX_FACES, BoxFace};
 use geometry::numbers::{CandidateVertexId, MeshVertexId};
 use geometry::point::Point;
@@ -19,6 +20,7 @@ use mesh_weld::cells::{Cell, cell_of};
 use words::zero_part;
 
 // "mesh vertex + 1 or 0", as it stands in a candidate: 0 where it has no mesh vertex.
+// Stays (C interface): the caller reads this word in the list of candidates, as it stands.
 fn mesh_word(mesh: Option<MeshVertexId>) -> u64
     requires { mesh_word mesh ≤ 268435456 }
     ensures { result ≡ mesh_word mesh }
@@ -73,7 +75,11 @@ fn push_candidate(
     w[at] = key.x;
     w[at + 1] = key.y;
     w[at + 2] = key.z;
-    enter(w, room.chain_at(), room.n, id.0, b);
+    let chains = Chains {
+        at: room.chain_at(),
+        nb: room.n,
+    };
+    chains.enter(w, id.0, b);
     id
 }
 
@@ -92,7 +98,13 @@ fn place_candidate(
         (result.0 ≡ number_for (by_key eps) (pool_at room.n w.old) (candidate p (mesh_word mesh) [])) }
 {
     let key = cell_of(p, eps);
-    let b = bucket(key.x, key.y, key.z, room.n as u64) as usize;
+    let table = Hashed {
+        chains: Chains {
+            at: room.chain_at(),
+            nb: room.n,
+        },
+    };
+    let b = table.bucket(key.x, key.y, key.z);
     match find_key(w, room, w[6] as usize, key, b) {
         None => push_candidate(w, room, p, mesh, key, b),
         Some(i) => {

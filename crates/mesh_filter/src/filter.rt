@@ -7,7 +7,7 @@ ghost use Rattle.chains.specs.ByWord.{word_bucket};
 ghost use Rattle.mesh_filter.specs.Room.{points_in_room, facets_in_room, CornersNumbered, FilteredSoFar, FacetFiltered, Filtered};
 
 use crate::corners::{WeldedAt, corners_key, has_repeated_corner};
-use chains::{bucket, enter, find_word};
+use chains::{Chains, Hashed};
 use geometry::triangle::MeshTriangle;
 use words::{write_three, zero_part};
 
@@ -32,7 +32,13 @@ impl Filter<'_> {
     {
         let keys = self.at + 9 * self.n;
         let end = keys + count;
-        find_word(m, self.at, 4 * self.n, &m[keys..end], key)
+        let table = Hashed {
+            chains: Chains {
+                at: self.at,
+                nb: 4 * self.n,
+            },
+        };
+        table.find_word(m, &m[keys..end], key)
     }
 
     // Enters facet f, with this key and these corners, as the one that passed at `count`.
@@ -67,8 +73,14 @@ impl Filter<'_> {
         if self.find_key(m, count, key).is_some() {
             return count;
         }
-        let b = bucket(key, 0, 0, (4 * self.n) as u64) as usize;
-        enter(m, self.at, 4 * self.n, count, b);
+        let table = Hashed {
+            chains: Chains {
+                at: self.at,
+                nb: 4 * self.n,
+            },
+        };
+        let b = table.bucket(key, 0, 0);
+        table.chains.enter(m, count, b);
         self.put_facet(m, count, f, key, t);
         count + 1
     }

@@ -8,7 +8,7 @@ ghost use Rattle.mesh_weld.specs.Cells.{key_of, near, cells};
 ghost use Rattle.mesh_weld.specs.Room.{cell_at, same_cell, words_of, kept_points, found_in, HashOf, Index, KeyIn, KeysIn};
 
 use crate::cells::{Cell, cell_at, is_near};
-use chains::{bucket_at, first, mix, next};
+use chains::{Chains, Hashed, mix};
 use geometry::point::Point;
 use geometry::vertices::{vertex_at, vertex_in};
 
@@ -42,13 +42,19 @@ impl Kept<'_> {
         requires { HashOf c s }
         ensures { result ≡ found_in self.now.vertices.now self.now.eps self.now.n self.now.count self.now.room.now p (c ∷ []) }
     {
-        let b = bucket_at(s, (4 * self.n) as u64) as usize;
-        let mut here = first(self.room, 0, b);
+        let table = Hashed {
+            chains: Chains {
+                at: 0,
+                nb: 4 * self.n,
+            },
+        };
+        let b = table.bucket_at(s);
+        let mut here = table.chains.first(self.room, b);
         while let Some(i) = here {
             if self.holds(i, c, p) {
                 return Some(i);
             }
-            here = next(self.room, 0, 4 * self.n, i);
+            here = table.chains.next(self.room, i);
         }
         None
     }
