@@ -88,7 +88,7 @@ module _ (vs : List Float) (fs : List ℕ) (q : Asked) (S : Sound vs fs q) where
       (record { x = coordinate (3 * v) (omega arith); y = coordinate (3 * v + 1) (omega arith); z = coordinate (3 * v + 2) (omega arith) })
 
   pub most_small : most_candidates vs q ≤ 464920
-  most_small = let a = grid_small q.box q.eps (one_resolution q.resolution) S.coarse in let b = S.lists.few_vertices in omega (arith, a, b)
+  most_small = let a = grid_small q.extents q.eps (one_resolution q.resolution) S.coarse in let b = S.lists.few_vertices in omega (arith, a, b)
 
   number_below : (i : ℕ) → i < length fs → get_or fs i 0 < length vs / 3
   unfolding bad_index
@@ -107,6 +107,6 @@ module _ (vs : List Float) (fs : List ℕ) (q : Asked) (S : Sound vs fs q) where
         size = omega (arith, e, h);
       }
 
-  pub room_for : (caps lent : ℕ) → 128 * (length vs / 3 + length fs / 3 + caps + grid_size q.box q.eps (one_resolution q.resolution)) + 1024 ≤ lent
+  pub room_for : (caps lent : ℕ) → 128 * (length vs / 3 + length fs / 3 + caps + grid_size q.extents q.eps (one_resolution q.resolution)) + 1024 ≤ lent
       → room_end (most_candidates vs q) (length fs / 3) ≤ lent
   room_for caps lent h = omega arith

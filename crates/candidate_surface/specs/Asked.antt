@@ -1,5 +1,5 @@
 -- What is asked of candidates and of caps beside the mesh (document 01, "What the service takes"). Assumes nothing.
---   Asked, asked   the box, eps and the resolution
+--   asked          the box, eps and the resolution, as the code's own `Asked`
 --   on_each, one_resolution   one number, document 01's one resolution, for each axis
 --   setting        what candidates are made from, as module 5 has it
 use Rattle.std.specs.Prelude.{ℕ, [], ◌∷◌, Float}
@@ -9,14 +9,10 @@ use Rattle.geometry.specs.Boxes.{axis}
 use Rattle.input_tests.specs.Front.{by_axis}
 use Rattle.candidate_pool.specs.Pool.{by_key}
 use Rattle.candidate_pool.specs.Setting.{Setting}
-
-pub record Asked : Type 0 where
-  pub box : AABB
-  pub eps : Float
-  pub resolution : Float
+pub use Rattle.candidate_surface.specs.declared.asked.Asked.{Asked}
 
 abbrev pub asked : AABB → Float → Float → Asked
-asked box eps resolution = record { box = box; eps = eps; resolution = resolution }
+asked extents eps resolution = record { extents = extents; eps = eps; resolution = resolution }
 
 abbrev pub on_each : Float → ℕ → Float
 on_each r = by_axis (r ∷ r ∷ r ∷ [])
@@ -28,7 +24,7 @@ one_resolution r = on_each r
 abbrev pub setting : Asked → Setting
 setting q =
     record {
-      box = q.box;
+      box = q.extents;
       eps = q.eps;
       resolution = one_resolution q.resolution;
       skip = λ f. on_each (q.resolution ⊗ 1e-9) (axis f);

@@ -43,4 +43,4 @@ no_facet fs = eqb (length fs) 0
 
 -- "if no open edge keeps two ends": after 9 each open edge has a face, so one that keeps them is listed
 unfoldable pub no_two_ends : List Float → List ℕ → Asked → Bool
-no_two_ends vs fs q = eqb (length (edge_surface q.box q.eps (by_key q.eps) (mesh_of vs fs)).edges) 0
+no_two_ends vs fs q = eqb (length (edge_surface q.extents q.eps (by_key q.eps) (mesh_of vs fs)).edges) 0

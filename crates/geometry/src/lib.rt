@@ -3,6 +3,7 @@
 
 pub mod aabb;
 pub mod face;
+pub mod mesh;
 pub mod numbers;
 pub mod point;
 #[cfg(test)]
