@@ -185,7 +185,7 @@ module _ (eps : Float) (n : ℕ) (near : Near) (f : ℕ) (box : AABB) (at : Floa
     (E : PointsEntered eps n (flat_map (λ x. flat_map (row_cell (skips_near w near) box f (row_at box f at last x) last-v) (up_to (last-v + 1))) (up_to i)) (i * (last-v + 1)) w v) where
   pub row_ready : (u : Float) (inner : Bool) → f < 6 → box_in_range box ≡ true → i ≤ last → last ≤ 256 → 1 ≤ last → last-v ≤ 256 → 1 ≤ last-v
       → count_at w + (last + 1) * (last-v + 1) ≤ n → Within (2 ^ 48) at → u ≡ line_at (lowest box (u_axis f)) (highest box (u_axis f)) last i
-      → RowReady eps n near f (record { at = at; u = u; inner = inner }) box last-v v
+      → RowReady eps n near (record { at = at; u = u; inner = inner }) box last-v v
   row_ready u inner f-in box_in le lu su lv sv room at_in eu =
       record {
         holds = E.holds;
@@ -195,7 +195,6 @@ module _ (eps : Float) (n : ℕ) (near : Near) (f : ℕ) (box : AABB) (at : Floa
             let c = add-mul i 1 (last-v + 1) in
             omega (arith, one-mul (last-v + 1));
         near_in = near_same n near w v E.long E.rest N;
-        face_in = f-in;
         some_parts = sv;
         few_parts = lv;
         box_in = box_in;
@@ -246,14 +245,14 @@ module _ (eps : Float) (n nf k f : ℕ) (tolerance : Float) (w v : List ℕ) (H 
         lists = λ g c h e. ap (λ (p : Pool). has (face_list p g) c) gathered_pool ∙ e;
       }
 
-module _ (box : AABB) (eps : Float) (resolution skip : List Float) (n nf k f : ℕ) (w v u : List ℕ) (R : FaceReady box eps resolution skip n nf k f w) (count : ℕ)
+module _ (box : AABB) (eps : Float) (resolution skip : List Float) (n nf k f : ℕ) (f-in : f < 6) (w v u : List ℕ) (R : FaceReady box eps resolution skip n nf k f w) (count : ℕ)
     (tolerance : Float) (t-is : tolerance ≡ by_axis skip (axis f)) (G : Gathered n nf k f tolerance w v count) where
   segments_say : (place : ℕ) → place ≡ segments_at n nf → (p : Uv)
       → skips_at v place count tolerance p ≡ skipped (by_axes box eps resolution skip) (edges_at w (open_edges_at n nf) k) (pool_at n w) f p
   unfolding skipped
   segments_say place es p =
       ap (λ (x : ℕ). skips_at v x count tolerance p) es ∙ G.skips p ∙ ap (λ (t : Float). some (edge_hit (pool_at n w) w (open_edges_at n nf) f t p) (up_to k)) t-is
-      ∙ sym (edges_some (pool_at n w) w (open_edges_at n nf) k f (by_axis skip (axis f)) p R.face_in)
+      ∙ sym (edges_some (pool_at n w) w (open_edges_at n nf) k f (by_axis skip (axis f)) p f-in)
 
   pub face_end : (place : ℕ) (at : Float) (last last-v parts i : ℕ) → place ≡ segments_at n nf → last ≡ segments box eps (by_axis resolution) (u_axis f) → last-v ≡ segments box eps
       (by_axis resolution) (v_axis f)
@@ -267,7 +266,7 @@ module _ (box : AABB) (eps : Float) (resolution skip : List Float) (n nf k f : �
             E.pool
             ∙ ap (λ (x : ℕ). foldl (insert (by_key eps)) (pool_at n v) (flat_map
             (λ y. flat_map (row_cell (skips_at v place count tolerance) box f (row_at box f at last y) last-v) (up_to (last-v + 1))) (up_to x))) ei
-            ∙ ap (foldl (insert (by_key eps)) (pool_at n v)) (face_is box eps resolution skip (edges_at w (open_edges_at n nf) k) (pool_at n w) f R.face_in
+            ∙ ap (foldl (insert (by_key eps)) (pool_at n v)) (face_is box eps resolution skip (edges_at w (open_edges_at n nf) k) (pool_at n w) f f-in
             (skips_at v place count tolerance) (segments_say place es) at last last-v parts eu ev ep ea)
             ∙ ap (λ (p : Pool). foldl (insert (by_key eps)) p (face_grid (by_axes box eps resolution skip) (edges_at w (open_edges_at n nf) k) (pool_at n w) f))
             (gathered_pool eps n nf k f tolerance w v R.holds count G);

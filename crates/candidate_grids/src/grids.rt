@@ -1,4 +1,5 @@
 // boundary_closure.rs, `add_face_grid_points`: "the face grids, u outside v". `grid_to_candidate` is left out: the same point has the same key.
+// Stays (C interface), point 6: open edges and segments stand at places of the lent room, since C lends one buffer and there is no heap; `last` counts a row's segments.
 ghost use Rattle.std.specs.Prelude.{◌≡◌, ◌&&◌, ◌+◌, ◌*◌, ◌<◌, ◌≤◌, length};
 ghost use mathlib.Core.List.{flat_map};
 ghost use Rattle.lists.specs.Lists.{up_to};
@@ -145,13 +146,8 @@ fn is_interior(i: usize, last: usize) -> bool
     i != 0 && i != last
 }
 
-fn is_inner(inner: bool, i: usize, last: usize) -> bool
-    ensures { result ≡ inner && is_inner i last }
-{
-    inner && is_interior(i, last)
-}
-
 // One grid point, unless it is interior by index and lies on an open edge of the face.
+// Stays (plainer): whether the point is interior is a fact of its indices, which the row and the place in it say together, and no step to choose.
 fn enter_grid_point(
     w: &mut [u64],
     room: Room,
@@ -161,7 +157,7 @@ fn enter_grid_point(
     inner: bool,
     eps: f64,
 )
-    requires { PointReady eps room.n near (face_of face) p w.old }
+    requires { PointReady eps room.n near p w.old }
     ensures { PointsEntered eps room.n (grid_cell (skips_near w.old near) inner (face_of face) p) 1 w.old w.new }
 {
     if inner && is_skipped(w, room, near, project(face, p)) {
@@ -181,14 +177,22 @@ fn enter_grid_row(
     last: usize,
     eps: f64,
 )
-    requires { RowReady eps room.n near (face_of face) row extents last w.old }
+    requires { RowReady eps room.n near row extents last w.old }
     ensures { PointsEntered eps room.n (flat_map (row_cell (skips_near w.old near) extents (face_of face) row last) (up_to (last + 1))) (last + 1) w.old w.new }
 {
     let axis = uv_axes(face).1;
     for j in 0..last + 1 {
         let v = grid_line(extents, axis, last, j);
         let p = point_on_face(face, row.at, row.u, v);
-        enter_grid_point(w, room, near, face, p, is_inner(row.inner, j, last), eps);
+        enter_grid_point(
+            w,
+            room,
+            near,
+            face,
+            p,
+            row.inner & is_interior(j, last),
+            eps,
+        );
     }
 }
 

@@ -1,5 +1,6 @@
 // boundary_closure.rs, `insert_candidate`: "One key, one candidate". A candidate is found by the bucket chain of its key. Its word of faces says whether
 // it is in a face's list already, where the Rust's `push_unique` searches the list.
+// Stays (C interface), point 6: candidates, keys and lists stand at places of the lent room, since C lends one buffer and there is no heap; `b` is a bucket.
 ghost use Rattle.std.specs.Prelude.{◌≡◌, [], ◌∷◌, ◌+◌, ◌*◌, ◌≤◌, ◌<◌, length};
 ghost use Rattle.geometry.specs.Boxes.{face_of};
 ghost use Rattle.candidate_pool.specs.Offsets.{entry_at, pool_end};
@@ -19,6 +20,7 @@ use mesh_weld::cells::{Cell, cell_of};
 use words::zero_part;
 
 // "mesh vertex + 1 or 0", as it stands in a candidate: 0 where it has no mesh vertex.
+// Stays (C interface): the caller reads this word in the list of candidates, as it stands.
 fn mesh_word(mesh: Option<MeshVertexId>) -> u64
     requires { mesh_word mesh ≤ 268435456 }
     ensures { result ≡ mesh_word mesh }

@@ -35,6 +35,7 @@ pub struct Room {
     ghost small: { (n < 268435456) × (nf < 268435456) },
 }
 
+// Stays (plainer): each method is another table's place and each number there another one; one function of a table would be a match over these same lines.
 impl Room {
     pub fn keys_at(self) -> usize
         ensures { result ≡ keys_at self.n }

@@ -1,10 +1,10 @@
-use Prim.Native.Nat.{ℕ, ◌+◌, ◌*◌, ◌^◌, ◌≤◌, ◌<◌}
+use Prim.Native.Nat.{ℕ, ◌+◌, ◌*◌, ◌^◌, ◌≤◌}
 use native.Mathlib.Omega.{arith}
 use mathlib.Core.Path.{◌≡◌, sym, ap, subst, ◌∙◌}
 use lib.Ieee.{Float}
 use Rattle.root.specs.Bounds.{Within}
 use Rattle.geometry.specs.Boxes.{lowest, highest, axis, face_of}
-use Rattle.geometry.proofs.Faces.{axis_in}
+use Rattle.geometry.proofs.Faces.{axis_in, face_in}
 use Rattle.geometry.specs.Axes.{segments}
 use Rattle.input_tests.specs.Front.{by_axis}
 use Rattle.box_faces.specs.Faces.{u_axis, v_axis}
@@ -62,7 +62,7 @@ face_line-at-requires c = (parts_in _ _ c.args.grid.resolution _ _ (axis_in c.ax
 pub gather_segments-count-requires : goal.gather_segments-count-requires
 gather_segments-count-requires c =
     let p = c.requires in
-    edges_ready _ _ _ _ _ _ p.face_in p.holds p.held _ p.size p.small p.edges (p.skips _ c.index.ensures.bound)
+    edges_ready _ _ _ _ _ _ (face_in c.args.face) p.holds p.held _ p.size p.small p.edges (p.skips _ c.index.ensures.bound)
 
 pub loop-i-init : goal.loop-i-init
 loop-i-init c =
@@ -81,12 +81,12 @@ enter_grid_row-requires c =
     let least = last-in s in
     let least-v : (1 ≤ last-v s) × (last-v s ≤ 256) = parts_in _ _ g.resolution _ _ (axis_in c.uv_axes-axes.result.1) p.coarse c.segments_of-last_v.ensures in
     let at_in : Within (2 ^ 48) c.face_line-at.result = subst (λ (x : Float). Within (2 ^ 48) x) (sym c.face_line-at.ensures)
-    (face_line_in _ _ _ p.box_in p.face_in (across-in s).0 (across-in s).1) in
+    (face_line_in _ _ _ p.box_in (face_in c.args.face) (across-in s).0 (across-in s).1) in
     let room : count_at c.gather_segments-count.new.w + (last s + 1) * (last-v s + 1) ≤ c.args.room.n = face_room _ _ g.resolution c.args.room.n (face s) (last s) (last-v s)
     c.args.w.now c.gather_segments-count.new.w (last_is s) (last-v-is s) (gathered_count _ _ _ _ _ _ _ _ p.holds _ c.gather_segments-count.ensures) p.few in
     let most : c.loop-i.i ≤ c.segments_of-last.result = omega (arith, c.loop-i-test.true) in
     row_ready _ _ _ _ _ _ _ _ _ _ (near_ready _ _ _ _ _ _ _ _ _ _ c.gather_segments-count.ensures c.segments_at.ensures p.edges p.size) _ c.loop-i.invariant.1 _ _
-    p.face_in p.box_in most least.1 least.0 least-v.1 least-v.0 room at_in (along-u (goal.at.enter_grid_row-requires c).After-grid_line)
+    (face_in c.args.face) p.box_in most least.1 least.0 least-v.1 least-v.0 room at_in (along-u (goal.at.enter_grid_row-requires c).After-grid_line)
 
 pub loop-i-preserved : goal.loop-i-preserved
 loop-i-preserved c =
@@ -111,6 +111,7 @@ returns c =
     let p = c.requires in
     let a = c.loop-i.invariant.0 in
     let b = c.loop-i-test.false in
-    face_end _ _ _ _ _ _ _ _ _ _ _ p _ _ (ap (by_axis c.args.skip) (across-is s)) c.gather_segments-count.ensures _ _ _ _ _ c.loop-i.i c.segments_at.ensures (last_is s) (last-v-is s)
+    face_end _ _ _ _ _ _ _ _ (face_in c.args.face) _ _ _ p _ _ (ap (by_axis c.args.skip) (across-is s)) c.gather_segments-count.ensures _ _ _ _ _ c.loop-i.i
+    c.segments_at.ensures (last_is s) (last-v-is s)
     (parts_is _ _ c.args.grid.resolution _ _ (axis_in c.axis-across.result) p.coarse c.segments_of.ensures ∙ ap (segs s) c.axis-across.ensures)
     c.face_line-at.ensures (omega arith) c.loop-i.invariant.1

@@ -1,6 +1,7 @@
 use Prim.Native.Nat.{ℕ, ◌+◌, ◌≤◌, ◌<◌}
 use native.Mathlib.Omega.{arith}
 use mathlib.Core.Path.{◌≡◌, refl, ap, subst, ◌∙◌}
+use mathlib.Core.Bool.{Bool, ◌&&◌}
 use mathlib.Core.List.{flat_map}
 use borrow.Author.Rules.{rules}
 use Rattle.lists.specs.Lists.{up_to}
@@ -53,7 +54,7 @@ loop-j-preserved c =
       entered_more _ _ _ _ _ _ _ _ _ _ _ t.loop-j.invariant.1
           (row_cell_lem _ _ _ _ _ _ _ _ _ c.requires _ t.loop-j.invariant.1 l _ _ _ along-v
           c.point_on_face-p.ensures
-          c.is_inner.ensures)
+          (ap (λ (b : Bool). c.args.row.inner && b) c.is_interior.ensures))
           c.enter_grid_point.ensures refl,
     )
 
