@@ -18,19 +18,13 @@ use candidate_pool::pool::clear_pool;
 use candidate_pool::room::Room;
 use geometry::aabb::AABB;
 use geometry::mesh::MeshLists;
-use input_tests::grid::grid_size;
 
 // Each vertex and each grid point is at most one candidate.
 pub fn most_candidates(vertices: &[f64], asked: Asked) -> usize
     requires { (length vertices.now / 3 ≤ 65536) × (grid_too_fine asked.extents asked.eps (one_resolution asked.resolution) ≡ false) }
     ensures { result ≡ most_candidates vertices.now asked }
 {
-    vertices.len() / 3
-        + grid_size(
-            asked.extents,
-            asked.eps,
-            [asked.resolution, asked.resolution, asked.resolution],
-        )
+    vertices.len() / 3 + asked.grid().size()
 }
 
 // How many open edges there are, whose records then stand in the room.
@@ -77,14 +71,5 @@ pub fn complete(mesh: MeshLists<'_>, asked: Asked, w: &mut [u64], n: usize, k: u
     let room = Room { n, nf };
     enter_corners(w, mesh.vertices, room, asked.extents, asked.eps);
     let skip = asked.resolution * 1.0e-9;
-    let by_axis = [asked.resolution, asked.resolution, asked.resolution];
-    enter_grids(
-        w,
-        room,
-        k,
-        asked.extents,
-        asked.eps,
-        by_axis,
-        [skip, skip, skip],
-    );
+    enter_grids(w, room, k, asked.grid(), [skip; 3]);
 }

@@ -15,30 +15,25 @@ use cap_pairs::noting::note_faces;
 use cap_pairs::pairs::number_pairs;
 use cap_selection::seeds::select_caps;
 use cap_triangles::listed::bad_cap_place;
+use cap_triangles::room::SuppliedCaps;
 use cap_triangles::turning::turn_caps;
 use geometry::mesh::MeshLists;
 use refusals::refusal::Refusal;
 use refusals::reply::Reply;
 
 // For the k open edges. What the selection needs of the list is then in the room.
-pub fn check_caps(
-    w: &mut [u64],
-    n: usize,
-    nf: usize,
-    k: usize,
-    cap_list: &[u64],
-) -> Result<(), Refusal>
-    requires supplied { Supplied n nf cap_list.now w.old }
-    requires edges_held { EdgesHeld (pool_at n w.old) w.old (open_edges_at n nf) k × (k ≤ 3 * nf) }
-    ensures { CapsChecked n nf k cap_list.now result w.old w.new }
+pub fn check_caps(w: &mut [u64], caps: SuppliedCaps<'_>) -> Result<(), Refusal>
+    requires supplied { Supplied caps.n caps.nf caps.list.now w.old }
+    requires edges_held { EdgesHeld (pool_at caps.n w.old) w.old (open_edges_at caps.n caps.nf) caps.k × (caps.k ≤ 3 * caps.nf) }
+    ensures { CapsChecked caps.entry.n caps.entry.nf caps.entry.k caps.entry.list.now result w.old w.new }
 {
-    if let Some(place) = bad_cap_place(w, n, cap_list) {
+    if let Some(place) = bad_cap_place(w, caps) {
         return Err(Refusal::BadCap(place));
     }
-    turn_caps(w, n, nf, cap_list);
-    number_pairs(w, n, nf, k, cap_list);
-    note_faces(w, n, nf, k, cap_list);
-    match missing_place(w, n, nf, k, cap_list) {
+    turn_caps(w, caps);
+    number_pairs(w, caps);
+    note_faces(w, caps);
+    match missing_place(w, caps) {
         Some(place) => Err(Refusal::MissingEdge(place)),
         None => Ok(()),
     }
@@ -62,8 +57,13 @@ pub fn close_mesh(
         out_vertices.new out_facets.old out_facets.new) (documented_reply result) }
 {
     let nf = mesh.facets.len() / 3;
-    let nc = cap_list.len() / 4;
-    select_caps(w, n, nf, k, cap_list);
-    let made = close_caps(w, mesh.vertices, n, nf, cap_list, positive);
-    deliver_closed(w, mesh, n, nc, positive, made, out_vertices, out_facets)
+    let caps = SuppliedCaps {
+        n,
+        nf,
+        k,
+        list: cap_list,
+    };
+    select_caps(w, caps);
+    let made = close_caps(w, mesh.vertices, caps, positive);
+    deliver_closed(w, mesh, caps, positive, made, out_vertices, out_facets)
 }

@@ -16,6 +16,7 @@ use crate::mode::{BoundaryClosure, is_positive, leaves_open};
 use candidate_surface::asked::Asked;
 use candidate_surface::surface::{complete, enter_surface, most_candidates, table_edges};
 use cap_outputs::outputs::deliver_mesh;
+use cap_triangles::room::SuppliedCaps;
 use closure_tests::tests::{check_closure, check_edges};
 use geometry::mesh::MeshLists;
 use refusals::reply::Reply;
@@ -48,7 +49,13 @@ fn cap_edges(
         return deliver_mesh(mesh, out_vertices, out_facets);
     }
     complete(mesh, asked, w, n, k);
-    check_caps(w, n, mesh.facets.len() / 3, k, cap_list)?;
+    let caps = SuppliedCaps {
+        n,
+        nf: mesh.facets.len() / 3,
+        k,
+        list: cap_list,
+    };
+    check_caps(w, caps)?;
     close_mesh(
         w,
         mesh,

@@ -13,7 +13,7 @@ use candidate_pool::room::Room;
 use candidate_surface::asked::Asked;
 use geometry::mesh::MeshLists;
 use input_tests::boxes::{box_in_range, is_bad_box};
-use input_tests::grid::{box_has_far_key, grid_size, has_far_key, is_grid_too_fine};
+use input_tests::grid::{box_has_far_key, has_far_key};
 use input_tests::{all_in_range, check_lists, eps_in_range, resolution_in_range, work_need};
 use refusals::refusal::Refusal;
 use words::{pair_first, pair_second};
@@ -45,16 +45,16 @@ pub fn check_closure(
     if is_bad_box(asked.extents) {
         return Err(Refusal::BadBox);
     }
-    let by_axis = [asked.resolution; 3];
-    if is_grid_too_fine(asked.extents, asked.eps, by_axis) {
+    let grid = asked.grid();
+    if grid.is_too_fine() {
         return Err(Refusal::GridTooFine);
     }
-    let grid = grid_size(asked.extents, asked.eps, by_axis);
+    let points = grid.size();
     let need = work_need(
         mesh.vertices.len() / 3,
         mesh.facets.len() / 3,
         caps / 4,
-        grid,
+        points,
     );
     if lent < need {
         return Err(Refusal::NoWorkRoom(need));

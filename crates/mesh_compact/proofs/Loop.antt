@@ -199,16 +199,18 @@ module _ (kept facets parts k at n : ℕ) (m v : List ℕ) (R : RenumberRoom kep
 
 -- ---- the first facet
 
-pub going_start : (kept facets parts k at n least : ℕ) (m v : List ℕ) (few : 0 ≤ 0) → at + n ≤ length m → PartZeroed m v at n → NumberedSoFar kept facets parts k at n least 0
-    (record { vertices = 0; corners = 0; few = few }) v v
+pub going_start : (kept facets parts k at n least : ℕ) (w : Numbered) (m v : List ℕ) → w.vertices ≡ 0 → w.corners ≡ 0 → at + n ≤ length m → PartZeroed m v at n
+    → NumberedSoFar kept facets parts k at n least 0 w v v
 unfolding numbering up_from flat_map
-going_start kept facets parts k at n least m v few room z =
+going_start kept facets parts k at n least w m v ea ec room z =
     record {
       done = omega arith;
       within = omega arith;
       rest = λ x q. refl;
       naming = λ point points top e P.
-          record {
+          subst (λ (a : ℕ). Naming point points top at n k a w.corners [] v) (sym ea)
+          (subst (λ (c : ℕ). Naming point points top at n k 0 c [] v) (sym ec)
+          (record {
             given = zeros ∙ ap (λ (x : ℕ). replicate x 0) (sym e);
             used = refl;
             numbers = refl;
@@ -216,7 +218,7 @@ going_start kept facets parts k at n least m v few room z =
             low = λ j h. absurd (omega arith);
             ranked = λ u h. rw (z.zero u h) (omega arith);
             small = λ j h. absurd (omega arith);
-          };
+          }));
     }
   where
     no_member : {u : ℕ} → Memᴰ u [] → ⊥

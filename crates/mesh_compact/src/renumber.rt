@@ -98,10 +98,7 @@ impl Renumbering {
         ensures { NumberedSoFar self.now.kept self.now.facets self.now.parts self.now.k self.now.at self.now.n self.now.least self.now.k result m.old m.new }
     {
         zero_part(m, self.at, self.n);
-        let mut w = Numbered {
-            vertices: 0,
-            corners: 0,
-        };
+        let mut w = Numbered::none();
         for i in 0..self.k {
             w = self.number_if_kept(m, w, i);
         }
