@@ -105,6 +105,7 @@ impl Polygon {
 
     // What one side adds: a crossing, unless both ends are inside or both outside; and an inside corner, as it is. Answers whether the corner is
     // inside, so that the next side need not ask again.
+    // Stays (plainer): `prev_inside` is what was answered of the side before, and no step to choose.
     #[inline(always)]
     fn add_side(
         &mut self,

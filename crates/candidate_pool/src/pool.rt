@@ -32,6 +32,7 @@ fn mesh_word(mesh: Option<MeshVertexId>) -> u64
 }
 
 // The room of no candidate.
+// Stays (plainer): how much room the pool needs stands beside the room's name, since most functions of a pool ask for more than that.
 pub fn clear_pool(w: &mut [u64], room: Room, eps: f64)
     requires { pool_end room.n ≤ length w.old }
     ensures { Cleared eps room.n w.old w.new }
@@ -118,6 +119,7 @@ fn place_candidate(
 }
 
 // "faces add up": the face is added to the candidate, and the candidate to the face's list, unless it is there.
+// Stays (plainer): a candidate's number is looked up in the room that is handed with it; a number of one room may be none of another's.
 fn push_face(w: &mut [u64], room: Room, id: CandidateVertexId, face: BoxFace, eps: f64)
     requires holds { Holds eps room.n w.old }
     requires id_bound { id.0 < count_at w.old }

@@ -7,7 +7,8 @@ ghost use Rattle.cases.specs.Closing.{box_to, Listing, facet_reply, is_later, c3
 use crate::listed::{is_alone, place_of};
 use boundary_closure::cap_candidates;
 use geometry::aabb::AABB;
-use input_tests::grid::segments_of;
+use geometry::face::Axis;
+use input_tests::grid::Grid;
 use refusals::report::report_reply;
 
 // 1/1024
@@ -161,7 +162,12 @@ pub fn c13() -> bool
     // 128 × (3 + 1 + 2064) + 1,024: G is 2 × (257 × 2 + 257 × 2 + 2 × 2)
     let mut work = [0u64; 265728];
     let mut values = [0u64; 4];
-    if segments_of(box_to(256.0, 1.0, 1.0), 0.0, [1.0, 1.0, 1.0], 0) != 256 {
+    let grid = Grid {
+        extents: box_to(256.0, 1.0, 1.0),
+        eps: 0.0,
+        resolution: [1.0, 1.0, 1.0],
+    };
+    if grid.segments_of(Axis::X) != 256 {
         return false;
     }
     if reply_to_facet(box_to(256.0, 1.0, 1.0), 0.0, 1.0, &mut work, &mut values) != 0 {

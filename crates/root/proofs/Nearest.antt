@@ -3,7 +3,32 @@ use mathlib.Core.Path.{◌≡◌, sym, ap, ◌∙◌, subst}
 use mathlib.Core.Logic.{◌⊎◌, inl, inr}
 use mathlib.Core.Bool.{Bool, true, false, not, cond}
 use Prim.Native.Nat.{ℕ, zero, suc, ◌+◌, ◌-◌, ◌*◌, ◌/◌, ◌%◌, ◌^◌, ◌≤◌, ◌<◌, compare, Ordering}
-use native.Mathlib.Nat.{mul_comm, mul_assoc, mul_left_comm, mul_right_comm, one-mul, add-mul, mul-add, suc-mul, mul-pos, mul-le-mul_left, mul-le-mul_right, le_of_mul-le-mul_right, mul-lt-mul_of_pos_right, div-add-mod', mod-lt, le-div_iff_mul-le, le_trans, le_of_eq, le_of_lt, lt_of_lt_of_le, lt_of_le_of_lt, lt_irrefl, le_antisymm, eq-zero-or-pos}
+use native.Mathlib.Nat.{
+  mul_comm,
+  mul_assoc,
+  mul_left_comm,
+  mul_right_comm,
+  one-mul,
+  add-mul,
+  mul-add,
+  suc-mul,
+  mul-pos,
+  mul-le-mul_left,
+  mul-le-mul_right,
+  le_of_mul-le-mul_right,
+  mul-lt-mul_of_pos_right,
+  div-add-mod',
+  mod-lt,
+  le-div_iff_mul-le,
+  le_trans,
+  le_of_eq,
+  le_of_lt,
+  lt_of_lt_of_le,
+  lt_of_le_of_lt,
+  lt_irrefl,
+  le_antisymm,
+  eq-zero-or-pos,
+}
 use native.Mathlib.Omega.{arith}
 use lib.IntN.{ℤ}
 use lib.Dec.{T, is_le, compare_is_eq, ltb, eqb, ltb→lt, leb→le, nleb→lt, eqb→eq, eqb_refl}
