@@ -44,12 +44,12 @@ pub fn join_caps(w: &mut [u64], room: CapRoom, k: usize)
     ensures { JoinedCaps room.n room.nf room.nc k w.old w.new }
 {
     put_labels(w, room, k);
+    let (front, table) = w.split_at_mut(room.components_at());
+    let labels = room.labels_at();
     components(
-        w,
-        room.labels_at(),
-        room.nc,
+        table,
+        &front[labels..labels + 3 * room.nc],
         3,
         k + 6 * room.nc,
-        room.components_at(),
     );
 }
