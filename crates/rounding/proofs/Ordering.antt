@@ -128,3 +128,8 @@ module _ (x y : Float) (F : T (fits binary64 x)) (G : T (fits binary64 y)) (p : 
 
           rest : (a b : ℕ) → a < 2 ^ 64 → b < 2 ^ 64 → 2 ^ 64 - 1 - a ≡ 2 ^ 64 - 1 - b → a ≡ b
           rest a b h k e = omega arith
+
+-- ---- a double, and no NaN
+pub record Number (x : Float) : Type 0 where
+  pub held : T (fits binary64 x)
+  pub number : T (not (is_nan x))
