@@ -33,7 +33,8 @@ use Rattle.input_tests.proofs.Lists.{listed}
 use Rattle.refusals.proofs.Answers.{short, done as all_done}
 use Rattle.aabb_facets.specs.Clipped.{inside_box}
 use Rattle.aabb_facets.proofs.Bounds.{most, inside_most}
-use Rattle.aabb_clipping.specs.Clip.{Clip, clip_tests, clip_result}
+use Rattle.aabb_planes.specs.declared.clip.Clip.{Clip}
+use Rattle.aabb_clipping.specs.Clip.{clip_tests, clip_result}
 use Rattle.aabb_clipping.specs.Steps.{Fits}
 
 pub none_front : {A : Type 0} (e old : List A) → length e ≡ 0 → e ++ old ≡ old

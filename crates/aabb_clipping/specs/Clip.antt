@@ -9,7 +9,7 @@ use Rattle.geometry.specs.Meshes.{Mesh, mesh_of}
 use Rattle.refusals.specs.declared.refusal.Refusal.TheVariants.{BadNumber, BadBox}
 use Rattle.refusals.specs.Refusals.{Test}
 use Rattle.input_tests.specs.Front.{Limits, list_tests, in_range, eps_in_range, box_in_range, bad_box, work_need, work_test}
-pub use Rattle.aabb_planes.specs.declared.clip.Clip.{Clip}
+use Rattle.aabb_planes.specs.declared.clip.Clip.{Clip}
 use Rattle.aabb_facets.specs.Clipped.{clipped}
 
 abbrev pub clip_asked : AABB → Float → Clip

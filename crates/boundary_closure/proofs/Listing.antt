@@ -21,7 +21,8 @@ use Rattle.candidate_edges.specs.Steps.{MeshFits}
 use Rattle.candidate_constraints.specs.Constraints.{face_constraints}
 use Rattle.candidate_constraints.specs.Steps.{Constrained}
 use Rattle.candidate_surface.specs.Candidates.{candidates, no_two_ends}
-use Rattle.candidate_surface.specs.Asked.{Asked, setting}
+use Rattle.candidate_surface.specs.declared.asked.Asked.{Asked}
+use Rattle.candidate_surface.specs.Asked.{setting}
 use Rattle.candidate_surface.specs.Steps.{Completed}
 use Rattle.candidate_outputs.specs.Written.{candidates_standing, Readable}
 use Rattle.candidate_outputs.proofs.Blocks.{words_same}

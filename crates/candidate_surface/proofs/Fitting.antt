@@ -28,7 +28,8 @@ use Rattle.candidate_pool.specs.Offsets.{room_end}
 use Rattle.candidate_pool.specs.Standing.{PointIn}
 use Rattle.candidate_edges.specs.Steps.{VerticesIn, MeshFits}
 use Rattle.input_tests.specs.declared.grid.Grid.{Grid}
-use Rattle.candidate_surface.specs.Asked.{Asked, on_each, one_resolution, grid_of}
+use Rattle.candidate_surface.specs.declared.asked.Asked.{Asked}
+use Rattle.candidate_surface.specs.Asked.{on_each, one_resolution, grid_of}
 use Rattle.candidate_surface.specs.Steps.{Sound, most_candidates}
 
 -- ---- numbers

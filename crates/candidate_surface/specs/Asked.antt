@@ -11,7 +11,7 @@ use Rattle.input_tests.specs.declared.grid.Grid.{Grid}
 use Rattle.input_tests.specs.Front.{by_axis}
 use Rattle.candidate_pool.specs.Pool.{by_key}
 use Rattle.candidate_pool.specs.Setting.{Setting}
-pub use Rattle.candidate_surface.specs.declared.asked.Asked.{Asked}
+use Rattle.candidate_surface.specs.declared.asked.Asked.{Asked}
 
 abbrev pub asked : AABB → Float → Float → Asked
 asked extents eps resolution = record { extents = extents; eps = eps; resolution = resolution }

@@ -11,7 +11,7 @@ use Rattle.candidate_pool.specs.Setting.{Setting}
 use Rattle.candidate_edges.specs.Surface.{edge_surface, mesh_pool}
 use Rattle.candidate_grids.specs.Grid.{grid}
 use Rattle.candidate_constraints.specs.Constraints.{Constraint, face_constraints}
-use Rattle.candidate_surface.specs.Asked.{Asked}
+use Rattle.candidate_surface.specs.declared.asked.Asked.{Asked}
 
 pub record Candidates : Type 0 where
   pub all : List Candidate

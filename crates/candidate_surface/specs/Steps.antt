@@ -22,7 +22,8 @@ use Rattle.candidate_pool.specs.Standing.{joined_in, pool_at, Holds, edges_at, E
 use Rattle.candidate_edges.specs.Surface.{edge_surface, mesh_pool}
 use Rattle.candidate_edges.specs.Steps.{TableAt, Sourced}
 use Rattle.candidate_grids.specs.Grid.{grid}
-use Rattle.candidate_surface.specs.Asked.{Asked, one_resolution, setting}
+use Rattle.candidate_surface.specs.declared.asked.Asked.{Asked}
+use Rattle.candidate_surface.specs.Asked.{one_resolution, setting}
 
 pub record Sound (vs : List Float) (fs : List ℕ) (q : Asked) : Type 0 where
   pub lists : ListsPass vs fs

@@ -16,7 +16,8 @@ use Rattle.refusals.specs.Refusals.{Passes}
 use Rattle.input_tests.specs.Front.{limits}
 use Rattle.input_tests.proofs.Lists.{cap_listed}
 use Rattle.candidate_pool.specs.Pool.{Pool, no_candidate}
-use Rattle.candidate_surface.specs.Asked.{Asked, setting}
+use Rattle.candidate_surface.specs.declared.asked.Asked.{Asked}
+use Rattle.candidate_surface.specs.Asked.{setting}
 use Rattle.closure_tests.specs.Tests.{closure_tests}
 use Rattle.candidate_surface.specs.Steps.{Sound, most_candidates, Surfaced, full_pool, Completed}
 use Rattle.closure_tests.proofs.Checking.{room_passed, lists_passed}

@@ -30,7 +30,8 @@ use Rattle.candidate_pool.specs.Setting.{Setting}
 use Rattle.candidate_pool.specs.Standing.{count_at, candidate_at, pool_at}
 use Rattle.candidate_edges.specs.Surface.{mesh_candidate, edge_faces, corner_vertices, edge_surface, mesh_pool}
 use Rattle.candidate_grids.specs.Grid.{grid_point, interior, skipped, grid_at, face_grid, grid, segments_of}
-use Rattle.candidate_surface.specs.Asked.{Asked, setting}
+use Rattle.candidate_surface.specs.declared.asked.Asked.{Asked}
+use Rattle.candidate_surface.specs.Asked.{setting}
 use Rattle.candidate_surface.specs.Steps.{full_pool}
 use Rattle.cap_closing.specs.Entering.{MeshWords}
 

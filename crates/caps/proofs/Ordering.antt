@@ -28,7 +28,7 @@ use Rattle.refusals.proofs.Answers.{refused, after, behind, answered}
 use Rattle.candidate_pool.specs.Pool.{by_key}
 use Rattle.candidate_pool.specs.Standing.{pool_at}
 use Rattle.candidate_edges.specs.Surface.{edge_surface}
-use Rattle.candidate_surface.specs.Asked.{Asked}
+use Rattle.candidate_surface.specs.declared.asked.Asked.{Asked}
 use Rattle.candidate_surface.specs.Candidates.{candidates, no_facet, no_two_ends}
 use Rattle.closure_tests.specs.Tests.{edge_tests}
 use Rattle.candidate_surface.specs.Steps.{Completed}

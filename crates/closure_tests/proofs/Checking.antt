@@ -32,7 +32,8 @@ use Rattle.refusals.proofs.Replies.{head_passed, tail_passed, row_front, row_res
 use Rattle.input_tests.proofs.Lists.{listed, cap_listed}
 use Rattle.candidate_edges.specs.Surface.{edge_faces}
 use Rattle.candidate_edges.specs.Steps.{MeshFits}
-use Rattle.candidate_surface.specs.Asked.{Asked, one_resolution}
+use Rattle.candidate_surface.specs.declared.asked.Asked.{Asked}
+use Rattle.candidate_surface.specs.Asked.{one_resolution}
 use Rattle.closure_tests.specs.Tests.{mesh, closure_tests, stray_edge, edge_tests}
 use Rattle.candidate_surface.specs.Steps.{Sound, Tabled}
 use Rattle.candidate_surface.proofs.Fitting.{grid_small}

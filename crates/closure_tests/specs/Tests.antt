@@ -10,7 +10,8 @@ use Rattle.refusals.specs.declared.refusal.Refusal.TheVariants.{BadNumber, BadBo
 use Rattle.refusals.specs.Refusals.{Test}
 use Rattle.input_tests.specs.Front.{Limits, list_tests, in_range, eps_in_range, resolution_in_range, box_in_range, bad_box, grid_too_fine, work_need, work_test, far_keys, box_far_keys}
 use Rattle.candidate_edges.specs.Surface.{edge_faces}
-use Rattle.candidate_surface.specs.Asked.{Asked, one_resolution}
+use Rattle.candidate_surface.specs.declared.asked.Asked.{Asked}
+use Rattle.candidate_surface.specs.Asked.{one_resolution}
 
 module _ (vs : List Float) (fs : List ℕ) (q : Asked) where
   abbrev pub mesh : Mesh

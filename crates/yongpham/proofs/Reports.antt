@@ -23,11 +23,12 @@ use Rattle.refusals.proofs.Answers.{refused, answered, called}
 use Rattle.refusals.proofs.Reports.{same_reply}
 use Rattle.std.specs.Prelude.{Result, Ok, Err}
 use Rattle.tolerance.specs.Tolerance.{tolerance_reply, documented_tolerance, Tolerated}
-use Rattle.candidate_surface.specs.Asked.{Asked}
+use Rattle.candidate_surface.specs.declared.asked.Asked.{Asked}
 use Rattle.caps.specs.declared.mode.BoundaryClosure.{BoundaryClosure}
 use Rattle.caps.specs.Operation.{caps_tests, caps_result, unchanged, Closes, Capped}
 use Rattle.caps.proofs.Demands.{closes}
-use Rattle.yongpham.specs.Calls.{mode_of, no_mode_tests, caps_call_tests, CapsCalled}
+use Rattle.caps.specs.Modes.{mode_of}
+use Rattle.yongpham.specs.Calls.{no_mode_tests, caps_call_tests, CapsCalled}
 
 pub tolerance_done : (b : AABB) (t : Result Float Refusal) (eps : Float) (r : ℕ) (ws : List ℕ) → Tolerated b t → t ≡ Ok eps → (r ≡ 0) ×
     (ws ≡ to_bits binary64 eps ∷ 0 ∷ 0 ∷ 0 ∷ []) → Reported

@@ -9,8 +9,8 @@ use Rattle.refusals.specs.declared.refusal.Refusal.TheVariants.{BadNumber}
 use Rattle.refusals.specs.Refusals.{Test}
 use Rattle.refusals.specs.Answers.{mesh_outputs, Called}
 use Rattle.input_tests.specs.Front.{Limits, limits, list_tests}
-use Rattle.candidate_surface.specs.Asked.{Asked}
-pub use Rattle.caps.specs.Modes.{mode_of}
+use Rattle.candidate_surface.specs.declared.asked.Asked.{Asked}
+use Rattle.caps.specs.Modes.{mode_of}
 use Rattle.caps.specs.Operation.{caps_tests, caps_result, unchanged, Closes}
 
 abbrev pub box_of : Float → Float → Float → Float → Float → Float → AABB

@@ -17,9 +17,10 @@ share_vertex-to-requires c =
     let i = c.loop-j.invariant in
     let v = c.corner_at in
     let b = c.requires.by_index (3 * c.args.i + c.loop-j.j) (omega (arith, c.requires.i_in_bounds, c.loop-j-test.true)) in
-    let room = (c.requires.vertices_bound, c.loop-j-test.true) in (
+    let room = c.requires.vertices_bound in
+    let few = c.loop-j-test.true in (
       omega (arith, b.0, v.ensures, i.ids_length),
-      (omega (arith, b.1, v.ensures), (i.low v.result.0, (omega (arith, i.nv, room), omega (arith, i.nf, room)))),
+      (omega (arith, b.1, v.ensures), (i.low v.result.0, (omega (arith, i.nv, room, few), omega (arith, i.nf, room, few)))),
     )
 
 pub loop-j-preserved : goal.loop-j-preserved

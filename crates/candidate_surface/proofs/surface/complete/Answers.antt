@@ -1,10 +1,6 @@
-use mathlib.Core.Path.{refl, sym, subst}
-use Prim.Native.Nat.{◌/◌}
+use mathlib.Core.Path.{refl}
 use lib.Dec.{lit≤}
 use lib.Ieee.{of_bits}
-use lib.ListN.{length}
-use Rattle.input_tests.specs.declared.grid.Grid.{Grid}
-use Rattle.candidate_grids.specs.Steps.{GridReady, Gridded}
 use Rattle.candidate_surface.proofs.Fitting.{skip_within, vertices_in}
 use Rattle.candidate_surface.proofs.Completing.{grids_ready, completed}
 use Rattle.candidate_surface.proofs.surface.complete.Goals as goal
@@ -21,12 +17,11 @@ pub enter_grids-requires : goal.enter_grids-requires
 unfolding of_bits
 enter_grids-requires c =
     let a = c.args in
-    subst (λ (g : Grid). GridReady g.extents g.eps g.resolution _ a.n (length a.mesh.facets.now / 3) a.k c.enter_corners.new.w) (sym c.grid.ensures)
     (grids_ready a.mesh.vertices.now a.mesh.facets.now a.asked.extents a.asked.eps a.n a.k a.asked.resolution c.requires.sound
     a.w.now c.enter_corners.new.w c.requires.mesh_fits.0
     c.requires.mesh_fits.1 c.requires.mesh_fits.2
     c.requires.surfaced c.enter_corners.auto.w
-    c.enter_corners.ensures _
+    c.enter_corners.ensures c.grid.result c.grid.ensures _
     (skip_within a.asked.resolution _ c.requires.sound.resolution_in (record { is_finite = tt; size = lit≤ tt })))
 
 pub returns : goal.returns
@@ -39,6 +34,5 @@ returns c =
     c.requires.mesh_fits.1
     c.requires.mesh_fits.2
     c.requires.surfaced
-    c.enter_corners.auto.w c.enter_corners.ensures _ refl _
-    (subst (λ (g : Grid). Gridded g.extents g.eps g.resolution _ a.n (length a.mesh.facets.now / 3) a.k c.enter_corners.new.w c.enter_grids.new.w) c.grid.ensures
-    c.enter_grids.ensures)
+    c.enter_corners.auto.w c.enter_corners.ensures c.grid.result c.grid.ensures _ refl _
+    c.enter_grids.ensures

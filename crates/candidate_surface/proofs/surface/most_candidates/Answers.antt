@@ -1,4 +1,4 @@
-use mathlib.Core.Path.{refl, sym, ap, ◌∙◌}
+use mathlib.Core.Path.{refl, ap, ◌∙◌}
 use native.Mathlib.Omega.{arith}
 use Prim.Native.Nat.{ℕ, ◌+◌, ◌/◌}
 use lib.ListN.{length}
@@ -7,7 +7,7 @@ use Rattle.candidate_surface.proofs.Fitting.{grid_small, size_of, fine_of}
 use Rattle.candidate_surface.proofs.surface.most_candidates.Goals as goal
 
 pub size-requires : goal.size-requires
-size-requires c = sym (fine_of c.args.asked c.grid.result _ c.grid.ensures refl) ∙ c.requires.1
+size-requires c = fine_of c.args.asked c.grid.result _ c.grid.ensures refl ∙ c.requires.1
 
 pub overflow_add-result : goal.overflow_add-result
 overflow_add-result c =

@@ -13,11 +13,12 @@ pub clip_facet-at-requires : goal.clip_facet-at-requires
 clip_facet-at-requires c =
     let a = c.args in
     let i = c.loop-i.invariant in
-    let few = (a.self.few, c.loop-i-test.true) in record {
-      i_in_bounds = (omega (arith, few), omega (arith, few));
+    let few = a.self.few in
+    let low = c.loop-i-test.true in record {
+      i_in_bounds = (omega (arith, low), omega (arith, low, few));
       by_index = all_below a.self.mesh.vertices.now a.self.mesh.facets.now a.clip.extents a.clip.eps a.ids.now c.loop-i.ids a.self.below c.requires i.ids_length;
       by_index_2 = i.low;
-      vertices_bound = (omega (arith, i.nv, few), omega (arith, i.nf, few));
+      vertices_bound = (omega (arith, i.nv, low, few), omega (arith, i.nf, low, few));
     }
 
 pub loop-i-preserved : goal.loop-i-preserved
@@ -34,8 +35,9 @@ pub returns : goal.returns
 returns c =
     let l = c.loop-i in
     let a = c.args in
-    let end = (a.self.few, c.loop-i-test.false) in record {
+    let few = a.self.few in
+    let end = c.loop-i-test.false in record {
       out_facets_after = pass_end a.self.mesh.vertices.now a.self.mesh.facets.now a.clip.extents a.clip.eps a.ids.now a.out_vertices.now a.out_facets.now
-          l.ids l.out_vertices l.out_facets l.at l.i l.invariant (omega (arith, c.loop-i-test.false));
-      vertices_bound = (omega (arith, l.invariant.nv, end), omega (arith, l.invariant.nf, end));
+          l.ids l.out_vertices l.out_facets l.at l.i l.invariant (omega (arith, end));
+      vertices_bound = (omega (arith, l.invariant.nv, end, few), omega (arith, l.invariant.nf, end, few));
     }
