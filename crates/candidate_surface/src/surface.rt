@@ -56,7 +56,7 @@ pub fn enter_surface(
         (result ≡ length (edge_surface extents eps (by_key eps) (mesh_of mesh.entry.vertices.now mesh.entry.facets.now)).edges) }
 {
     let nf = mesh.facets.len() / 3;
-    clear_pool(w, Room { n, nf }, eps);
+    clear_pool(w, Room { n, nf });
     enter_edges(w, mesh, n, k, extents, eps)
 }
 
