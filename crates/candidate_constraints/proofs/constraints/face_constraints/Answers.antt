@@ -16,26 +16,6 @@ returns-then-w-index-lt3 c =
     face_none a.extents a.eps a.edged.room.n a.edged.room.nf a.edged.k (face_of a.face) a.total a.w.now s.requires.shown s.requires.roomy (face_in s.args.face) s.requires.fits
     (subst (λ (f : ℕ). get_or a.w.now f 0 < 3) c.index.ensures.value (omega (arith, c.if-w-index-lt3.true)))
 
-pub list_pairs-c-requires : goal.list_pairs-c-requires
-list_pairs-c-requires c =
-    let s = c in record { shown = s.requires.shown; roomy = s.requires.roomy; edges_held = s.requires.edges_held }
-
-pub keep_distinct-requires : goal.keep_distinct-requires
-keep_distinct-requires c =
-    let s = c in
-    let a = s.args in
-    let list-pairs' = c.list_pairs-c in
-    let pairs-at' = c.pairs_at-pairs in
-    let sort-records' = c.sort_records in record {
-      roomy = sorted_roomy a.extents a.eps a.edged.room.n a.edged.room.nf a.edged.k (face_of a.face) a.total a.w.now s.requires.shown s.requires.roomy (face_in s.args.face) s.requires.fits
-          list-pairs'.new.w (put_mid pairs-at'.result (pairs-at'.result + 4 * list-pairs'.result - pairs-at'.result) list-pairs'.new.w sort-records'.new.m)
-          (put_mid pairs-at'.result (pairs-at'.result + 4 * list-pairs'.result - pairs-at'.result) list-pairs'.new.w sort-records'.new.m) list-pairs'.result 0
-          pairs-at'.result list-pairs'.ensures pairs-at'.ensures
-          (sorted_part list-pairs'.new.w sort-records'.new.m pairs-at'.result list-pairs'.result
-          (omega (arith, s.requires.roomy.room, pairs-at'.ensures, list-pairs'.ensures.few, list-pairs'.ensures.kept.long)) sort-records'.ensures);
-      c_bound = (omega (arith, s.requires.roomy.room, pairs-at'.ensures, list-pairs'.ensures.few, list-pairs'.ensures.kept.long), s.requires.fits);
-    }
-
 pub returns : goal.returns
 returns c =
     let s = c in

@@ -38,13 +38,3 @@ loop-i-preserved c =
     edging_next a.edged.room.n (face_of a.face) (open_edges_at a.edged.room.n a.edged.room.nf) a.count a.w.now a.edged.room.nf a.edged.k s.requires.shown s.requires.roomy s.requires.placed s.requires.edges_held
     (face_in s.args.face) (omega (arith, s.requires.few, a.edged.few)) l.w l.c l.i l.invariant push-open-edge'.new.w push-open-edge'.result
     c.loop-i-test.true push-open-edge'.ensures
-
-pub shape_of-w : goal.shape_of-w
-shape_of-w c = c.loop-i.invariant.pushed.kept.long
-
-pub returns : goal.returns
-returns c =
-    let s = c in
-    let a = s.args in
-    edging_end a.edged.room.n (face_of a.face) (open_edges_at a.edged.room.n a.edged.room.nf) a.count a.w.now a.edged.k c.loop-i.w c.loop-i.c c.loop-i.i c.loop-i.invariant
-    c.loop-i-test.false
