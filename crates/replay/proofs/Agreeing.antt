@@ -75,6 +75,9 @@ use Rattle.replay.specs.Agreement.{
   clean_reply,
   caps_reply,
 }
+use Rattle.replay.specs.Operations.{number_of}
+use Rattle.replay.specs.declared.operation.Operation.{Operation}
+use Rattle.replay.specs.declared.operation.Operation.TheVariants.{Tolerance, Clip, Clean, Candidates, Caps, BoundaryComponents}
 use Rattle.replay.proofs.Deciding.{ends}
 
 pub length_table : {A : Type 0} (f : ℕ → A) (n : ℕ) → length (table f n) ≡ n
@@ -283,3 +286,14 @@ module _ (stored : List ℕ) where
   pub short : length stored < 32 → Agrees stored → ⊥
   short h (tolerance k t) = omega (arith, t.whole)
   short h (lists l) = omega (arith, l.laid.head)
+
+  -- a number that is no operation's
+  pub nameless : ((o : Operation) → number_of o ≡ get_or stored 1 0 → ⊥) → Agrees stored → ⊥
+  nameless never (tolerance k t) = never Tolerance (sym k)
+  nameless never (lists l) = elim l.answer [
+    | mesh (clip k s) ↦ never Clip (sym k)
+    | mesh (clean k s) ↦ never Clean (sym k)
+    | mesh (caps k s) ↦ never Caps (sym k)
+    | listing (candidates k s) ↦ never Candidates (sym k)
+    | listing (boundary k s) ↦ never BoundaryComponents (sym k)
+  ]

@@ -3,13 +3,17 @@
 --   clash                 no Bool is both true and false
 --   stops, ends           a row of tests: one that a fact needs fails; the last decides
 --   Passed                a loop: each number below i has the fact; start, more, end, stop
-use Prim.Native.Nat.{ℕ, ◌+◌, ◌≤◌, ◌<◌}
-use mathlib.Core.Path.{◌≡◌}
-use mathlib.Core.Bool.{Bool, true, false, not}
+use Prim.Native.Nat.{ℕ, ◌+◌, ◌-◌, ◌≤◌, ◌<◌}
+use mathlib.Core.Path.{◌≡◌, sym, subst, ◌∙◌}
+use mathlib.Core.List.{List}
+use lib.ListN.{length, get_or, take, drop}
+use Rattle.lists.proofs.Regions.{view_length, view_at}
+use mathlib.Core.Bool.{Bool, true, false, not, ◌&&◌}
 use native.Mathlib.Omega.{arith}
 use native.Mathlib.Nat.{lt_of_lt_of_le}
 use borrow.Author.Count.{below_none, below_more}
 use borrow.Author.Tests.{not-true, not-false}
+use Rattle.std.specs.Prelude.{IsTrue, ◌↔◌}
 use Rattle.lists.specs.Lists.{Decides}
 use Rattle.lists.proofs.Bools.{is_true, yes}
 use Rattle.replay.specs.Words.{Everywhere}
@@ -51,3 +55,30 @@ module _ (P : ℕ → Type 0) (n : ℕ) where
 
   pub passed_end : (i : ℕ) → Passed P n i → n ≤ i → Decides (Everywhere P n) true
   passed_end i h l = shown (λ k m. h.each k (lt_of_lt_of_le m l))
+
+-- from what the library says of a chain that tests each element
+pub decides : {P : Type 0} {b : Bool} → IsTrue b ↔ P → Decides P b
+decides {b = b} f = record { sound = λ t. f.0 (is_true b t); complete = λ p. yes (f.1 p) }
+
+-- each word of a part of a list, lent from `from` to `to`: said of the part, and of the list
+module _ (P : ℕ → Type 0) (s : List ℕ) (from to n : ℕ) (e : to - from ≡ n) (fits : from + n ≤ length s) where
+  abbrev lent : List ℕ
+  lent = take (to - from) (drop from s)
+
+  as_long : length lent ≡ n
+  as_long = view_length s from (to - from) (omega arith) ∙ e
+
+  pub each_of : Everywhere (λ k. P (get_or lent k 0)) (length lent) → Everywhere (λ k. P (get_or s (from + k) 0)) n
+  each_of h k l = subst P (view_at s from (to - from) k (omega arith)) (h k (omega (arith, as_long)))
+
+  pub each_in : Everywhere (λ k. P (get_or s (from + k) 0)) n → Everywhere (λ k. P (get_or lent k 0)) (length lent)
+  each_in h k l = let m : k < n = omega (arith, as_long) in subst P (sym (view_at s from (to - from) k (omega arith))) (h k m)
+
+  pub part_each : {b : Bool} → Decides (Everywhere (λ k. P (get_or lent k 0)) (length lent)) b → Decides (Everywhere (λ k. P (get_or s (from + k) 0)) n) b
+  part_each d = ends (Everywhere (λ k. P (get_or s (from + k) 0)) n) d each_of each_in
+
+-- two tests, and both
+pub both : {P Q : Type 0} {a b : Bool} → Decides P a → Decides Q b → Decides (P × Q) (a && b)
+both {a = true} {b = true} d e = record { sound = λ t. (d.sound t, e.sound t); complete = λ p. tt }
+both {a = true} {b = false} d e = record { sound = λ t. absurd t; complete = λ p. e.complete p.1 }
+both {a = false} d e = record { sound = λ t. absurd t; complete = λ p. d.complete p.0 }

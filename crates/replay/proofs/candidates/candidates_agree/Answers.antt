@@ -2,11 +2,6 @@ use Rattle.replay.proofs.Listing.{candidates_decides}
 use Rattle.replay.proofs.Agreeing.{same_box}
 use Rattle.replay.proofs.candidates.candidates_agree.Goals as goal
 
-pub same_candidates-requires : goal.same_candidates-requires
-same_candidates-requires c =
-    let s = c in
-    s.requires.laid
-
 pub returns : goal.returns
 returns c =
     let s = c in
@@ -18,6 +13,6 @@ returns c =
     let double6 = c.double-6 in
     let double7 = c.double-7 in
     let double8 = c.double-8 in
-    candidates_decides s.args.stored.now s.args.work.now _ s.args.candidates.now _ s.args.face_lists.now _ s.args.constraints.now _ s.args.open_edges.now _
-    s.args.vertices.now s.args.facets.now _ _ s.requires.fresh_words (same_box s.args.stored.now double.ensures double2.ensures double3.ensures
+    candidates_decides s.args.request.words.now s.args.work.now _ s.args.candidates.now _ s.args.face_lists.now _ s.args.constraints.now _ s.args.open_edges.now _
+    s.args.vertices.now s.args.facets.now _ _ s.requires (same_box s.args.request.words.now double.ensures double2.ensures double3.ensures
     double4.ensures double5.ensures double6.ensures) double7.ensures double8.ensures c.yongpham_candidates-number.ensures _ c.same_candidates.ensures

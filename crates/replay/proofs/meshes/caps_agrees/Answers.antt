@@ -4,9 +4,9 @@ use Rattle.replay.proofs.meshes.caps_agrees.Goals as goal
 pub same_answer-requires : goal.same_answer-requires
 same_answer-requires c =
     let s = c in
-    let yongpham-caps = c.yongpham_caps-number in let asked = outputs_within s.args.stored.now s.args.work.now s.args.out_vertices.now
-    yongpham-caps.new.out_vertices s.args.out_facets.now yongpham-caps.new.out_facets s.requires.laid s.requires.fresh yongpham-caps.auto.out_vertices
-    yongpham-caps.auto.out_facets in record { in_bounds = asked.0; out_facets_in_bounds = asked.1 }
+    let n = c.yongpham_caps-number in
+    (outputs_within s.args.request.words.now s.args.work.now s.args.out_vertices.now n.new.out_vertices s.args.out_facets.now n.new.out_facets s.args.request.laid s.requires
+    n.auto.out_vertices n.auto.out_facets).1
 
 pub returns : goal.returns
 returns c =
@@ -21,10 +21,10 @@ returns c =
     let double8 = c.double-8 in
     let low_half_lem = c.low_half in
     let yongpham-caps = c.yongpham_caps-number in
-    answer_decides s.args.stored.now _ _ _ _ _ _ s.args.work.now _ s.args.out_vertices.now _ s.args.out_facets.now _ s.requires.fresh (mesh_called _ _ _ _ _ _ _
-    _ _ _ yongpham-caps.ensures.answered) (caps_reply_lem s.args.stored.now s.args.work.now s.args.out_vertices.now s.args.out_facets.now s.requires.fresh
-    s.args.vertices.now s.args.facets.now (lent_caps s.args.stored.now) (same_box s.args.stored.now double.ensures double2.ensures double3.ensures
-    double4.ensures double5.ensures double6.ensures) double7.ensures double8.ensures low_half_lem.ensures) (caps_result_lem s.args.stored.now s.args.vertices.now
-    s.args.facets.now (lent_caps s.args.stored.now) (same_box s.args.stored.now double.ensures double2.ensures double3.ensures double4.ensures double5.ensures
+    answer_decides s.args.request.words.now _ _ _ _ _ _ s.args.work.now _ s.args.out_vertices.now _ s.args.out_facets.now _ s.requires (mesh_called _ _ _ _ _ _ _
+    _ _ _ yongpham-caps.ensures.answered) (caps_reply_lem s.args.request.words.now s.args.work.now s.args.out_vertices.now s.args.out_facets.now s.requires
+    s.args.vertices.now s.args.facets.now (lent_caps s.args.request.words.now) (same_box s.args.request.words.now double.ensures double2.ensures double3.ensures
+    double4.ensures double5.ensures double6.ensures) double7.ensures double8.ensures low_half_lem.ensures) (caps_result_lem s.args.request.words.now s.args.vertices.now
+    s.args.facets.now (lent_caps s.args.request.words.now) (same_box s.args.request.words.now double.ensures double2.ensures double3.ensures double4.ensures double5.ensures
     double6.ensures) double7.ensures double8.ensures low_half_lem.ensures) yongpham-caps.auto.out_vertices _
     c.same_answer.ensures

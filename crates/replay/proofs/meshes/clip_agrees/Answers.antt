@@ -4,8 +4,9 @@ use Rattle.replay.proofs.meshes.clip_agrees.Goals as goal
 pub same_answer-requires : goal.same_answer-requires
 same_answer-requires c =
     let s = c in
-    let yongpham-clip = c.yongpham_clip-number in let asked = outputs_within s.args.stored.now s.args.work.now s.args.out_vertices.now yongpham-clip.new.out_vertices s.args.out_facets.now
-    yongpham-clip.new.out_facets s.requires.laid s.requires.fresh yongpham-clip.auto.out_vertices yongpham-clip.auto.out_facets in record { in_bounds = asked.0; out_facets_in_bounds = asked.1 }
+    let n = c.yongpham_clip-number in
+    (outputs_within s.args.request.words.now s.args.work.now s.args.out_vertices.now n.new.out_vertices s.args.out_facets.now n.new.out_facets s.args.request.laid s.requires
+    n.auto.out_vertices n.auto.out_facets).1
 
 pub returns : goal.returns
 returns c =
@@ -18,8 +19,8 @@ returns c =
     let double6 = c.double-6 in
     let double7 = c.double-7 in
     let yongpham-clip = c.yongpham_clip-number in
-    answer_decides s.args.stored.now _ _ _ _ _ _ s.args.work.now _ s.args.out_vertices.now _ s.args.out_facets.now _ s.requires.fresh (mesh_called _ _ _ _ _ _ _
-    _ _ _ yongpham-clip.ensures) (clip_reply_lem s.args.stored.now s.args.work.now s.args.out_vertices.now s.args.out_facets.now s.requires.fresh
-    s.args.vertices.now s.args.facets.now (same_box s.args.stored.now double.ensures double2.ensures double3.ensures double4.ensures double5.ensures
-    double6.ensures) double7.ensures) (clip_result_lem s.args.stored.now s.args.vertices.now s.args.facets.now (same_box s.args.stored.now double.ensures
+    answer_decides s.args.request.words.now _ _ _ _ _ _ s.args.work.now _ s.args.out_vertices.now _ s.args.out_facets.now _ s.requires (mesh_called _ _ _ _ _ _ _
+    _ _ _ yongpham-clip.ensures) (clip_reply_lem s.args.request.words.now s.args.work.now s.args.out_vertices.now s.args.out_facets.now s.requires
+    s.args.vertices.now s.args.facets.now (same_box s.args.request.words.now double.ensures double2.ensures double3.ensures double4.ensures double5.ensures
+    double6.ensures) double7.ensures) (clip_result_lem s.args.request.words.now s.args.vertices.now s.args.facets.now (same_box s.args.request.words.now double.ensures
     double2.ensures double3.ensures double4.ensures double5.ensures double6.ensures) double7.ensures) yongpham-clip.auto.out_vertices _ c.same_answer.ensures
