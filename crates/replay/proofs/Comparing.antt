@@ -1,7 +1,6 @@
--- Laws of comparisons: of lists of words, of whole answers, and of a double with its bits. Assumes nothing.
---   part_decides                 a list beside the part of a record that begins at `from`, as it is lent
---   one_decides, two_decides, three_decides, four_decides   a list beside an output of a record
---   number_itself, same_bits_lem, no_number   a double beside its bits
+-- Laws of comparisons: of a part of a record, of whole answers, and of a double with its bits. Assumes nothing.
+--   part_decides                 a list beside the part of a record that is lent
+--   no_number                    a NaN has no bits here
 --   answer_alike, listing_alike  the answer of an operation that writes a mesh, and of one that writes lists
 use Prim.Native.Nat.{ℕ, ◌+◌, ◌*◌, ◌-◌}
 use mathlib.Core.Path.{◌≡◌, refl, sym, ap, ap₂, ◌∙◌, subst}
@@ -9,46 +8,24 @@ use mathlib.Core.Bool.{Bool, true, false, not, ◌&&◌, ◌||◌, beq}
 use mathlib.Core.List.{List}
 use native.Mathlib.Omega.{arith}
 use native.Mathlib.Nat.{le_of_eq}
-use borrow.Author.Tests.{eqb-true, eq-eqb}
+use borrow.Author.Tests.{eq-eqb}
 use lib.Dec.{T, eqb}
-use lib.Ieee.{Float, nan, inf, fin, binary64, up, down, level, eq, is_nan, to_bits}
+use lib.Ieee.{Float, nan, inf, fin, up, down, level, eq, is_nan}
 use lib.ListN.{length, get_or, take, drop, length-drop}
 use lib.Seq.{take_all}
 use Rattle.std.proofs.lemmas.List.{get_or-drop}
 use Rattle.lists.specs.Lists.{Decides}
 use Rattle.lists.specs.Regions.{view}
-use Rattle.lists.proofs.Bools.{is_true, yes}
 use Rattle.replay.proofs.Deciding.{refuted, ends, both}
-use Rattle.replay.specs.Layout.{stored_reply, outputs_from, output_one, output_two, output_three, output_four}
+use Rattle.replay.specs.Layout.{stored_reply, outputs_from}
 use Rattle.replay.specs.Words.{Everywhere}
 use Rattle.replay.specs.Agreement.{SameDouble, AgreesWith, ThreeListed}
-use Rattle.root.proofs.Numbers.{number_itself}
 
--- ---- a list beside a part of a record
-
--- the part, lent from `from` to its end
-pub part_decides : (stored output : List ℕ) (from n : ℕ) (r : Bool) → Decides (output ≡ take (from + n - from) (drop from stored)) r
-    → Decides (output ≡ view stored from n) r
-part_decides stored output from n r d =
-    let e : from + n - from ≡ n = omega arith in
-    subst (λ (k : ℕ). Decides (output ≡ take k (drop from stored)) r) e d
-
--- the outputs of a record, from where the first begins: of a mesh, and of words
-module _ (stored : List ℕ) (from : ℕ) (e : from ≡ outputs_from stored) where
-  pub one_decides : (output : List ℕ) (r : Bool) → Decides (output ≡ view stored from (get_or stored 15 0)) r → Decides (output ≡ output_one stored) r
-  one_decides output r d = subst (λ (k : ℕ). Decides (output ≡ view stored k (get_or stored 15 0)) r) e d
-
-  pub two_decides : (output : List ℕ) (r : Bool) → Decides (output ≡ view stored (from + get_or stored 15 0) (get_or stored 16 0)) r → Decides (output ≡ output_two stored) r
-  two_decides output r d = subst (λ (k : ℕ). Decides (output ≡ view stored (k + get_or stored 15 0) (get_or stored 16 0)) r) e d
-
-  pub three_decides : (output : List ℕ) (r : Bool) → Decides (output ≡ view stored (from + get_or stored 15 0 + get_or stored 16 0) (get_or stored 17 0)) r
-      → Decides (output ≡ output_three stored) r
-  three_decides output r d = subst (λ (k : ℕ). Decides (output ≡ view stored (k + get_or stored 15 0 + get_or stored 16 0) (get_or stored 17 0)) r) e d
-
-  pub four_decides : (output : List ℕ) (r : Bool) → Decides (output ≡ view stored (from + get_or stored 15 0 + get_or stored 16 0 + get_or stored 17 0) (get_or stored 18 0)) r
-      → Decides (output ≡ output_four stored) r
-  four_decides output r d =
-      subst (λ (k : ℕ). Decides (output ≡ view stored (k + get_or stored 15 0 + get_or stored 16 0 + get_or stored 17 0) (get_or stored 18 0)) r) e d
+-- a list beside the part of a record that is lent from `from` to `to`
+part_decides : (stored output : List ℕ) (from to at n : ℕ) {r : Bool} → from ≡ at → to - from ≡ n → Decides (output ≡ take (to - from) (drop from stored)) r
+    → Decides (output ≡ view stored at n) r
+part_decides stored output from to at n {r} p q d =
+    subst (λ (l : List ℕ). Decides (output ≡ l) r) (ap₂ (λ (i k : ℕ). take k (drop i stored)) p q) d
 
 -- ---- a double beside its bits
 
@@ -66,13 +43,6 @@ unfolding is_nan eq
 itself nan h = absurd h
 itself (inf s) h = equal_sign s
 itself (fin s m d) h = level_itself s (m * up d * down d)
-
-pub same_bits_lem : (x : Float) (word : ℕ) → eq x x ≡ true → Decides (SameDouble x word) (eqb (to_bits binary64 x) word)
-same_bits_lem x word e =
-    record {
-      sound = λ t. record { number = number_itself x e; bits = eqb-true (to_bits binary64 x) word (is_true (eqb (to_bits binary64 x) word) t) };
-      complete = λ s. yes (eq-eqb (to_bits binary64 x) word s.bits);
-    }
 
 pub no_number : (x : Float) (word : ℕ) → eq x x ≡ false → Decides (SameDouble x word) false
 no_number x word e = refuted (λ s. let z : ◌≡◌ {A = ℕ} 0 1 = cc (itself x s.number) in omega arith)
@@ -114,9 +84,13 @@ module _ (stored words reply : List ℕ) (from : ℕ) (e : from ≡ outputs_from
       → Decides (z ≡ take (from + get_or stored 15 0 + get_or stored 16 0 + get_or stored 17 0 - (from + get_or stored 15 0 + get_or stored 16 0))
       (drop (from + get_or stored 15 0 + get_or stored 16 0) stored)) f → Decides (ThreeListed stored reply x y z w) (a && b && c && d && f)
   listing_alike x y z w p q r t =
-      let first = one_decides stored from e x _ (part_decides stored x from (get_or stored 15 0) _ q) in
-      let second = two_decides stored from e y _ (part_decides stored y (from + get_or stored 15 0) (get_or stored 16 0) _ r) in
-      let third = three_decides stored from e z _ (part_decides stored z (from + get_or stored 15 0 + get_or stored 16 0) (get_or stored 17 0) _ t) in
+      let i = outputs_from stored in
+      let l = get_or stored 15 0 in
+      let m = get_or stored 16 0 in
+      let n = get_or stored 17 0 in
+      let first = part_decides stored x from (from + l) i l e (omega arith) q in
+      let second = part_decides stored y (from + l) (from + l + m) (i + l) m (omega (arith, e)) (omega arith) r in
+      let third = part_decides stored z (from + l + m) (from + l + m + n) (i + l + m) n (omega (arith, e)) (omega arith) t in
       ends (ThreeListed stored reply x y z w) (both (both (both (both replied p) first) second) third)
       (λ g. record { replied = g.0.0.0.0 ∙ ap stored_reply same; cleared = g.0.0.0.1; first = g.0.0.1; second = g.0.1; third = g.1 })
       (λ g. ((((g.replied ∙ ap stored_reply (sym same), g.cleared), g.first), g.second), g.third))

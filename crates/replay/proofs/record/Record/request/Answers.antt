@@ -5,7 +5,11 @@ use mathlib.Core.Path.{refl}
 use Rattle.replay.proofs.Deciding.{clash, each_in, each_of}
 use Rattle.lists.proofs.Bools.{is_true, yes}
 use Rattle.replay.proofs.record.Record.request.Goals as goal
-use Rattle.replay.proofs.record.Record.request.Goals.{then-not-are_few-via-then-not-are_few, then-not-are_few-via-else-not-are_few+then-not-are_few-2, then-not-are_few-via-else-not-are_few+else-not-are_few-2+then-words}
+use Rattle.replay.proofs.record.Record.request.Goals.{
+  then-not-are_few-via-then-not-are_few,
+  then-not-are_few-via-else-not-are_few+then-not-are_few-2,
+  then-not-are_few-via-else-not-are_few+else-not-are_few-2+then-words,
+}
 
 pub returns-then-not-are_few : goal.returns-then-not-are_few
 returns-then-not-are_few c l = let few = c.are_few.ensures in elim c.then-not-are_few.branch [
