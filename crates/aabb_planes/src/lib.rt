@@ -3,4 +3,3 @@
 
 pub mod clip;
 pub mod crossing;
-pub mod plane;

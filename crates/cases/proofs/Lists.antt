@@ -16,7 +16,8 @@ use Rattle.refusals.specs.Answers.{reply_in, Answered}
 use Rattle.refusals.specs.Reports.{Reported}
 use Rattle.refusals.proofs.Reports.{same_reply}
 use Rattle.input_tests.specs.Front.{mesh_ceiling, limits}
-use Rattle.candidate_surface.specs.Asked.{Asked, asked}
+use Rattle.candidate_surface.specs.declared.asked.Asked.{Asked}
+use Rattle.candidate_surface.specs.Asked.{asked}
 use Rattle.candidate_outputs.specs.Outputs.{candidate_words, candidate_lengths, candidate_outputs}
 use Rattle.boundary_closure.specs.Operation.{candidates_tests, candidates_result}
 use Rattle.cases.specs.Closing.{list_reply, Listing, facet_reply}

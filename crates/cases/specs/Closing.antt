@@ -16,7 +16,8 @@ use Rattle.refusals.specs.Answers.{reply_in}
 use Rattle.refusals.specs.Reports.{Reported}
 use Rattle.input_tests.specs.Front.{mesh_ceiling, limits, by_axis}
 use Rattle.candidate_outputs.specs.Outputs.{candidate_words, candidate_lengths}
-use Rattle.candidate_surface.specs.Asked.{Asked, asked}
+use Rattle.candidate_surface.specs.declared.asked.Asked.{Asked}
+use Rattle.candidate_surface.specs.Asked.{asked}
 use Rattle.boundary_closure.specs.Operation.{candidates_tests, candidates_result}
 use Rattle.cases.specs.Cleaning.{values_of}
 use Rattle.cases.specs.Comparing.{place_of, free}

@@ -1,13 +1,14 @@
 // C3b, C10 and C13: the operation candidates.
 ghost use Rattle.std.specs.Prelude.{◌≡◌, length};
 ghost use Rattle.refusals.specs.Reports.{Reported};
-ghost use Rattle.candidate_surface.specs.Asked.{asked};
 ghost use Rattle.cases.specs.Closing.{box_to, Listing, facet_reply, is_later, c3b_holds, c10_holds, c13_holds};
 
 use crate::listed::{is_alone, place_of};
 use boundary_closure::cap_candidates;
+use candidate_surface::asked::Asked;
 use geometry::aabb::AABB;
-use input_tests::grid::segments_of;
+use geometry::face::Axis;
+use geometry::mesh::MeshLists;
 use refusals::report::report_reply;
 
 // 1/1024
@@ -23,27 +24,20 @@ const WORDS_OF_257: u64 = 5140;
 
 // The documented number and values. Of the outputs only the list of candidates is looked at.
 pub fn list_candidates(
-    vertices: &[f64],
-    facets: &[u32],
-    extents: AABB,
-    eps: f64,
-    resolution: f64,
+    mesh: MeshLists<'_>,
+    asked: Asked,
     work: &mut [u64],
     candidates: &mut [u64],
     values: &mut [u64; 4],
 ) -> u32
-    ensures { Listing vertices.now facets.now (asked extents eps resolution) (length work.old) result values.new
-        candidates.old candidates.new }
+    ensures { Listing mesh.entry.vertices.now mesh.entry.facets.now asked (length work.old) result values.new candidates.old candidates.new }
 {
     let mut face_lists = [0u64; 8192];
     let mut constraints = [0u64; 8192];
     let mut open_edges = [0u64; 8192];
     let reply = cap_candidates(
-        vertices,
-        facets,
-        extents,
-        eps,
-        resolution,
+        mesh,
+        asked,
         65536,
         work,
         candidates,
@@ -98,16 +92,16 @@ pub fn c3b() -> bool
     let mut work = [0u64; 8192];
     let mut candidates = [0u64; 8192];
     let mut values = [0u64; 4];
-    let number = list_candidates(
-        &points,
-        &facet,
-        box_to(1.0, 1.0, 1.0),
-        EPS,
-        1.0,
-        &mut work,
-        &mut candidates,
-        &mut values,
-    );
+    let mesh = MeshLists {
+        vertices: &points,
+        facets: &facet,
+    };
+    let asked = Asked {
+        extents: box_to(1.0, 1.0, 1.0),
+        eps: EPS,
+        resolution: 1.0,
+    };
+    let number = list_candidates(mesh, asked, &mut work, &mut candidates, &mut values);
     if number != 0 {
         return false;
     }
@@ -115,28 +109,17 @@ pub fn c3b() -> bool
 }
 
 // Facet (0,0,0), (1,0,0), (0,1,0), whose open edges lie on ZMin.
-fn reply_to_facet(
-    extents: AABB,
-    eps: f64,
-    resolution: f64,
-    work: &mut [u64],
-    values: &mut [u64; 4],
-) -> u32
-    ensures { Reported (facet_reply (asked extents eps resolution) (length work.old)) result values.new }
+fn reply_to_facet(asked: Asked, work: &mut [u64], values: &mut [u64; 4]) -> u32
+    ensures { Reported (facet_reply asked (length work.old)) result values.new }
 {
     let points = [0.0, 0.0, 0.0, 1.0, 0.0, 0.0, 0.0, 1.0, 0.0];
     let facet = [0, 1, 2];
     let mut candidates = [0u64; 8192];
-    list_candidates(
-        &points,
-        &facet,
-        extents,
-        eps,
-        resolution,
-        work,
-        &mut candidates,
-        values,
-    )
+    let mesh = MeshLists {
+        vertices: &points,
+        facets: &facet,
+    };
+    list_candidates(mesh, asked, work, &mut candidates, values)
 }
 
 // "not refused by 9", nor by any other
@@ -145,13 +128,12 @@ pub fn c10() -> bool
 {
     let mut work = [0u64; 8192];
     let mut values = [0u64; 4];
-    reply_to_facet(
-        box_to(2.0, 2.0, 2.0),
-        0.0000000001,
-        2.0,
-        &mut work,
-        &mut values,
-    ) == 0
+    let asked = Asked {
+        extents: box_to(2.0, 2.0, 2.0),
+        eps: 0.0000000001,
+        resolution: 2.0,
+    };
+    reply_to_facet(asked, &mut work, &mut values) == 0
 }
 
 // "256 segments", and "refusal 6"
@@ -161,10 +143,15 @@ pub fn c13() -> bool
     // 128 × (3 + 1 + 2064) + 1,024: G is 2 × (257 × 2 + 257 × 2 + 2 × 2)
     let mut work = [0u64; 265728];
     let mut values = [0u64; 4];
-    if segments_of(box_to(256.0, 1.0, 1.0), 0.0, [1.0, 1.0, 1.0], 0) != 256 {
+    let asked = Asked {
+        extents: box_to(256.0, 1.0, 1.0),
+        eps: 0.0,
+        resolution: 1.0,
+    };
+    if asked.grid().segments_of(Axis::X) != 256 {
         return false;
     }
-    if reply_to_facet(box_to(256.0, 1.0, 1.0), 0.0, 1.0, &mut work, &mut values) != 0 {
+    if reply_to_facet(asked, &mut work, &mut values) != 0 {
         return false;
     }
     if values[0] != WORDS_OF_257 {
@@ -172,5 +159,9 @@ pub fn c13() -> bool
     }
     // 6 comes before 7
     let mut little = [0u64; 1024];
-    reply_to_facet(box_to(257.0, 1.0, 1.0), 0.0, 1.0, &mut little, &mut values) == 6
+    let finer = Asked {
+        extents: box_to(257.0, 1.0, 1.0),
+        ..asked
+    };
+    reply_to_facet(finer, &mut little, &mut values) == 6
 }

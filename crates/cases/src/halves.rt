@@ -8,9 +8,11 @@ ghost use Rattle.cases.specs.Halves.{half_point, candidate_of_point, cap_word, c
 use crate::bits::{begins_with, bits};
 use crate::closing::list_candidates;
 use crate::listed::place_of;
+use candidate_surface::asked::Asked;
 use caps::cap_mesh_to_aabb;
 use caps::mode::BoundaryClosure;
 use geometry::aabb::AABB;
+use geometry::mesh::MeshLists;
 use refusals::reply::Reply;
 use refusals::report::report_reply;
 
@@ -143,13 +145,19 @@ fn closes_to(mode: BoundaryClosure, list: &[u64; 80], stated: &[usize; 36]) -> b
     let mut work = [0u64; 8192];
     let mut out_vertices = [0.0; 24];
     let mut out_facets = [0u32; 36];
+    let mesh = MeshLists {
+        vertices: &square,
+        facets: &facets,
+    };
+    let asked = Asked {
+        extents: cube(),
+        eps: EPS,
+        resolution: 1.0,
+    };
     let reply = cap_mesh_to_aabb(
-        &square,
-        &facets,
+        mesh,
         list,
-        cube(),
-        EPS,
-        1.0,
+        asked,
         mode,
         65536,
         &mut work,
@@ -177,16 +185,16 @@ pub fn c15() -> bool
     let mut work = [0u64; 8192];
     let mut candidates = [0u64; 60];
     let mut values = [0u64; 4];
-    let number = list_candidates(
-        &square,
-        &facets,
-        cube(),
-        EPS,
-        1.0,
-        &mut work,
-        &mut candidates,
-        &mut values,
-    );
+    let mesh = MeshLists {
+        vertices: &square,
+        facets: &facets,
+    };
+    let asked = Asked {
+        extents: cube(),
+        eps: EPS,
+        resolution: 1.0,
+    };
+    let number = list_candidates(mesh, asked, &mut work, &mut candidates, &mut values);
     if number != 0 {
         return false;
     }

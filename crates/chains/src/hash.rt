@@ -2,6 +2,8 @@
 ghost use Rattle.std.specs.Prelude.{◌≤◌, ◌<◌};
 ghost use Rattle.chains.specs.Hash.{mixed, Mixes, InBucket};
 
+use crate::links::Chains;
+
 // Each word is cut to its rest first, so that nothing overflows.
 pub fn mix(a: u64, b: u64, c: u64) -> u64
     ensures { Mixes a b c result }
@@ -9,18 +11,25 @@ pub fn mix(a: u64, b: u64, c: u64) -> u64
     a % 4294967291 * 561705629 + b % 4294967291 * 816622479 + c % 4294967291 * 167066315
 }
 
-pub fn bucket_at(s: u64, buckets: u64) -> u64
-    requires buckets_nonzero { 0 < buckets }
-    requires buckets_bound { buckets ≤ 4294967296 }
-    ensures { InBucket s buckets result }
-{
-    s % 4294967291 * buckets / 4294967296
+// Chains whose buckets are the hash's.
+#[derive(Clone, Copy)]
+pub struct Hashed {
+    pub chains: Chains,
+    pub ghost some: { 0 < chains.nb },
+    pub ghost bound: { chains.nb ≤ 4294967296 },
 }
 
-pub fn bucket(a: u64, b: u64, c: u64, buckets: u64) -> u64
-    requires buckets_nonzero { 0 < buckets }
-    requires buckets_bound { buckets ≤ 4294967296 }
-    ensures { InBucket (mixed a b c) buckets result }
-{
-    bucket_at(mix(a, b, c), buckets)
+impl Hashed {
+    // The bucket of a key whose mixed form is s.
+    pub fn bucket_at(self, s: u64) -> usize
+        ensures { InBucket s self.chains.nb result }
+    {
+        (s % 4294967291 * self.chains.nb as u64 / 4294967296) as usize
+    }
+
+    pub fn bucket(self, a: u64, b: u64, c: u64) -> usize
+        ensures { InBucket (mixed a b c) self.chains.nb result }
+    {
+        self.bucket_at(mix(a, b, c))
+    }
 }

@@ -5,6 +5,5 @@ mod by_word;
 mod hash;
 mod links;
 
-pub use by_word::{find_word, index_words};
-pub use hash::{bucket, bucket_at, mix};
-pub use links::{enter, first, next};
+pub use hash::{Hashed, mix};
+pub use links::Chains;

@@ -2,12 +2,12 @@
 --   ComponentNumbers     c gives each of n items the least item joined to it, which is its component's number
 --   size c r             how many items have the number r: the size of component r, and 0 where r is no component's number
 --   LabelsBelow          all labels are below m
---   LabelRoom            what the finder asks: room for its table and for the labels, which do not overlap, and labels below m
+--   ItemLabels           what the finder asks of the labels: k of each item, all below m
 --   FirstWith            v is the first item with the label q, plus one; 0 if none has it
 --   ComponentTable       what the finder leaves in the buffer: numbers, sizes, first items; and all else as it was
 use Rattle.std.specs.Prelude.{ℕ, ◌+◌, ◌*◌, ◌/◌, ◌≤◌, ◌<◌, ◌≡◌, List, eqb, get_or, length}
 use Rattle.lists.specs.Lists.{count}
-use Rattle.lists.specs.Regions.{view, Outside, Apart}
+use Rattle.lists.specs.Regions.{view, Outside}
 use Rattle.components.specs.Joined.{SharedLabel, LeastJoined}
 
 pub record ComponentNumbers (labels : List ℕ) (n k : ℕ) (c : List ℕ) : Type 0 where
@@ -22,12 +22,10 @@ size c r = count (eqb r) c
 abbrev pub LabelsBelow : List ℕ → ℕ → Type 0
 LabelsBelow labels m = (t : ℕ) → t < length labels → get_or labels t 0 < m
 
-pub record LabelRoom (w : List ℕ) (labels n k m at : ℕ) : Type 0 where
+pub record ItemLabels (labels : List ℕ) (n k m : ℕ) : Type 0 where
   pub some : 0 < k
-  pub room : at + n + n + m ≤ length w
-  pub fits : labels + n * k ≤ length w
-  pub apart : Apart at (n + n + m) labels (n * k)
-  pub below : LabelsBelow (view w labels (n * k)) m
+  pub long : length labels ≡ n * k
+  pub below : LabelsBelow labels m
 
 -- of the first t labels, the first that is q is one of item f's
 pub record Seen (labels : List ℕ) (k t q f : ℕ) : Type 0 where

@@ -1,147 +1,126 @@
-// Components of joined items: a union-find over a lent buffer.
+// Components of joined items: a union-find over a lent table.
 //
-// Its table stands in the buffer from `at` on: n words for the items' links, which end as the numbers of their components; n words for the
-// components' sizes; m words for the labels, each the first item seen with that label, plus one, or 0 while there is none.
+// The table of n items and m labels: n words for the items' links, which end as the numbers of their components; n words for the components' sizes; m words for the labels, each
+// the first item seen with that label, plus one, or 0 while there is none.
 #![tactic(auto)]
 
-ghost use Rattle.std.specs.Prelude.{◌≡◌, ℕ, ◌+◌, ◌*◌, ◌≤◌, ◌<◌, length, get_or};
-ghost use Rattle.lists.specs.Regions.{view};
-ghost use Rattle.components.specs.Table.{LabelRoom, ComponentTable};
-ghost use Rattle.components.specs.Forest.{Forest, RootFound, RootOf, Flattened, LabelEntered, Owned, Swept, SizesTallied};
+ghost use Rattle.std.specs.Prelude.{◌≡◌, ℕ, ◌+◌, ◌*◌, ◌/◌, ◌≤◌, ◌<◌, length, get_or};
+ghost use Rattle.lists.specs.Lists.{up_to};
+ghost use Rattle.components.specs.Table.{ItemLabels, ComponentTable};
+ghost use Rattle.components.specs.Forest.{Forest, RootFound, RootOf, Flattened, LabelEntered, Swept, SizesTallied};
 
 // The root of x's tree, with the path to it halved.
-fn find(w: &mut [u64], at: usize, n: usize, x: usize) -> usize
-    requires n_in_bounds { at + n ≤ length w.old }
-    requires x_lt_n { x < n }
-    requires forest { Forest w.old at n }
-    ensures { RootFound w.old w.new at n x result }
+fn find(links: &mut [u64], x: usize) -> usize
+    requires x_in { x < length links.old }
+    requires forest { Forest links.old (length links.old) }
+    ensures { RootFound links.old links.new (length links.old) x result }
 {
     let mut r = x;
-    let mut p = w[at + r] as usize;
-    // along links, whose number is not known: no index is counted
+    let mut p = links[r] as usize;
+    // Stays (plainer): a walk along links, whose number is not known.
     while p != r {
-        let q = w[at + p];
-        w[at + r] = q;
+        let q = links[p];
+        links[r] = q;
         r = q as usize;
-        p = w[at + r] as usize;
+        p = links[r] as usize;
     }
     r
 }
 
-// A label of item i, whose first item stands at s: i is the first, or its tree and that one's are made one. r is the root of i's tree, before and after.
+// A label of item i: i is the first, or its tree and the first's are made one. r is the root of i's tree, before and after.
 // The larger root is linked to the smaller, so that a root is its tree's least item.
-fn enter(w: &mut [u64], at: usize, n: usize, s: usize, i: usize, r: usize) -> usize
-    requires n_bound { at + n ≤ s }
-    requires s_in_bounds { s < length w.old }
-    requires i_lt_n { i < n }
-    requires by_index { (f : ℕ) → get_or w.old s 0 ≡ f + 1 → f < n }
-    requires forest { Forest w.old at n }
-    requires root_of { RootOf w.old at n i r }
-    ensures { LabelEntered w.old w.new at n s i result }
+fn enter(links: &mut [u64], first: &mut u64, i: usize, r: usize) -> usize
+    requires i_in { i < length links.old }
+    requires by_index { (f : ℕ) → first.old ≡ f + 1 → f < length links.old }
+    requires forest { Forest links.old (length links.old) }
+    requires root_of { RootOf links.old (length links.old) i r }
+    ensures { LabelEntered links.old links.new (length links.old) first.old first.new i result }
 {
-    let f = w[s] as usize;
+    let f = *first as usize;
     if f == 0 {
-        w[s] = i as u64 + 1;
+        *first = i as u64 + 1;
         return r;
     }
-    let t = find(w, at, n, f - 1);
+    let t = find(links, f - 1);
     if r < t {
-        w[at + t] = r as u64;
+        links[t] = r as u64;
         return r;
     }
-    w[at + r] = t as u64;
+    links[r] = t as u64;
     t
 }
 
-// Each of n items a tree of its own.
-fn own(w: &mut [u64], at: usize, n: usize)
-    requires { at + n ≤ length w.old }
-    ensures { Owned w.old w.new at n }
+// Each item a tree of its own.
+fn own(links: &mut [u64])
+    ensures { links.new ≡ up_to (length links.old) }
 {
-    for i in 0..n {
-        w[at + i] = i as u64;
+    for i in 0..links.len() {
+        links[i] = i as u64;
     }
 }
 
 // Makes each link go to its tree's root, in one pass: a link goes to a smaller item, which is done.
-fn flatten(w: &mut [u64], at: usize, n: usize)
-    requires n_in_bounds { at + n ≤ length w.old }
-    requires forest { Forest w.old at n }
-    ensures { Flattened w.old w.new at n }
+fn flatten(links: &mut [u64])
+    requires { Forest links.old (length links.old) }
+    ensures { Flattened links.old links.new (length links.old) }
 {
-    for i in 0..n {
-        let p = w[at + i] as usize;
-        w[at + i] = w[at + p];
+    for i in 0..links.len() {
+        let p = links[i] as usize;
+        links[i] = links[p];
     }
 }
 
-// Counts the items of each number, in the n words behind the numbers.
-fn tally(w: &mut [u64], at: usize, n: usize)
-    requires n_in_bounds { at + n + n ≤ length w.old }
-    requires forest { Forest w.old at n }
-    requires by_index { (r : ℕ) → r < n → get_or w.old (at + n + r) 0 ≡ 0 }
-    ensures { SizesTallied w.old w.new at n }
+// Counts the items of each number.
+fn tally(numbers: &[u64], sizes: &mut [u64])
+    requires long { length sizes.old ≡ length numbers.now }
+    requires forest { Forest numbers.now (length numbers.now) }
+    requires zero { (r : ℕ) → r < length numbers.now → get_or sizes.old r 0 ≡ 0 }
+    ensures { SizesTallied numbers.now sizes.old sizes.new (length numbers.now) }
 {
-    let sizes = at + n;
-    for i in 0..n {
-        let r = w[at + i] as usize;
-        w[sizes + r] = w[sizes + r] + 1;
+    for number in numbers {
+        let r = *number as usize;
+        sizes[r] = sizes[r] + 1;
     }
 }
 
-// Where the labels stand, k an item and all below m, and where the table of the n items does.
-#[derive(Clone, Copy)]
-struct Labels {
-    labels: usize,
-    n: usize,
-    k: usize,
-    m: usize,
-    at: usize,
-}
-
-impl Labels {
-    // Enters the labels of item i.
-    fn join_item(self, w: &mut [u64], i: usize)
-        requires label_room { LabelRoom w.old self.labels self.n self.k self.m self.at }
-        requires i_lt_n { i < self.n }
-        requires swept { Swept (view w.old self.labels (self.n * self.k)) self.n self.k self.m self.at w.old w.old (i * self.k) }
-        ensures { Swept (view w.old self.labels (self.n * self.k)) self.n self.k self.m self.at w.old w.new (i * self.k + self.k) }
-    {
-        let firsts = self.at + self.n + self.n;
-        let from = self.labels + i * self.k;
-        let mut r = find(w, self.at, self.n, i);
-        for j in 0..self.k {
-            let q = w[from + j] as usize;
-            r = enter(w, self.at, self.n, firsts + q, i, r);
-        }
-    }
-
-    fn join(self, w: &mut [u64])
-        requires label_room { LabelRoom w.old self.labels self.n self.k self.m self.at }
-        requires swept { Swept (view w.old self.labels (self.n * self.k)) self.n self.k self.m self.at w.old w.old 0 }
-        ensures { Swept (view w.old self.labels (self.n * self.k)) self.n self.k self.m self.at w.old w.new (self.n * self.k) }
-    {
-        for i in 0..self.n {
-            self.join_item(w, i);
-        }
-    }
-}
-
-// Finds the components of n items, whose labels, k an item and all below m, stand in the same buffer from `labels` on.
-pub fn components(w: &mut [u64], labels: usize, n: usize, k: usize, m: usize, at: usize)
-    requires { LabelRoom w.old labels n k m at }
-    ensures { ComponentTable (view w.old labels (n * k)) n k m at w.old w.new }
+// Enters the labels of item i, of the k an item.
+fn join_item(labels: &[u64], k: usize, links: &mut [u64], firsts: &mut [u64], i: usize)
+    requires item_labels { ItemLabels labels.now (length links.old) k (length firsts.old) }
+    requires i_in { i < length links.old }
+    requires swept { Swept labels.now (length links.old) k (length firsts.old) links.old firsts.old (i * k) }
+    ensures { Swept labels.now (length links.old) k (length firsts.old) links.new firsts.new (i * k + k) }
 {
-    own(w, at, n);
-    words::zero_part(w, at + n, n + m);
-    let rows = Labels {
-        labels,
-        n,
-        k,
-        m,
-        at,
-    };
-    rows.join(w);
-    flatten(w, at, n);
-    tally(w, at, n);
+    let mut r = find(links, i);
+    for j in 0..k {
+        let q = labels[i * k + j] as usize;
+        r = enter(links, &mut firsts[q], i, r);
+    }
+}
+
+fn join(labels: &[u64], k: usize, links: &mut [u64], firsts: &mut [u64])
+    requires item_labels { ItemLabels labels.now (length links.old) k (length firsts.old) }
+    requires swept { Swept labels.now (length links.old) k (length firsts.old) links.old firsts.old 0 }
+    ensures { Swept labels.now (length links.old) k (length firsts.old) links.new firsts.new (length links.old * k) }
+{
+    for i in 0..links.len() {
+        join_item(labels, k, links, firsts, i);
+    }
+}
+
+// Finds the components of the items that have these labels, k an item and all below m.
+pub fn components(table: &mut [u64], labels: &[u64], k: usize, m: usize)
+    requires item_labels { ItemLabels labels.now (length labels.now / k) k m }
+    requires room { length labels.now / k + length labels.now / k + m ≤ length table.old }
+    ensures { ComponentTable labels.now (length labels.now / k) k m 0 table.old table.new }
+{
+    let n = labels.len() / k;
+    let (links, rest) = table.split_at_mut(n);
+    let (sizes, rest) = rest.split_at_mut(n);
+    let firsts = &mut rest[..m];
+    words::zero(sizes);
+    words::zero(firsts);
+    own(links);
+    join(labels, k, links, firsts);
+    flatten(links);
+    tally(links, sizes);
 }

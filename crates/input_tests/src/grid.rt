@@ -1,48 +1,59 @@
 // Tests 6 and 8, and the G of test 7. The resolution is one for each axis here; the operations of document 01 give all three the same.
-ghost use Rattle.std.specs.Prelude.{◌≡◌, false, ◌||◌, ◌<◌, min, ltb};
+ghost use Rattle.std.specs.Prelude.{◌≡◌, false, ◌||◌, min, ltb};
+ghost use Rattle.geometry.specs.Boxes.{axis_of};
 ghost use Rattle.geometry.specs.Axes.{segments, grid_size};
 ghost use Rattle.rounding.specs.Rounding.{far_key};
 ghost use Rattle.input_tests.specs.Front.{by_axis, grid_too_fine, far_keys, box_far_keys};
 
 use geometry::aabb::AABB;
+use geometry::face::{AXES, Axis};
 use rounding::{axis_segments, key_beyond, max, quantized_key};
 
-// The segments of an axis, and 257 where it needs more than 256.
-#[tactic(auto, unfolding(geometry::specs::Axes::segments))]
-pub fn segments_of(extents: AABB, eps: f64, resolution: [f64; 3], axis: usize) -> usize
-    requires { axis < 3 }
-    ensures { result ≡ min (segments extents eps (by_axis resolution) axis) 257 }
-{
-    let length = extents.max_corner[axis] - extents.min_corner[axis];
-    axis_segments(length, max(resolution[axis], eps)) as usize
+// The grid of the box, with a resolution for each axis.
+#[derive(Clone, Copy)]
+pub struct Grid {
+    pub extents: AABB,
+    pub eps: f64,
+    pub resolution: [f64; 3],
 }
 
-// 6, of one axis
-#[tactic(auto, using(crate::proofs::Grids::cut_over))]
-fn is_axis_too_fine(extents: AABB, eps: f64, resolution: [f64; 3], axis: usize) -> bool
-    requires { axis < 3 }
-    ensures { result ≡ ltb 256 (segments extents eps (by_axis resolution) axis) }
-{
-    256 < segments_of(extents, eps, resolution, axis)
-}
+impl Grid {
+    // The segments of an axis, and 257 where it needs more than 256.
+    // Stays (plainer): the count cut at 257 is compared with 256 and goes into a sum as it is; as an Option each of its readers would take it apart and put 257 back.
+    #[tactic(auto, unfolding(geometry::specs::Axes::segments))]
+    pub fn segments_of(self, axis: Axis) -> usize
+        ensures { result ≡ min (segments self.extents self.eps (by_axis self.resolution) (axis_of axis)) 257 }
+    {
+        let k = axis.index();
+        let length = self.extents.max_corner[k] - self.extents.min_corner[k];
+        axis_segments(length, max(self.resolution[k], self.eps)) as usize
+    }
 
-// 6
-#[tactic(auto, unfolding(crate::specs::Front::grid_too_fine))]
-pub fn is_grid_too_fine(extents: AABB, eps: f64, resolution: [f64; 3]) -> bool
-    ensures { result ≡ grid_too_fine extents eps (by_axis resolution) }
-{
-    (0..3).any(|axis| is_axis_too_fine(extents, eps, resolution, axis))
-}
+    // 6, of one axis
+    #[tactic(auto, using(crate::proofs::Grids::cut_over))]
+    fn is_axis_too_fine(self, axis: Axis) -> bool
+        ensures { result ≡ ltb 256 (segments self.extents self.eps (by_axis self.resolution) (axis_of axis)) }
+    {
+        256 < self.segments_of(axis)
+    }
 
-// G, of a grid that is not too fine
-pub fn grid_size(extents: AABB, eps: f64, resolution: [f64; 3]) -> usize
-    requires { grid_too_fine extents eps (by_axis resolution) ≡ false }
-    ensures { result ≡ grid_size extents eps (by_axis resolution) }
-{
-    let x = segments_of(extents, eps, resolution, 0) + 1;
-    let y = segments_of(extents, eps, resolution, 1) + 1;
-    let z = segments_of(extents, eps, resolution, 2) + 1;
-    2 * (x * y + x * z + y * z)
+    // 6
+    pub fn is_too_fine(self) -> bool
+        ensures { result ≡ grid_too_fine self.extents self.eps (by_axis self.resolution) }
+    {
+        AXES.iter().any(|axis| self.is_axis_too_fine(*axis))
+    }
+
+    // G, of a grid that is not too fine
+    pub fn size(self) -> usize
+        requires { grid_too_fine self.extents self.eps (by_axis self.resolution) ≡ false }
+        ensures { result ≡ grid_size self.extents self.eps (by_axis self.resolution) }
+    {
+        let x = self.segments_of(Axis::X) + 1;
+        let y = self.segments_of(Axis::Y) + 1;
+        let z = self.segments_of(Axis::Z) + 1;
+        2 * (x * y + x * z + y * z)
+    }
 }
 
 fn is_far(x: f64, eps: f64) -> bool

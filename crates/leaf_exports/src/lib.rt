@@ -13,6 +13,7 @@ ghost use Rattle.root.specs.Drawn.{WholeRoot};
 ghost use Rattle.rounding.specs.Rounding.{half_away, key};
 ghost use Rattle.sorting.specs.Sorting.{SortedRecords};
 
+use chains::{Chains, Hashed};
 use root::Drawing;
 
 // The square root of x; x itself where it is a NaN, infinite or below zero.
@@ -137,15 +138,13 @@ fn link(place: Option<usize>) -> u64
 }
 
 // Answers each word asked for by its link.
-fn answer(m: &[u64], nb: usize, keys: &[u64], asked: &[u64], found: &mut [u64])
-    requires nb_nonzero { 0 < nb }
-    requires nb_bound { nb ≤ 4294967296 }
-    requires linked { Linked (word_bucket keys.now nb) m.now 0 nb (length keys.now) }
+fn answer(table: Hashed, m: &[u64], keys: &[u64], asked: &[u64], found: &mut [u64])
+    requires linked { Linked (word_bucket keys.now table.chains.nb) m.now table.chains.at table.chains.nb (length keys.now) }
     requires asked_in_bounds { length asked.now ≤ length found.old }
     ensures { LinksFound keys.now asked.now found.new (length asked.now) }
 {
     for (i, word) in asked.iter().enumerate() {
-        found[i] = link(chains::find_word(m, 0, nb, keys, *word));
+        found[i] = link(table.find_word(m, keys, *word));
     }
 }
 
@@ -177,7 +176,10 @@ pub extern "C" fn table_words(
     if asked.len() > found.len() {
         return false;
     }
-    chains::index_words(m, 0, nb, keys);
-    answer(m, nb, keys, asked, found);
+    let table = Hashed {
+        chains: Chains { at: 0, nb },
+    };
+    table.index_words(m, keys);
+    answer(table, m, keys, asked, found);
     true
 }

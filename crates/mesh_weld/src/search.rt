@@ -1,6 +1,6 @@
 // The search of the 27 cells around a point, by the chains of their buckets (`push_dedup_point` of mesh_cleanup.rs). The room of n vertices stands in the work room from 0 on:
 // 4 n heads, 4 n tails and n nexts (crate chains), the kept vertices from 9 n on, the new numbers from 10 n on, and the cells of the kept from 11 n on, three words each.
-// They are places in one buffer, and links are words in it, since the C interface lends one buffer and there is no heap.
+// Stays (C interface), point 6: they are places in the lent room, and links are words in it, since C lends one buffer and there is no heap.
 ghost use Rattle.std.specs.Prelude.{◌≡◌, ◌&&◌, [], ◌∷◌, ◌+◌, ◌*◌, ◌<◌, get_or};
 ghost use Rattle.geometry.specs.Meshes.{vertex_of};
 ghost use Rattle.mesh_weld.specs.Joining.{Joining};
@@ -8,7 +8,7 @@ ghost use Rattle.mesh_weld.specs.Cells.{key_of, near, cells};
 ghost use Rattle.mesh_weld.specs.Room.{cell_at, same_cell, words_of, kept_points, found_in, HashOf, Index, KeyIn, KeysIn};
 
 use crate::cells::{Cell, cell_at, is_near};
-use chains::{bucket_at, first, mix, next};
+use chains::{Chains, Hashed, mix};
 use geometry::point::Point;
 use geometry::vertices::{vertex_at, vertex_in};
 
@@ -42,13 +42,20 @@ impl Kept<'_> {
         requires { HashOf c s }
         ensures { result ≡ found_in self.now.vertices.now self.now.eps self.now.n self.now.count self.now.room.now p (c ∷ []) }
     {
-        let b = bucket_at(s, (4 * self.n) as u64) as usize;
-        let mut here = first(self.room, 0, b);
+        let table = Hashed {
+            chains: Chains {
+                at: 0,
+                nb: 4 * self.n,
+            },
+        };
+        let b = table.bucket_at(s);
+        // Stays (plainer): each item of a chain is found from the one before; a `for` would need an iterator type of its own for this walk.
+        let mut here = table.chains.first(self.room, b);
         while let Some(i) = here {
             if self.holds(i, c, p) {
                 return Some(i);
             }
-            here = next(self.room, 0, 4 * self.n, i);
+            here = table.chains.next(self.room, i);
         }
         None
     }

@@ -1,10 +1,11 @@
 // Welding, vertex by vertex (the first loop of `clean_mesh` in mesh_cleanup.rs).
+// Stays (C interface), point 6: chains, kept vertices, numbers and cells are places in the lent room, since C lends one buffer and there is no heap.
 ghost use Rattle.std.specs.Prelude.{◌≡◌, ◌+◌, ◌*◌, ◌≤◌, ◌<◌, length, set};
 ghost use Rattle.mesh_weld.specs.Room.{KeysIn, WeldedSoFar, Welds};
 
 use crate::cells::{Cell, cell_of};
 use crate::search::Kept;
-use chains::{bucket, enter};
+use chains::{Chains, Hashed};
 use geometry::numbers::MeshVertexId;
 use geometry::vertices::vertex_at;
 use words::{write_three, zero_part};
@@ -47,8 +48,11 @@ fn weld_vertex(
         m[10 * n + i] = k as u64;
         return count;
     }
-    let b = bucket(c.x, c.y, c.z, (4 * n) as u64) as usize;
-    enter(m, 0, 4 * n, count, b);
+    let table = Hashed {
+        chains: Chains { at: 0, nb: 4 * n },
+    };
+    let b = table.bucket(c.x, c.y, c.z);
+    table.chains.enter(m, count, b);
     keep(m, n, count, v, c);
     m[10 * n + i] = count as u64;
     count + 1

@@ -29,7 +29,8 @@ use Rattle.aabb_clipping.specs.Clip.{clip_asked, clip_result}
 use Rattle.mesh_cleanup.specs.Clean.{clean_asked, clean_result}
 use Rattle.candidate_surface.specs.Asked.{asked}
 use Rattle.caps.specs.Operation.{caps_result}
-use Rattle.yongpham.specs.Calls.{box_of, mode_of}
+use Rattle.caps.specs.Modes.{mode_of}
+use Rattle.yongpham.specs.Calls.{box_of}
 use Rattle.replay.specs.Words.{Everywhere}
 use Rattle.replay.specs.Layout.{stored_reply, outputs_from, Laid}
 use Rattle.replay.specs.Contents.{table, old_doubles, old_words, old_double, doubles_in, numbers_in}

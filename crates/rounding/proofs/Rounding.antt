@@ -9,8 +9,8 @@ use lib.IntN.{ℤ, pos, negsuc, neg_ℤ, ◌-ℤ◌, +ℤ_idl}
 use lib.Dec.{T, leb, lit<, lit≤, le→leb}
 use lib.Arith.{lt→nleb}
 use lib.Pow.{pow_pos, pow_mono, pow-add}
-use lib.Ieee.{Float, nan, inf, fin, binary64, up, down, fits, round, of_int, in_float, neg, ne, to_bits, is_nan}
-use lib.Ieee.Bits.{is_false, is_true}
+use lib.Ieee.{Float, nan, inf, fin, binary64, up, down, fits, round, of_int, in_float, neg, ne, to_bits, nan_bits, is_nan}
+use lib.Ieee.Bits.{nan_bits_is, is_false, is_true}
 use lib.Ieee.Compare.{differs_from_itself, nan_differs}
 use lib.Ieee.Fits.{down_pos, round-fits, neg-fits}
 use lib.Ieee.Exact.{HasValue, round_exact}
@@ -23,6 +23,7 @@ use Rattle.root.specs.Patterns.{pattern_units}
 use Rattle.root.proofs.Grid.{lt_or_ge}
 use Rattle.root.proofs.Patterns.{Is, to_units, pattern_of, units_is, sign_is, finite_is, same_units, units_small}
 use Rattle.root.proofs.Nearest.{own}
+use Rattle.root.proofs.Doubles.{magnitude_nan, magnitude_bits, magnitude_number}
 use Rattle.rounding.specs.Rounding.{half_up, half_away, IsRounded, rounded}
 use Rattle.rounding.proofs.Whole.{half_scaled, half_whole, unit, none, some, whole_units}
 
@@ -36,6 +37,12 @@ unfolding is_nan
 not_nan nan h = absurd (true≢false (sym nan_differs ∙ h))
 not_nan (inf s) h = tt
 not_nan (fin s m e) h = tt
+
+-- a number's pattern without its sign is no NaN's
+pub magnitude_plain : (x : Float) → T (fits binary64 x) → T (not (is_nan x)) → T (not (nan_bits binary64 (to_bits binary64 x % 2 ^ 63)))
+magnitude_plain x F n =
+    subst (λ (k : Bool). T (not k)) (sym (nan_bits_is binary64 (to_bits binary64 x % 2 ^ 63)))
+    (subst (λ (v : Float). T (not (is_nan v))) (sym (magnitude_bits x F n)) (magnitude_number x F n))
 
 -- the pattern of an infinity, without its sign
 inf_pattern : (s : Bool) → to_bits binary64 (inf s) % 2 ^ 63 ≡ 2047 * 2 ^ 52
@@ -301,3 +308,10 @@ far_plus x F n h g = sym (far x F n h ∙ ap ends g)
 
 pub far_minus : (x : Float) → T (fits binary64 x) → T (not (is_nan x)) → 1086 * 2 ^ 52 ≤ to_bits binary64 x % 2 ^ 63 → negative x ≡ true → negsuc (2 ^ 63 - 1) ≡ rounded x
 far_minus x F n h g = sym (far x F n h ∙ ap ends g)
+
+-- ---- what the checks of `round`, `rounded` and `abs` apply
+pub ruleset round_laws = (not_nan, below_finite, plus, minus, nan_away, already, made_plus, made_minus)
+
+pub ruleset rounded_laws = (not_nan, below_finite, plus, minus, nan_rounded, far_plus, far_minus, cast_plus, cast_minus)
+
+pub ruleset abs_laws = (is_nan_lem, not_nan, magnitude_nan, magnitude_bits, magnitude_plain)

@@ -25,10 +25,10 @@ use native.Mathlib.Omega.{arith}
 use lib.IntN.{ℤ}
 use lib.Dec.{T, ltb, ltb→lt, lt→ltb, nltb→le, lit<}
 use lib.Arith.{digits_div}
-use lib.Pow.{pow_pos, pow-add, pow_mono, shl_exact}
-use lib.Ieee.{Float, nan, inf, fin, binary64, up, down, fits, lt, of_bits, to_bits, is_nan, below}
+use lib.Pow.{pow_pos, pow-add, shl_exact}
+use lib.Ieee.{Float, nan, inf, fin, binary64, up, down, fits, lt, div, of_bits, to_bits, is_nan, below}
 use lib.Ieee.Bits.{of_bits-fits}
-use lib.Ieee.Fits.{down_pos}
+use lib.Ieee.Fits.{down_pos, div-fits}
 use Rattle.root.specs.Doubles.{◌⊘◌, negative, one, units_of, one_f}
 use Rattle.root.specs.Patterns.{field_units, pattern_units}
 use Rattle.root.proofs.Patterns.{pattern_is, at}
@@ -90,12 +90,6 @@ module _ (b : ℕ) (low : 1023 * 2 ^ 52 ≤ b) (high : b ≤ 1031 * 2 ^ 52) wher
   -- w, as the machine has it
   pub weight : 1 * 2 ^ (1075 - x) % 2 ^ 64 ≡ 2 ^ (1075 - x)
   weight = shl_exact 1 (1075 - x) 64 (lit< tt) (omega arith) ∙ one-mul (2 ^ (1075 - x))
-
-  pub weight_pos : 1 ≤ 1 * 2 ^ (1075 - x) % 2 ^ 64
-  weight_pos = le_trans (pow_pos (1075 - x)) (le_of_eq (sym weight))
-
-  pub weight_small : 1 * 2 ^ (1075 - x) % 2 ^ 64 ≤ 2 ^ 52
-  weight_small = le_trans (le_of_eq weight) (pow_mono {j = 52} (omega arith))
 
   field : (x t : ℕ) → 1023 ≤ x → x ≤ 1031 → ceil (2 ^ 52 + t) (2 ^ (1075 - x)) ≡ ceil (field_units x t) one
   unfolding one
@@ -232,13 +226,27 @@ module _ (m : ℕ) (e : ℤ) (F : T (fits binary64 (fin false m e))) (a : lt one
         count_some (ceil (m * up e) (down e)) (le_of_lt more) few;
   }
 
-pub counted : (q : Float) → T (fits binary64 q) → lt one_f q ≡ true → lt (of_bits binary64 (1031 * 2 ^ 52)) q ≡ false → Counted q
+counted : (q : Float) → T (fits binary64 q) → lt one_f q ≡ true → lt (of_bits binary64 (1031 * 2 ^ 52)) q ≡ false → Counted q
 unfolding lt of_bits
 counted nan F a h = absurd (true≢false (sym a))
 counted (inf true) F a h = absurd (true≢false (sym a))
 counted (inf false) F a h = absurd (true≢false h)
 counted (fin true m e) F a h = absurd (true≢false (sym a))
 counted (fin false m e) F a h = counted_fin m e F a h
+
+-- of a quotient
+module _ (x y : Float) (a : lt one_f (div binary64 x y) ≡ true) (h : lt (of_bits binary64 (1031 * 2 ^ 52)) (div binary64 x y) ≡ false) where
+  quotient : Counted (div binary64 x y)
+  quotient = counted (div binary64 x y) (div-fits binary64 x y) a h
+
+  pub in_range : (1023 * 2 ^ 52 ≤ to_bits binary64 (div binary64 x y)) × (to_bits binary64 (div binary64 x y) ≤ 1031 * 2 ^ 52)
+  in_range = (quotient.low, quotient.high)
+
+  pub same_count : ceil (pattern_units (to_bits binary64 (div binary64 x y))) one ≡ count (whole_up (div binary64 x y))
+  same_count = quotient.same
+
+-- what the check of `axis_segments` applies
+pub ruleset segments_laws = (many, single, in_range, same_count)
 
 -- ---- what 257 in place of more keeps: whether there are over 256, and the number where there are not
 
@@ -250,9 +258,6 @@ capped_over n = same_test (ltb 256 (min n 257)) (ltb 256 n) (λ t. lt→ltb 256 
 
     from : 256 < n → 256 < min n 257
     from h = omega arith
-
-pub capped_same : (n : ℕ) → min n 257 ≤ 256 → min n 257 ≡ n
-capped_same n h = omega arith
 
 pub segments_some : (length spacing : Float) → 1 ≤ segments_over length spacing
 unfolding segments_over

@@ -68,12 +68,6 @@ weight x h = shl_exact 1 (1075 - x) 64 (lit< tt) (room x h) ∙ one-mul (2 ^ (10
     room : (x : ℕ) → 1022 ≤ x → 1 + (1075 - x) ≤ 64
     room x h = omega arith
 
-pub weight_small : (x : ℕ) → 1022 ≤ x → 1 * 2 ^ (1075 - x) % 2 ^ 64 ≤ 2 ^ 53
-weight_small x h = le_trans (le_of_eq (weight x h)) (pow_mono (room x h))
-  where
-    room : (x : ℕ) → 1022 ≤ x → 1075 - x ≤ 53
-    room x h = omega arith
-
 -- what the code shifts out
 abbrev Shifted : ℕ → ℕ → ℕ
 Shifted x t = (2 * (2 ^ 52 + t) + 1 * 2 ^ (1075 - x) % 2 ^ 64) / 2 ^ (1076 - x)

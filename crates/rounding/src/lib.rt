@@ -11,11 +11,7 @@ ghost use Rattle.rounding.specs.Rounding as defined;
 ghost use Rattle.rounding.specs.Ordering.{order_key};
 ghost use Rattle.rounding.specs.Whole.{WholeOf};
 
-// 2^52: the weight of a pattern's exponent field, and of the leading digit of a significand
-const LEAD: u64 = 4503599627370496;
-
-// 2^63: the weight of a pattern's sign
-const SIGN: u64 = 9223372036854775808;
+use root::{LEAD, SIGN};
 
 // the pattern of 2^52, from which on every double is whole
 const WHOLE: u64 = 4841369599423283200;
@@ -24,6 +20,8 @@ const WHOLE: u64 = 4841369599423283200;
 const WIDE: u64 = 4890909195324358656;
 
 // The whole number nearest to the double with the pattern b, a half going up, for a double with no sign and below 2^63.
+// Stays (plainer): no conversion; it rounds the number that a pattern stands for, in whole numbers alone.
+#[tactic(auto, using(crate::proofs::Whole::none, crate::proofs::Whole::some, crate::proofs::Whole::all))]
 fn whole_of_bits(b: u64) -> u64
     requires { b < 1086 * 2 ^ 52 }
     ensures { WholeOf b result }
@@ -43,6 +41,8 @@ fn whole_of_bits(b: u64) -> u64
 }
 
 // The double with the pattern b up to a whole number, for a double from 1 to 256.
+// Stays (plainer): no conversion; it rounds the number that a pattern stands for, in whole numbers alone.
+#[tactic(auto, using(crate::proofs::Segments::bits_ceil))]
 fn ceil_of_bits(b: u64) -> u64
     requires { (1023 * 2 ^ 52 ≤ b) × (b ≤ 1031 * 2 ^ 52) }
     ensures { result ≡ defined.ceil (pattern_units b) doubles.one }
@@ -55,6 +55,7 @@ fn ceil_of_bits(b: u64) -> u64
 }
 
 // x to a whole number, a half going away from zero: Rust's `round`.
+#[tactic(auto, using(crate::proofs::Rounding::round_laws))]
 pub fn round(x: f64) -> f64
     ensures { result ≡ defined.half_away x }
 {
@@ -71,6 +72,7 @@ pub fn round(x: f64) -> f64
 }
 
 // Rust's `round() as i64`: beyond the range the nearest end of it, and 0 of a NaN.
+#[tactic(auto, using(crate::proofs::Rounding::rounded_laws))]
 pub fn rounded(x: f64) -> i64
     ensures { result ≡ defined.rounded x }
 {
@@ -87,6 +89,7 @@ pub fn rounded(x: f64) -> i64
 }
 
 // The cell of a coordinate: `q` in the Rust's `quantized_point_key` (mesh_cleanup.rs, boundary_closure.rs). The quotient may be infinite.
+#[tactic(auto, unfolding(crate::specs::Rounding::key))]
 pub fn quantized_key(x: f64, eps: f64) -> i64
     ensures { result ≡ defined.key eps x }
 {
@@ -102,18 +105,17 @@ pub fn key_beyond(k: i64) -> bool
 }
 
 // A key as a word without a sign: 2^63 more than it, so that words stand in the order of their keys.
+// Stays (plainer): one call of the library, under the name of its definition, which many contracts cite.
+#[tactic(auto, using(crate::proofs::Keys::above_least))]
 pub fn key_word(k: i64) -> u64
     ensures { result ≡ defined.key_word k }
 {
-    if k < 0 {
-        // 2^63 - 1, less what k is below -1
-        9223372036854775807 - ((-1 - k) as u64)
-    } else {
-        SIGN + (k as u64)
-    }
+    k.abs_diff(i64::MIN)
 }
 
-// Rust's `max`, of numbers that are no NaN. The library's tests for a NaN too, and may answer a zero of the other sign.
+// Rust's `max`, of numbers that are no NaN.
+// Stays (plainer): the library's `max` tests for a NaN too and may answer a zero of the other sign, so that it is not `larger`.
+#[tactic(auto, unfolding(root::specs::Doubles::larger))]
 pub fn max(x: f64, y: f64) -> f64
     ensures { result ≡ doubles.larger x y }
 {
@@ -121,6 +123,8 @@ pub fn max(x: f64, y: f64) -> f64
 }
 
 // Rust's `min`, of numbers that are no NaN.
+// Stays (plainer): as for `max`.
+#[tactic(auto, unfolding(root::specs::Doubles::smaller))]
 pub fn min(x: f64, y: f64) -> f64
     ensures { result ≡ doubles.smaller x y }
 {
@@ -128,6 +132,7 @@ pub fn min(x: f64, y: f64) -> f64
 }
 
 // Rust's `abs`: the sign bit cleared.
+#[tactic(auto, using(crate::proofs::Rounding::abs_laws))]
 pub fn abs(x: f64) -> f64
     ensures { result ≡ doubles.magnitude x }
 {
@@ -138,6 +143,7 @@ pub fn abs(x: f64) -> f64
 }
 
 // Rust's `abs() <= eps`, without the branch on a sign that is as good as random.
+#[tactic(auto, using(root::proofs::Doubles::within_both))]
 pub fn within(d: f64, eps: f64) -> bool
     ensures { result ≡ doubles.within eps d }
 {
@@ -145,6 +151,7 @@ pub fn within(d: f64, eps: f64) -> bool
 }
 
 // Rust's `clamp(0.0, 1.0)`, which keeps -0.0.
+#[tactic(auto, unfolding(root::specs::Doubles::clamped))]
 pub fn clamp01(t: f64) -> f64
     ensures { result ≡ doubles.clamped t }
 {
@@ -158,16 +165,19 @@ pub fn clamp01(t: f64) -> f64
 }
 
 // A whole number in the order of `total_cmp`.
+#[tactic(auto, unfolding(crate::specs::Ordering::order_key))]
 pub fn order_key(x: f64) -> u64
     requires { T (not (is_nan x)) }
     ensures { result ≡ order_key x }
 {
     let b: u64 = f64::to_bits(x);
-    if b < SIGN { SIGN + b } else { u64::MAX - b }
+    if b < SIGN { SIGN + b } else { !b }
 }
 
 // How many segments an axis needs, or 257 where it needs more than 256: `axis_grid_coordinates` of boundary_closure.rs, for a spacing of
 // max(resolution, eps). The quotient may be infinite, so it is compared before it is converted.
+// Stays (plainer): one caller asks whether 256 is passed, and the others have tested that it is not; with `None` for more each would have to prove that away.
+#[tactic(auto, unfolding(crate::specs::Rounding::segments_over), using(crate::proofs::Segments::segments_laws))]
 pub fn axis_segments(length: f64, spacing: f64) -> u64
     ensures { result ≡ Nat.min (defined.segments_over length spacing) 257 }
 {

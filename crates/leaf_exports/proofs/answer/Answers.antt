@@ -9,9 +9,6 @@ use Rattle.leaf_exports.proofs.answer.Goals as goal
 pub loop-i-init : goal.loop-i-init
 loop-i-init c = (omega arith, refl, λ j h. absurd (not-suc-le-zero h))
 
-pub find_word-requires : goal.find_word-requires
-find_word-requires c = record { nb_nonzero = c.requires.nb_nonzero; nb_bound = c.requires.nb_bound; linked = c.requires.linked }
-
 pub offset_bounds-found-i : goal.offset_bounds-found-i
 offset_bounds-found-i c = omega arith
 

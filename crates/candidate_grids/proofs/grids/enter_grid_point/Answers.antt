@@ -12,7 +12,7 @@ returns-then-is_skipped c =
     c.project.ensures) ∙ sym c.is_skipped.ensures ∙ c.if-is_skipped.true)) c.requires.holds
 
 pub insert_grid_point-requires : goal.insert_grid_point-requires
-insert_grid_point-requires c = record { holds = c.requires.holds; point_in = (c.requires.point_in, c.requires.face_in); room_for = (λ _. c.requires.room) }
+insert_grid_point-requires c = record { holds = c.requires.holds; point_in = c.requires.point_in; room_for = (λ _. c.requires.room) }
 
 pub returns : goal.returns
 returns c =

@@ -31,7 +31,7 @@ write_words-requires-in-loop-face c =
     let l = lists_long a.room.n a.w.now c.requires.n_bound
     c.requires.by_index in
     let r = blocks_room (list_block a.room.n a.w.now) c.write_words.new.out
-    c.loop-face.out 6 c.loop-face.face c.loop-face.at
+    c.loop-face.out 6 c.loop-face.face-index c.loop-face.at
     c.loop-face.invariant.1 6 c.loop-face-test.true
     (omega (
       arith,
@@ -40,7 +40,7 @@ write_words-requires-in-loop-face c =
       c.requires.w_in_bounds,
     )) in
     let q = block_long a.room.n a.w.now c.requires.n_bound
-    c.requires.by_index c.loop-face.face
+    c.requires.by_index c.loop-face.face-index
     c.loop-face-test.true in
     omega (arith, r, q.0, q.1, c.list_at.ensures)
 
@@ -50,7 +50,7 @@ overflow_add-at c =
     let l = lists_long a.room.n a.w.now c.requires.n_bound
     c.requires.by_index in
     let r = blocks_room (list_block a.room.n a.w.now) c.write_words.new.out
-    c.loop-face.out 6 c.loop-face.face
+    c.loop-face.out 6 c.loop-face.face-index
     c.loop-face.at c.loop-face.invariant.1 6
     c.loop-face-test.true
     (omega (
@@ -61,14 +61,14 @@ overflow_add-at c =
     )) in
     let q = block_long a.room.n a.w.now c.requires.n_bound
     c.requires.by_index
-    c.loop-face.face c.loop-face-test.true in
+    c.loop-face.face-index c.loop-face-test.true in
     omega (
       arith,
       r,
       q.0,
       blocks_long (list_block a.room.n a.w.now)
           c.write_words.new.out
-          c.loop-face.out 6 c.loop-face.face
+          c.loop-face.out 6 c.loop-face.face-index
           c.loop-face.at c.loop-face.invariant.1,
       c.write_words.auto.out,
     )
@@ -78,27 +78,27 @@ loop-face-preserved c =
     let a = c.args in
     let q = block_long a.room.n a.w.now c.requires.n_bound
     c.requires.by_index
-    c.loop-face.face c.loop-face-test.true in (
+    c.loop-face.face-index c.loop-face-test.true in (
       omega arith,
       blocks_turn (list_block a.room.n a.w.now) c.write_words.new.out
-          c.loop-face.out 6 c.loop-face.face
+          c.loop-face.out 6 c.loop-face.face-index
           c.loop-face.at c.loop-face.invariant.1 _ _
           (c.write_words-in-loop-face.ensures ∙ ap (λ (x : ℕ). sets c.loop-face.out
           c.loop-face.at
-          (view a.w.now x (get_or a.w.now c.loop-face.face 0))) c.list_at.ensures)
+          (view a.w.now x (get_or a.w.now c.loop-face.face-index 0))) c.list_at.ensures)
           (omega (arith, q.0)),
     )
 
 pub shape_of-out : goal.shape_of-out
 shape_of-out c =
     let a = c.args in
-    blocks_long (list_block a.room.n a.w.now) c.write_words.new.out c.loop-face.out 6 c.loop-face.face
+    blocks_long (list_block a.room.n a.w.now) c.write_words.new.out c.loop-face.out 6 c.loop-face.face-index
     c.loop-face.at c.loop-face.invariant.1 ∙ c.write_words.auto.out
 
 pub returns : goal.returns
 returns c =
     let a = c.args in
-    blocks_end (list_block a.room.n a.w.now) c.write_words.new.out c.loop-face.out 6 c.loop-face.face c.loop-face.at
+    blocks_end (list_block a.room.n a.w.now) c.write_words.new.out c.loop-face.out 6 c.loop-face.face-index c.loop-face.at
     c.loop-face.invariant.1 6 c.loop-face.invariant.0 c.loop-face-test.false _ refl ∙ lists_stored a.room.n a.w.now
     c.requires.n_bound c.requires.by_index a.out.now _
     c.write_words.ensures

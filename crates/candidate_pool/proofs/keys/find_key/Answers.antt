@@ -42,19 +42,19 @@ returns-then-is_key_at c =
 pub next-here-requires : goal.next-here-requires
 next-here-requires c =
     let a = c.args in
-    rw c.chain_at-in-Some.ensures
+    rw c.chain_at.ensures
     (walk_room a.w.now (chain_at a.room.n) a.room.n a.count a.b (key_is a.w.now a.room.n a.key) c.loop-here.here c.loop-here.invariant c.in-Some.i c.in-Some.is)
 
 pub loop-here-smaller : goal.loop-here-smaller
 loop-here-smaller c =
     let a = c.args in
-    rw c.next-here.ensures (rw c.chain_at-in-Some.ensures
+    rw c.next-here.ensures (rw c.chain_at.ensures
     (walk_less a.w.now (chain_at a.room.n) a.room.n a.count a.b (key_is a.w.now a.room.n a.key) c.loop-here.here c.loop-here.invariant c.in-Some.i c.in-Some.is))
 
 pub loop-here-preserved : goal.loop-here-preserved
 loop-here-preserved c =
     let a = c.args in
-    rw c.next-here.ensures (rw c.chain_at-in-Some.ensures
+    rw c.next-here.ensures (rw c.chain_at.ensures
     (walk_turn a.w.now (chain_at a.room.n) a.room.n a.count a.b (key_is a.w.now a.room.n a.key) c.loop-here.here c.loop-here.invariant c.in-Some.i c.in-Some.is
     (key_told a.w.now a.room.n a.key c.in-Some.i c.keys_at.result c.is_key_at.result c.keys_at.ensures c.is_key_at.ensures ∙ c.if-is_key_at.false)))
 

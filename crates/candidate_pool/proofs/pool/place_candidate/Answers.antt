@@ -18,8 +18,8 @@ word_none : (o : Option MeshVertexId) → is_some o ≡ false → mesh_word o �
 word_none (Some v) e = let q : ◌≡◌ {A = ℕ} 0 1 = cc in absurd (omega arith)
 word_none None e = refl
 
-pub bucket-b-requires-clause-buckets_nonzero : goal.bucket-b-requires-clause-buckets_nonzero
-bucket-b-requires-clause-buckets_nonzero c =
+pub invariant_of-table-clause-some : goal.invariant_of-table-clause-some
+invariant_of-table-clause-some c =
     let a = c.args in some_room a.eps a.room.n a.w.now c.requires.holds (candidate a.p (mesh_word a.mesh) []) c.requires.room_for
 
 pub push_candidate-requires-clause-point_in : goal.push_candidate-requires-clause-point_in

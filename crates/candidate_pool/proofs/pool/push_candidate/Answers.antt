@@ -7,7 +7,19 @@ use Rattle.mesh_weld.specs.Room.{cell_at}
 use Rattle.candidate_pool.specs.Room.{key_bucket}
 use Rattle.candidate_pool.specs.Standing.{mesh_word}
 use Rattle.candidate_pool.proofs.Putting.{enter_asks, put_all, put_long}
+use Rattle.candidate_pool.proofs.pool.push_candidate.Goals.{After-keys_at}
 use Rattle.candidate_pool.proofs.pool.push_candidate.Goals as goal
+
+-- the three words of the key stand in the room
+key-room : (c : After-keys_at) → c.keys_at.result + 3 * get_or c.args.w.now 6 0 + 2 < length c.put_point.new.w
+key-room c =
+    omega (
+      arith,
+      simp length-set at (ap (length {A = ℕ}) c.put_point.ensures.0),
+      c.requires.point_in.1,
+      c.requires.key_table.1,
+      c.keys_at.ensures,
+    )
 
 pub put_point-requires : goal.put_point-requires
 put_point-requires c =
@@ -22,46 +34,13 @@ bounds-w-entry_at c =
     omega (arith, simp length-set at (ap (length {A = ℕ}) c.put_point.ensures.0), c.entry_at.ensures, s.requires.point_in.1, s.requires.key_table.1)
 
 pub bounds-w-at : goal.bounds-w-at
-bounds-w-at c =
-    let key-room : c.keys_at.result + 3 * get_or c.args.w.now
-    6 0 + 2
-    < length c.put_point.new.w = let s = c in
-    omega (
-      arith,
-      simp length-set at (ap (length {A = ℕ}) c.put_point.ensures.0),
-      s.requires.point_in.1,
-      s.requires.key_table.1,
-      c.keys_at.ensures,
-    ) in
-    simp length-set (omega (arith, key-room))
+bounds-w-at c = simp length-set (omega (arith, key-room (goal.at.bounds-w-at c).After-keys_at))
 
 pub bounds-w-at-2 : goal.bounds-w-at-2
-bounds-w-at-2 c =
-    let key-room : c.keys_at.result + 3 * get_or c.args.w.now
-    6 0 + 2
-    < length c.put_point.new.w = let s = c in
-    omega (
-      arith,
-      simp length-set at (ap (length {A = ℕ}) c.put_point.ensures.0),
-      s.requires.point_in.1,
-      s.requires.key_table.1,
-      c.keys_at.ensures,
-    ) in
-    simp length-set (omega (arith, key-room))
+bounds-w-at-2 c = simp length-set (omega (arith, key-room (goal.at.bounds-w-at-2 c).After-keys_at))
 
 pub bounds-w-at-3 : goal.bounds-w-at-3
-bounds-w-at-3 c =
-    let key-room : c.keys_at.result + 3 * get_or c.args.w.now
-    6 0 + 2
-    < length c.put_point.new.w = let s = c in
-    omega (
-      arith,
-      simp length-set at (ap (length {A = ℕ}) c.put_point.ensures.0),
-      s.requires.point_in.1,
-      s.requires.key_table.1,
-      c.keys_at.ensures,
-    ) in
-    simp length-set (omega (arith, key-room))
+bounds-w-at-3 c = simp length-set (omega (arith, key-room (goal.at.bounds-w-at-3 c).After-keys_at))
 
 pub enter-requires : goal.enter-requires
 enter-requires c =

@@ -1,4 +1,8 @@
-use mathlib.Core.Path.{sym, subst, ◌∙◌}
+use mathlib.Core.Path.{sym, ap, subst, ◌∙◌}
+use mathlib.Core.Bool.{Bool}
+use lib.Dec.{eqb}
+use Rattle.geometry.proofs.Faces.{face_at}
+use Rattle.box_faces.specs.Faces.{has_bit}
 use mathlib.Core.List.{List}
 use Prim.Native.Nat.{ℕ, ◌+◌}
 use Rattle.cap_pairs.proofs.Adding.{Below, adding_start, adding_skip, adding_turn, adding_end}
@@ -14,19 +18,22 @@ pub add_face-requires : goal.add_face-requires
 add_face-requires c =
     let s = c in
     let l = c.loop-face in
-    (omega (arith, l.invariant.0.long, s.requires.0), l.invariant.0.small, omega arith)
+    (omega (arith, l.invariant.0.long, s.requires.0), l.invariant.0.small)
 
 pub loop-face-preserved : goal.loop-face-preserved
 loop-face-preserved c =
     let a = c.args in
     let l = c.loop-face in
+    let e = face_at l.face-index _ c.loop-face-test.true in
+    let has : ℕ → Bool = has_bit a.mask in
     let has-face' = c.has_face in
     let branch = c.if-has_face in (
       elim branch.branch [
-        | then-has_face w ↦ subst (λ (u : List ℕ). Added a.w.now u a.at (Below a.mask (l.face + 1))) (sym w.w-is)
-            (adding_turn a.w.now a.at a.mask l.w l.face l.invariant.0 w.add_face.new.w (sym has-face'.ensures ∙ w.if-has_face.true) w.add_face.ensures)
-        | else-has_face w ↦ subst (λ (u : List ℕ). Added a.w.now u a.at (Below a.mask (l.face + 1))) (sym w.w-is)
-            (adding_skip a.w.now a.at a.mask l.w l.face l.invariant.0 (sym has-face'.ensures ∙ w.if-has_face.false))
+        | then-has_face w ↦ subst (λ (u : List ℕ). Added a.w.now u a.at (Below a.mask (l.face-index + 1))) (sym w.w-is)
+            (adding_turn a.w.now a.at a.mask l.w l.face-index l.invariant.0 w.add_face.new.w (ap has (sym e) ∙ sym has-face'.ensures ∙ w.if-has_face.true)
+            (subst (λ (f : ℕ). Added l.w w.add_face.new.w a.at (eqb f)) e w.add_face.ensures))
+        | else-has_face w ↦ subst (λ (u : List ℕ). Added a.w.now u a.at (Below a.mask (l.face-index + 1))) (sym w.w-is)
+            (adding_skip a.w.now a.at a.mask l.w l.face-index l.invariant.0 (ap has (sym e) ∙ sym has-face'.ensures ∙ w.if-has_face.false))
       ],
       omega arith,
     )
@@ -38,4 +45,4 @@ pub returns : goal.returns
 returns c =
     let a = c.args in
     let l = c.loop-face in
-    adding_end a.w.now a.at a.mask l.w l.face l.invariant.0 (omega arith)
+    adding_end a.w.now a.at a.mask l.w l.face-index l.invariant.0 (omega arith)

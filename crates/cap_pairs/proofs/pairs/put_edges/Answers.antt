@@ -19,7 +19,7 @@ edge_word-requires c =
     let open-edges-at' = c.open_edges_at-edges in
     let records-at' = c.records_at-records in
     let l = c.loop-i in
-    edge_asks a.w.now l.w a.room.n a.room.nf a.room.nc a.k open-edges-at'.result records-at'.result l.i s.requires.tables_for open-edges-at'.ensures records-at'.ensures
+    edge_asks a.w.now l.w a.room.n a.room.nf a.room.nc a.room.k open-edges-at'.result records-at'.result l.i s.requires.tables_for open-edges-at'.ensures records-at'.ensures
     l.invariant.0 (omega arith) s.requires.by_index
 
 pub loop-i-preserved : goal.loop-i-preserved
@@ -30,7 +30,7 @@ loop-i-preserved c =
     let records-at' = c.records_at-records in
     let l = c.loop-i in
     let edge-word' = c.edge_word in (
-      edge_turn a.w.now l.w a.room.n a.room.nf a.room.nc a.k open-edges-at'.result records-at'.result l.i s.requires.tables_for open-edges-at'.ensures records-at'.ensures
+      edge_turn a.w.now l.w a.room.n a.room.nf a.room.nc a.room.k open-edges-at'.result records-at'.result l.i s.requires.tables_for open-edges-at'.ensures records-at'.ensures
           l.invariant.0 (omega arith) edge-word'.result edge-word'.ensures,
       omega arith,
     )
@@ -45,5 +45,5 @@ returns c =
     let open-edges-at' = c.open_edges_at-edges in
     let records-at' = c.records_at-records in
     let l = c.loop-i in
-    edge_end a.w.now l.w a.room.n a.room.nf a.room.nc a.k open-edges-at'.result records-at'.result l.i s.requires.tables_for open-edges-at'.ensures records-at'.ensures
+    edge_end a.w.now l.w a.room.n a.room.nf a.room.nc a.room.k open-edges-at'.result records-at'.result l.i s.requires.tables_for open-edges-at'.ensures records-at'.ensures
     l.invariant.0 l.invariant.1 (omega arith)

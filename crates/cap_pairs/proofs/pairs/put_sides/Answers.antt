@@ -11,7 +11,7 @@ loop-s-init c =
     let a = c.args in
     let turned-at' = c.turned_at-turned in
     let records-at' = c.records_at in
-    (recording_start (side_words a.w.now turned-at'.result) a.w.now (records-at'.result + 2 * a.k) a.k, omega arith)
+    (recording_start (side_words a.w.now turned-at'.result) a.w.now (records-at'.result + 2 * a.room.k) a.room.k, omega arith)
 
 pub pair_word-requires : goal.pair_word-requires
 pair_word-requires c =
@@ -21,7 +21,7 @@ pair_word-requires c =
     let records-at' = c.records_at in
     let l = c.loop-s in
     let next-side' = c.next_side in
-    side_asks a.w.now l.w a.room.n a.room.nf a.room.nc a.k turned-at'.result (records-at'.result + 2 * a.k) l.s s.requires.tables_for turned-at'.ensures (omega arith)
+    side_asks a.w.now l.w a.room.n a.room.nf a.room.nc a.room.k turned-at'.result (records-at'.result + 2 * a.room.k) l.s s.requires.tables_for turned-at'.ensures (omega arith)
     l.invariant.0 (omega arith) next-side'.result next-side'.ensures s.requires.by_index
 
 pub loop-s-preserved : goal.loop-s-preserved
@@ -33,8 +33,8 @@ loop-s-preserved c =
     let l = c.loop-s in
     let next-side' = c.next_side in
     let pair-word' = c.pair_word in (
-      side_turn a.w.now l.w a.room.n a.room.nf a.room.nc a.k turned-at'.result (records-at'.result + 2 * a.k) l.s s.requires.tables_for turned-at'.ensures (omega arith)
-          l.invariant.0 (omega arith) next-side'.result pair-word'.result (a.k + l.s) next-side'.ensures pair-word'.ensures refl,
+      side_turn a.w.now l.w a.room.n a.room.nf a.room.nc a.room.k turned-at'.result (records-at'.result + 2 * a.room.k) l.s s.requires.tables_for turned-at'.ensures (omega arith)
+          l.invariant.0 (omega arith) next-side'.result pair-word'.result (a.room.k + l.s) next-side'.ensures pair-word'.ensures refl,
       omega arith,
     )
 
@@ -48,5 +48,5 @@ returns c =
     let turned-at' = c.turned_at-turned in
     let records-at' = c.records_at in
     let l = c.loop-s in
-    side_end a.w.now l.w a.room.n a.room.nf a.room.nc a.k turned-at'.result (records-at'.result + 2 * a.k) l.s s.requires.tables_for turned-at'.ensures (omega arith)
+    side_end a.w.now l.w a.room.n a.room.nf a.room.nc a.room.k turned-at'.result (records-at'.result + 2 * a.room.k) l.s s.requires.tables_for turned-at'.ensures (omega arith)
     l.invariant.0 l.invariant.1 (omega arith)

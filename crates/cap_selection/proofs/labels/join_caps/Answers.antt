@@ -8,7 +8,7 @@ components-requires c =
     let p = c.put_labels in
     let l = c.labels_at in
     let o = c.components_at in
-    labels_joining s.room.n s.room.nf s.room.nc s.k s.w.now z.requires p.new.w p.ensures l.result o.result l.ensures o.ensures
+    labels_joining s.room.n s.room.nf s.room.nc s.room.k s.w.now z.requires p.new.w p.ensures l.result o.result l.ensures o.ensures
 
 pub returns : goal.returns
 returns c =
@@ -18,4 +18,4 @@ returns c =
     let l = c.labels_at in
     let o = c.components_at in
     let t = c.components in
-    joined_caps s.room.n s.room.nf s.room.nc s.k s.w.now z.requires p.new.w p.ensures l.result o.result l.ensures o.ensures t.new.w t.ensures
+    joined_caps s.room.n s.room.nf s.room.nc s.room.k s.w.now z.requires p.new.w p.ensures l.result o.result l.ensures o.ensures t.new.w t.ensures

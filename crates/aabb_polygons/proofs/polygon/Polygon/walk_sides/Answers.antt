@@ -3,7 +3,7 @@ use mathlib.Core.List.{List}
 use mathlib.Core.Path.{refl, ap, ◌∙◌}
 use lib.ListN.{length, drop_of_length-le}
 use Rattle.geometry.specs.declared.point.Point.{Point}
-use Rattle.aabb_planes.specs.Planes.{face_of}
+use Rattle.geometry.specs.Boxes.{face_of}
 use Rattle.aabb_polygons.specs.Steps.{clip_unsnapped}
 use Rattle.aabb_polygons.proofs.Walks.{walked_start, walked_room, walked_more, walked_end}
 use Rattle.aabb_polygons.proofs.polygon.Polygon.walk_sides.Goals as goal

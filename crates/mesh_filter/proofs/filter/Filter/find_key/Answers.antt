@@ -15,14 +15,11 @@ find_word-requires c =
     let s = c in
     let a = s.args in
     let k = a.self.now in
-    let e : k.at + 9 * k.n + a.count - (k.at + 9 * k.n) ≡ a.count = omega arith in record {
-      nb_nonzero = omega (arith, s.requires.n_nonzero);
-      nb_bound = omega (arith, s.requires.n_nonzero);
-      linked = subst (λ (x : ℕ). Linked (word_bucket (take x (drop (k.at + 9 * k.n) a.m.now)) (4 * k.n)) a.m.now k.at
-          (4 * k.n) (length (take x (drop (k.at + 9 * k.n) a.m.now)))) (sym e)
-          (subst (λ (x : ℕ). Linked (word_bucket (view a.m.now (k.at + 9 * k.n) a.count) (4 * k.n)) a.m.now k.at (4 * k.n) x)
-          (sym (view_length a.m.now (k.at + 9 * k.n) a.count (omega (arith, s.requires.n_nonzero, s.requires.n_in_bounds)))) s.requires.linked);
-    }
+    let e : k.at + 9 * k.n + a.count - (k.at + 9 * k.n) ≡ a.count = omega arith in
+    subst (λ (x : ℕ). Linked (word_bucket (take x (drop (k.at + 9 * k.n) a.m.now)) (4 * k.n)) a.m.now k.at
+    (4 * k.n) (length (take x (drop (k.at + 9 * k.n) a.m.now)))) (sym e)
+    (subst (λ (x : ℕ). Linked (word_bucket (view a.m.now (k.at + 9 * k.n) a.count) (4 * k.n)) a.m.now k.at (4 * k.n) x)
+    (sym (view_length a.m.now (k.at + 9 * k.n) a.count (omega (arith, s.requires.n_nonzero, s.requires.n_in_bounds)))) s.requires.linked)
 
 pub returns : goal.returns
 returns c =
