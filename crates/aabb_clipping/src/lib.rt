@@ -53,6 +53,7 @@ fn is_ample(admitted: Admitted<'_>, clip: Clip, vertex_room: usize, facet_room: 
 }
 
 // Two passes: the first counts, into no room, and the second writes.
+// Stays (plainer): the outputs are two parameters; a struct of two `&mut` needs a clause more for each in each function, that it is still the caller's.
 fn clip_counted(
     admitted: Admitted<'_>,
     clip: Clip,

@@ -20,6 +20,8 @@ pub struct Admitted<'a> {
 }
 
 impl<'a> Admitted<'a> {
+    // From marks that no facet has changed yet.
+    // Stays (plainer): the outputs are two parameters; a struct of two `&mut` needs a clause more for each in each function, that it is still the caller's.
     fn clip_pass(
         self,
         clip: Clip,

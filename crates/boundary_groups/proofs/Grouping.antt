@@ -1,7 +1,7 @@
 -- The steps of `group_edges` together: the words w, then after each step a, b, d, f, g, h, p and q. Assumes nothing.
 --   view_pairs, records_up     words as pairs, and as records
 --   edges_length, edges_at     the edges that the keys hold
---   label_room, tally_room     what the first steps ask
+--   ends_read, ends_asked, ends_fit, tally_room   what the first steps ask; ends_joined   what the finder of components leaves
 --   StepsTo                    the steps up to the sort as one; steps_ready, then_ready   what the others ask; then_grouped   what all leave
 use Prim.Native.Nat.{ℕ, zero, suc, ◌+◌, ◌*◌, ◌-◌, ◌/◌, ◌≤◌, ◌<◌}
 use native.Mathlib.Omega.{arith}
@@ -11,7 +11,7 @@ use mathlib.Core.List.Memᴰ
 use mathlib.Core.List.{List, [], ◌∷◌, ◌++◌, map, flat_map, Memᴰ}
 use mathlib.Core.Logic.{◌⊎◌, inl, inr, ⊎_elim}
 use lib.Dec.{eqb}
-use lib.ListN.{get_or, length, length-map}
+use lib.ListN.{get_or, length, take, drop, length-map}
 use lib.Seq.{get_or-drop, ext_get_or}
 use Rattle.lists.specs.Lists.{every, count, up_from, up_to}
 use Rattle.lists.specs.Regions.{view, PartZeroed}
@@ -19,7 +19,8 @@ use Rattle.lists.proofs.Mapped.{Each, each_of, each_sort_by, each_at}
 use Rattle.lists.proofs.Places.{of_up, length_up, at_map_up}
 use Rattle.lists.proofs.Regions.{view_length, view_at, view_same, view_more}
 use Rattle.lists.proofs.Sequences.{flat_map_lem, flat_same, flat_up, map_below}
-use Rattle.components.specs.Table.{LabelRoom, ComponentTable, ComponentNumbers}
+use Rattle.components.specs.Table.{LabelsBelow, ItemLabels, ComponentTable, ComponentNumbers}
+use Rattle.components.proofs.Lent.{labels_read, labels_asked, table_fits, table_left}
 use Rattle.edges.specs.Edges.{pair_words}
 use Rattle.records.specs.Buffer.{record_of, records_at}
 use Rattle.records.specs.Records.{sorted, record_before}
@@ -154,23 +155,30 @@ module _ (k n m at : ℕ) where
         shift : (a b : ℕ) → a + (b + 1) ≡ a + b + 1
         shift a b = omega arith
 
-    pub label_room : LabelRoom a at k 2 m table
-    label_room =
-        let l = A.long in
-        let r = R.room in
-        let f = R.few in
-        record {
-          some = omega arith;
-          room = omega arith;
-          fits = omega arith;
-          apart = λ i h j g e. omega arith;
-          below = λ t h.
-              let v = view_length a at (k * 2) (omega arith) in
-              let u : t < k * 2 = omega arith in
-              let x = view_at a at (k * 2) t u in
-              let y = ends_low t (omega arith) in
-              omega arith;
-        }
+    labels_low : LabelsBelow (view a at (k * 2)) m
+    labels_low t h =
+        let v = view_length a at (k * 2) (omega (arith, A.long, R.room, R.few)) in
+        let u : t < k * 2 = omega arith in
+        let x = view_at a at (k * 2) t u in
+        let y = ends_low t (omega arith) in
+        omega arith
+
+    table_in : table + k + k + m ≤ length a
+    table_in = omega (arith, A.long, R.room, R.few)
+
+    pub ends_read : (front : List ℕ) → front ≡ take table a → take (at + 2 * k - at) (drop at front) ≡ view a at (k * 2)
+    ends_read front f = labels_read a at k 2 m table (omega arith) (omega (arith, R.few)) table_in labels_low front (2 * k) f (omega arith)
+
+    module _ (labels : List ℕ) (e : labels ≡ view a at (k * 2)) where
+      pub ends_asked : ItemLabels labels (length labels / 2) 2 m
+      ends_asked = labels_asked a at k 2 m table (omega arith) (omega (arith, R.few)) table_in labels_low labels e
+
+      pub ends_fit : (old : List ℕ) → old ≡ drop table a → length labels / 2 + length labels / 2 + m ≤ length old
+      ends_fit = table_fits a at k 2 m table (omega arith) (omega (arith, R.few)) table_in labels_low labels e
+
+      pub ends_joined : (front old v : List ℕ) → front ≡ take table a → old ≡ drop table a → ComponentTable labels (length labels / 2) 2 m 0 old v
+          → ComponentTable (view a at (k * 2)) k 2 m table a (front ++ v)
+      ends_joined = table_left a at k 2 m table (omega arith) (omega (arith, R.few)) table_in labels_low labels e
 
     module _ (b d : List ℕ) (B : ComponentTable (view a at (k * 2)) k 2 m table a b) (D : PartZeroed b d degrees m) where
       ends_d : (i : ℕ) → i < 2 * k → get_or d (at + i) 0 ≡ get_or a (at + i) 0

@@ -137,7 +137,8 @@ pub fn group_edges(w: &mut [u64], k: usize, n: usize, m: usize, at: usize) -> us
     let edges = degrees + m;
     let counts = edges + 2 * n;
     put_ends(w, k, at);
-    components(w, at, k, 2, m, table);
+    let (front, numbers) = w.split_at_mut(table);
+    components(numbers, &front[at..at + 2 * k], 2, m);
     zero_part(w, degrees, m);
     tally_ends(w, at, 2 * k, degrees, m);
     number_records(w, k, table);

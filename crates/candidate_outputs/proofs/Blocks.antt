@@ -1,6 +1,6 @@
 -- The four results as lists that are written one after the other, word for word as they stand in the room. Assumes nothing.
 --   part_copied, part_is               words copied to a part of an output; a part of the room
---   list_block, lists_are, lists_long, numbers_long, block_long, lists_stored   "six counts, then the numbers"
+--   list_block, lists_are, lists_long, numbers_long, block_read, block_long, lists_stored   "six counts, then the numbers"
 --   key_block, keys_are, keys_long      constraints            faces_are, faces_long, face_taken, face_left   an open edge with its faces
 --   edge_block, edges_are               open edges
 --   words_are, words_same              candidates, and in a room that agrees with one that holds them
@@ -55,6 +55,10 @@ part_is w from n = let e : from + n - from ≡ n = omega arith in ap (λ (m : �
 
 abbrev pub list_block : ℕ → List ℕ → ℕ → List ℕ
 list_block n w f = view w (list_at n f) (get_or w f 0)
+
+-- the list of face f as the code reads it
+pub block_read : (n : ℕ) (w : List ℕ) (f list count : ℕ) → list ≡ list_at n f → count ≡ get_or w f 0 → take (list + count - list) (drop list w) ≡ list_block n w f
+block_read n w f list count a b = part_is w list count ∙ (λ t. view w (a t) (b t))
 
 module _ (n : ℕ) (w : List ℕ) (size : pool_end n ≤ length w) (short : (f : ℕ) → f < 6 → get_or w f 0 ≤ n) where
   six : view w 0 6 ≡ get_or w 0 0 ∷ get_or w 1 0 ∷ get_or w 2 0 ∷ get_or w 3 0 ∷ get_or w 4 0 ∷ get_or w 5 0 ∷ []

@@ -1,3 +1,4 @@
+// Stays (C interface), point 6: a list goes behind what was written in the output that C lends, and the open edges are read at places of the lent room; there is no heap.
 // Test 12, and the four results in the outputs if there is room.
 ghost use Rattle.std.specs.Prelude.{◌≡◌, [], ◌∷◌, map, ℕ, ◌+◌, ◌*◌, ◌≤◌, ◌<◌, length, get_or};
 ghost use Rattle.std.proofs.lemmas.List.Edits.{sets};

@@ -1,19 +1,20 @@
 -- From the labels as they were put to the components' numbers. Assumes nothing.
 --   labelled_end      the loop that puts the labels put them all
---   labels_joining    the component finder can be asked
+--   caps_read, caps_asked, caps_fit   the component finder can be asked
 --   joined_caps       what it leaves
-use Prim.Native.Nat.{ℕ, ◌+◌, ◌*◌, ◌≤◌, ◌<◌}
+use Prim.Native.Nat.{ℕ, ◌+◌, ◌*◌, ◌-◌, ◌/◌, ◌≤◌, ◌<◌}
 use native.Mathlib.Omega.{arith}
 use mathlib.Core.Path.{◌≡◌, sym, ap, ◌∙◌, subst}
 use mathlib.Core.Bool.{Bool, true, false, cond}
-use mathlib.Core.List.{List, map}
-use lib.ListN.{length, get_or, length-map}
+use mathlib.Core.List.{List, ◌++◌, map}
+use lib.ListN.{length, get_or, take, drop, length-map}
 use lib.Seq.{ext_get_or}
 use Rattle.lists.specs.Lists.{up_to}
 use Rattle.lists.specs.Regions.{view, Above}
 use Rattle.lists.proofs.Regions.{Filled, view_length, view_at}
 use Rattle.lists.proofs.Places.{length_up, at_map_up}
-use Rattle.components.specs.Table.{ComponentNumbers, LabelRoom, ComponentTable}
+use Rattle.components.specs.Table.{LabelsBelow, ItemLabels, ComponentNumbers, ComponentTable}
+use Rattle.components.proofs.Lent.{labels_read, labels_asked, table_fits, table_left}
 use Rattle.cap_triangles.specs.Room.{labels_at, components_at}
 use Rattle.cap_selection.specs.Steps.{open_in, side_number, label_in, SidesNumbered, Labelled, JoinedCaps}
 
@@ -44,26 +45,30 @@ module _ (n nf nc k : ℕ) (w : List ℕ) (room : SidesNumbered n nf nc k w) whe
     stands : (t : ℕ) → t < nc * 3 → get_or (view v (labels_at n nf nc) (nc * 3)) t 0 ≡ label_in n nf nc k w t
     stands t h = view_at v (labels_at n nf nc) (nc * 3) t h ∙ put.label t (omega arith)
 
-    joining_here : LabelRoom v (labels_at n nf nc) nc 3 (k + 6 * nc) (components_at n nf nc)
-    joining_here =
-        let z = room.size in
-        let g = put.above.long in
-        let e = room.edges in
-        record {
-          some = omega arith;
-          room = omega arith;
-          fits = fits;
-          apart = λ i a j b q. omega arith;
-          below = λ t h.
-              let l = view_length v (labels_at n nf nc) (nc * 3) fits in
-              let q = stands t (omega arith) in
-              let low = label_low t (omega arith) in
-              omega arith;
-        }
+    labels_low : LabelsBelow (view v (labels_at n nf nc) (nc * 3)) (k + 6 * nc)
+    labels_low t h =
+        let l = view_length v (labels_at n nf nc) (nc * 3) fits in
+        let q = stands t (omega arith) in
+        let low = label_low t (omega arith) in
+        omega arith
 
-    pub labels_joining : (labels at : ℕ) → labels ≡ labels_at n nf nc → at ≡ components_at n nf nc → LabelRoom v labels nc 3 (k + 6 * nc) at
-    labels_joining labels at e f =
-        subst (λ (x : ℕ). LabelRoom v labels nc 3 (k + 6 * nc) x) (sym f) (subst (λ (x : ℕ). LabelRoom v x nc 3 (k + 6 * nc) (components_at n nf nc)) (sym e) joining_here)
+    table_in : components_at n nf nc + nc + nc + (k + 6 * nc) ≤ length v
+    table_in = omega (arith, room.size, put.above.long, room.edges)
+
+    pub caps_read : (front : List ℕ) (from at : ℕ) → from ≡ labels_at n nf nc → at ≡ components_at n nf nc → front ≡ take at v
+        → take (from + 3 * nc - from) (drop from front) ≡ view v (labels_at n nf nc) (nc * 3)
+    caps_read front from at e d f =
+        rw e (labels_read v (labels_at n nf nc) nc 3 (k + 6 * nc) (components_at n nf nc) (omega arith) (omega arith) table_in labels_low front (3 * nc)
+        (f ∙ ap (λ (x : ℕ). take x v) d) (omega arith))
+
+    module _ (labels : List ℕ) (e : labels ≡ view v (labels_at n nf nc) (nc * 3)) where
+      pub caps_asked : ItemLabels labels (length labels / 3) 3 (k + 6 * nc)
+      caps_asked = labels_asked v (labels_at n nf nc) nc 3 (k + 6 * nc) (components_at n nf nc) (omega arith) (omega arith) table_in labels_low labels e
+
+      pub caps_fit : (old : List ℕ) (at : ℕ) → at ≡ components_at n nf nc → old ≡ drop at v → length labels / 3 + length labels / 3 + (k + 6 * nc) ≤ length old
+      caps_fit old at d f =
+          table_fits v (labels_at n nf nc) nc 3 (k + 6 * nc) (components_at n nf nc) (omega arith) (omega arith) table_in labels_low labels e old
+          (f ∙ ap (λ (x : ℕ). drop x v) d)
 
     labels_are : view v (labels_at n nf nc) (nc * 3) ≡ map (label_in n nf nc k w) (up_to (3 * nc))
     labels_are =
@@ -81,9 +86,9 @@ module _ (n nf nc k : ℕ) (w : List ℕ) (room : SidesNumbered n nf nc k w) whe
           numbers = subst (λ (l : List ℕ). ComponentNumbers l nc 3 (view u (components_at n nf nc) nc)) labels_are t.numbers;
         }
 
-    pub joined_caps : (labels at : ℕ) → labels ≡ labels_at n nf nc → at ≡ components_at n nf nc → (u : List ℕ)
-        → ComponentTable (view v labels (nc * 3)) nc 3 (k + 6 * nc) at v u → JoinedCaps n nf nc k w u
-    joined_caps labels at e f u t =
-        joined_here u
-        (subst (λ (x : ℕ). ComponentTable (view v (labels_at n nf nc) (nc * 3)) nc 3 (k + 6 * nc) x v u) f
-        (subst (λ (x : ℕ). ComponentTable (view v x (nc * 3)) nc 3 (k + 6 * nc) at v u) e t))
+    pub joined_caps : (labels : List ℕ) → labels ≡ view v (labels_at n nf nc) (nc * 3) → (front old u : List ℕ) (at : ℕ) → at ≡ components_at n nf nc → front ≡ take at v
+        → old ≡ drop at v → ComponentTable labels (length labels / 3) 3 (k + 6 * nc) 0 old u → JoinedCaps n nf nc k w (front ++ u)
+    joined_caps labels e front old u at d f g t =
+        joined_here (front ++ u)
+        (table_left v (labels_at n nf nc) nc 3 (k + 6 * nc) (components_at n nf nc) (omega arith) (omega arith) table_in labels_low labels e front old u
+        (f ∙ ap (λ (x : ℕ). take x v) d) (g ∙ ap (λ (x : ℕ). drop x v) d) t)

@@ -45,12 +45,12 @@ pub fn join_caps(w: &mut [u64], room: CapRoom)
     ensures { JoinedCaps room.n room.nf room.nc room.k w.old w.new }
 {
     put_labels(w, room);
+    let (front, table) = w.split_at_mut(room.components_at());
+    let labels = room.labels_at();
     components(
-        w,
-        room.labels_at(),
-        room.nc,
+        table,
+        &front[labels..labels + 3 * room.nc],
         3,
         room.k + 6 * room.nc,
-        room.components_at(),
     );
 }

@@ -23,6 +23,7 @@ use refusals::reply::Reply;
 use words::zero;
 
 // All that follows test 9, for a mesh with k open edges. "if no open edge keeps two ends", the mesh comes back as it is.
+// Stays (plainer): the outputs are two parameters; a struct of two `&mut` needs a clause more for each in each function, that it is still the caller's.
 fn cap_edges(
     mesh: MeshLists<'_>,
     cap_list: &[u64],

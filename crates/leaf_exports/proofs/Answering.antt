@@ -2,7 +2,7 @@
 use Prim.Native.Nat.{ℕ, zero, suc, ◌+◌, ◌*◌, ◌/◌, ◌≤◌, ◌<◌}
 use native.Mathlib.Omega.{arith}
 use native.Mathlib.Decide.{ℕ_discrete}
-use native.Mathlib.Nat.{le-div_iff_mul-le}
+use native.Mathlib.Nat.{le-div_iff_mul-le, mul-div_cancel}
 use mathlib.Core.Bool.{Bool}
 use mathlib.Core.Path.{◌≡◌, refl, ◌∙◌}
 use mathlib.Core.List.{List}
@@ -31,6 +31,10 @@ labels_below w at e m fits f t h = let l = view_length w at e fits in rw (view_a
 -- as many items as the room has labels for
 pub labels_fit : (n k room : ℕ) → 0 < k → n ≤ room / k → n * k ≤ room
 labels_fit n k room p h = (le-div_iff_mul-le p).0 h
+
+-- how many items they are
+pub label_items : (n k : ℕ) (labels : List ℕ) → 0 < k → length labels ≡ n * k → length labels / k ≡ n
+label_items n k labels p e = rw e (mul-div_cancel n p)
 
 -- a place as a link: the link is known by it, and small where the list is short
 pub same_link : (u v : ℕ) → id_in u ≡ id_in v → u ≡ v

@@ -119,7 +119,8 @@ pub extern "C" fn table_components(w: &mut [u64], n: usize, k: usize, m: usize) 
         return false;
     }
     if all_below(w, n + n + m, n * k, m) {
-        components::components(w, n + n + m, n, k, m, 0);
+        let (table, labels) = w.split_at_mut(n + n + m);
+        components::components(table, &labels[..n * k], k, m);
         true
     } else {
         false

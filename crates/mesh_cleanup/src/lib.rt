@@ -89,6 +89,7 @@ impl Cleaning<'_> {
     }
 
     // Every length is known before the first output is written.
+    // Stays (plainer): the outputs are two parameters; a struct of two `&mut` needs a clause more for each in each function, that it is still the caller's.
     fn clean_checked(
         &self,
         work: &mut [u64],

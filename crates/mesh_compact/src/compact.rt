@@ -37,7 +37,8 @@ pub fn remove_small_disconnected_components(
             numbers: 3 * k,
         };
     }
-    components(m, facets, k, 3, n, at);
+    let (front, parts) = m.split_at_mut(at);
+    components(parts, &front[facets..facets + 3 * k], 3, n);
     let table = at + 2 * k + n;
     let renumbering = Renumbering {
         kept,

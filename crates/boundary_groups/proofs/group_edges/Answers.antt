@@ -1,6 +1,10 @@
 use mathlib.Core.Path.{◌∙◌}
+use mathlib.Core.List.{◌++◌}
+use Prim.Native.Nat.{◌+◌, ◌*◌}
 use native.Mathlib.Omega.{arith}
-use Rattle.boundary_groups.proofs.Grouping.{label_room, tally_room, StepsTo, steps_long, steps_ready, then_ready, then_grouped}
+use Rattle.lists.specs.Regions.{view}
+use Rattle.components.specs.Table.{ComponentTable}
+use Rattle.boundary_groups.proofs.Grouping.{ends_read, ends_asked, ends_fit, ends_joined, tally_room, StepsTo, steps_long, steps_ready, then_ready, then_grouped}
 use Rattle.boundary_groups.proofs.group_edges.Goals.{After-sort_records}
 use Rattle.boundary_groups.proofs.group_edges.Goals as goal
 
@@ -8,13 +12,17 @@ use Rattle.boundary_groups.proofs.group_edges.Goals as goal
 steps : (c : After-sort_records) → StepsTo c.args.k c.args.n c.args.m c.args.at c.args.w.now c.sort_records.new.m
 steps c = record {
   a = c.put_ends.new.w;
-  b = c.components.new.w;
+  b = c.split_at_mut-front.result.0.now ++ c.components.new.table;
   d = c.zero_part.new.w;
   f = c.tally_ends.new.w;
   g = c.number_records.new.w;
   room = c.requires;
   ends = c.put_ends.ensures;
-  numbers = c.components.ensures;
+  numbers =
+      let x = c.args in
+      let s = c.split_at_mut-front in
+      ends_joined x.k x.n x.m x.at x.w.now c.put_ends.new.w c.requires c.put_ends.ensures _
+      (ends_read x.k x.n x.m x.at x.w.now c.put_ends.new.w c.requires c.put_ends.ensures s.result.0.now s.ensures.front) _ _ _ s.ensures.front s.ensures.back c.components.ensures;
   zeros = c.zero_part.ensures;
   tallied = c.tally_ends.ensures;
   records = c.number_records.ensures;
@@ -24,12 +32,20 @@ steps c = record {
 pub components-requires : goal.components-requires
 components-requires c =
     let x = c.args in
-    label_room x.k x.n x.m x.at x.w.now c.put_ends.new.w c.requires c.put_ends.ensures
+    let s = c.split_at_mut-front in
+    let read = ends_read x.k x.n x.m x.at x.w.now c.put_ends.new.w c.requires c.put_ends.ensures s.result.0.now s.ensures.front in
+    record {
+      item_labels = ends_asked x.k x.n x.m x.at x.w.now c.put_ends.new.w c.requires c.put_ends.ensures _ read;
+      room = ends_fit x.k x.n x.m x.at x.w.now c.put_ends.new.w c.requires c.put_ends.ensures _ read _ s.ensures.back;
+    }
 
 pub tally_ends-requires : goal.tally_ends-requires
 tally_ends-requires c =
     let x = c.args in
-    tally_room x.k x.n x.m x.at x.w.now c.put_ends.new.w c.requires c.put_ends.ensures c.components.new.w c.zero_part.new.w c.components.ensures c.zero_part.ensures
+    let s = c.split_at_mut-front in
+    let read = ends_read x.k x.n x.m x.at x.w.now c.put_ends.new.w c.requires c.put_ends.ensures s.result.0.now s.ensures.front in
+    tally_room x.k x.n x.m x.at x.w.now c.put_ends.new.w c.requires c.put_ends.ensures _ c.zero_part.new.w
+    (ends_joined x.k x.n x.m x.at x.w.now c.put_ends.new.w c.requires c.put_ends.ensures _ read _ _ _ s.ensures.front s.ensures.back c.components.ensures) c.zero_part.ensures
 
 pub put_grouped-requires : goal.put_grouped-requires
 put_grouped-requires c =

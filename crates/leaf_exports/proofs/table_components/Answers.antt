@@ -1,9 +1,14 @@
-use mathlib.Core.Path.{refl}
-use Prim.Native.Nat.{◌+◌, ◌*◌, ◌-◌}
+use mathlib.Core.Path.{refl, ap, subst, subst₂, ◌∙◌}
+use Prim.Native.Nat.{ℕ, ◌+◌, ◌*◌, ◌/◌, ◌-◌}
 use native.Mathlib.Omega.{arith}
-use lib.ListN.{length}
+use lib.ListN.{length, take}
+use mathlib.Core.List.{List}
+use Rattle.lists.specs.Regions.{view}
+use Rattle.lists.proofs.Regions.{view_length}
+use Rattle.components.specs.Table.{ComponentTable}
+use Rattle.components.proofs.Lent.{table_before}
 use mathlib.Core.Bool.{true≢false, false≢true}
-use Rattle.leaf_exports.proofs.Answering.{labels_fit, labels_below}
+use Rattle.leaf_exports.proofs.Answering.{labels_fit, labels_below, label_items}
 use Rattle.leaf_exports.proofs.table_components.Goals as goal
 
 -- `table_components` meets its contract. Assumes nothing.
@@ -35,18 +40,33 @@ pub components-requires : goal.components-requires
 components-requires c =
     let s = c.args in
     let h = labels_fit s.n s.k (length s.w.now - s.n - s.n - s.m) (omega arith) (omega arith) in
+    let split = c.split_at_mut-table in
+    let read = ap (take (s.n * s.k)) split.ensures.back in
+    let long = view_length s.w.now (s.n + s.n + s.m) (s.n * s.k) (omega arith) in
+    let items = label_items s.n s.k (take (s.n * s.k) split.result.1.now) (omega arith) (ap length read ∙ long) in
     record {
-      some =
-          omega arith;
-      room = omega arith;
-      fits = omega arith;
-      apart = λ i l j q e. omega arith;
-      below = labels_below s.w.now (s.n + s.n + s.m) (s.n * s.k) s.m
-          (omega arith) (c.all_below.ensures c.if-all_below.true);
+      item_labels = rw (items, read) (record {
+        some = omega arith;
+        long = long;
+        below = labels_below s.w.now (s.n + s.n + s.m) (s.n * s.k) s.m (omega arith) (c.all_below.ensures c.if-all_below.true);
+      });
+      room = rw items (omega (arith, split.ensures.front_len));
     }
 
 pub returns-then-all_below : goal.returns-then-all_below
-returns-then-all_below c = (λ e. c.components.ensures, λ e. absurd (true≢false e))
+returns-then-all_below c =
+    let s = c.args in
+    let h = labels_fit s.n s.k (length s.w.now - s.n - s.n - s.m) (omega arith) (omega arith) in
+    let split = c.split_at_mut-table in
+    let read = ap (take (s.n * s.k)) split.ensures.back in
+    let long = view_length s.w.now (s.n + s.n + s.m) (s.n * s.k) (omega arith) in
+    let items = label_items s.n s.k (take (s.n * s.k) split.result.1.now) (omega arith) (ap length read ∙ long) in (
+      λ e. rw split.ensures.back (table_before s.w.now c.components.new.table (s.n + s.n + s.m) (view s.w.now (s.n + s.n + s.m) (s.n * s.k)) s.n s.k s.m (omega arith) (omega arith)
+          (subst₂ (λ (x : ℕ) (l : List ℕ). ComponentTable l x s.k s.m 0 (take (s.n + s.n + s.m) s.w.now) c.components.new.table) items read
+          (subst (λ (l : List ℕ). ComponentTable (take (s.n * s.k) split.result.1.now) (length (take (s.n * s.k) split.result.1.now) / s.k) s.k s.m 0 l c.components.new.table) split.ensures.front
+          c.components.ensures))),
+      λ e. absurd (true≢false e),
+    )
 
 pub returns-else-all_below : goal.returns-else-all_below
 returns-else-all_below c = (λ e. absurd (false≢true e), λ e. refl)

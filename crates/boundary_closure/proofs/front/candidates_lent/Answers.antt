@@ -9,12 +9,12 @@ use Rattle.candidate_surface.proofs.Fitting.{room_for}
 use Rattle.closure_tests.proofs.Checking.{sound, room_passed}
 use Rattle.boundary_closure.proofs.front.candidates_lent.Goals as goal
 
-pub returns-then-facets-eq0 : goal.returns-then-facets-eq0
-returns-then-facets-eq0 c =
+pub returns-then-mesh-eq0 : goal.returns-then-mesh-eq0
+returns-then-mesh-eq0 c =
     let a = c.args in
     no_facet_lem a.mesh.vertices.now a.mesh.facets.now a.asked a.candidates.now a.face_lists.now a.constraints.now a.open_edges.now
     (closure_tests a.mesh.vertices.now a.mesh.facets.now a.asked 0 (limits a.ceiling (length a.work.now)))
-    (sym c.check_closure.ensures ∙ c.in_ok-check_closure.was) (eq-eqb _ 0 c.if-facets-eq0.true)
+    (sym c.check_closure.ensures ∙ c.in_ok-check_closure.was) (eq-eqb _ 0 c.if-mesh-eq0.true)
 
 pub make_candidates-requires : goal.make_candidates-requires
 make_candidates-requires c =
@@ -33,7 +33,7 @@ returns c =
     some_facet a.mesh.vertices.now a.mesh.facets.now a.asked a.candidates.now _ a.face_lists.now _ a.constraints.now _
     a.open_edges.now _ (closure_tests a.mesh.vertices.now a.mesh.facets.now a.asked 0 (limits a.ceiling (length a.work.now)))
     (sym c.check_closure.ensures ∙ c.in_ok-check_closure.was)
-    (ne_eqb _ 0 c.if-facets-eq0.false) _
+    (ne_eqb _ 0 c.if-mesh-eq0.false) _
     c.make_candidates.ensures
 
 pub returns-in_err-check_closure : goal.returns-in_err-check_closure

@@ -1,4 +1,4 @@
-use Prim.Native.Nat.{◌≤◌, ◌+◌, ◌-◌}
+use Prim.Native.Nat.{◌≤◌, ◌+◌}
 use lib.ListN.{get_or}
 use Rattle.candidate_outputs.specs.Written.{face_words}
 use Rattle.lists.proofs.Blocks.{BlocksStored}

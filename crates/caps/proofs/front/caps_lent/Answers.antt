@@ -24,20 +24,20 @@ returns-then-leaves_open c =
     (sym c.leaves_open.ensures ∙ c.if-leaves_open.true))
     c.deliver_mesh.ensures
 
-pub deliver_mesh-requires-then-facets-eq0 : goal.deliver_mesh-requires-then-facets-eq0
-deliver_mesh-requires-then-facets-eq0 c =
+pub deliver_mesh-requires-then-mesh-eq0 : goal.deliver_mesh-requires-then-mesh-eq0
+deliver_mesh-requires-then-mesh-eq0 c =
     let a = c.args in
     let s = sound a.mesh.vertices.now a.mesh.facets.now a.asked (length a.cap_list.now) (limits a.ceiling (length a.work.now))
     (sym c.check_closure.ensures ∙ c.in_ok-check_closure.was) in
     (s.lists.whole_vertices, s.lists.whole_facets)
 
-pub returns-then-facets-eq0 : goal.returns-then-facets-eq0
-returns-then-facets-eq0 c =
+pub returns-then-mesh-eq0 : goal.returns-then-mesh-eq0
+returns-then-mesh-eq0 c =
     let a = c.args in
     handed_back a.mesh.vertices.now a.mesh.facets.now a.cap_list.now a.asked a.mode a.out_vertices.now _ a.out_facets.now _ _
     (closure_tests a.mesh.vertices.now a.mesh.facets.now a.asked (length a.cap_list.now) (limits a.ceiling (length a.work.now)))
     (sym c.check_closure.ensures ∙ c.in_ok-check_closure.was) (over_none a.mesh.vertices.now a.mesh.facets.now a.cap_list.now a.asked
-    a.mode (sym c.leaves_open.ensures ∙ c.if-leaves_open.false) c.if-facets-eq0.true) c.deliver_mesh-then-facets-eq0.ensures
+    a.mode (sym c.leaves_open.ensures ∙ c.if-leaves_open.false) c.if-mesh-eq0.true) c.deliver_mesh-then-mesh-eq0.ensures
 
 pub make_caps-requires : goal.make_caps-requires
 make_caps-requires c =
@@ -55,7 +55,7 @@ returns c =
     (closure_tests a.mesh.vertices.now a.mesh.facets.now a.asked (length a.cap_list.now) (limits a.ceiling (length a.work.now)))
     (sym c.check_closure.ensures ∙ c.in_ok-check_closure.was)
     (over_neither a.mesh.vertices.now a.mesh.facets.now a.cap_list.now a.asked a.mode
-    (sym c.leaves_open.ensures ∙ c.if-leaves_open.false) c.if-facets-eq0.false)
+    (sym c.leaves_open.ensures ∙ c.if-leaves_open.false) c.if-mesh-eq0.false)
     c.make_caps.ensures
 
 pub returns-in_err-check_closure : goal.returns-in_err-check_closure
