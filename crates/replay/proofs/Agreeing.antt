@@ -1,5 +1,5 @@
 -- Laws that lead from a call, compared with a record, to the definitions: one for every operation that writes a mesh, and tolerance. Assumes nothing.
---   fresh_vertices, fresh_facets    the lengths of fresh outputs;   outputs_within   where they lie
+--   fresh_vertices, fresh_facets    the lengths of fresh outputs;   fresh_room   what makes them so;   outputs_within   where they lie
 --   same_box                        a box from the doubles of a record
 --   tolerance_decides               a reported tolerance
 --   MeshReported, mesh_called       what a call promises
@@ -8,7 +8,7 @@
 --   lent_caps, lists_decides        the cap list as lent, and a request of the lists as read
 --   as_reported, zero_each, length_table   a reply as reported, work room that ends zero, the length of a table
 --   nameless                        a record of no operation
-use Prim.Native.Nat.{ℕ, ◌+◌, ◌-◌, ◌≤◌}
+use Prim.Native.Nat.{ℕ, ◌+◌, ◌-◌, ◌≤◌, ◌<◌}
 use mathlib.Core.Path.{◌≡◌, sym, ap, ap₂, ◌∙◌, subst}
 use mathlib.Core.Bool.{Bool}
 use mathlib.Core.List.{List, [], ◌∷◌}
@@ -39,6 +39,7 @@ use Rattle.replay.specs.Operations.{number_of}
 use Rattle.replay.specs.declared.operation.Operation.{Operation}
 use Rattle.replay.specs.declared.operation.Operation.TheVariants.{Tolerance, Clip, Clean, Candidates, Caps, BoundaryComponents}
 use Rattle.replay.proofs.Deciding.{ends}
+use Rattle.replay.proofs.Filling.{counted}
 
 pub length_table : {A : Type 0} (f : ℕ → A) (n : ℕ) → length (table f n) ≡ n
 length_table f n = length-map (up_to n) f ∙ length_up 0 n
@@ -49,6 +50,11 @@ module _ (stored w : List ℕ) (v : List Float) (f : List ℕ) (h : Fresh stored
 
   pub fresh_facets : length f ≡ get_or stored 16 0
   fresh_facets = ap length h.numbers ∙ length_table (λ k. 3000000000 + k) (get_or stored 16 0)
+
+-- work room and outputs as they are before a call, each as long as the record says
+pub fresh_room : {stored w : List ℕ} {v : List Float} {f : List ℕ} {n : ℕ} → length w ≡ get_or stored 14 0 → v ≡ old_doubles n → n ≡ get_or stored 15 0
+    → length f ≡ get_or stored 16 0 → ((k x : ℕ) → k < length f → get_or f k x ≡ 3000000000 + k) → Fresh stored w v f
+fresh_room {f = f} lent doubles n long each = record { lent = lent; coordinates = doubles ∙ ap old_doubles n; numbers = counted f _ long each }
 
 -- the outputs after a call, which are as long as before, lie within the record
 pub outputs_within : (stored w : List ℕ) (v v' : List Float) (f f' : List ℕ) → Laid stored → Fresh stored w v f → length v' ≡ length v → length f' ≡ length f

@@ -1,22 +1,19 @@
--- Laws of comparisons: of a part of a record, of whole answers, and of a double with its bits. Assumes nothing.
+-- Laws of comparisons: of a part of a record, and of whole answers. Assumes nothing.
 --   part_decides                 a list beside the part of a record that is lent
---   no_number                    a NaN has no bits here
 --   answer_alike, listing_alike  the answer of an operation that writes a mesh, and of one that writes lists
-use Prim.Native.Nat.{ℕ, ◌+◌, ◌*◌, ◌-◌}
-use mathlib.Core.Path.{◌≡◌, refl, sym, ap, ap₂, ◌∙◌, subst}
-use mathlib.Core.Bool.{Bool, true, false, not, ◌&&◌, ◌||◌, beq}
+use Prim.Native.Nat.{ℕ, ◌+◌, ◌-◌}
+use mathlib.Core.Path.{◌≡◌, sym, ap, ap₂, ◌∙◌, subst}
+use mathlib.Core.Bool.{Bool, ◌&&◌}
 use mathlib.Core.List.{List}
 use native.Mathlib.Omega.{arith}
 use native.Mathlib.Nat.{le_of_eq}
-use borrow.Author.Tests.{eq-eqb}
-use lib.Dec.{T, eqb}
-use lib.Ieee.{Float, nan, inf, fin, up, down, level, eq, is_nan}
+use lib.Ieee.{Float, nan}
 use lib.ListN.{length, get_or, take, drop, length-drop}
 use lib.Seq.{take_all}
 use Rattle.std.proofs.lemmas.List.{get_or-drop}
 use Rattle.lists.specs.Lists.{Decides}
 use Rattle.lists.specs.Regions.{view}
-use Rattle.replay.proofs.Deciding.{refuted, ends, both}
+use Rattle.replay.proofs.Deciding.{ends, both}
 use Rattle.replay.specs.Layout.{stored_reply, outputs_from}
 use Rattle.replay.specs.Words.{Everywhere}
 use Rattle.replay.specs.Agreement.{SameDouble, AgreesWith, ThreeListed}
@@ -26,26 +23,6 @@ part_decides : (stored output : List ℕ) (from to at n : ℕ) {r : Bool} → fr
     → Decides (output ≡ view stored at n) r
 part_decides stored output from to at n {r} p q d =
     subst (λ (l : List ℕ). Decides (output ≡ l) r) (ap₂ (λ (i k : ℕ). take k (drop i stored)) p q) d
-
--- ---- a double beside its bits
-
-equal_sign : (s : Bool) → beq s s ≡ true
-equal_sign true = refl
-equal_sign false = refl
-
-level_itself : (s : Bool) (a : ℕ) → level s a s a ≡ true
-level_itself s a = ap₂ (λ (x y : Bool). x && (y || eqb a 0)) (eq-eqb a a refl) (equal_sign s)
-
--- only a NaN is not equal to itself
-
-itself : (x : Float) → T (not (is_nan x)) → eq x x ≡ true
-unfolding is_nan eq
-itself nan h = absurd h
-itself (inf s) h = equal_sign s
-itself (fin s m d) h = level_itself s (m * up d * down d)
-
-pub no_number : (x : Float) (word : ℕ) → eq x x ≡ false → Decides (SameDouble x word) false
-no_number x word e = refuted (λ s. let z : ◌≡◌ {A = ℕ} 0 1 = cc (itself x s.number) in omega arith)
 
 -- ---- whole answers
 

@@ -11,7 +11,7 @@ use crate::record::{FIRST, Request, SECOND, THIRD};
 fn same_double(x: f64, word: u64) -> bool
     ensures { Decides (SameDouble x word) result }
 {
-    x == x && f64::to_bits(x) == word
+    !x.is_nan() && x.to_bits() == word
 }
 
 // The words are the bits of the doubles.

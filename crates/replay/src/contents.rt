@@ -1,7 +1,6 @@
 // Lists of a stored request, and what outputs and work room hold before a call.
 ghost use Rattle.std.specs.Prelude.{◌≡◌, ℕ, ◌+◌, ◌%◌, ◌≤◌, ◌<◌, length, slice_index_or};
-ghost use Rattle.std.specs.Fn.{FnReturns};
-ghost use Rattle.replay.specs.Contents.{double_of, doubles_in, numbers_in, old_doubles, old_words};
+ghost use Rattle.replay.specs.Contents.{double_of, old_doubles};
 
 use crate::layout::is_nan;
 

@@ -1,11 +1,10 @@
 // The layout of stored answers (README.md): a header of four words, then the records one after the other, each with its length in front. All
 // that is read is tested here before it is used.
-ghost use Rattle.std.specs.Prelude.{◌≡◌, ◌≢◌, false, ◌+◌, ◌≤◌, ◌<◌, length, get_or, drop, MatchOption};
+ghost use Rattle.std.specs.Prelude.{◌≡◌, false, ◌≤◌, ◌<◌, length, get_or, drop, MatchOption};
 ghost use Rattle.std.specs.Float.{binary64};
 ghost use Rattle.std.specs.Float.Ieee.{nan_bits};
 ghost use Rattle.lists.specs.Lists.{Decides};
 ghost use Rattle.replay.specs.Words.{Everywhere};
-ghost use Rattle.replay.specs.Layout.{size_of, outputs_from, Few, Laid};
 ghost use Rattle.replay.specs.Counting.{Records, AnswersFile};
 
 use crate::record::first_record;

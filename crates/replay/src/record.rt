@@ -1,5 +1,5 @@
 // A stored request with the answer that it got, by what its words are (README.md has the table).
-ghost use Rattle.std.specs.Prelude.{◌≡◌, ◌≢◌, ◌∷◌, ◌+◌, ◌≤◌, ℕ, length, get_or, MatchOption};
+ghost use Rattle.std.specs.Prelude.{◌≡◌, ◌≢◌, ◌∷◌, ◌+◌, ◌≤◌, length, get_or, MatchOption};
 ghost use Rattle.lists.specs.Lists.{Decides};
 ghost use Rattle.replay.specs.Layout.{Laid, stored_reply, outputs_from};
 ghost use Rattle.replay.specs.Counting.{Requested};

@@ -1,5 +1,4 @@
 // The requests with lists: their numbers are tested, their lists are read, and they are run by their operation.
-ghost use Rattle.std.specs.Prelude.{◌≡◌, length, get_or};
 ghost use Rattle.lists.specs.Lists.{Decides};
 ghost use Rattle.replay.specs.Agreement.{AnswerStored, ListsStored, StoredNumbers, ListsAgree};
 
@@ -17,8 +16,9 @@ fn answer_agrees(request: Request, vertices: &[f64], facets: &[u32]) -> bool
     ensures { Decides (AnswerStored request.entry.words.now vertices.now facets.now) result }
 {
     match request.operation {
-        Operation::Candidates => listing_answer_agrees(request, vertices, facets),
-        Operation::BoundaryComponents => listing_answer_agrees(request, vertices, facets),
+        Operation::Candidates | Operation::BoundaryComponents => {
+            listing_answer_agrees(request, vertices, facets)
+        }
         _ => mesh_answer_agrees(request, vertices, facets),
     }
 }
