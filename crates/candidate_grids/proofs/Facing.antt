@@ -111,7 +111,8 @@ module _ (box : AABB) (eps : Float) (resolution : List Float) where
       let c = parts_is k n h e q in
       (omega arith, omega arith)
 
-  pub face_room : (n f last last-v : ℕ) (w v : List ℕ) → last ≡ segs (u_axis f) → last-v ≡ segs (v_axis f) → count_at v ≡ count_at w → count_at w + face_size box eps resolution f ≤ n
+  pub face_room : (n f last last-v : ℕ) (w v : List ℕ) → last ≡ segs (u_axis f) → last-v ≡ segs (v_axis f) → count_at v ≡ count_at w
+      → count_at w + face_size box eps resolution f ≤ n
       → count_at v + (last + 1) * (last-v + 1) ≤ n
   face_room n f last last-v w v eu ev e h =
       let q : (last + 1) * (last-v + 1) ≡ face_size box eps resolution f = ap (λ (x : ℕ). (x + 1) * (last-v + 1)) eu ∙ ap (λ (x : ℕ). (segs (u_axis f) + 1) * (x + 1)) ev in

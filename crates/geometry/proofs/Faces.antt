@@ -5,7 +5,7 @@
 --   face_back          of `BOX_FACES` a face's number picks the face
 --   kept_faces, count_kept   the faces whose numbers pass a test, as numbers; how many
 --   same_face          faces of one number are one
-use Rattle.std.proofs.Common.{ℕ, zero, suc, ◌+◌, ◌<◌, ◌≡◌, refl, sym, ap, ◌∙◌, Bool, true, false, cond, List, [], ◌∷◌, map, length, get_or}
+use Rattle.std.proofs.Common.{ℕ, zero, suc, ◌<◌, ◌≡◌, refl, sym, ap, ◌∙◌, Bool, true, false, cond, List, [], ◌∷◌, map, length, get_or}
 use Rattle.std.proofs.lemmas.List.{length-map}
 use Rattle.lists.specs.Lists.{keep}
 use native.Mathlib.Omega.{arith}

@@ -1,5 +1,4 @@
 use Prim.Native.Nat.{ℕ, ◌+◌, ◌*◌}
-use native.Mathlib.Omega.{arith}
 use mathlib.Core.Path.{◌≡◌, ap, ◌∙◌}
 use lib.ListN.{get_or}
 use Rattle.geometry.specs.Boxes.{face_of}
@@ -11,12 +10,6 @@ use Rattle.candidate_grids.proofs.grids.gather_segments.Goals as goal
 
 pub loop-i-init : goal.loop-i-init
 loop-i-init c = gather_start _ _ _ _ _ _
-
-pub offset_bounds-w-edges : goal.offset_bounds-w-edges
-offset_bounds-w-edges c = omega arith
-
-pub bounds-w-edges : goal.bounds-w-edges
-bounds-w-edges c = omega arith
 
 pub gather_segment-requires : goal.gather_segment-requires
 gather_segment-requires c =

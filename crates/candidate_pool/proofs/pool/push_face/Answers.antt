@@ -70,4 +70,5 @@ pub returns : goal.returns
 returns c =
     rw (c.entry_at-at.ensures, c.index-f.ensures.value)
     (face_added c.args.eps c.args.room.n c.args.w.now c.requires.holds c.args.id.0 (face_of c.args.face) c.requires.id_bound (face_in c.args.face)
-    (bit_is (goal.at.returns c).After-has_face _ c.if-has_face.false) (1 * 2 ^ (face_of c.args.face) % 18446744073709551616) c.list_at.result (shifted (face_of c.args.face) (face_in c.args.face)) c.list_at.ensures)
+    (bit_is (goal.at.returns c).After-has_face _ c.if-has_face.false) (1 * 2 ^ (face_of c.args.face) % 18446744073709551616) c.list_at.result
+    (shifted (face_of c.args.face) (face_in c.args.face)) c.list_at.ensures)
