@@ -2,6 +2,7 @@
 //
 // The table of n items and m labels: n words for the items' links, which end as the numbers of their components; n words for the components' sizes; m words for the labels, each
 // the first item seen with that label, plus one, or 0 while there is none.
+// Stays (plainer), point 6: table and labels are slices; the numbers beside them are an item, a root, and how many labels an item and the table have.
 #![tactic(auto)]
 
 ghost use Rattle.std.specs.Prelude.{◌≡◌, ℕ, ◌+◌, ◌*◌, ◌/◌, ◌≤◌, ◌<◌, length, get_or};
@@ -66,6 +67,7 @@ fn flatten(links: &mut [u64])
 {
     for i in 0..links.len() {
         let p = links[i] as usize;
+        // Stays (plainer), point 4: one element, from the place that another element says.
         links[i] = links[p];
     }
 }
