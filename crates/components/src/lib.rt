@@ -72,12 +72,11 @@ fn flatten(links: &mut [u64])
     }
 }
 
-// Counts the items of each number.
-fn tally(numbers: &[u64], sizes: &mut [u64])
-    requires long { length sizes.old ≡ length numbers.now }
-    requires forest { Forest numbers.now (length numbers.now) }
-    requires zero { (r : ℕ) → r < length numbers.now → get_or sizes.old r 0 ≡ 0 }
-    ensures { SizesTallied numbers.now sizes.old sizes.new (length numbers.now) }
+// Counts how often each number stands in a list, in words that are 0 before.
+pub fn tally(numbers: &[u64], sizes: &mut [u64])
+    requires low { (i : ℕ) → i < length numbers.now → get_or numbers.now i 0 < length sizes.old }
+    requires zero { (r : ℕ) → r < length sizes.old → get_or sizes.old r 0 ≡ 0 }
+    ensures { SizesTallied numbers.now sizes.old sizes.new (length sizes.old) }
 {
     for number in numbers {
         let r = *number as usize;
