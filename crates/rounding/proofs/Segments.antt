@@ -27,7 +27,7 @@ use mir.Syntax.{w64}
 use Rattle.std.specs.Prelude.{Option, None, Some}
 use Rattle.std.specs.Float.{float_to_unsigned, round_with, ceil as up_to_whole}
 use Rattle.root.specs.Doubles.{◌⊘◌, one_f}
-use Rattle.rounding.specs.Rounding.{ceil, whole_up, segments_over}
+use Rattle.rounding.specs.Rounding.{at_most_256, ceil, whole_up, segments_over}
 use Rattle.rounding.proofs.Rounding.{can_cast}
 
 -- ---- n / d up to a whole number
@@ -47,7 +47,7 @@ ceil_is n d D =
 -- ---- the segments
 
 abbrev chosen : ℕ → Option ℕ
-chosen k = cond (ltb 256 (max 1 k)) None (Some (max 1 k))
+chosen k = at_most_256 (max 1 k)
 
 chosen_at : (n m : ℕ) (b : Bool) → ltb 256 n ≡ b → n ≡ m → cond b None (Some m) ≡ cond (ltb 256 n) None (Some n)
 chosen_at n m b e h = λ i. cond (sym e i) None (Some (sym h i))
