@@ -2,6 +2,7 @@
 //
 // The table of n items and m labels: n words for the items' links, which end as the numbers of their components; n words for the components' sizes; m words for the labels, each
 // the first item seen with that label, plus one, or 0 while there is none.
+// Stays (plainer), point 6: table and labels are slices; the numbers beside them are an item, a root, and how many labels an item and the table have.
 #![tactic(auto)]
 
 ghost use Rattle.std.specs.Prelude.{◌≡◌, ℕ, ◌+◌, ◌*◌, ◌/◌, ◌≤◌, ◌<◌, length, get_or};
@@ -66,16 +67,16 @@ fn flatten(links: &mut [u64])
 {
     for i in 0..links.len() {
         let p = links[i] as usize;
+        // Stays (plainer), point 4: one element, from the place that another element says.
         links[i] = links[p];
     }
 }
 
-// Counts the items of each number.
-fn tally(numbers: &[u64], sizes: &mut [u64])
-    requires long { length sizes.old ≡ length numbers.now }
-    requires forest { Forest numbers.now (length numbers.now) }
-    requires zero { (r : ℕ) → r < length numbers.now → get_or sizes.old r 0 ≡ 0 }
-    ensures { SizesTallied numbers.now sizes.old sizes.new (length numbers.now) }
+// Counts how often each number stands in a list, in words that are 0 before.
+pub fn tally(numbers: &[u64], sizes: &mut [u64])
+    requires low { (i : ℕ) → i < length numbers.now → get_or numbers.now i 0 < length sizes.old }
+    requires zero { (r : ℕ) → r < length sizes.old → get_or sizes.old r 0 ≡ 0 }
+    ensures { SizesTallied numbers.now sizes.old sizes.new (length sizes.old) }
 {
     for number in numbers {
         let r = *number as usize;

@@ -1,4 +1,5 @@
 // A side by its number.
+// Stays (plainer), point 6: a side's number is no place beside the slice, but what the functions are of.
 ghost use Rattle.std.specs.Prelude.{◌≡◌, ◌<◌, ◌%◌, length, get_or};
 ghost use Rattle.geometry.specs.Triangles.{threes};
 ghost use Rattle.edges.specs.Edges.{sides};
@@ -12,6 +13,8 @@ pub fn next_side(side: usize) -> usize
     if side % 3 == 2 { side - 2 } else { side + 1 }
 }
 
+// Stays (plainer), point 5: `side < length facets` of edge_to, side_key and side_mask (candidate_edges) too: the facets are lent by C, and a struct of them and a number would be
+// made anew for each side.
 pub fn edge_from(facets: &[u32], side: usize) -> u32
     requires { (length facets.now % 3 ≡ 0) × (side < length facets.now) }
     ensures { result ≡ (get_or (sides (threes facets.now)) side (0, 0)).0 }

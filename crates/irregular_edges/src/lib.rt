@@ -1,5 +1,6 @@
 // Edges that no closed surface has (document 02, E13): borne by three or more sides, or by two that run the same way. They are found in the edge
 // table, whose runs are the edges.
+// Stays (C interface), point 6: the edge table and the list stand in the lent room, since C lends one buffer and there is no heap.
 #![tactic(auto)]
 
 ghost use Rattle.std.specs.Prelude.{◌≡◌, ◌+◌, ◌*◌, ◌-◌, ◌%◌, ◌≤◌, ◌<◌, length, take};
@@ -38,7 +39,7 @@ pub fn irregular_edges(facets: &[u32], w: &mut [u64], at: usize) -> usize
     let n = facets.len();
     let mut q = 0;
     let mut i = 0;
-    // from run to run: a `for` would count single records
+    // Stays (plainer): from run to run; a `for` would count single records.
     while i < n {
         let e = run_end(w, 0, n, i);
         if is_irregular(facets, w, i, e) {

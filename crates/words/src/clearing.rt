@@ -1,4 +1,5 @@
 // Clearing of lent words.
+// Stays (plainer), point 6: the length says which front is cleared; who has the front as a slice calls `zero`.
 ghost use Rattle.std.specs.Prelude.{◌≡◌, ◌≤◌, length, replicate};
 ghost use Rattle.words.specs.Overlay.{overlay};
 

@@ -2,6 +2,8 @@
 ghost use Rattle.std.specs.Prelude.{◌≡◌, ◌<◌};
 ghost use Rattle.words.specs.Packed.{pair, edge, pair_first, pair_second, triple, triple_first, triple_second, triple_third};
 
+// Stays (plainer), point 5: `a < 4294967296`, `b < 4294967296` of pack_edge and pair_word (cap_pairs) too: parameters of 32 bits would say it, but the numbers are words of the lent room,
+// so that each call would cast and prove the same.
 pub fn pack_pair(a: u64, b: u64) -> u64
     requires { (a < 4294967296) × (b < 4294967296) }
     ensures { result ≡ pair a b }
