@@ -4,6 +4,8 @@ use mathlib.Core.Path.{◌≡◌, refl, sym, ap}
 use mathlib.Core.Bool.{Bool, true, false, cond, ◌||◌}
 use native.Mathlib.Nat.{mul-le-mul}
 use lib.Dec.{ltb}
+use borrow.Author.Tests.{ltb-false}
+use Rattle.lists.proofs.Bools.{or_none_left, or_none_right}
 use lib.Ieee.{Float}
 use Rattle.std.specs.Prelude.{None, Some}
 use Rattle.std.proofs.lemmas.Option.{none-some, same_Some}
@@ -58,3 +60,22 @@ module _ (b : AABB) (eps : Float) (resolution : ℕ → Float) where
   pub over_none : over 0 ≡ false → over 1 ≡ false → over 2 ≡ false → grid_too_fine b eps resolution ≡ false
   unfolding grid_too_fine
   over_none c d e = λ i. c i || (d i || (e i || false))
+
+pub record NotTooFine (b : AABB) (eps : Float) (resolution : ℕ → Float) : Type 0 where
+  pub x : segments b eps resolution 0 ≤ 256
+  pub y : segments b eps resolution 1 ≤ 256
+  pub z : segments b eps resolution 2 ≤ 256
+
+pub not_too_fine : (b : AABB) (eps : Float) (resolution : ℕ → Float) → grid_too_fine b eps resolution ≡ false → NotTooFine b eps resolution
+unfolding grid_too_fine
+not_too_fine b eps resolution e =
+    let s0 = segments b eps resolution 0 in
+    let s1 = segments b eps resolution 1 in
+    let s2 = segments b eps resolution 2 in
+    let rest = or_none_right (ltb 256 s0) (ltb 256 s1 || (ltb 256 s2 || false)) e in
+    let last = or_none_right (ltb 256 s1) (ltb 256 s2 || false) rest in
+    record {
+      x = ltb-false 256 s0 (or_none_left (ltb 256 s0) (ltb 256 s1 || (ltb 256 s2 || false)) e);
+      y = ltb-false 256 s1 (or_none_left (ltb 256 s1) (ltb 256 s2 || false) rest);
+      z = ltb-false 256 s2 (or_none_left (ltb 256 s2) false last);
+    }
