@@ -1,6 +1,7 @@
 // Components of open edges (document 02, E13), staged in the work room: the edges in groups, and of each group how many edges it has and whether
 // it is a ring. Item i is open edge i, its labels are its two ends, so that `components` joins what shares a vertex; a component's number is its
 // smallest edge, and records (number, edge), sorted, are the groups in order.
+// Stays (C interface), point 6: `group_edges` is told where its tables begin and how large they are, since C lends one buffer and there is no heap; its steps are lent slices.
 #![tactic(auto)]
 
 ghost use Rattle.std.specs.Prelude.{◌≡◌, ℕ, ◌+◌, ◌*◌, ◌/◌, ◌-◌, ◌≤◌, ◌<◌, length, get_or};
@@ -109,7 +110,6 @@ fn put_components(records: &[u64], ends: &[u64], degrees: &[u64], counts: &mut [
 
 // The k open edges, whose records stand at the front, by components. From `at` on stand then: ends, as before (2n words, for n sides); the table of components
 // (2n and a word a vertex); degrees (a word a vertex); the edges in groups (2n); the components (2n). Answers how many components there are.
-// Stays (C interface), point 6: where the tables begin, for how many edges, sides and vertices, since C lends one buffer and there is no heap.
 pub fn group_edges(w: &mut [u64], k: usize, n: usize, m: usize, at: usize) -> usize
     requires { GroupRoom w.old k n m at }
     ensures { Grouped (keyed_edges w.old k) w.old w.new k n m at result }
