@@ -65,6 +65,7 @@ LIST = [
     ("cap_triangles/Listed", "tests 10 and 11"),
     ("cap_closing/Closing", "what the triangles taken write; demand 3"),
     ("caps/Operation", "what caps answers and leaves"),
+    ("caps/Modes", "a mode from its number"),
     ("irregular_edges/Irregular", "edges of three sides or more, or of two that run the same way"),
     ("boundary_groups/Groups", "open edges by components, and which of these are rings"),
     ("boundary_components/Boundary", "what boundary components answers and leaves; what it is for a mesh to be closed"),

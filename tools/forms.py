@@ -1,10 +1,11 @@
 #!/usr/bin/env python3
 """Counts in crates/*/src/*.rt the places of the eight points of docs/DESIGN-PASS.md.
 
-    python3 tools/forms.py [--list] [COMMIT]
+    python3 tools/forms.py [--list | --open] [COMMIT]
 
-Without a commit the files as they lie here are read. --list prints each place. It reads text: a place is found by its form, and the page says which places are
-kept and why.
+Without a commit the files as they lie here are read. --list prints each place, --open those with no reason beside them. It reads text: a place is found by its form. A
+place that stays has a comment line `// Stays (C interface): why` (or speed, proof, plainer): over its line, over its function, over the impl that it is part of, or, with
+`, point 6` or another number behind the bracket, at the head of its file. Of a fact or of parameters that several functions share one of them has a line that says point 5.
 """
 import collections
 import pathlib
@@ -77,6 +78,51 @@ def parameters(signature):
     return re.findall(r"(?:mut )?(\w+): ([^,()]+(?:\([^)]*\))?)", m.group(1))
 
 
+REASON = re.compile(r"// Stays \((C interface|speed|proof|plainer)\)((?:, points? [\d, and]+)?): \S")
+
+
+def comment_over(lines, i):
+    """The comment and attribute lines directly over line i, counted from 0."""
+    k = i - 1
+    while k >= 0 and re.match(r"\s*(//|#\[)", lines[k]):
+        k -= 1
+    return lines[k + 1: i]
+
+
+def joined(own):
+    """One reason of several lines: the first one's name, and the points of all. A line that names no point speaks of its function's form, and of no fact."""
+    return (own[0][0], sorted({p for _, points in own for p in points} if all(points for _, points in own) else set("123467") | {p for _, points in own for p in points})) if own else None
+
+
+def reasons_of(text):
+    """The reasons of a file: those at its head, by point, and those over each line."""
+    lines = text.split("\n")
+    head = {}
+    i = 0
+    while i < len(lines) and (lines[i].startswith("//") or not lines[i].strip()):
+        m = REASON.search(lines[i])
+        if m:
+            for point in re.findall(r"\d", m.group(2)):
+                head[point] = m.group(1)
+        i += 1
+    beside = {}
+    within = None
+    over_function = None
+    for i, line in enumerate(lines):
+        own = [(m.group(1), re.findall(r"\d", m.group(2))) for m in map(REASON.search, comment_over(lines, i)) if m]
+        if re.match(r"(?:pub )?(?:unsafe )?(?:impl|trait|enum|struct)\b", line):
+            within = joined(own)
+        if re.match(r"\}", line):
+            within = None
+        if FN.match(line):
+            over_function = joined(own)
+            indent = FN.match(line).group(1)
+        beside[i + 1] = joined(own) or over_function or within
+        if over_function and re.match(r"%s\}" % indent, line):
+            over_function = None
+    return head, beside
+
+
 # 1: own enums of the shape of Option or Result; answers that say none, or true and false, by a number; parameters that say a kind by a number
 ENUM = re.compile(r"(?:pub )?enum (\w+) \{(.*?)\n\}", re.S)
 SAYS = re.compile(
@@ -93,7 +139,7 @@ def point1(files, found):
             if m.group(1) == "Refusal":
                 continue
             if (len(cases) == 2 and len(empty) == 1) or any(c.startswith("Refused(") for c in cases) or m.group(1) == "Read":
-                found("1 own enum", f"{name}: {m.group(1)}")
+                found("1 own enum", f"{name}:{text.count(chr(10), 0, m.start()) + 1} {m.group(1)}")
         for f in functions(name, text):
             number = re.search(r"-> (usize|u64|u32)\b", f["signature"])
             if number and SAYS.search(f["comment"]):
@@ -181,17 +227,30 @@ def point4(files, found):
                 found(kind, f"{name}:{text.count(chr(10), 0, m.start()) + 1} {m.group(0).strip().splitlines()[0]}")
 
 
-# 5: facts that stand in the contracts of three or more functions, and parameters that travel together through three or more
+def named(where):
+    return ", as " + ", ".join(sorted(where)[:3])
+
+
+# 5: facts that stand in the contracts of three or more functions, and parameters that travel together through three or more. A fact is a part of a `requires`, or a bound in an
+# `ensures`; what a named predicate says of other values is the same fact, within a crate.
+def facts_of(name, clauses):
+    for word, clause in re.findall(r"(requires|ensures)(?: \w+)? \{(.*?)\}\s*(?=requires|ensures|$)", clauses, re.S):
+        for part in re.split(r" × ", re.sub(r"\s+", " ", clause)):
+            part = re.sub(r"\b([\w.]+)\.(old|now|new|entry)\b", r"\1", part.strip(" ()"))
+            predicate = re.match(r"[A-Z]\w*", part)
+            if word == "requires" and predicate:
+                yield f"{predicate.group(0)} of {name.split('/')[1]}"
+            elif word == "requires" or (re.search(r"[<≤]", part) and "→" not in part):
+                yield part
+
+
 def point5(files, found):
     facts = collections.defaultdict(set)
     groups = collections.defaultdict(set)
     for name, text in files:
         for f in functions(name, text):
-            for clause in re.findall(r"(?:requires|ensures)(?: \w+)? \{(.*?)\}\s*(?=requires|ensures|$)", f["clauses"], re.S):
-                for part in re.split(r" × ", re.sub(r"\s+", " ", clause)):
-                    part = part.strip(" ()")
-                    if re.search(r"[<≤]", part) and "→" not in part:
-                        facts[re.sub(r"\b(\w+)\.(old|now)\b", r"\1", part)].add(f["where"] + " " + f["name"])
+            for fact in facts_of(name, f["clauses"]):
+                facts[fact].add(f["where"] + " " + f["name"])
             names = [p for p, t in parameters(f["signature"])]
             for group in (
                 ("n", "nf", "nc"), ("n", "nf"), ("vertices", "facets"), ("extents", "eps", "resolution"), ("extents", "eps"), ("out_vertices", "out_facets"),
@@ -202,10 +261,10 @@ def point5(files, found):
                     break
     for fact, where in sorted(facts.items(), key=lambda x: -len(x[1])):
         if len(where) >= 3:
-            found("5 repeated fact", f"{fact}: {len(where)} functions")
+            found("5 repeated fact", f"{fact}: {len(where)} functions" + named(where), sorted(where))
     for group, where in sorted(groups.items(), key=lambda x: -len(x[1])):
         if len(where) >= 3:
-            found("5 parameters together", f"{', '.join(group)}: {len(where)} functions")
+            found("5 parameters together", f"{', '.join(group)}: {len(where)} functions" + named(where), sorted(where))
 
 
 # 6: a slice with a place or a length beside it
@@ -232,20 +291,35 @@ def point7(files, found):
 def main():
     arguments = sys.argv[1:]
     listed = "--list" in arguments
-    rest = [a for a in arguments if a != "--list"]
+    unreasoned = "--open" in arguments
+    rest = [a for a in arguments if a not in ("--list", "--open")]
     files = list(sources(rest[0] if rest else None))
+    reasons = {name: reasons_of(text) for name, text in files}
     places = collections.OrderedDict()
 
-    def found(kind, place):
-        places.setdefault(kind, []).append(place)
+    def reason(kind, where):
+        m = re.match(r"(\S+?):(\d+)", where)
+        if not m:
+            return None
+        head, beside = reasons[m.group(1)]
+        over = beside.get(int(m.group(2)))
+        if over and kind[0] in over[1]:
+            return over[0]
+        return head.get(kind[0])
+
+    def found(kind, place, members=()):
+        why = next((r for r in (reason(kind, w) for w in members or [place]) if r), None)
+        places.setdefault(kind, []).append((place, why))
 
     for point in (point1, point2, point3, point4, point5, point6, point7):
         point(files, found)
     for kind, members in places.items():
-        print(f"{kind}: {len(members)}")
-        if listed:
-            for m in members:
-                print("    " + m)
+        open_places = [m for m, why in members if not why]
+        print(f"{kind}: {len(members)}" + (f", with no reason beside {len(open_places)}" if unreasoned else ""))
+        if listed or unreasoned:
+            for m, why in members:
+                if listed or not why:
+                    print("    " + m + (f"  [{why}]" if listed and why else ""))
 
 
 main()

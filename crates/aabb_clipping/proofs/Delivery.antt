@@ -33,7 +33,8 @@ use Rattle.input_tests.proofs.Lists.{listed}
 use Rattle.refusals.proofs.Answers.{short, done as all_done}
 use Rattle.aabb_facets.specs.Clipped.{inside_box}
 use Rattle.aabb_facets.proofs.Bounds.{most, inside_most}
-use Rattle.aabb_clipping.specs.Clip.{ClipAsked, clip_tests, clip_result}
+use Rattle.aabb_planes.specs.declared.clip.Clip.{Clip}
+use Rattle.aabb_clipping.specs.Clip.{clip_tests, clip_result}
 use Rattle.aabb_clipping.specs.Steps.{Fits}
 
 pub none_front : {A : Type 0} (e old : List A) → length e ≡ 0 → e ++ old ≡ old
@@ -41,17 +42,17 @@ none_front [] old h = refl
 none_front (x ∷ xs) old h = absurd (omega arith)
 
 -- ---- ample outputs
-module _ (vs : List Float) (fs : List ℕ) (q : ClipAsked) (a b : ℕ) where
+module _ (vs : List Float) (fs : List ℕ) (q : Clip) (a b : ℕ) where
   pub ample : 84 * (length fs / 3) ≤ a → 78 * (length fs / 3) ≤ b → Fits (clip_result vs fs q) a b
   unfolding clip_result
   ample h g =
-      let k = most q.box q.eps (mesh_of vs fs) in
+      let k = most q.extents q.eps (mesh_of vs fs) in
       let t = length_threes fs in
       record { vertices = omega (arith, k.0, t); facets = omega (arith, k.1, t) }
 
-  pub inside : bad_index (length vs / 3) fs ≡ false → length vs ≤ a → length fs ≤ b → every (inside_box q.box q.eps) (points_of vs) ≡ true → Fits (clip_result vs fs q) a b
+  pub inside : bad_index (length vs / 3) fs ≡ false → length vs ≤ a → length fs ≤ b → every (inside_box q.extents q.eps) (points_of vs) ≡ true → Fits (clip_result vs fs q) a b
   unfolding clip_result
-  inside e h g w = let k = inside_most q.box q.eps vs fs e w in record { vertices = omega (arith, k.0); facets = omega (arith, k.1) }
+  inside e h g w = let k = inside_most q.extents q.eps vs fs e w in record { vertices = omega (arith, k.0); facets = omega (arith, k.1) }
 
 -- ---- test 12, and the writing. The counts k of vertices and j of facet numbers are the mesh's
 module _ (m : Mesh) (v v' : List Float) (f f' : List ℕ) (k j : ℕ) (ek : k ≡ length m.points) (ej : j ≡ length (flat m.facets)) where
@@ -89,18 +90,18 @@ pub record Ready (vs : List Float) (fs : List ℕ) (lent : ℕ) : Type 0 where
   pub below : bad_index (length vs / 3) fs ≡ false
   pub room : length vs / 3 ≤ lent
 
-pub ready : (vs : List Float) (fs : List ℕ) (q : ClipAsked) (l : Limits) → first_refusal (clip_tests vs fs q l) ≡ Ok tt → Ready vs fs l.lent
+pub ready : (vs : List Float) (fs : List ℕ) (q : Clip) (l : Limits) → first_refusal (clip_tests vs fs q l) ≡ Ok tt → Ready vs fs l.lent
 unfolding clip_tests work_need
 ready vs fs q l e =
     let need = 128 * (length vs / 3 + length fs / 3 + 0 + 0) + 1024 in
     let lists = list_tests l.ceiling vs fs 0 in
     let room : Test = (ltb l.lent need, NoWorkRoom need) in
-    let bad : Test = (bad_box q.box, BadBox) in
-    let number = not (every in_range vs && (box_in_range q.box && eps_in_range q.eps)) in
+    let bad : Test = (bad_box q.extents, BadBox) in
+    let number = not (every in_range vs && (box_in_range q.extents && eps_in_range q.eps)) in
     let p = listed l.ceiling vs fs 0 (row_front lists ((number, BadNumber) ∷ bad ∷ room ∷ []) e) in
     let e4 = row_rest lists ((number, BadNumber) ∷ bad ∷ room ∷ []) e in
     let e5 = tail_passed number BadNumber (bad ∷ room ∷ []) e4 in
-    let e7 = tail_passed (bad_box q.box) BadBox (room ∷ []) e5 in
+    let e7 = tail_passed (bad_box q.extents) BadBox (room ∷ []) e5 in
     let h = ltb-false l.lent need (head_passed (ltb l.lent need) (NoWorkRoom need) [] e7) in
     record { few = (p.few_vertices, p.few_facets); below = p.below; room = omega arith }
 
@@ -110,18 +111,18 @@ ready vs fs q l e =
 pub numbers_fine : (a b d x y z : Bool) → a ≡ x → b ≡ y → d ≡ z → a ≡ true → b ≡ true → d ≡ true → not (x && (y && z)) ≡ false
 numbers_fine a b d x y z ea eb ed ha hb hd = ap not (and_next x (y && z) true (sym ea ∙ ha) (and_next y z true (sym eb ∙ hb) (sym ed ∙ hd)))
 
-module _ (vs : List Float) (fs : List ℕ) (q : ClipAsked) (l : Limits) where
+module _ (vs : List Float) (fs : List ℕ) (q : Clip) (l : Limits) where
   abbrev lists : List Test
   lists = list_tests l.ceiling vs fs 0
 
   abbrev bad_number : Bool
-  bad_number = not (every in_range vs && (box_in_range q.box && eps_in_range q.eps))
+  bad_number = not (every in_range vs && (box_in_range q.extents && eps_in_range q.eps))
 
   abbrev need : ℕ
   need = work_need (length vs / 3) (length fs / 3) 0 0
 
   abbrev rest : List Test
-  rest = (bad_number, BadNumber) ∷ (bad_box q.box, BadBox) ∷ (ltb l.lent need, NoWorkRoom need) ∷ []
+  rest = (bad_number, BadNumber) ∷ (bad_box q.extents, BadBox) ∷ (ltb l.lent need, NoWorkRoom need) ∷ []
 
   pub lists_refused : (r : Refusal) → first_refusal lists ≡ Err r → Err r ≡ first_refusal (clip_tests vs fs q l)
   unfolding clip_tests
@@ -130,20 +131,20 @@ module _ (vs : List Float) (fs : List ℕ) (q : ClipAsked) (l : Limits) where
   module _ (e : first_refusal lists ≡ Ok tt) where
     pub number_refused : bad_number ≡ true → Err BadNumber ≡ first_refusal (clip_tests vs fs q l)
     unfolding clip_tests
-    number_refused h = sym (row_passed lists rest e ∙ holds bad_number BadNumber ((bad_box q.box, BadBox) ∷ (ltb l.lent need, NoWorkRoom need) ∷ []) h)
+    number_refused h = sym (row_passed lists rest e ∙ holds bad_number BadNumber ((bad_box q.extents, BadBox) ∷ (ltb l.lent need, NoWorkRoom need) ∷ []) h)
 
     module _ (h : bad_number ≡ false) where
-      after_numbers : first_refusal (clip_tests vs fs q l) ≡ first_refusal ((bad_box q.box, BadBox) ∷ (ltb l.lent need, NoWorkRoom need) ∷ [])
+      after_numbers : first_refusal (clip_tests vs fs q l) ≡ first_refusal ((bad_box q.extents, BadBox) ∷ (ltb l.lent need, NoWorkRoom need) ∷ [])
       unfolding clip_tests
-      after_numbers = row_passed lists rest e ∙ passes bad_number BadNumber ((bad_box q.box, BadBox) ∷ (ltb l.lent need, NoWorkRoom need) ∷ []) h
+      after_numbers = row_passed lists rest e ∙ passes bad_number BadNumber ((bad_box q.extents, BadBox) ∷ (ltb l.lent need, NoWorkRoom need) ∷ []) h
 
-      pub box_refused : bad_box q.box ≡ true → Err BadBox ≡ first_refusal (clip_tests vs fs q l)
-      box_refused g = sym (after_numbers ∙ holds (bad_box q.box) BadBox ((ltb l.lent need, NoWorkRoom need) ∷ []) g)
+      pub box_refused : bad_box q.extents ≡ true → Err BadBox ≡ first_refusal (clip_tests vs fs q l)
+      box_refused g = sym (after_numbers ∙ holds (bad_box q.extents) BadBox ((ltb l.lent need, NoWorkRoom need) ∷ []) g)
 
-      module _ (g : bad_box q.box ≡ false) (n : ℕ) (en : n ≡ need) where
+      module _ (g : bad_box q.extents ≡ false) (n : ℕ) (en : n ≡ need) where
         after_box : first_refusal (clip_tests vs fs q l) ≡ first_refusal ((ltb l.lent n, NoWorkRoom n) ∷ [])
         after_box =
-            after_numbers ∙ passes (bad_box q.box) BadBox ((ltb l.lent need, NoWorkRoom need) ∷ []) g
+            after_numbers ∙ passes (bad_box q.extents) BadBox ((ltb l.lent need, NoWorkRoom need) ∷ []) g
             ∙ ap (λ (k : ℕ). first_refusal ((ltb l.lent k, NoWorkRoom k) ∷ [])) (sym en)
 
         pub room_refused : l.lent < n → Err (NoWorkRoom n) ≡ first_refusal (clip_tests vs fs q l)

@@ -10,9 +10,10 @@ use Rattle.refusals.specs.Answers.{mesh_outputs, Answered, MeshesAlike}
 use Rattle.refusals.proofs.Answers.{meshes_alike}
 use Rattle.input_tests.specs.Front.{limits, Admits}
 use Rattle.input_tests.proofs.Lists.{same_row}
-use Rattle.aabb_clipping.specs.Clip.{ClipAsked, clip_tests, clip_result}
+use Rattle.aabb_planes.specs.declared.clip.Clip.{Clip}
+use Rattle.aabb_clipping.specs.Clip.{clip_tests, clip_result}
 
-module _ (vs : List Float) (fs : List ℕ) (q : ClipAsked) (c d : ℕ) (hc : Admits c vs fs) (hd : Admits d vs fs) where
+module _ (vs : List Float) (fs : List ℕ) (q : Clip) (c d : ℕ) (hc : Admits c vs fs) (hd : Admits d vs fs) where
   pub same_tests : (lent : ℕ) → clip_tests vs fs q (limits c lent) ≡ clip_tests vs fs q (limits d lent)
   unfolding clip_tests
   same_tests lent = same_row c d vs fs 0 _ hc hd

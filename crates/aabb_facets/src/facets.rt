@@ -13,14 +13,15 @@ use crate::marks::all_marked;
 use crate::outputs::{push_vertex, put_corners, put_fan};
 use aabb_planes::clip::Clip;
 use aabb_polygons::polygon::Polygon;
+use geometry::mesh::MeshLists;
 use geometry::numbers::MeshVertexId;
 use geometry::point::Point;
 use geometry::triangle::{MeshTriangle, Triangle3};
 use geometry::vertices::{corner_at, facet_at, vertex_at};
 use words::put;
 
-// How many vertices and how many facet numbers have been made. The three lists that go with it stay parameters: a struct that holds `&mut` would need a
-// clause more in each function for each list, that it is still the caller's.
+// How many vertices and how many facet numbers have been made.
+// Stays (plainer), point 5: the lists written beside it are parameters; a struct that holds `&mut` needs a clause more in each function for each list, that it is still the caller's.
 #[derive(Clone, Copy)]
 pub struct Counts {
     pub vertices: usize,
@@ -68,9 +69,9 @@ fn share_vertex(
 }
 
 // The three corners of the facet i, in a loop: one call, so that it is inlined.
+// Stays (plainer), point 5: room for what a facet adds is asked of `at`; as a field of `Counts` it would have to hold of what comes back too, after any number of facets.
 fn share_facet(
-    vertices: &[f64],
-    facets: &[u32],
+    mesh: MeshLists<'_>,
     i: usize,
     clip: Clip,
     ids: &mut [u64],
@@ -78,19 +79,19 @@ fn share_facet(
     out_facets: &mut [u32],
     at: Counts,
 ) -> Counts
-    requires i_in_bounds { (3 * i + 2 < length facets.now) × (i < 4294967296) }
-    requires by_index { (j : ℕ) → j < length facets.now → (get_or facets.now j 0 < length ids.old) × (3 * get_or facets.now j 0 + 2 < length vertices.now) }
+    requires i_in_bounds { (3 * i + 2 < length mesh.facets.now) × (i < 4294967296) }
+    requires by_index { (j : ℕ) → j < length mesh.facets.now → (get_or mesh.facets.now j 0 < length ids.old) × (3 * get_or mesh.facets.now j 0 + 2 < length mesh.vertices.now) }
     requires by_index_2 { (w : ℕ) → get_or ids.old w 0 ≤ at.vertices + 1 }
     requires vertices_bound { (at.vertices < 4200000000) × (at.numbers < 4200000000) }
-    ensures out_facets_after { room result ids.new out_vertices.new out_facets.new ≡ share_to vertices.now facets.now
+    ensures out_facets_after { room result ids.new out_vertices.new out_facets.new ≡ share_to mesh.entry.vertices.now mesh.entry.facets.now
         clip.extents clip.eps (room at ids.old out_vertices.old out_facets.old) i 3 }
     ensures vertices_bound_2 { (result.vertices ≤ at.vertices + 3) × (result.numbers ≡ at.numbers + 3) }
 {
     let mut to = at;
     for j in 0..3 {
         to = share_vertex(
-            vertices,
-            corner_at(facets, 3 * i + j),
+            mesh.vertices,
+            corner_at(mesh.facets, 3 * i + j),
             clip,
             ids,
             out_vertices,
@@ -128,6 +129,7 @@ fn put_fanned(
 }
 
 // A facet that is not wholly inside.
+// Stays (plainer), point 5: room for what a facet adds is asked of `at`; as a field of `Counts` it would have to hold of what comes back too, after any number of facets.
 fn cut_facet(
     vertices: &[f64],
     t: MeshTriangle,
@@ -154,9 +156,9 @@ fn cut_facet(
 }
 
 // The facet i.
+// Stays (plainer), point 5: room for what a facet adds is asked of `at`; as a field of `Counts` it would have to hold of what comes back too, after any number of facets.
 pub fn clip_facet(
-    vertices: &[f64],
-    facets: &[u32],
+    mesh: MeshLists<'_>,
     i: usize,
     clip: Clip,
     polygon: &mut Polygon,
@@ -166,20 +168,20 @@ pub fn clip_facet(
     out_facets: &mut [u32],
     at: Counts,
 ) -> Counts
-    requires i_in_bounds { (3 * i + 2 < length facets.now) × (i < 4294967296) }
-    requires by_index { (j : ℕ) → j < length facets.now → (get_or facets.now j 0 < length ids.old) × (3 * get_or facets.now j 0 + 2 < length vertices.now) }
+    requires i_in_bounds { (3 * i + 2 < length mesh.facets.now) × (i < 4294967296) }
+    requires by_index { (j : ℕ) → j < length mesh.facets.now → (get_or mesh.facets.now j 0 < length ids.old) × (3 * get_or mesh.facets.now j 0 + 2 < length mesh.vertices.now) }
     requires by_index_2 { (w : ℕ) → get_or ids.old w 0 ≤ at.vertices + 1 }
     requires vertices_bound { (at.vertices < 4200000000) × (at.numbers < 4200000000) }
-    ensures out_facets_after { room result ids.new out_vertices.new out_facets.new ≡ facet_room vertices.now facets.now
+    ensures out_facets_after { room result ids.new out_vertices.new out_facets.new ≡ facet_room mesh.entry.vertices.now mesh.entry.facets.now
         clip.extents clip.eps (room at ids.old out_vertices.old out_facets.old) i }
     ensures vertices_bound_2 { (result.vertices ≤ at.vertices + 28) × (result.numbers ≤ at.numbers + 78) }
 {
-    let t = facet_at(facets, i);
+    let t = facet_at(mesh.facets, i);
     if all_marked(ids, t) {
-        return share_facet(vertices, facets, i, clip, ids, out_vertices, out_facets, at);
+        return share_facet(mesh, i, clip, ids, out_vertices, out_facets, at);
     }
     cut_facet(
-        vertices,
+        mesh.vertices,
         t,
         clip,
         polygon,

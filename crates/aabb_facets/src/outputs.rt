@@ -1,4 +1,5 @@
 // What is written to the outputs. A store happens only where there is room, so that a pass that is lent no room only counts.
+// Stays (C interface), point 6: C lends the two outputs, and a place in one may lie behind its end, where no part of it begins.
 ghost use Rattle.std.specs.Prelude.{◌≡◌, [], ◌∷◌, ◌+◌, ◌*◌, ◌<◌, ◌≤◌, length};
 ghost use Rattle.std.proofs.lemmas.List.Edits.{sets};
 ghost use Rattle.geometry.specs.Meshes.{coordinates};

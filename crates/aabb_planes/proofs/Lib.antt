@@ -1,2 +1,1 @@
-mod Sides
 pub mod SnapTwice

@@ -1,6 +1,5 @@
 -- The planes of the box, and one point against them (document 01, module 3; aabb_clipping.rs): inside, snapping and crossings, with the Rust's
 -- tolerances. Faces are 0 to 5, in face order. Assumes nothing.
---   face_of        which face a `BoxPlane` is
 --   inside        `point_inside_plane`: the inside test of face f
 --   snap_to, snapped   `snap_near_bbox`
 --   crossing      `segment_plane_t`: a fraction t, or nothing, from the plane's place and the two ends along its axis
@@ -13,17 +12,6 @@ use Rattle.geometry.specs.declared.point.Point.{Point}
 use Rattle.geometry.specs.declared.aabb.AABB.{AABB}
 use Rattle.geometry.specs.Points.{along, on_axes}
 use Rattle.geometry.specs.Boxes.{lowest, highest, axis, is_min, plane}
-use Rattle.aabb_planes.specs.declared.plane.BoxPlane.{BoxPlane}
-use Rattle.aabb_planes.specs.declared.plane.BoxPlane.TheVariants.{XMin, XMax, YMin, YMax, ZMin, ZMax}
-
--- "XMin, XMax, YMin, YMax, ZMin, ZMax"
-abbrev pub face_of : BoxPlane → ℕ
-face_of XMin = 0
-face_of XMax = 1
-face_of YMin = 2
-face_of YMax = 3
-face_of ZMin = 4
-face_of ZMax = 5
 
 -- ---- one coordinate
 

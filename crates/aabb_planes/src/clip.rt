@@ -1,11 +1,11 @@
 // aabb_clipping.rs: which points lie inside the planes of a box, and the snapping of those near one.
 ghost use Rattle.std.specs.Prelude.{◌≡◌};
 ghost use Rattle.lists.specs.Lists.{every};
-ghost use Rattle.geometry.specs.Boxes.{faces};
-ghost use Rattle.aabb_planes.specs.Planes.{face_of, inside, on_plane, snap_to, snapped};
+ghost use Rattle.geometry.specs.Boxes.{face_of, faces};
+ghost use Rattle.aabb_planes.specs.Planes.{inside, on_plane, snap_to, snapped};
 
-use crate::plane::{BoxPlane, PLANES};
 use geometry::aabb::AABB;
+use geometry::face::{Axis, BOX_FACES, BoxFace};
 use geometry::point::Point;
 use rounding::within;
 
@@ -18,14 +18,15 @@ pub struct Clip {
 
 impl Clip {
     // `point_inside_plane`
-    pub fn point_inside_plane(self, p: Point, plane: BoxPlane) -> bool
+    pub fn point_inside_plane(self, p: Point, plane: BoxFace) -> bool
         ensures { result ≡ inside self.extents self.eps (face_of plane) p }
     {
         let at = plane.place(self.extents);
-        let v = plane.coordinate(p);
-        match plane {
-            BoxPlane::XMin | BoxPlane::YMin | BoxPlane::ZMin => v >= at - self.eps,
-            BoxPlane::XMax | BoxPlane::YMax | BoxPlane::ZMax => v <= at + self.eps,
+        let v = p.along(plane.axis());
+        if plane.is_min() {
+            v >= at - self.eps
+        } else {
+            v <= at + self.eps
         }
     }
 
@@ -33,20 +34,21 @@ impl Clip {
     pub fn point_inside_aabb(self, p: Point) -> bool
         ensures { result ≡ every (λ f. inside self.extents self.eps f p) faces }
     {
-        PLANES
+        BOX_FACES
             .iter()
             .all(|plane| self.point_inside_plane(p, *plane))
     }
 
     // `snap_to_plane`
-    pub fn snap_to_plane(self, p: Point, plane: BoxPlane) -> Point
+    #[tactic(auto, unfolding(crate::specs::Planes::on_plane, geometry::specs::Points::along))]
+    pub fn snap_to_plane(self, p: Point, plane: BoxFace) -> Point
         ensures { result ≡ on_plane self.extents (face_of plane) p }
     {
         let at = plane.place(self.extents);
-        match plane {
-            BoxPlane::XMin | BoxPlane::XMax => Point { x: at, ..p },
-            BoxPlane::YMin | BoxPlane::YMax => Point { y: at, ..p },
-            BoxPlane::ZMin | BoxPlane::ZMax => Point { z: at, ..p },
+        match plane.axis() {
+            Axis::X => Point { x: at, ..p },
+            Axis::Y => Point { y: at, ..p },
+            Axis::Z => Point { z: at, ..p },
         }
     }
 

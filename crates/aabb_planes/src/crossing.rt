@@ -1,22 +1,23 @@
 // aabb_clipping.rs: where a side of a polygon crosses a plane.
 ghost use Rattle.std.specs.Prelude.{◌≡◌};
 ghost use Rattle.geometry.specs.Points.{along};
-ghost use Rattle.geometry.specs.Boxes.{axis, plane};
-ghost use Rattle.aabb_planes.specs.Planes.{face_of, crossing, interpolated};
+ghost use Rattle.geometry.specs.Boxes.{axis, face_of, plane};
+ghost use Rattle.aabb_planes.specs.Planes.{crossing, interpolated};
 
 use crate::clip::Clip;
-use crate::plane::BoxPlane;
+use geometry::face::BoxFace;
 use geometry::point::Point;
 use rounding::within;
 
 impl Clip {
     // `segment_plane_t`
-    pub fn segment_plane_t(self, a: Point, b: Point, at: BoxPlane) -> Option<f64>
+    pub fn segment_plane_t(self, a: Point, b: Point, at: BoxFace) -> Option<f64>
         ensures { result ≡ crossing self.eps (plane self.extents (face_of at)) (along a (axis (face_of at))) (along b (axis (face_of at))) }
     {
         let coord = at.place(self.extents);
-        let start = at.coordinate(a);
-        let end = at.coordinate(b);
+        let axis = at.axis();
+        let start = a.along(axis);
+        let end = b.along(axis);
         let da = start - coord;
         let db = end - coord;
         if within(da, self.eps) {

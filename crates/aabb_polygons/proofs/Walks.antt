@@ -19,10 +19,10 @@ use borrow.Author.Tests.{lt-ltb, le-ltb, not-true, not-false}
 use Rattle.geometry.specs.declared.point.Point.{Point}
 use Rattle.geometry.specs.declared.aabb.AABB.{AABB}
 use Rattle.geometry.specs.Points.{origin}
-use Rattle.geometry.specs.Boxes.{faces}
-use Rattle.aabb_planes.specs.Planes.{inside, snapped, face_of}
-use Rattle.aabb_planes.specs.declared.plane.BoxPlane.{BoxPlane}
-use Rattle.aabb_planes.specs.declared.plane.BoxPlane.TheVariants.{XMax, YMin, YMax, ZMin, ZMax}
+use Rattle.geometry.specs.Boxes.{face_of, faces}
+use Rattle.aabb_planes.specs.Planes.{inside, snapped}
+use Rattle.geometry.specs.declared.face.BoxFace.{BoxFace}
+use Rattle.geometry.specs.declared.face.BoxFace.TheVariants.{XMax, YMin, YMax, ZMin, ZMax}
 use Rattle.aabb_polygons.specs.Polygons.{clip_to_plane, clip_polygon}
 use Rattle.aabb_polygons.specs.Steps.{side_crossed, side_unsnapped, walk_unsnapped, clip_unsnapped}
 use Rattle.aabb_polygons.proofs.Planes.{unsnapped_short, clip_short, clip_snapped}
@@ -181,10 +181,10 @@ module _ (box : AABB) (eps : Float) where
       cut_end e = same_both (ltb (length m) 3) m ∙ ap (λ (fs : List ℕ). from fs m) (sym e) ∙ c.whole
 
 -- the planes behind the first, as the code lists them
-abbrev pub others : List BoxPlane
+abbrev pub others : List BoxFace
 others = XMax ∷ YMin ∷ YMax ∷ ZMin ∷ ZMax ∷ []
 
-pub other_at : (i : ℕ) (d : BoxPlane) → i < 5 → drop (i + 1) faces ≡ face_of (get_or others i d) ∷ drop (i + 2) faces
+pub other_at : (i : ℕ) (d : BoxFace) → i < 5 → drop (i + 1) faces ≡ face_of (get_or others i d) ∷ drop (i + 2) faces
 other_at zero d h = refl
 other_at (suc zero) d h = refl
 other_at (suc (suc zero)) d h = refl

@@ -2,14 +2,14 @@
 // first plane, or where it is made. Later planes leave the corners that stay as they are.
 ghost use Rattle.std.specs.Prelude.{◌≡◌, ◌+◌, ◌<◌, ◌≤◌, cond, List, [], ◌∷◌, ◌++◌, map, length, take};
 ghost use Rattle.geometry.specs.declared.point.Point.{Point as Corner};
-ghost use Rattle.geometry.specs.Boxes.{faces};
-ghost use Rattle.aabb_planes.specs.Planes.{face_of, inside, snapped};
+ghost use Rattle.geometry.specs.Boxes.{face_of, faces};
+ghost use Rattle.aabb_planes.specs.Planes.{inside, snapped};
 ghost use Rattle.aabb_polygons.specs.Polygons.{clip_to_plane, clip_polygon};
 ghost use Rattle.aabb_polygons.specs.Steps.{side_crossed, side_unsnapped, clip_unsnapped};
 
 use aabb_planes::clip::Clip;
 use aabb_planes::crossing::interpolate_points;
-use aabb_planes::plane::{BoxPlane, PLANES};
+use geometry::face::{BOX_FACES, BoxFace};
 use geometry::point::Point;
 use geometry::triangle::Triangle3;
 use std::marker::Model;
@@ -71,15 +71,14 @@ impl Polygon {
         self.count += 1;
     }
 
-    // Corner by corner: with a copy of the whole array in place of this, clipping a soup of triangles took 1.16 times as long, not 1.04 to 1.08.
+    // Not inlined, so that `clip_to_plane` stays small enough to be.
     #[inline(never)]
     fn copy_from(&mut self, other: &Polygon)
         ensures { self.new ≡ other.now }
     {
-        self.clear();
-        for p in other.corners() {
-            self.push(*p);
-        }
+        let n = other.count;
+        self.corners[..n].copy_from_slice(&other.corners[..n]);
+        self.count = n;
     }
 
     // `snap_near_bbox` of each corner
@@ -93,7 +92,7 @@ impl Polygon {
     }
 
     // The crossing of a side.
-    fn add_crossing(&mut self, prev: Point, curr: Point, plane: BoxPlane, clip: Clip)
+    fn add_crossing(&mut self, prev: Point, curr: Point, plane: BoxFace, clip: Clip)
         requires { length self.old + length (side_crossed clip.extents clip.eps (face_of plane) prev curr) ≤ 28 }
         ensures { self.new ≡ self.old ++ side_crossed clip.extents clip.eps (face_of plane) prev curr }
     {
@@ -105,13 +104,14 @@ impl Polygon {
 
     // What one side adds: a crossing, unless both ends are inside or both outside; and an inside corner, as it is. Answers whether the corner is
     // inside, so that the next side need not ask again.
+    // Stays (plainer): `prev_inside` is what was answered of the side before, and no step to choose.
     #[inline(always)]
     fn add_side(
         &mut self,
         prev: Point,
         prev_inside: bool,
         curr: Point,
-        plane: BoxPlane,
+        plane: BoxFace,
         clip: Clip,
     ) -> bool
         requires room { length self.old + length (side_unsnapped clip.extents clip.eps (face_of plane) prev curr) ≤ 28 }
@@ -132,7 +132,7 @@ impl Polygon {
     // "Walk from the last corner", into `out`. Not inlined, so that what asks first whether the plane cuts at all is small enough to be inlined at
     // each plane.
     #[inline(never)]
-    fn walk_sides(&self, plane: BoxPlane, clip: Clip, out: &mut Polygon)
+    fn walk_sides(&self, plane: BoxFace, clip: Clip, out: &mut Polygon)
         requires { (0 < length self.now) × (length self.now ≤ 19) }
         ensures { out.new ≡ clip_unsnapped clip.extents clip.eps (face_of plane) self.now }
     {
@@ -148,7 +148,7 @@ impl Polygon {
 
     // `clip_polygon_to_plane`, but that a corner that stays is not snapped. `spare` is scratch: its contents count for nothing.
     #[inline(always)]
-    pub fn clip_to_plane(&mut self, plane: BoxPlane, clip: Clip, spare: &mut Polygon)
+    pub fn clip_to_plane(&mut self, plane: BoxFace, clip: Clip, spare: &mut Polygon)
         requires { (0 < length self.old) × (length self.old ≤ 19) }
         ensures unsnapped { self.new ≡ clip_unsnapped clip.extents clip.eps (face_of plane) self.old }
         ensures if_snapped { map (snapped clip.extents clip.eps) self.old ≡ self.old → self.new ≡ clip_to_plane clip.extents clip.eps self.old (face_of plane) }
@@ -173,9 +173,9 @@ impl Polygon {
         self.push(facet.a);
         self.push(facet.b);
         self.push(facet.c);
-        self.clip_to_plane(BoxPlane::XMin, clip, spare);
+        self.clip_to_plane(BoxFace::XMin, clip, spare);
         self.snap(clip);
-        for plane in &PLANES[1..] {
+        for plane in &BOX_FACES[1..] {
             if self.len() < 3 {
                 return;
             }

@@ -14,7 +14,8 @@ use Rattle.refusals.specs.Refusals.{documented_reply, Test, first_refusal, Passe
 use Rattle.refusals.specs.Answers.{Answer}
 use Rattle.refusals.proofs.Refusals.{none_left, row_passed, row_refused}
 use Rattle.refusals.proofs.Answers.{refused, after, behind}
-use Rattle.candidate_surface.specs.Asked.{Asked, setting}
+use Rattle.candidate_surface.specs.declared.asked.Asked.{Asked}
+use Rattle.candidate_surface.specs.Asked.{setting}
 use Rattle.candidate_surface.specs.Candidates.{Candidates, no_candidates, candidates, no_facet, no_two_ends}
 use Rattle.closure_tests.specs.Tests.{edge_tests}
 use Rattle.candidate_outputs.specs.Outputs.{candidate_outputs}

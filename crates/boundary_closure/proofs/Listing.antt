@@ -21,7 +21,8 @@ use Rattle.candidate_edges.specs.Steps.{MeshFits}
 use Rattle.candidate_constraints.specs.Constraints.{face_constraints}
 use Rattle.candidate_constraints.specs.Steps.{Constrained}
 use Rattle.candidate_surface.specs.Candidates.{candidates, no_two_ends}
-use Rattle.candidate_surface.specs.Asked.{Asked, setting}
+use Rattle.candidate_surface.specs.declared.asked.Asked.{Asked}
+use Rattle.candidate_surface.specs.Asked.{setting}
 use Rattle.candidate_surface.specs.Steps.{Completed}
 use Rattle.candidate_outputs.specs.Written.{candidates_standing, Readable}
 use Rattle.candidate_outputs.proofs.Blocks.{words_same}
@@ -30,24 +31,24 @@ pub record Made (vs : List Float) (fs : List ℕ) (q : Asked) (n k listed total 
   pub readable : Readable n (length fs / 3) k listed total w
   pub standing : candidates_standing n (length fs / 3) k total w ≡ candidates (setting q) (mesh_of vs fs)
 
-module _ (vs : List Float) (fs : List ℕ) (q : Asked) (listed : ℕ) (el : listed ≡ length (edge_surface q.box q.eps (by_key q.eps) (mesh_of vs fs)).edges) where
+module _ (vs : List Float) (fs : List ℕ) (q : Asked) (listed : ℕ) (el : listed ≡ length (edge_surface q.extents q.eps (by_key q.eps) (mesh_of vs fs)).edges) where
   pub no_ends_left : listed ≡ 0 → no_two_ends vs fs q ≡ true
   unfolding no_two_ends
-  no_ends_left e = eq-eqb (length (edge_surface q.box q.eps (by_key q.eps) (mesh_of vs fs)).edges) 0 (sym el ∙ e)
+  no_ends_left e = eq-eqb (length (edge_surface q.extents q.eps (by_key q.eps) (mesh_of vs fs)).edges) 0 (sym el ∙ e)
 
   pub ends_left : (listed ≡ 0 → ⊥) → no_two_ends vs fs q ≡ false
   unfolding no_two_ends
-  ends_left f = ne_eqb (length (edge_surface q.box q.eps (by_key q.eps) (mesh_of vs fs)).edges) 0 (λ e. f (el ∙ e))
+  ends_left f = ne_eqb (length (edge_surface q.extents q.eps (by_key q.eps) (mesh_of vs fs)).edges) 0 (λ e. f (el ∙ e))
 
   module _ (n k total : ℕ) (w w' : List ℕ) (M : MeshFits vs fs n w) (few : k ≤ length fs) (D : Completed vs fs q n k w)
-      (K : Constrained q.box q.eps n (length fs / 3) k total w w') where
+      (K : Constrained q.extents q.eps n (length fs / 3) k total w w') where
     abbrev nf : ℕ
     nf = length fs / 3
 
     abbrev from : ℕ
     from = open_edges_at n nf
 
-    edges_here : edges_at w' from k ≡ (edge_surface q.box q.eps (by_key q.eps) (mesh_of vs fs)).edges
+    edges_here : edges_at w' from k ≡ (edge_surface q.extents q.eps (by_key q.eps) (mesh_of vs fs)).edges
     edges_here = edges_same w w' from k (λ x h l. K.high x h) ∙ D.edges
 
     readable_here : Readable n nf k listed total w'
@@ -68,7 +69,7 @@ module _ (vs : List Float) (fs : List ℕ) (q : Asked) (listed : ℕ) (el : list
     unfolding candidates
     standing_is =
         let p = pool_same q.eps n w w' D.holds K.long (λ x h. K.low x (omega arith)) ∙ D.pool in
-        let c = K.listed ∙ (λ t. flat_map (face_constraints q.box q.eps (D.edges t) (D.pool t)) faces) in
+        let c = K.listed ∙ (λ t. flat_map (face_constraints q.extents q.eps (D.edges t) (D.pool t)) faces) in
         λ t. record { all = (p t).all; lists = (p t).lists; constraints = c t; edges = edges_here t }
 
     pub made_of : Made vs fs q n k listed total w'

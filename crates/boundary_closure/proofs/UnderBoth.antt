@@ -11,7 +11,7 @@ use Rattle.refusals.specs.Answers.{reply_with, Answered}
 use Rattle.input_tests.specs.Front.{limits, Admits}
 use Rattle.candidate_pool.specs.OpenEdges.{open_edge_words}
 use Rattle.candidate_constraints.specs.Constraints.{constraint_words}
-use Rattle.candidate_surface.specs.Asked.{Asked}
+use Rattle.candidate_surface.specs.declared.asked.Asked.{Asked}
 use Rattle.candidate_surface.specs.Candidates.{Candidates}
 use Rattle.candidate_outputs.specs.Outputs.{candidate_words, list_words, candidate_outputs}
 use Rattle.closure_tests.proofs.UnderBoth.{same_tests}

@@ -6,7 +6,8 @@ use Rattle.std.specs.Prelude.{ℕ, ◌≡◌, cond, ◌||◌, List, ◌++◌, Fl
 use Rattle.geometry.specs.Meshes.{mesh_of}
 use Rattle.refusals.specs.Refusals.{Test, unless}
 use Rattle.input_tests.specs.Front.{Limits}
-use Rattle.candidate_surface.specs.Asked.{Asked, setting}
+use Rattle.candidate_surface.specs.declared.asked.Asked.{Asked}
+use Rattle.candidate_surface.specs.Asked.{setting}
 use Rattle.candidate_surface.specs.Candidates.{Candidates, no_candidates, candidates, no_facet, no_two_ends}
 use Rattle.closure_tests.specs.Tests.{closure_tests, edge_tests}
 

@@ -1,11 +1,11 @@
 // The operation candidates: the order of its steps.
+// Stays (C interface), point 6: n says where tables stand in the lent room, since C lends one buffer and there is no heap; k counts its open edges.
 ghost use Rattle.std.specs.Prelude.{◌≡◌, [], ◌/◌, ◌≤◌, length};
 ghost use Rattle.refusals.specs.Refusals.{documented_reply};
 ghost use Rattle.refusals.specs.Answers.{Answer, Answered};
 ghost use Rattle.candidate_edges.specs.Steps.{MeshFits};
 ghost use Rattle.candidate_pool.specs.Offsets.{room_end};
 ghost use Rattle.input_tests.specs.Front.{limits};
-ghost use Rattle.candidate_surface.specs.Asked.{asked};
 ghost use Rattle.closure_tests.specs.Tests.{edge_tests};
 ghost use Rattle.candidate_outputs.specs.Outputs.{candidate_outputs};
 ghost use Rattle.boundary_closure.specs.Operation.{candidates_tests, candidates_result};
@@ -15,19 +15,17 @@ ghost use Rattle.boundary_closure.specs.Steps.{surface_result};
 use candidate_constraints::constraints::all_constraints;
 use candidate_outputs::outputs::deliver;
 use candidate_pool::room::Room;
+use candidate_surface::asked::Asked;
 use candidate_surface::surface::{complete, enter_surface, most_candidates, table_edges};
 use closure_tests::tests::{check_closure, check_edges};
-use geometry::aabb::AABB;
+use geometry::mesh::MeshLists;
 use refusals::reply::Reply;
 use words::zero;
 
 // All that follows test 9, for a mesh with k open edges. "if no open edge keeps two ends", all four lengths are 0.
 fn list_candidates(
-    vertices: &[f64],
-    facets: &[u32],
-    extents: AABB,
-    eps: f64,
-    resolution: f64,
+    mesh: MeshLists<'_>,
+    asked: Asked,
     w: &mut [u64],
     n: usize,
     k: usize,
@@ -36,24 +34,24 @@ fn list_candidates(
     constraints: &mut [u64],
     open_edges: &mut [u64],
 ) -> Reply<4>
-    requires sound { Sound vertices.now facets.now (asked extents eps resolution) }
-    requires mesh_fits { MeshFits vertices.now facets.now n w.old × (n ≡ most_candidates vertices.now (asked extents eps resolution)) }
-    requires tabled { Tabled facets.now n k w.old }
+    requires sound { Sound mesh.vertices.now mesh.facets.now asked }
+    requires mesh_fits { MeshFits mesh.vertices.now mesh.facets.now n w.old × (n ≡ most_candidates mesh.vertices.now asked) }
+    requires tabled { Tabled mesh.facets.now n k w.old }
     ensures { Answer []
-        (candidate_outputs (surface_result vertices.now facets.now (asked extents eps resolution)) candidates.old candidates.new
+        (candidate_outputs (surface_result mesh.entry.vertices.now mesh.entry.facets.now asked) candidates.old candidates.new
         face_lists.old face_lists.new constraints.old constraints.new open_edges.old open_edges.new)
         (documented_reply result) }
 {
-    let listed = enter_surface(vertices, facets, extents, eps, w, n, k);
+    let listed = enter_surface(mesh, asked.extents, asked.eps, w, n, k);
     if listed == 0 {
         return Ok([0; 4]);
     }
-    complete(vertices, facets, extents, eps, resolution, w, n, k);
+    complete(mesh, asked, w, n, k);
     let room = Room {
         n,
-        nf: facets.len() / 3,
+        nf: mesh.facets.len() / 3,
     };
-    let total = all_constraints(w, room, k, extents, eps);
+    let total = all_constraints(w, room, k, asked.extents, asked.eps);
     deliver(
         w,
         room,
@@ -69,33 +67,27 @@ fn list_candidates(
 
 // Tests 8 and 9 and all that follows, for a mesh that has passed those before.
 fn make_candidates(
-    vertices: &[f64],
-    facets: &[u32],
-    extents: AABB,
-    eps: f64,
-    resolution: f64,
+    mesh: MeshLists<'_>,
+    asked: Asked,
     w: &mut [u64],
     candidates: &mut [u64],
     face_lists: &mut [u64],
     constraints: &mut [u64],
     open_edges: &mut [u64],
 ) -> Reply<4>
-    requires sound { Sound vertices.now facets.now (asked extents eps resolution) }
-    requires facets_in_bounds { room_end (most_candidates vertices.now (asked extents eps resolution)) (length facets.now / 3) ≤ length w.old }
-    ensures { Answer (edge_tests vertices.now facets.now (asked extents eps resolution))
-        (candidate_outputs (surface_result vertices.now facets.now (asked extents eps resolution)) candidates.old candidates.new
+    requires sound { Sound mesh.vertices.now mesh.facets.now asked }
+    requires facets_in_bounds { room_end (most_candidates mesh.vertices.now asked) (length mesh.facets.now / 3) ≤ length w.old }
+    ensures { Answer (edge_tests mesh.entry.vertices.now mesh.entry.facets.now asked)
+        (candidate_outputs (surface_result mesh.entry.vertices.now mesh.entry.facets.now asked) candidates.old candidates.new
         face_lists.old face_lists.new constraints.old constraints.new open_edges.old open_edges.new)
         (documented_reply result) }
 {
-    let n = most_candidates(vertices, extents, eps, resolution);
-    let k = table_edges(facets, w, n);
-    check_edges(vertices, facets, extents, eps, resolution, w, n, k)?;
+    let n = most_candidates(mesh.vertices, asked);
+    let k = table_edges(mesh.facets, w, n);
+    check_edges(mesh, asked, w, n, k)?;
     list_candidates(
-        vertices,
-        facets,
-        extents,
-        eps,
-        resolution,
+        mesh,
+        asked,
         w,
         n,
         k,
@@ -108,11 +100,8 @@ fn make_candidates(
 
 // Every test, and the four results where they pass. A mesh with no facet has none. The work room is left as it came out.
 fn candidates_lent(
-    vertices: &[f64],
-    facets: &[u32],
-    extents: AABB,
-    eps: f64,
-    resolution: f64,
+    mesh: MeshLists<'_>,
+    asked: Asked,
     ceiling: u64,
     work: &mut [u64],
     candidates: &mut [u64],
@@ -120,22 +109,19 @@ fn candidates_lent(
     constraints: &mut [u64],
     open_edges: &mut [u64],
 ) -> Reply<4>
-    ensures { Answer (candidates_tests vertices.now facets.now (asked extents eps resolution) (limits ceiling (length work.old)))
-        (candidate_outputs (candidates_result vertices.now facets.now (asked extents eps resolution)) candidates.old candidates.new
+    ensures { Answer (candidates_tests mesh.entry.vertices.now mesh.entry.facets.now asked (limits ceiling (length work.old)))
+        (candidate_outputs (candidates_result mesh.entry.vertices.now mesh.entry.facets.now asked) candidates.old candidates.new
         face_lists.old face_lists.new constraints.old constraints.new open_edges.old open_edges.new)
         (documented_reply result) }
 {
     let lent = work.len();
-    check_closure(vertices, facets, 0, extents, eps, resolution, ceiling, lent)?;
-    if facets.len() == 0 {
+    check_closure(mesh, 0, asked, ceiling, lent)?;
+    if mesh.facets.is_empty() {
         return Ok([0, 0, 0, 0]);
     }
     make_candidates(
-        vertices,
-        facets,
-        extents,
-        eps,
-        resolution,
+        mesh,
+        asked,
         work,
         candidates,
         face_lists,
@@ -146,11 +132,8 @@ fn candidates_lent(
 
 // The work room is cleared once, at the end: what was lent may hold anything.
 pub fn cap_candidates(
-    vertices: &[f64],
-    facets: &[u32],
-    extents: AABB,
-    eps: f64,
-    resolution: f64,
+    mesh: MeshLists<'_>,
+    asked: Asked,
     ceiling: u64,
     work: &mut [u64],
     candidates: &mut [u64],
@@ -158,17 +141,14 @@ pub fn cap_candidates(
     constraints: &mut [u64],
     open_edges: &mut [u64],
 ) -> Reply<4>
-    ensures { Answered (candidates_tests vertices.now facets.now (asked extents eps resolution) (limits ceiling (length work.old)))
-        (candidate_outputs (candidates_result vertices.now facets.now (asked extents eps resolution)) candidates.old candidates.new
+    ensures { Answered (candidates_tests mesh.entry.vertices.now mesh.entry.facets.now asked (limits ceiling (length work.old)))
+        (candidate_outputs (candidates_result mesh.entry.vertices.now mesh.entry.facets.now asked) candidates.old candidates.new
         face_lists.old face_lists.new constraints.old constraints.new open_edges.old open_edges.new)
         work.old work.new (documented_reply result) }
 {
     let reply = candidates_lent(
-        vertices,
-        facets,
-        extents,
-        eps,
-        resolution,
+        mesh,
+        asked,
         ceiling,
         work,
         candidates,

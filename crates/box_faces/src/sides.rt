@@ -1,21 +1,24 @@
 // boundary_closure.rs: the sides of a face, and where a candidate stands along one.
 ghost use Rattle.std.specs.Prelude.{◌≡◌, ◌<◌, get_or};
 ghost use Rattle.root.specs.Doubles.{◌⊘◌, zero_f};
+ghost use Rattle.geometry.specs.Boxes.{face_of};
 ghost use Rattle.box_faces.specs.Faces.{uv};
 ghost use Rattle.box_faces.specs.Sides.{side_from, face_sides, between_ends, along_side, on_side};
 
-use crate::faces::{u_axis, v_axis};
+use crate::faces::uv_axes;
 use crate::uv::{Side, Uv};
 use geometry::aabb::AABB;
+use geometry::face::BoxFace;
 use rounding::{abs, clamp01, max, within};
 
 // `face_boundary_sides`, the k-th
-pub fn face_boundary_side(face: usize, k: usize, extents: AABB) -> Side
+pub fn face_boundary_side(face: BoxFace, k: usize, extents: AABB) -> Side
     requires { k < 4 }
-    ensures { result ≡ get_or (face_sides extents face) k (side_from (uv zero_f zero_f) (uv zero_f zero_f)) }
+    ensures { result ≡ get_or (face_sides extents (face_of face)) k (side_from (uv zero_f zero_f) (uv zero_f zero_f)) }
 {
-    let u = u_axis(face);
-    let v = v_axis(face);
+    let axes = uv_axes(face);
+    let u = axes.0.index();
+    let v = axes.1.index();
     let low = Uv {
         u: extents.min_corner[u],
         v: extents.min_corner[v],

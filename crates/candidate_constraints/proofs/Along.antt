@@ -23,7 +23,7 @@ use Rattle.lists.proofs.Sequences.{flat_up}
 use Rattle.root.specs.Doubles.{◌⊕◌, ◌⊖◌, ◌⊘◌, zero_f, one_f, magnitude, within, larger, clamped}
 use Rattle.root.proofs.Doubles.{clamped_low, clamped_high, clamped_same}
 use Rattle.rounding.specs.Ordering.{order_key}
-use Rattle.rounding.proofs.Ordering.{Number, before_keys}
+use Rattle.rounding.proofs.Ordering.{before_keys}
 use Rattle.records.specs.Buffer.{put_record, records_at}
 use Rattle.records.specs.Records.{record_before, sorted}
 use Rattle.records.proofs.Records.{records_at_split, put_same}
@@ -43,6 +43,11 @@ use Rattle.candidate_constraints.proofs.Frames.{kept_same, kept_put, kept_wider,
 use Rattle.candidate_constraints.proofs.Showing.{list_low, shown_same}
 
 -- ---- a fraction is a number
+-- a double, and no NaN
+pub record Number (x : Float) : Type 0 where
+  pub held : T (fits binary64 x)
+  pub number : T (not (is_nan x))
+
 zero_number : Number zero_f
 unfolding of_bits fits is_nan
 zero_number = record { held = tt; number = tt }
@@ -187,7 +192,8 @@ module _ (eps : Float) (n f : ℕ) (s : Side) (w₀ : List ℕ) where
             omega (arith, o.few, o.size, c.kept.long),
           )
 
-      pub collecting_named : (at : ℕ) (w' : List ℕ) (q : Point) (p : Uv) (t : Option Float) (r : ℕ) → at ≡ side_at n → i < get_or w₀ f 0 → q ≡ point_at w (entry_at (get_or w (list + i) 0))
+      pub collecting_named : (at : ℕ) (w' : List ℕ) (q : Point) (p : Uv) (t : Option Float) (r : ℕ) → at ≡ side_at n → i < get_or w₀ f 0
+          → q ≡ point_at w (entry_at (get_or w (list + i) 0))
           → p ≡ project f q → t ≡ on_side eps s p → Fractioned (at + 2 * m) t i r w w' → Collecting w' (m + r) (i + 1)
       collecting_named at w' q p t r b h eq ep et g =
           collecting_turn w' t r h

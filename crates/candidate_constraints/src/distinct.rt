@@ -1,3 +1,4 @@
+// Stays (C interface), point 6: pairs and constraints stand at places of the one room that C lends, and there is no heap.
 // "listed ascending, once": of sorted pairs the key of each run.
 ghost use Rattle.std.specs.Prelude.{◌+◌, ◌*◌, ◌≤◌};
 ghost use Rattle.candidate_constraints.specs.Steps.{Roomy, Distinct};
@@ -15,7 +16,7 @@ pub fn keep_distinct(w: &mut [u64], room: Room, c: usize, total: usize) -> usize
     let at = room.constraints_at();
     let mut t = total;
     let mut i = 0;
-    // from run to run, so no `for`
+    // Stays (plainer): the loop goes from run to run, whose ends `run_end` finds; a `for` over the pairs would ask at each whether it begins one.
     while i < c {
         let end = run_end(w, pairs, c, i);
         let key = w[pairs + 2 * i];

@@ -1,7 +1,9 @@
+// Stays (C interface), point 6: records and pairs stand at places of the one room that C lends, and there is no heap.
 // boundary_closure.rs, `add_face_box_boundary_constraints`: neighbours along the sides of a face. `dedup_by_key` and `a != b` are left out: a candidate stands once in a
 // face's list, so it stands once on a side.
 ghost use Rattle.std.specs.Prelude.{◌≡◌, map, not, T, ◌+◌, ◌*◌, ◌≤◌, ◌<◌, length};
 ghost use Rattle.std.specs.Float.Ieee.{is_nan};
+ghost use Rattle.geometry.specs.Boxes.{face_of};
 ghost use Rattle.rounding.specs.Ordering.{order_key};
 ghost use Rattle.records.specs.Buffer.{put_record, records_at};
 ghost use Rattle.candidate_pool.specs.Offsets.{side_at, pairs_at};
@@ -17,6 +19,7 @@ use box_faces::uv::Side;
 use candidate_pool::pool::point_of;
 use candidate_pool::room::Room;
 use geometry::aabb::AABB;
+use geometry::face::BoxFace;
 use geometry::numbers::FacePlace;
 use rounding::order_key;
 use sorting::sort_records;
@@ -31,14 +34,14 @@ fn note_fraction(w: &mut [u64], at: usize, t: f64, place: FacePlace)
 }
 
 // The records of a face's candidates along a side, in the order of its list; how many they are.
-fn collect_side(w: &mut [u64], room: Room, face: usize, side: Side, eps: f64) -> usize
+fn collect_side(w: &mut [u64], room: Room, face: BoxFace, side: Side, eps: f64) -> usize
     requires shown { Shown room.n w.old }
-    requires n_bound { (room.n < 2097152) × (face < 6) × (pairs_at room.n ≤ length w.old) }
-    ensures { Collected eps room.n face side result w.old w.new }
+    requires fits { pairs_at room.n ≤ length w.old }
+    ensures { Collected eps room.n (face_of face) side result w.old w.new }
 {
     let list = room.list_at(face);
     let at = room.side_at();
-    let count = w[face] as usize;
+    let count = w[face.index()] as usize;
     let mut m = 0;
     for i in 0..count {
         let p = project(face, point_of(w, candidate_of_place(w, list, FacePlace(i))));
@@ -51,10 +54,10 @@ fn collect_side(w: &mut [u64], room: Room, face: usize, side: Side, eps: f64) ->
 }
 
 // The neighbours among m sorted records, behind `count` pairs.
-fn push_neighbours(w: &mut [u64], room: Room, face: usize, m: usize, count: usize) -> usize
-    requires n_bound { (room.n < 2097152) × (face < 6) × (pairs_at room.n + 2 * (count + m) ≤ length w.old) × (m ≤ room.n) × (count < 1073741824) }
+fn push_neighbours(w: &mut [u64], room: Room, face: BoxFace, m: usize, count: usize) -> usize
+    requires bounds { (pairs_at room.n + 2 * (count + m) ≤ length w.old) × (m ≤ room.n) × (count < 1073741824) }
     requires low_places { LowPlaces room.n m w.old }
-    ensures { Pushed room.n face (pairs_at room.n + 2 * count) m (consecutive (map (λ x. x.1) (records_at w.old (side_at room.n) m))) count result w.old w.new }
+    ensures { Pushed room.n (face_of face) (pairs_at room.n + 2 * count) m (consecutive (map (λ x. x.1) (records_at w.old (side_at room.n) m))) count result w.old w.new }
 {
     let at = room.side_at();
     let pairs = room.pairs_at();
@@ -68,11 +71,12 @@ fn push_neighbours(w: &mut [u64], room: Room, face: usize, m: usize, count: usiz
     c
 }
 
+// Stays (plainer): that places have 21 bits is asked where records are sorted and paired, and is no part of what the room is elsewhere.
 // By t, then by place: stable, since places ascend.
-fn push_side(w: &mut [u64], room: Room, face: usize, side: Side, eps: f64, count: usize) -> usize
+fn push_side(w: &mut [u64], room: Room, face: BoxFace, side: Side, eps: f64, count: usize) -> usize
     requires shown { Shown room.n w.old }
-    requires n_bound { (room.n < 2097152) × (face < 6) × (count ≤ 3 * room.n) × (pairs_at room.n + 16 * room.n ≤ length w.old) }
-    ensures { Pushed room.n face (side_at room.n) room.n (consecutive (side_places eps (pool_at room.n w.old) face side)) count result w.old w.new }
+    requires n_bound { (room.n < 2097152) × (count ≤ 3 * room.n) × (pairs_at room.n + 16 * room.n ≤ length w.old) }
+    ensures { Pushed room.n (face_of face) (side_at room.n) room.n (consecutive (side_places eps (pool_at room.n w.old) (face_of face) side)) count result w.old w.new }
 {
     let m = collect_side(w, room, face, side, eps);
     let at = room.side_at();
@@ -81,10 +85,10 @@ fn push_side(w: &mut [u64], room: Room, face: usize, side: Side, eps: f64, count
 }
 
 // The neighbours along all four sides; how many pairs they are.
-pub fn push_sides(w: &mut [u64], room: Room, face: usize, extents: AABB, eps: f64) -> usize
+pub fn push_sides(w: &mut [u64], room: Room, face: BoxFace, extents: AABB, eps: f64) -> usize
     requires shown { Shown room.n w.old }
-    requires n_bound { (room.n < 2097152) × (face < 6) × (pairs_at room.n + 16 * room.n ≤ length w.old) }
-    ensures { Pushed room.n face (side_at room.n) (4 * room.n) (side_pairs extents eps (pool_at room.n w.old) face) 0 result w.old w.new }
+    requires n_bound { (room.n < 2097152) × (pairs_at room.n + 16 * room.n ≤ length w.old) }
+    ensures { Pushed room.n (face_of face) (side_at room.n) (4 * room.n) (side_pairs extents eps (pool_at room.n w.old) (face_of face)) 0 result w.old w.new }
 {
     let mut c = 0;
     for k in 0..4 {

@@ -11,6 +11,8 @@ use geometry::aabb::AABB;
 use geometry::numbers::MeshVertexId;
 use geometry::vertices::vertex_at;
 
+// The vertex v, if it is on two faces or more.
+// Stays (plainer), point 5: box and eps go on to `aabb_face_mask` and stand apart in the definitions (`edge_faces extents eps`); `Clip`, the same two, has the methods of another operation.
 fn enter_corner(
     w: &mut [u64],
     vertices: &[f64],
@@ -30,6 +32,7 @@ fn enter_corner(
     }
 }
 
+// All vertices.
 pub fn enter_corners(w: &mut [u64], vertices: &[f64], room: Room, extents: AABB, eps: f64)
     requires holds { Holds eps room.n w.old × (length vertices.now / 3 ≤ room.n) }
     requires vertices_in { VerticesIn vertices.now }

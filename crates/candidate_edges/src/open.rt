@@ -1,4 +1,5 @@
 // boundary_closure.rs, `detect_boundary_edges` and `inject_mesh_boundary_edges`.
+// Stays (C interface), point 6: n says where tables stand in the lent room, since C lends one buffer and there is no heap; k and i count its open edges.
 ghost use Rattle.std.specs.Prelude.{◌≡◌, cond, ℕ, ◌+◌, ◌*◌, ◌/◌, ◌%◌, ◌<◌, eqb, length, get_or, set};
 ghost use Rattle.lists.specs.Found.{found};
 ghost use Rattle.geometry.specs.Triangles.{threes};
@@ -16,43 +17,50 @@ use candidate_pool::pool::insert_candidate;
 use candidate_pool::room::Room;
 use edges::{edge_from, edge_to};
 use geometry::aabb::AABB;
+use geometry::mesh::MeshLists;
 use geometry::numbers::{CandidateVertexId, MeshVertexId};
 use geometry::vertices::vertex_at;
 use words::write_three;
 
 // The faces that both ends of a side lie on.
-fn side_mask(vertices: &[f64], facets: &[u32], side: usize, extents: AABB, eps: f64) -> u64
-    requires facets_len { (length facets.now % 3 ≡ 0) × (side < length facets.now) }
-    requires by_index { (i : ℕ) → i < length facets.now → get_or facets.now i 0 < length vertices.now / 3 }
-    ensures { result ≡ face_bits (edge_faces extents eps (mesh_of vertices.now facets.now) (get_or (sides (threes facets.now)) side (0, 0))) }
+// Stays (plainer), point 5: box and eps go on to `aabb_face_mask` and stand apart in the definitions (`edge_faces extents eps`); `Clip`, the same two, has the methods of another operation.
+fn side_mask(mesh: MeshLists<'_>, side: usize, extents: AABB, eps: f64) -> u64
+    requires facets_len { (length mesh.facets.now % 3 ≡ 0) × (side < length mesh.facets.now) }
+    requires by_index { (i : ℕ) → i < length mesh.facets.now → get_or mesh.facets.now i 0 < length mesh.vertices.now / 3 }
+    ensures { result ≡ face_bits (edge_faces extents eps (mesh_of mesh.entry.vertices.now mesh.entry.facets.now) (get_or (sides (threes mesh.entry.facets.now)) side (0, 0))) }
 {
-    let a = vertex_at(vertices, MeshVertexId(edge_from(facets, side) as usize));
-    let b = vertex_at(vertices, MeshVertexId(edge_to(facets, side) as usize));
+    let a = vertex_at(
+        mesh.vertices,
+        MeshVertexId(edge_from(mesh.facets, side) as usize),
+    );
+    let b = vertex_at(
+        mesh.vertices,
+        MeshVertexId(edge_to(mesh.facets, side) as usize),
+    );
     aabb_face_mask(a, b, extents, eps)
 }
 
 // The first of the k open edges that lies on no face.
 pub fn stray_edge(
     w: &[u64],
-    vertices: &[f64],
-    facets: &[u32],
+    mesh: MeshLists<'_>,
     n: usize,
     k: usize,
     extents: AABB,
     eps: f64,
 ) -> Option<usize>
-    requires mesh_fits { MeshFits vertices.now facets.now n w.now }
-    requires table_at { TableAt facets.now w.now (edge_table_at n (length facets.now / 3)) k }
-    ensures { result ≡ found (λ e. eqb (length (edge_faces extents eps (mesh_of vertices.now facets.now) e)) 0) (open_edges (threes facets.now)) }
+    requires mesh_fits { MeshFits mesh.vertices.now mesh.facets.now n w.now }
+    requires table_at { TableAt mesh.facets.now w.now (edge_table_at n (length mesh.facets.now / 3)) k }
+    ensures { result ≡ found (λ e. eqb (length (edge_faces extents eps (mesh_of mesh.entry.vertices.now mesh.entry.facets.now) e)) 0) (open_edges (threes mesh.entry.facets.now)) }
 {
     let room = Room {
         n,
-        nf: facets.len() / 3,
+        nf: mesh.facets.len() / 3,
     };
     let table = room.edge_table_at();
     for i in 0..k {
         let side = w[table + 2 * i + 1] as usize;
-        if side_mask(vertices, facets, side, extents, eps) == 0 {
+        if side_mask(mesh, side, extents, eps) == 0 {
             return Some(i);
         }
     }
@@ -76,6 +84,7 @@ pub fn enter_vertex(
 }
 
 // Writes an open edge; how often it is listed. It "keeps two ends if their candidates differ", else it is listed with no face.
+// Stays (plainer), point 5: that three words lie in the list from `at` on is what each function that writes three asks of its own place.
 fn put_edge(
     w: &mut [u64],
     at: usize,
@@ -87,7 +96,7 @@ fn put_edge(
     ensures { (w.new ≡ set (set (set w.old at a.0) (at + 1) b.0) (at + 2) (cond (eqb a.0 b.0) 0 mask))
         × (result ≡ cond (eqb a.0 b.0) 0 (bit_count mask)) }
 {
-    let faces = if a.0 == b.0 { 0 } else { mask };
+    let faces = if a == b { 0 } else { mask };
     write_three(w, at, a.0 as u64, b.0 as u64, faces);
     count_faces(faces)
 }
@@ -95,49 +104,47 @@ fn put_edge(
 // Inserts the ends of one open edge, the first before the second; how often it is listed.
 fn enter_edge(
     w: &mut [u64],
-    vertices: &[f64],
-    facets: &[u32],
+    mesh: MeshLists<'_>,
     n: usize,
     i: usize,
     extents: AABB,
     eps: f64,
 ) -> usize
-    requires edges_entering { EdgesEntering vertices.now facets.now eps n i w.old }
-    requires i_in_bounds { i < length (open_edges (threes facets.now)) }
-    ensures { EdgeEntered vertices.now facets.now extents eps n i result w.old w.new }
+    requires edges_entering { EdgesEntering mesh.vertices.now mesh.facets.now eps n i w.old }
+    requires i_in_bounds { i < length (open_edges (threes mesh.facets.now)) }
+    ensures { EdgeEntered mesh.entry.vertices.now mesh.entry.facets.now extents eps n i result w.old w.new }
 {
     let room = Room {
         n,
-        nf: facets.len() / 3,
+        nf: mesh.facets.len() / 3,
     };
     let side = w[room.edge_table_at() + 2 * i + 1] as usize;
-    let mask = side_mask(vertices, facets, side, extents, eps);
-    let from = MeshVertexId(edge_from(facets, side) as usize);
-    let to = MeshVertexId(edge_to(facets, side) as usize);
-    let a = enter_vertex(w, vertices, room, from, mask, eps);
-    let b = enter_vertex(w, vertices, room, to, mask, eps);
+    let mask = side_mask(mesh, side, extents, eps);
+    let from = MeshVertexId(edge_from(mesh.facets, side) as usize);
+    let to = MeshVertexId(edge_to(mesh.facets, side) as usize);
+    let a = enter_vertex(w, mesh.vertices, room, from, mask, eps);
+    let b = enter_vertex(w, mesh.vertices, room, to, mask, eps);
     put_edge(w, room.open_edges_at() + 3 * i, a, b, mask)
 }
 
 // The ends of all k open edges; how many entries the open-edge list has.
 pub fn enter_edges(
     w: &mut [u64],
-    vertices: &[f64],
-    facets: &[u32],
+    mesh: MeshLists<'_>,
     n: usize,
     k: usize,
     extents: AABB,
     eps: f64,
 ) -> usize
-    requires mesh_fits { MeshFits vertices.now facets.now n w.old }
-    requires table_at { TableAt facets.now w.old (edge_table_at n (length facets.now / 3)) k }
-    requires vertices_in { VerticesIn vertices.now }
+    requires mesh_fits { MeshFits mesh.vertices.now mesh.facets.now n w.old }
+    requires table_at { TableAt mesh.facets.now w.old (edge_table_at n (length mesh.facets.now / 3)) k }
+    requires vertices_in { VerticesIn mesh.vertices.now }
     requires holds { Holds eps n w.old × (pool_at n w.old ≡ no_pool) × ((v : ℕ) → v < n → joined_in n w.old v ≡ 0) }
-    ensures { EdgesEntered vertices.now facets.now extents eps n k result w.old w.new }
+    ensures { EdgesEntered mesh.entry.vertices.now mesh.entry.facets.now extents eps n k result w.old w.new }
 {
     let mut listed = 0;
     for i in 0..k {
-        listed += enter_edge(w, vertices, facets, n, i, extents, eps);
+        listed += enter_edge(w, mesh, n, i, extents, eps);
     }
     listed
 }

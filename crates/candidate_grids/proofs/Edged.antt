@@ -101,7 +101,6 @@ module _ (eps : Float) (n nf k f : ℕ) (w : List ℕ) (h : f < 6) (H : Holds ep
         small_n = H.table.small;
         small = small;
         edges = edges;
-        face_in = h;
         few = H.table.few;
         stored = H.stored;
         from = λ i l b. held_low n w f (get_or w (E + 3 * i) 0) h H.tidy (D.from i f l h b);

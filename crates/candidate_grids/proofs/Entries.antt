@@ -105,18 +105,17 @@ module _ (eps : Float) (n : ℕ) (g : ℕ → List Candidate) (w : List ℕ) whe
 
 -- ---- a row
 
-module _ (eps : Float) (n : ℕ) (near : Near) (f : ℕ) (row : Row) (box : AABB) (last : ℕ) (w v : List ℕ) (R : RowReady eps n near f row box last w) (j : ℕ)
+module _ (eps : Float) (n : ℕ) (near : Near) (f : ℕ) (row : Row) (box : AABB) (last : ℕ) (w v : List ℕ) (R : RowReady eps n near row box last w) (j : ℕ)
     (E : PointsEntered eps n (flat_map (row_cell (skips_near w near) box f row last) (up_to j)) j w v) (lt : j ≤ last) where
   pub row_line_in : (line : Float) → v_axis f < 3 → line ≡ line_at (lowest box (v_axis f)) (highest box (v_axis f)) last j → Within (2 ^ 48) line
   row_line_in line h el = rw el (line_in box (v_axis f) last j R.box_in h R.some_parts R.few_parts (let a = R.few_parts in omega arith))
 
-  pub row_point_ready : (p : Point) → PointIn p → PointReady eps n near f p v
+  pub row_point_ready : (p : Point) → PointIn p → PointReady eps n near p v
   row_point_ready p h =
       record {
         holds = E.holds;
         room = let a = E.few in let b = R.room in omega arith;
         near_in = near_same n near w v E.long E.rest R.near_in;
-        face_in = R.face_in;
         point_in = h;
       }
 

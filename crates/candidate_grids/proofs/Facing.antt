@@ -19,7 +19,7 @@ use mathlib.Core.Bool.{Bool, true, false, cond, ◌&&◌}
 use mathlib.Core.List.{List, [], ◌∷◌, flat_map, foldl}
 use lib.ListN.{length, get_or}
 use lib.Ieee.{Float}
-use Rattle.lists.specs.Lists.{has, up_to}
+use Rattle.lists.specs.Lists.{some, has, up_to}
 use Rattle.lists.proofs.Sequences.{flat_below}
 use Rattle.root.specs.Bounds.{Within}
 use Rattle.root.specs.Doubles.{larger, ◌⊖◌}
@@ -45,6 +45,7 @@ use Rattle.candidate_grids.specs.Steps.{
   by_axes,
   skips_at,
   skips_near,
+  edge_hit,
   Gathered,
   NearReady,
   is_inner,
@@ -110,7 +111,8 @@ module _ (box : AABB) (eps : Float) (resolution : List Float) where
       let c = parts_is k n h e q in
       (omega arith, omega arith)
 
-  pub face_room : (n f last last-v : ℕ) (w v : List ℕ) → last ≡ segs (u_axis f) → last-v ≡ segs (v_axis f) → count_at v ≡ count_at w → count_at w + face_size box eps resolution f ≤ n
+  pub face_room : (n f last last-v : ℕ) (w v : List ℕ) → last ≡ segs (u_axis f) → last-v ≡ segs (v_axis f) → count_at v ≡ count_at w
+      → count_at w + face_size box eps resolution f ≤ n
       → count_at v + (last + 1) * (last-v + 1) ≤ n
   face_room n f last last-v w v eu ev e h =
       let q : (last + 1) * (last-v + 1) ≡ face_size box eps resolution f = ap (λ (x : ℕ). (x + 1) * (last-v + 1)) eu ∙ ap (λ (x : ℕ). (segs (u_axis f) + 1) * (x + 1)) ev in
@@ -184,7 +186,7 @@ module _ (eps : Float) (n : ℕ) (near : Near) (f : ℕ) (box : AABB) (at : Floa
     (E : PointsEntered eps n (flat_map (λ x. flat_map (row_cell (skips_near w near) box f (row_at box f at last x) last-v) (up_to (last-v + 1))) (up_to i)) (i * (last-v + 1)) w v) where
   pub row_ready : (u : Float) (inner : Bool) → f < 6 → box_in_range box ≡ true → i ≤ last → last ≤ 256 → 1 ≤ last → last-v ≤ 256 → 1 ≤ last-v
       → count_at w + (last + 1) * (last-v + 1) ≤ n → Within (2 ^ 48) at → u ≡ line_at (lowest box (u_axis f)) (highest box (u_axis f)) last i
-      → RowReady eps n near f (record { at = at; u = u; inner = inner }) box last-v v
+      → RowReady eps n near (record { at = at; u = u; inner = inner }) box last-v v
   row_ready u inner f-in box_in le lu su lv sv room at_in eu =
       record {
         holds = E.holds;
@@ -194,7 +196,6 @@ module _ (eps : Float) (n : ℕ) (near : Near) (f : ℕ) (box : AABB) (at : Floa
             let c = add-mul i 1 (last-v + 1) in
             omega (arith, one-mul (last-v + 1));
         near_in = near_same n near w v E.long E.rest N;
-        face_in = f-in;
         some_parts = sv;
         few_parts = lv;
         box_in = box_in;
@@ -245,19 +246,19 @@ module _ (eps : Float) (n nf k f : ℕ) (tolerance : Float) (w v : List ℕ) (H 
         lists = λ g c h e. ap (λ (p : Pool). has (face_list p g) c) gathered_pool ∙ e;
       }
 
-module _ (box : AABB) (eps : Float) (resolution skip : List Float) (n nf k f : ℕ) (w v u : List ℕ) (R : FaceReady box eps resolution skip n nf k f w) (count : ℕ)
-    (G : Gathered n nf k f (by_axis skip (axis f)) w v count) where
+module _ (box : AABB) (eps : Float) (resolution skip : List Float) (n nf k f : ℕ) (f-in : f < 6) (w v u : List ℕ) (R : FaceReady box eps resolution skip n nf k f w) (count : ℕ)
+    (tolerance : Float) (t-is : tolerance ≡ by_axis skip (axis f)) (G : Gathered n nf k f tolerance w v count) where
   segments_say : (place : ℕ) → place ≡ segments_at n nf → (p : Uv)
-      → skips_at v place count (by_axis skip (axis f)) p ≡ skipped (by_axes box eps resolution skip) (edges_at w (open_edges_at n nf) k) (pool_at n w) f p
+      → skips_at v place count tolerance p ≡ skipped (by_axes box eps resolution skip) (edges_at w (open_edges_at n nf) k) (pool_at n w) f p
   unfolding skipped
   segments_say place es p =
-      ap (λ (x : ℕ). skips_at v x count (by_axis skip (axis f)) p) es ∙ G.skips p
-      ∙ sym (edges_some (pool_at n w) w (open_edges_at n nf) k f (by_axis skip (axis f)) p R.face_in)
+      ap (λ (x : ℕ). skips_at v x count tolerance p) es ∙ G.skips p ∙ ap (λ (t : Float). some (edge_hit (pool_at n w) w (open_edges_at n nf) f t p) (up_to k)) t-is
+      ∙ sym (edges_some (pool_at n w) w (open_edges_at n nf) k f (by_axis skip (axis f)) p f-in)
 
   pub face_end : (place : ℕ) (at : Float) (last last-v parts i : ℕ) → place ≡ segments_at n nf → last ≡ segments box eps (by_axis resolution) (u_axis f) → last-v ≡ segments box eps
       (by_axis resolution) (v_axis f)
       → parts ≡ segments box eps (by_axis resolution) (axis f) → at ≡ face_line box f parts → i ≡ last + 1
-      → PointsEntered eps n (flat_map (λ x. flat_map (row_cell (skips_near v (record { at = place; count = count; tolerance = by_axis skip (axis f) })) box f (row_at box f at last x) last-v)
+      → PointsEntered eps n (flat_map (λ x. flat_map (row_cell (skips_near v (record { at = place; count = count; tolerance = tolerance })) box f (row_at box f at last x) last-v)
       (up_to (last-v + 1))) (up_to i)) (i * (last-v + 1)) v u
       → FaceEntered box eps resolution skip n nf k f w u
   face_end place at last last-v parts i es eu ev ep ea ei E =
@@ -265,19 +266,19 @@ module _ (box : AABB) (eps : Float) (resolution skip : List Float) (n nf k f : �
         pool =
             E.pool
             ∙ ap (λ (x : ℕ). foldl (insert (by_key eps)) (pool_at n v) (flat_map
-            (λ y. flat_map (row_cell (skips_at v place count (by_axis skip (axis f))) box f (row_at box f at last y) last-v) (up_to (last-v + 1))) (up_to x))) ei
-            ∙ ap (foldl (insert (by_key eps)) (pool_at n v)) (face_is box eps resolution skip (edges_at w (open_edges_at n nf) k) (pool_at n w) f R.face_in
-            (skips_at v place count (by_axis skip (axis f))) (segments_say place es) at last last-v parts eu ev ep ea)
+            (λ y. flat_map (row_cell (skips_at v place count tolerance) box f (row_at box f at last y) last-v) (up_to (last-v + 1))) (up_to x))) ei
+            ∙ ap (foldl (insert (by_key eps)) (pool_at n v)) (face_is box eps resolution skip (edges_at w (open_edges_at n nf) k) (pool_at n w) f f-in
+            (skips_at v place count tolerance) (segments_say place es) at last last-v parts eu ev ep ea)
             ∙ ap (λ (p : Pool). foldl (insert (by_key eps)) p (face_grid (by_axes box eps resolution skip) (edges_at w (open_edges_at n nf) k) (pool_at n w) f))
-            (gathered_pool eps n nf k f (by_axis skip (axis f)) w v R.holds count G);
+            (gathered_pool eps n nf k f tolerance w v R.holds count G);
         holds = E.holds;
         few =
             let a = E.few in
-            let b = gathered_count eps n nf k f (by_axis skip (axis f)) w v R.holds count G in
+            let b = gathered_count eps n nf k f tolerance w v R.holds count G in
             let c : i * (last-v + 1) ≡ face_size box eps resolution f = ap (λ (x : ℕ). x * (last-v + 1)) ei ∙ ap (λ (x : ℕ). (x + 1) * (last-v + 1)) eu ∙ ap
             (λ (x : ℕ). (segments box eps (by_axis resolution) (u_axis f) + 1) * (x + 1)) ev in
             omega arith;
-        grown = grown_more n w v u (gathered_grown eps n nf k f (by_axis skip (axis f)) w v R.holds count G) E.grown;
+        grown = grown_more n w v u (gathered_grown eps n nf k f tolerance w v R.holds count G) E.grown;
         long = E.long ∙ G.long;
         rest = λ x a b. E.rest x a ∙ G.rest x b;
       }

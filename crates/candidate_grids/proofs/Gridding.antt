@@ -99,7 +99,6 @@ module _ (box : AABB) (eps : Float) (resolution skip : List Float) (n nf k : ℕ
           size = let a = R.size in let b = G.long in omega arith;
           small = R.small;
           edges = R.edges;
-          face_in = h;
           box_in = R.box_in;
           coarse = R.coarse;
           skips = R.skips;

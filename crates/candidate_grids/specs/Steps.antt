@@ -128,7 +128,6 @@ pub record EdgesReady (n nf k face : ℕ) (tolerance : Float) (w : List ℕ) : T
   pub small_n : n < 268435456
   pub small : nf < 268435456
   pub edges : k ≤ 3 * nf
-  pub face_in : face < 6
   pub few : count_at w ≤ n
   pub stored : (c : ℕ) → c < count_at w → PointStored w (entry_at c)
   pub from : (i : ℕ) → i < k → has_bit (get_or w (open_edges_at n nf + 3 * i + 2) 0) face ≡ true → get_or w (open_edges_at n nf + 3 * i) 0 < count_at w
@@ -168,11 +167,10 @@ face_line box f parts = line_at (lowest box (axis f)) (highest box (axis f)) par
 abbrev pub row_at : AABB → ℕ → Float → ℕ → ℕ → Row
 row_at box f at last i = record { at = at; u = line_at (lowest box (u_axis f)) (highest box (u_axis f)) last i; inner = is_inner i last }
 
-pub record PointReady (eps : Float) (n : ℕ) (near : Near) (face : ℕ) (p : Point) (w : List ℕ) : Type 0 where
+pub record PointReady (eps : Float) (n : ℕ) (near : Near) (p : Point) (w : List ℕ) : Type 0 where
   pub holds : Holds eps n w
   pub room : count_at w < n
   pub near_in : NearReady n near w
-  pub face_in : face < 6
   pub point_in : PointIn p
 
 -- candidates keep their points, and stay in their lists
@@ -190,11 +188,10 @@ pub record PointsEntered (eps : Float) (n : ℕ) (l : List Candidate) (most : �
   pub long : length w' ≡ length w
   pub rest : (x : ℕ) → joined_at n ≤ x → get_or w' x 0 ≡ get_or w x 0
 
-pub record RowReady (eps : Float) (n : ℕ) (near : Near) (face : ℕ) (row : Row) (box : AABB) (last : ℕ) (w : List ℕ) : Type 0 where
+pub record RowReady (eps : Float) (n : ℕ) (near : Near) (row : Row) (box : AABB) (last : ℕ) (w : List ℕ) : Type 0 where
   pub holds : Holds eps n w
   pub room : count_at w + (last + 1) ≤ n
   pub near_in : NearReady n near w
-  pub face_in : face < 6
   pub some_parts : 1 ≤ last
   pub few_parts : last ≤ 256
   pub box_in : box_in_range box ≡ true
@@ -211,7 +208,6 @@ pub record FaceReady (box : AABB) (eps : Float) (resolution skip : List Float) (
   pub size : room_end n nf ≤ length w
   pub small : nf < 268435456
   pub edges : k ≤ 3 * nf
-  pub face_in : face < 6
   pub box_in : box_in_range box ≡ true
   pub coarse : grid_too_fine box eps (by_axis resolution) ≡ false
   pub skips : (a : ℕ) → a < 3 → Within (2 ^ 48) (by_axis skip a)

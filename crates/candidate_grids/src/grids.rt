@@ -1,8 +1,9 @@
 // boundary_closure.rs, `add_face_grid_points`: "the face grids, u outside v". `grid_to_candidate` is left out: the same point has the same key.
+// Stays (C interface), point 6: open edges and segments stand at places of the lent room, since C lends one buffer and there is no heap; `last` counts a row's segments.
 ghost use Rattle.std.specs.Prelude.{◌≡◌, ◌&&◌, ◌+◌, ◌*◌, ◌<◌, ◌≤◌, length};
 ghost use mathlib.Core.List.{flat_map};
 ghost use Rattle.lists.specs.Lists.{up_to};
-ghost use Rattle.geometry.specs.Boxes.{lowest, highest};
+ghost use Rattle.geometry.specs.Boxes.{lowest, highest, axis_of, face_of};
 ghost use Rattle.box_faces.specs.Lines.{line_at};
 ghost use Rattle.candidate_grids.specs.Steps.{
   GridReady,
@@ -28,16 +29,17 @@ ghost use Rattle.candidate_grids.specs.Steps.{
   FaceEntered,
 };
 
-use box_faces::faces::{has_face, project, u_axis, v_axis};
+use box_faces::faces::{has_face, project, uv_axes};
 use box_faces::lines::{axis_grid_coordinate, point_on_face};
 use box_faces::segments::{point_on_segment2, segment_bound};
 use box_faces::uv::Uv;
 use candidate_pool::pool::{insert_grid_point, point_of};
 use candidate_pool::room::Room;
 use geometry::aabb::AABB;
+use geometry::face::{Axis, BOX_FACES, BoxFace};
 use geometry::numbers::CandidateVertexId;
 use geometry::point::Point;
-use input_tests::grid::segments_of;
+use input_tests::grid::Grid;
 
 // The open edges of the face worked on, as `count` segments from `at` on, and how near to one a point lies on it.
 #[derive(Clone, Copy)]
@@ -67,9 +69,9 @@ fn put_segment(w: &mut [u64], at: usize, a: Uv, b: Uv, bound: f64)
 }
 
 // Stores the open edge at `edge`, projected to the face, with its bound.
-fn gather_segment(w: &mut [u64], at: usize, edge: usize, face: usize, tolerance: f64)
+fn gather_segment(w: &mut [u64], at: usize, edge: usize, face: BoxFace, tolerance: f64)
     requires { EdgeReady at edge tolerance w.old }
-    ensures { SegmentGathered at edge face tolerance w.old w.new }
+    ensures { SegmentGathered at edge (face_of face) tolerance w.old w.new }
 {
     let a = project(face, point_of(w, CandidateVertexId(w[edge] as usize)));
     let b = project(face, point_of(w, CandidateVertexId(w[edge + 1] as usize)));
@@ -78,9 +80,9 @@ fn gather_segment(w: &mut [u64], at: usize, edge: usize, face: usize, tolerance:
 }
 
 // The open edges of a face; how many they are.
-fn gather_segments(w: &mut [u64], room: Room, k: usize, face: usize, tolerance: f64) -> usize
-    requires { EdgesReady room.n room.nf k face tolerance w.old }
-    ensures { Gathered room.n room.nf k face tolerance w.old w.new result }
+fn gather_segments(w: &mut [u64], room: Room, k: usize, face: BoxFace, tolerance: f64) -> usize
+    requires { EdgesReady room.n room.nf k (face_of face) tolerance w.old }
+    ensures { Gathered room.n room.nf k (face_of face) tolerance w.old w.new result }
 {
     let edges = room.open_edges_at();
     let segments = room.segments_at();
@@ -117,22 +119,24 @@ fn is_skipped(w: &[u64], room: Room, near: Near, p: Uv) -> bool
     (0..near.count).any(|i| is_on_segment(w, near.at + 5 * i, p, near.tolerance))
 }
 
-fn grid_line(extents: AABB, axis: usize, parts: usize, i: usize) -> f64
-    requires { (axis < 3) × ((i ≤ 256) × (parts ≤ 256)) }
-    ensures { result ≡ line_at (lowest extents axis) (highest extents axis) parts i }
+fn grid_line(extents: AABB, axis: Axis, parts: usize, i: usize) -> f64
+    requires { (i ≤ 256) × (parts ≤ 256) }
+    ensures { result ≡ line_at (lowest extents (axis_of axis)) (highest extents (axis_of axis)) parts i }
 {
-    axis_grid_coordinate(extents.min_corner[axis], extents.max_corner[axis], parts, i)
+    let k = axis.index();
+    axis_grid_coordinate(extents.min_corner[k], extents.max_corner[k], parts, i)
 }
 
 // The first or the last line of the face's own axis.
-fn face_line(extents: AABB, face: usize, parts: usize) -> f64
-    requires { (face < 6) × (parts ≤ 256) }
-    ensures { result ≡ face_line extents face parts }
+fn face_line(extents: AABB, face: BoxFace, parts: usize) -> f64
+    requires { parts ≤ 256 }
+    ensures { result ≡ face_line extents (face_of face) parts }
 {
-    if face % 2 == 0 {
-        grid_line(extents, face / 2, parts, 0)
+    let axis = face.axis();
+    if face.is_min() {
+        grid_line(extents, axis, parts, 0)
     } else {
-        grid_line(extents, face / 2, parts, parts)
+        grid_line(extents, axis, parts, parts)
     }
 }
 
@@ -142,24 +146,19 @@ fn is_interior(i: usize, last: usize) -> bool
     i != 0 && i != last
 }
 
-fn is_inner(inner: bool, i: usize, last: usize) -> bool
-    ensures { result ≡ inner && is_inner i last }
-{
-    inner && is_interior(i, last)
-}
-
 // One grid point, unless it is interior by index and lies on an open edge of the face.
+// Stays (plainer): whether the point is interior is a fact of its indices, which the row and the place in it say together, and no step to choose.
 fn enter_grid_point(
     w: &mut [u64],
     room: Room,
     near: Near,
-    face: usize,
+    face: BoxFace,
     p: Point,
     inner: bool,
     eps: f64,
 )
-    requires { PointReady eps room.n near face p w.old }
-    ensures { PointsEntered eps room.n (grid_cell (skips_near w.old near) inner face p) 1 w.old w.new }
+    requires { PointReady eps room.n near p w.old }
+    ensures { PointsEntered eps room.n (grid_cell (skips_near w.old near) inner (face_of face) p) 1 w.old w.new }
 {
     if inner && is_skipped(w, room, near, project(face, p)) {
         return;
@@ -172,46 +171,42 @@ fn enter_grid_row(
     w: &mut [u64],
     room: Room,
     near: Near,
-    face: usize,
+    face: BoxFace,
     row: Row,
     extents: AABB,
     last: usize,
     eps: f64,
 )
-    requires { RowReady eps room.n near face row extents last w.old }
-    ensures { PointsEntered eps room.n (flat_map (row_cell (skips_near w.old near) extents face row last) (up_to (last + 1))) (last + 1) w.old w.new }
+    requires { RowReady eps room.n near row extents last w.old }
+    ensures { PointsEntered eps room.n (flat_map (row_cell (skips_near w.old near) extents (face_of face) row last) (up_to (last + 1))) (last + 1) w.old w.new }
 {
-    let axis = v_axis(face);
+    let axis = uv_axes(face).1;
     for j in 0..last + 1 {
         let v = grid_line(extents, axis, last, j);
         let p = point_on_face(face, row.at, row.u, v);
-        enter_grid_point(w, room, near, face, p, is_inner(row.inner, j, last), eps);
+        enter_grid_point(
+            w,
+            room,
+            near,
+            face,
+            p,
+            row.inner & is_interior(j, last),
+            eps,
+        );
     }
 }
 
 // A face's rows, along u. The skip tolerance goes by the axis that the face is across.
-fn enter_face_grid(
-    w: &mut [u64],
-    room: Room,
-    k: usize,
-    face: usize,
-    extents: AABB,
-    eps: f64,
-    resolution: [f64; 3],
-    skip: [f64; 3],
-)
-    requires { FaceReady extents eps resolution skip room.n room.nf k face w.old }
-    ensures { FaceEntered extents eps resolution skip room.n room.nf k face w.old w.new }
+fn enter_face_grid(w: &mut [u64], room: Room, k: usize, face: BoxFace, grid: Grid, skip: [f64; 3])
+    requires { FaceReady grid.extents grid.eps grid.resolution skip room.n room.nf k (face_of face) w.old }
+    ensures { FaceEntered grid.extents grid.eps grid.resolution skip room.n room.nf k (face_of face) w.old w.new }
 {
-    let axis = u_axis(face);
-    let last = segments_of(extents, eps, resolution, axis);
-    let last_v = segments_of(extents, eps, resolution, v_axis(face));
-    let at = face_line(
-        extents,
-        face,
-        segments_of(extents, eps, resolution, face / 2),
-    );
-    let tolerance = skip[face / 2];
+    let axes = uv_axes(face);
+    let last = grid.segments_of(axes.0);
+    let last_v = grid.segments_of(axes.1);
+    let across = face.axis();
+    let at = face_line(grid.extents, face, grid.segments_of(across));
+    let tolerance = skip[across.index()];
     let count = gather_segments(w, room, k, face, tolerance);
     let near = Near {
         at: room.segments_at(),
@@ -221,26 +216,18 @@ fn enter_face_grid(
     for i in 0..last + 1 {
         let row = Row {
             at,
-            u: grid_line(extents, axis, last, i),
+            u: grid_line(grid.extents, axes.0, last, i),
             inner: is_interior(i, last),
         };
-        enter_grid_row(w, room, near, face, row, extents, last_v, eps);
+        enter_grid_row(w, room, near, face, row, grid.extents, last_v, grid.eps);
     }
 }
 
-pub fn enter_grids(
-    w: &mut [u64],
-    room: Room,
-    k: usize,
-    extents: AABB,
-    eps: f64,
-    resolution: [f64; 3],
-    skip: [f64; 3],
-)
-    requires { GridReady extents eps resolution skip room.n room.nf k w.old }
-    ensures { Gridded extents eps resolution skip room.n room.nf k w.old w.new }
+pub fn enter_grids(w: &mut [u64], room: Room, k: usize, grid: Grid, skip: [f64; 3])
+    requires { GridReady grid.extents grid.eps grid.resolution skip room.n room.nf k w.old }
+    ensures { Gridded grid.extents grid.eps grid.resolution skip room.n room.nf k w.old w.new }
 {
-    for face in 0..6 {
-        enter_face_grid(w, room, k, face, extents, eps, resolution, skip);
+    for face in BOX_FACES {
+        enter_face_grid(w, room, k, face, grid, skip);
     }
 }

@@ -1,6 +1,6 @@
 -- The four results as lists that are written one after the other, word for word as they stand in the room. Assumes nothing.
---   part_copied                        a part of the room, copied to a part of an output
---   list_block, lists_are, lists_long, numbers_long, block_long, lists_stored   "six counts, then the numbers"
+--   part_copied, part_is               words copied to a part of an output; a part of the room
+--   list_block, lists_are, lists_long, numbers_long, block_read, block_long, lists_stored   "six counts, then the numbers"
 --   key_block, keys_are, keys_long      constraints            faces_are, faces_long, face_taken, face_left   an open edge with its faces
 --   edge_block, edges_are               open edges
 --   words_are, words_same              candidates, and in a room that agrees with one that holds them
@@ -12,7 +12,8 @@ use mathlib.Core.Path.{◌≡◌, refl, sym, ap, ◌∙◌}
 use mathlib.Core.List.{List, [], ◌∷◌, ◌++◌, map, flat_map, append_assoc}
 use borrow.Rule.Slice.PartMut.{put_mid, Post-is}
 use lib.ListN.{length, get_or, take, drop, length-append, length-take, length-drop, length-map}
-use lib.Seq.{sets, sets-eq, take-add, drop-drop}
+use lib.Seq.{ext_get_or, sets, sets-eq, take-add, drop-drop}
+use Rattle.lists.proofs.Places.{length_up, at_map_up}
 use lib.Ieee.{Float, binary64, to_bits}
 use Rattle.lists.specs.Lists.{up_from, up_to}
 use Rattle.lists.specs.Regions.{view}
@@ -37,21 +38,27 @@ use Rattle.candidate_outputs.specs.Written.{face_words}
 
 -- ---- a part of the room
 
-pub part_copied : (w out ys : List ℕ) (from n at : ℕ) → from + n ≤ length w → at + n ≤ length out
-    → ys ≡ overlay (take (from + n - from) (drop from w)) (take (at + n - at) (drop at out)) → put_mid at (at + n - at) out ys ≡ sets out at (view w from n)
-part_copied w out ys from n at h k e =
-    let a : from + n - from ≡ n = omega arith in
-    let b : at + n - at ≡ n = omega arith in
-    let l = view_length w from n h in
-    let m : length (take n (drop at out)) ≤ length (view w from n) = simp (length-take, length-drop) (omega (arith, l)) in
-    let q : ys ≡ view w from n = e ∙ (λ t. overlay (take (a t) (drop from w)) (take (b t) (drop at out))) ∙ overlay_whole (view w from n) (take n (drop at out)) m in
-    (λ t. take at out ++ (q t ++ Post-is at (at + n) out (omega arith) t)) ∙ ap (λ (x : ℕ). take at out ++ (view w from n ++ drop (at + x) out)) (sym l)
-    ∙ sym (sets-eq (view w from n) out at (omega arith) ∙ append_assoc (take at out) (view w from n) (drop (at + length (view w from n)) out))
+pub part_copied : (words out ys : List ℕ) (at : ℕ) → at + length words ≤ length out
+    → ys ≡ overlay words (take (at + length words - at) (drop at out)) → put_mid at (at + length words - at) out ys ≡ sets out at words
+part_copied words out ys at k e =
+    let b : at + length words - at ≡ length words = omega arith in
+    let m : length (take (length words) (drop at out)) ≤ length words = simp (length-take, length-drop) (omega arith) in
+    let q : ys ≡ words = e ∙ ap (λ (n : ℕ). overlay words (take n (drop at out))) b ∙ overlay_whole words (take (length words) (drop at out)) m in
+    (λ t. take at out ++ (q t ++ Post-is at (at + length words) out (omega arith) t))
+    ∙ sym (sets-eq words out at (omega arith) ∙ append_assoc (take at out) words (drop (at + length words) out))
+
+-- a part as the code has it, from its first place to its end
+pub part_is : (w : List ℕ) (from n : ℕ) → take (from + n - from) (drop from w) ≡ view w from n
+part_is w from n = let e : from + n - from ≡ n = omega arith in ap (λ (m : ℕ). take m (drop from w)) e
 
 -- ---- "six counts, then the numbers"
 
 abbrev pub list_block : ℕ → List ℕ → ℕ → List ℕ
 list_block n w f = view w (list_at n f) (get_or w f 0)
+
+-- the list of face f as the code reads it
+pub block_read : (n : ℕ) (w : List ℕ) (f list count : ℕ) → list ≡ list_at n f → count ≡ get_or w f 0 → take (list + count - list) (drop list w) ≡ list_block n w f
+block_read n w f list count a b = part_is w list count ∙ (λ t. view w (a t) (b t))
 
 module _ (n : ℕ) (w : List ℕ) (size : pool_end n ≤ length w) (short : (f : ℕ) → f < 6 → get_or w f 0 ≤ n) where
   six : view w 0 6 ≡ get_or w 0 0 ∷ get_or w 1 0 ∷ get_or w 2 0 ∷ get_or w 3 0 ∷ get_or w 4 0 ∷ get_or w 5 0 ∷ []
@@ -123,19 +130,24 @@ threes_long f h (x ∷ l) = let a = length-append (f x) (flat_map f l) in let b 
 abbrev constraint_word : Constraint → List ℕ
 constraint_word c = c.face ∷ c.smaller ∷ c.greater ∷ []
 
-abbrev pub key_block : List ℕ → ℕ → ℕ → List ℕ
-key_block w at i = constraint_word (unpacked (get_or w (at + i) 0))
+abbrev pub key_block : List ℕ → ℕ → List ℕ
+key_block keys i = constraint_word (unpacked (get_or keys i 0))
 
-pub keys_are : (w : List ℕ) (at total : ℕ) → at + total ≤ length w → flat_map (key_block w at) (up_to total) ≡ constraint_words (map unpacked (view w at total))
-keys_are w at total h =
-    sym
-    (flat_map_lem constraint_word unpacked (view w at total) ∙ ap (flat_map (λ x. constraint_word (unpacked x))) (view_map w at total h)
-    ∙ flat_map_lem (λ x. constraint_word (unpacked x)) (λ i. get_or w (at + i) 0) (up_to total))
+module _ (keys : List ℕ) where
+  by_places : map (λ i. get_or keys i 0) (up_to (length keys)) ≡ keys
+  by_places =
+      let long : length (map (λ i. get_or keys i 0) (up_to (length keys))) ≡ length keys = length-map (up_to (length keys)) (λ i. get_or keys i 0) ∙ length_up 0 (length keys) in
+      ext_get_or 0 (map (λ i. get_or keys i 0) (up_to (length keys))) keys long
+      (λ j h. at_map_up (λ i. get_or keys i 0) 0 0 (length keys) j (omega (arith, h, long)) ∙ ap (λ (i : ℕ). get_or keys i 0) (omega arith))
 
-pub keys_long : (w : List ℕ) (at total : ℕ) → at + total ≤ length w → length (flat_map (key_block w at) (up_to total)) ≡ 3 * total
-keys_long w at total h =
-    ap length (keys_are w at total h) ∙ threes_long constraint_word (λ c. refl) (map unpacked (view w at total))
-    ∙ ap (λ (x : ℕ). 3 * x) (length-map (view w at total) unpacked ∙ view_length w at total h)
+  pub keys_are : flat_map (key_block keys) (up_to (length keys)) ≡ constraint_words (map unpacked keys)
+  keys_are =
+      sym
+      (flat_map_lem constraint_word unpacked keys ∙ ap (flat_map (λ x. constraint_word (unpacked x))) (sym by_places)
+      ∙ flat_map_lem (λ x. constraint_word (unpacked x)) (λ i. get_or keys i 0) (up_to (length keys)))
+
+  pub keys_long : length (flat_map (key_block keys) (up_to (length keys))) ≡ 3 * length keys
+  keys_long = ap length keys_are ∙ threes_long constraint_word (λ c. refl) (map unpacked keys) ∙ ap (λ (x : ℕ). 3 * x) (length-map keys unpacked)
 
 -- ---- open edges
 

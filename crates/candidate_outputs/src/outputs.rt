@@ -1,7 +1,8 @@
+// Stays (C interface), point 6: a list goes behind what was written in the output that C lends, and the open edges are read at places of the lent room; there is no heap.
 // Test 12, and the four results in the outputs if there is room.
 ghost use Rattle.std.specs.Prelude.{◌≡◌, [], ◌∷◌, map, ℕ, ◌+◌, ◌*◌, ◌≤◌, ◌<◌, length, get_or};
 ghost use Rattle.std.proofs.lemmas.List.Edits.{sets};
-ghost use Rattle.lists.specs.Regions.{view};
+ghost use Rattle.geometry.specs.Boxes.{face_of};
 ghost use Rattle.candidate_pool.specs.OpenEdges.{open_edge_words};
 ghost use Rattle.candidate_constraints.specs.Constraints.{constraint_words};
 ghost use Rattle.candidate_pool.specs.Offsets.{pool_end};
@@ -14,16 +15,17 @@ ghost use Rattle.candidate_outputs.specs.Written.{face_words, candidates_standin
 
 use box_faces::faces::has_face;
 use candidate_pool::room::Room;
+use geometry::face::{BOX_FACES, BoxFace};
 use refusals::refusal::Refusal;
 use refusals::reply::Reply;
 use words::{copy_front, triple_first, triple_second, triple_third, write_three};
 
-// The n words of w from `from` on, to out from `at` on.
-fn write_words(w: &[u64], from: usize, n: usize, out: &mut [u64], at: usize)
-    requires { (from + n ≤ length w.now) × (at + n ≤ length out.old) }
-    ensures { out.new ≡ sets out.old at (view w.now from n) }
+// These words, to out from `at` on.
+fn write_words(words: &[u64], out: &mut [u64], at: usize)
+    requires { at + length words.now ≤ length out.old }
+    ensures { out.new ≡ sets out.old at words.now }
 {
-    copy_front(&w[from..from + n], &mut out[at..at + n]);
+    copy_front(words, &mut out[at..at + words.len()]);
 }
 
 // How many numbers the six face lists have.
@@ -43,23 +45,24 @@ fn write_face_lists(w: &[u64], room: Room, out: &mut [u64])
     requires w_in_bounds { length (list_words (pool_at room.n w.now).lists) ≤ length out.old }
     ensures { out.new ≡ sets out.old 0 (list_words (pool_at room.n w.now).lists) }
 {
-    write_words(w, 0, 6, out, 0);
+    write_words(&w[..6], out, 0);
     let mut at = 6;
-    for face in 0..6 {
-        let count = w[face] as usize;
-        write_words(w, room.list_at(face), count, out, at);
+    for face in BOX_FACES {
+        let count = w[face.index()] as usize;
+        let list = room.list_at(face);
+        write_words(&w[list..list + count], out, at);
         at += count;
     }
 }
 
 // "face and two places"
-fn write_constraints(w: &[u64], at: usize, total: usize, out: &mut [u64])
-    requires { (at + total ≤ length w.now) × (3 * total ≤ length out.old) }
-    ensures { out.new ≡ sets out.old 0 (constraint_words (map unpacked (view w.now at total))) }
+fn write_constraints(keys: &[u64], out: &mut [u64])
+    requires { 3 * length keys.now ≤ length out.old }
+    ensures { out.new ≡ sets out.old 0 (constraint_words (map unpacked keys.now)) }
 {
     let mut o = 0;
-    for i in 0..total {
-        let key = w[at + i];
+    for i in 0..keys.len() {
+        let key = keys[i];
         write_three(
             out,
             o,
@@ -72,15 +75,16 @@ fn write_constraints(w: &[u64], at: usize, total: usize, out: &mut [u64])
 }
 
 // "face and two candidates", if the face is one of those in the mask; where the next goes.
-fn write_face(out: &mut [u64], at: usize, mask: u64, face: usize, a: u64, b: u64) -> usize
-    requires { (face < 6) × (at + length (face_words mask a b face) ≤ length out.old) }
-    ensures { (result ≡ at + length (face_words mask a b face)) × (out.new ≡ sets out.old at (face_words mask a b face)) }
+fn write_face(out: &mut [u64], at: usize, mask: u64, face: BoxFace, a: u64, b: u64) -> usize
+    requires { at + length (face_words mask a b (face_of face)) ≤ length out.old }
+    ensures { (result ≡ at + length (face_words mask a b (face_of face))) × (out.new ≡ sets out.old at (face_words mask a b (face_of face))) }
 {
-    if !has_face(mask, face) {
-        return at;
+    if has_face(mask, face) {
+        write_three(out, at, face.index() as u64, a, b);
+        at + 3
+    } else {
+        at
     }
-    write_three(out, at, face as u64, a, b);
-    at + 3
 }
 
 // The same for each of the edge's faces.
@@ -91,7 +95,7 @@ fn write_edge(w: &[u64], edge: usize, out: &mut [u64], at: usize) -> usize
 {
     let mask = w[edge + 2];
     let mut o = at;
-    for face in 0..6 {
+    for face in BOX_FACES {
         o = write_face(out, o, mask, face, w[edge], w[edge + 1]);
     }
     o
@@ -143,9 +147,10 @@ pub fn deliver(
     if open_edges.len() < e {
         return Err(Refusal::NoRoom(e));
     }
-    write_words(w, 8, c, candidates, 0);
+    write_words(&w[8..8 + c], candidates, 0);
     write_face_lists(w, room, face_lists);
-    write_constraints(w, room.constraints_at(), total, constraints);
+    let keys = room.constraints_at();
+    write_constraints(&w[keys..keys + total], constraints);
     write_edges(w, room.open_edges_at(), k, open_edges);
     Ok([c, l, t, e])
 }

@@ -1,5 +1,6 @@
 // Candidates by their keys (boundary_closure.rs, `point_to_candidate`; `quantized_point_key` is the cell of mesh_weld). The room of n candidates stands in w: their keys, three words
 // each, and the bucket chains, n heads, n tails and n nexts (room.rt).
+// Stays (C interface), point 6: keys and chains stand at places of the lent room, since C lends one buffer and there is no heap.
 ghost use Rattle.std.specs.Prelude.{◌≡◌, ◌+◌, ◌*◌, ◌<◌, length};
 ghost use Rattle.lists.specs.Lists.{first, up_to};
 ghost use Rattle.candidate_pool.specs.Offsets.{keys_at};
@@ -28,6 +29,7 @@ pub fn find_key(w: &[u64], room: Room, count: usize, key: Cell, b: usize) -> Opt
         nb: room.n,
     };
     let mut here = chains.first(w, b);
+    // Stays (plainer): a walk along a chain, whose next place is read from the table.
     while let Some(i) = here {
         if is_key_at(w, room.keys_at() + 3 * i, key) {
             return Some(i);

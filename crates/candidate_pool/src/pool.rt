@@ -1,6 +1,8 @@
 // boundary_closure.rs, `insert_candidate`: "One key, one candidate". A candidate is found by the bucket chain of its key. Its word of faces says whether
 // it is in a face's list already, where the Rust's `push_unique` searches the list.
-ghost use Rattle.std.specs.Prelude.{◌≡◌, [], ◌∷◌, ◌+◌, ◌*◌, ◌≤◌, ◌<◌, length};
+// Stays (C interface), point 6: candidates, keys and lists stand at places of the lent room, since C lends one buffer and there is no heap; `b` is a bucket.
+ghost use Rattle.std.specs.Prelude.{◌≡◌, [], ◌∷◌, ◌+◌, ◌*◌, ◌≤◌, ◌<◌, length, Float};
+ghost use Rattle.geometry.specs.Boxes.{face_of};
 ghost use Rattle.candidate_pool.specs.Offsets.{entry_at, pool_end};
 ghost use Rattle.candidate_pool.specs.Pool.{by_key, number_for};
 ghost use Rattle.candidate_pool.specs.Room.{KeyTable};
@@ -11,12 +13,14 @@ use crate::keys::find_key;
 use crate::room::{Room, entry_at};
 use box_faces::faces::has_face;
 use chains::{Chains, Hashed};
+use geometry::face::{BOX_FACES, BoxFace};
 use geometry::numbers::{CandidateVertexId, MeshVertexId};
 use geometry::point::Point;
 use mesh_weld::cells::{Cell, cell_of};
 use words::zero_part;
 
 // "mesh vertex + 1 or 0", as it stands in a candidate: 0 where it has no mesh vertex.
+// Stays (C interface): the caller reads this word in the list of candidates, as it stands.
 fn mesh_word(mesh: Option<MeshVertexId>) -> u64
     requires { mesh_word mesh ≤ 268435456 }
     ensures { result ≡ mesh_word mesh }
@@ -28,9 +32,10 @@ fn mesh_word(mesh: Option<MeshVertexId>) -> u64
 }
 
 // The room of no candidate.
-pub fn clear_pool(w: &mut [u64], room: Room, eps: f64)
+// Stays (plainer): how much room the pool needs stands beside the room's name, since most functions of a pool ask for more than that.
+pub fn clear_pool(w: &mut [u64], room: Room)
     requires { pool_end room.n ≤ length w.old }
-    ensures { Cleared eps room.n w.old w.new }
+    ensures { (eps : Float) → Cleared eps room.n w.old w.new }
 {
     zero_part(w, 0, 8);
     zero_part(w, room.chain_at(), 2 * room.n);
@@ -114,20 +119,23 @@ fn place_candidate(
 }
 
 // "faces add up": the face is added to the candidate, and the candidate to the face's list, unless it is there.
-fn push_face(w: &mut [u64], room: Room, id: CandidateVertexId, face: usize, eps: f64)
+// Stays (plainer), point 5: a candidate's number is looked up in the room that is handed with it; a number of one room may be none of another's.
+// Stays (proof), point 5: `eps` is read by the clauses alone; as a ghost value no caller could choose it, since a choice reads the call's arguments and not the caller's.
+fn push_face(w: &mut [u64], room: Room, id: CandidateVertexId, face: BoxFace, eps: f64)
     requires holds { Holds eps room.n w.old }
-    requires id_bound { (id.0 < count_at w.old) × (face < 6) }
-    ensures { FaceAdded eps room.n id.0 face w.old w.new }
+    requires id_bound { id.0 < count_at w.old }
+    ensures { FaceAdded eps room.n id.0 (face_of face) w.old w.new }
 {
     let at = entry_at(id) + 4;
     let faces = w[at];
     if has_face(faces, face) {
         return;
     }
-    let k = w[face] as usize;
-    w[at] = faces + (1 << face as u64);
+    let f = face.index();
+    let k = w[f] as usize;
+    w[at] = faces + (1 << f as u64);
     w[room.list_at(face) + k] = id.0 as u64;
-    w[face] = k as u64 + 1;
+    w[f] = k as u64 + 1;
 }
 
 // A loop, since a closure called for each face would borrow the room, and a proof would not know what it wrote.
@@ -136,7 +144,7 @@ fn push_faces(w: &mut [u64], room: Room, id: CandidateVertexId, mask: u64, eps: 
     requires id_bound { id.0 < count_at w.old }
     ensures { FacesAdded eps room.n id.0 mask w.old w.new }
 {
-    for face in 0..6 {
+    for face in BOX_FACES {
         if has_face(mask, face) {
             push_face(w, room, id, face, eps);
         }
@@ -165,11 +173,11 @@ pub fn insert_candidate(
 }
 
 // `insert_candidate`, of a point of a face's grid
-pub fn insert_grid_point(w: &mut [u64], room: Room, p: Point, face: usize, eps: f64)
+pub fn insert_grid_point(w: &mut [u64], room: Room, p: Point, face: BoxFace, eps: f64)
     requires holds { Holds eps room.n w.old }
-    requires point_in { PointIn p × (face < 6) }
-    requires room_for { RoomFor eps room.n w.old (candidate p 0 (face ∷ [])) }
-    ensures { Inserted eps room.n (candidate p 0 (face ∷ [])) w.old w.new }
+    requires point_in { PointIn p }
+    requires room_for { RoomFor eps room.n w.old (candidate p 0 (face_of face ∷ [])) }
+    ensures { Inserted eps room.n (candidate p 0 (face_of face ∷ [])) w.old w.new }
 {
     let id = place_candidate(w, room, p, None, eps);
     push_face(w, room, id, face, eps);

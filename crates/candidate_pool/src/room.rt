@@ -14,8 +14,10 @@
 //   8 + 63 n + 54 nf      12 nf     the edge table
 // In all 8 + 63 (vertices + G) + 66 facets, of the 128 (vertices + facets + G) + 1,024 that are lent.
 ghost use Rattle.std.specs.Prelude.{◌≡◌, ◌<◌};
+ghost use Rattle.geometry.specs.Boxes.{face_of};
 ghost use Rattle.candidate_pool.specs.Offsets.{entry_at, keys_at, chain_at, list_at, joined_at, places_at, side_at, pairs_at, constraints_at, open_edges_at, segments_at, edge_table_at, room_end};
 
+use geometry::face::BoxFace;
 use geometry::numbers::CandidateVertexId;
 
 pub fn entry_at(id: CandidateVertexId) -> usize
@@ -33,6 +35,7 @@ pub struct Room {
     ghost small: { (n < 268435456) × (nf < 268435456) },
 }
 
+// Stays (plainer): each method is another table's place and each number there another one; one function of a table would be a match over these same lines.
 impl Room {
     pub fn keys_at(self) -> usize
         ensures { result ≡ keys_at self.n }
@@ -46,11 +49,10 @@ impl Room {
         8 + 8 * self.n
     }
 
-    pub fn list_at(self, face: usize) -> usize
-        requires { face < 6 }
-        ensures { result ≡ list_at self.n face }
+    pub fn list_at(self, face: BoxFace) -> usize
+        ensures { result ≡ list_at self.n (face_of face) }
     {
-        8 + 11 * self.n + face * self.n
+        8 + 11 * self.n + face.index() * self.n
     }
 
     pub fn joined_at(self) -> usize

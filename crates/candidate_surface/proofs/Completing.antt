@@ -5,7 +5,7 @@
 --   grids_ready, completed  grids, once the corner vertices are in too
 use Prim.Native.Nat.{ℕ, ◌*◌, ◌/◌, ◌≤◌, ◌^◌}
 use native.Mathlib.Omega.{arith}
-use mathlib.Core.Path.{◌≡◌, ap, ◌∙◌}
+use mathlib.Core.Path.{◌≡◌, sym, ap, subst, ◌∙◌}
 use mathlib.Core.List.{List, [], ◌∷◌, foldl}
 use lib.ListN.{length}
 use lib.Ieee.{Float}
@@ -14,6 +14,7 @@ use Rattle.root.specs.Doubles.{◌⊗◌, 1e-9}
 use Rattle.root.specs.Bounds.{Within}
 use Rattle.geometry.specs.declared.aabb.AABB.{AABB}
 use Rattle.geometry.specs.Meshes.{mesh_of}
+use Rattle.input_tests.specs.declared.grid.Grid.{Grid}
 use Rattle.candidate_pool.specs.Offsets.{open_edges_at, edge_table_at}
 use Rattle.candidate_pool.specs.Pool.{Pool, face_list, by_key, insert}
 use Rattle.candidate_pool.specs.Standing.{pool_at, Cleared, edges_at, EdgesHeld}
@@ -22,7 +23,7 @@ use Rattle.candidate_edges.specs.Surface.{edge_surface, corner_vertices, mesh_po
 use Rattle.candidate_edges.specs.Steps.{TableAt, MeshFits, EdgesEntered, CornersEntered}
 use Rattle.candidate_grids.specs.Grid.{grid}
 use Rattle.candidate_grids.specs.Steps.{by_axes, GridReady, Gridded}
-use Rattle.candidate_surface.specs.Asked.{asked}
+use Rattle.candidate_surface.specs.Asked.{asked, grid_of}
 use Rattle.candidate_surface.specs.Steps.{Sound, most_candidates, Tabled, Surfaced, Completed}
 use Rattle.candidate_surface.proofs.Fitting.{each_within}
 use Rattle.candidate_surface.proofs.Frames.{table_kept, all_grown}
@@ -71,9 +72,11 @@ module _ (vs : List Float) (fs : List ℕ) (box : AABB) (eps : Float) (n k : ℕ
     each x = x ∷ x ∷ x ∷ []
 
     -- the grids can be entered with any tolerance in range ..
-    pub grids_ready : (skip : Float) → Within (2 ^ 48) skip → GridReady box eps (each resolution) (each skip) n (length fs / 3) k w'
-    grids_ready skip skip-in =
-        record {
+    pub grids_ready : (g : Grid) → g ≡ grid_of (asked box eps resolution) → (skip : Float) → Within (2 ^ 48) skip
+        → GridReady g.extents g.eps g.resolution (each skip) n (length fs / 3) k w'
+    grids_ready g is skip skip-in =
+        subst (λ (x : Grid). GridReady x.extents x.eps x.resolution (each skip) n (length fs / 3) k w') (sym is)
+        (record {
           holds = C.holds;
           held = corner_held;
           few = let a = C.few in omega (arith, a, en);
@@ -84,12 +87,13 @@ module _ (vs : List Float) (fs : List ℕ) (box : AABB) (eps : Float) (n k : ℕ
           box_good = S.box_good;
           coarse = S.coarse;
           skips = each_within skip skip-in;
-        }
+        })
 
     -- .. and are document 01's with its own
-    pub completed : (skip : Float) → skip ≡ resolution ⊗ 1e-9 → (w'' : List ℕ) → Gridded box eps (each resolution) (each skip) n (length fs / 3) k w' w''
-        → Completed vs fs (asked box eps resolution) n k w''
-    completed skip e w'' G =
+    pub completed : (g : Grid) → g ≡ grid_of (asked box eps resolution) → (skip : Float) → skip ≡ resolution ⊗ 1e-9 → (w'' : List ℕ)
+        → Gridded g.extents g.eps g.resolution (each skip) n (length fs / 3) k w' w'' → Completed vs fs (asked box eps resolution) n k w''
+    completed g is skip e w'' H =
+        let G = subst (λ (x : Grid). Gridded x.extents x.eps x.resolution (each skip) n (length fs / 3) k w' w'') is H in
         record {
           pool = G.pool
               ∙ (λ t. foldl (insert (by_key eps)) (corner_pool t) (grid (by_axes box eps (each resolution) (each (e t))) (corner_edges t) (corner_pool t)));

@@ -3,10 +3,11 @@
 --   vertices_in      every vertex is a point of no NaN and no infinity
 --   grid_small, most_small   how many grid points and how many candidates there may be at most
 --   mesh_fits        the mesh and the room that the functions ask for      room_for   the room for it, of what was lent
+--   size_of, fine_of   the number of grid points and the test of the grid, as the methods of `Grid` answer them
 use Prim.Native.Nat.{ℕ, zero, suc, ◌+◌, ◌*◌, ◌/◌, ◌≤◌, ◌<◌, ◌^◌}
 use native.Mathlib.Omega.{arith}
-use mathlib.Core.Bool.{true, false, not}
-use mathlib.Core.Path.{◌≡◌, sym, subst}
+use mathlib.Core.Bool.{Bool, true, false, not}
+use mathlib.Core.Path.{◌≡◌, sym, ap, subst, ◌∙◌}
 use mathlib.Core.List.{List}
 use borrow.Author.Tests.{ltb-true, lt-ltb, not-false}
 use lib.Dec.{T, ltb}
@@ -20,13 +21,15 @@ use Rattle.root.proofs.Powers.{in_range_lem, within_pow, mul_pow}
 use Rattle.geometry.specs.declared.aabb.AABB.{AABB}
 use Rattle.geometry.specs.Axes.{segments, grid_size}
 use Rattle.geometry.proofs.Meshes.{vertex_at}
-use Rattle.input_tests.specs.Front.{bad_index, in_range, resolution_in_range, grid_too_fine}
+use Rattle.input_tests.specs.Front.{by_axis, bad_index, in_range, resolution_in_range, grid_too_fine}
 use Rattle.input_tests.proofs.Ranges.{in_range_within}
 use Rattle.input_tests.proofs.Grids.{not_too_fine, small_product}
 use Rattle.candidate_pool.specs.Offsets.{room_end}
 use Rattle.candidate_pool.specs.Standing.{PointIn}
 use Rattle.candidate_edges.specs.Steps.{VerticesIn, MeshFits}
-use Rattle.candidate_surface.specs.Asked.{Asked, on_each, one_resolution}
+use Rattle.input_tests.specs.declared.grid.Grid.{Grid}
+use Rattle.candidate_surface.specs.declared.asked.Asked.{Asked}
+use Rattle.candidate_surface.specs.Asked.{on_each, one_resolution, grid_of}
 use Rattle.candidate_surface.specs.Steps.{Sound, most_candidates}
 
 -- ---- numbers
@@ -88,7 +91,7 @@ module _ (vs : List Float) (fs : List ℕ) (q : Asked) (S : Sound vs fs q) where
       (record { x = coordinate (3 * v) (omega arith); y = coordinate (3 * v + 1) (omega arith); z = coordinate (3 * v + 2) (omega arith) })
 
   pub most_small : most_candidates vs q ≤ 464920
-  most_small = let a = grid_small q.box q.eps (one_resolution q.resolution) S.coarse in let b = S.lists.few_vertices in omega (arith, a, b)
+  most_small = let a = grid_small q.extents q.eps (one_resolution q.resolution) S.coarse in let b = S.lists.few_vertices in omega (arith, a, b)
 
   number_below : (i : ℕ) → i < length fs → get_or fs i 0 < length vs / 3
   unfolding bad_index
@@ -107,6 +110,15 @@ module _ (vs : List Float) (fs : List ℕ) (q : Asked) (S : Sound vs fs q) where
         size = omega (arith, e, h);
       }
 
-  pub room_for : (caps lent : ℕ) → 128 * (length vs / 3 + length fs / 3 + caps + grid_size q.box q.eps (one_resolution q.resolution)) + 1024 ≤ lent
+  pub room_for : (caps lent : ℕ) → 128 * (length vs / 3 + length fs / 3 + caps + grid_size q.extents q.eps (one_resolution q.resolution)) + 1024 ≤ lent
       → room_end (most_candidates vs q) (length fs / 3) ≤ lent
   room_for caps lent h = omega arith
+
+-- ---- the grid of what is asked
+
+module _ (q : Asked) (g : Grid) where
+  pub size_of : (m : ℕ) → g ≡ grid_of q → m ≡ grid_size g.extents g.eps (by_axis g.resolution) → m ≡ grid_size q.extents q.eps (one_resolution q.resolution)
+  size_of m e h = h ∙ ap (λ (x : Grid). grid_size x.extents x.eps (by_axis x.resolution)) e
+
+  pub fine_of : (b : Bool) → g ≡ grid_of q → b ≡ grid_too_fine g.extents g.eps (by_axis g.resolution) → b ≡ grid_too_fine q.extents q.eps (one_resolution q.resolution)
+  fine_of b e h = h ∙ ap (λ (x : Grid). grid_too_fine x.extents x.eps (by_axis x.resolution)) e

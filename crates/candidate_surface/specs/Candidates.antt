@@ -11,7 +11,7 @@ use Rattle.candidate_pool.specs.Setting.{Setting}
 use Rattle.candidate_edges.specs.Surface.{edge_surface, mesh_pool}
 use Rattle.candidate_grids.specs.Grid.{grid}
 use Rattle.candidate_constraints.specs.Constraints.{Constraint, face_constraints}
-use Rattle.candidate_surface.specs.Asked.{Asked}
+use Rattle.candidate_surface.specs.declared.asked.Asked.{Asked}
 
 pub record Candidates : Type 0 where
   pub all : List Candidate
@@ -43,4 +43,4 @@ no_facet fs = eqb (length fs) 0
 
 -- "if no open edge keeps two ends": after 9 each open edge has a face, so one that keeps them is listed
 unfoldable pub no_two_ends : List Float → List ℕ → Asked → Bool
-no_two_ends vs fs q = eqb (length (edge_surface q.box q.eps (by_key q.eps) (mesh_of vs fs)).edges) 0
+no_two_ends vs fs q = eqb (length (edge_surface q.extents q.eps (by_key q.eps) (mesh_of vs fs)).edges) 0

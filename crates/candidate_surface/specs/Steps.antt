@@ -22,19 +22,20 @@ use Rattle.candidate_pool.specs.Standing.{joined_in, pool_at, Holds, edges_at, E
 use Rattle.candidate_edges.specs.Surface.{edge_surface, mesh_pool}
 use Rattle.candidate_edges.specs.Steps.{TableAt, Sourced}
 use Rattle.candidate_grids.specs.Grid.{grid}
-use Rattle.candidate_surface.specs.Asked.{Asked, one_resolution, setting}
+use Rattle.candidate_surface.specs.declared.asked.Asked.{Asked}
+use Rattle.candidate_surface.specs.Asked.{one_resolution, setting}
 
 pub record Sound (vs : List Float) (fs : List ℕ) (q : Asked) : Type 0 where
   pub lists : ListsPass vs fs
   pub numbers : every in_range vs ≡ true
-  pub box_in : box_in_range q.box ≡ true
+  pub box_in : box_in_range q.extents ≡ true
   pub eps_in : eps_in_range q.eps ≡ true
   pub resolution_in : resolution_in_range q.resolution ≡ true
-  pub box_good : bad_box q.box ≡ false
-  pub coarse : grid_too_fine q.box q.eps (one_resolution q.resolution) ≡ false
+  pub box_good : bad_box q.extents ≡ false
+  pub coarse : grid_too_fine q.extents q.eps (one_resolution q.resolution) ≡ false
 
 abbrev pub most_candidates : List Float → Asked → ℕ
-most_candidates vs q = length vs / 3 + grid_size q.box q.eps (one_resolution q.resolution)
+most_candidates vs q = length vs / 3 + grid_size q.extents q.eps (one_resolution q.resolution)
 
 pub record Tabled (fs : List ℕ) (n k : ℕ) (w : List ℕ) : Type 0 where
   pub table : TableAt fs w (edge_table_at n (length fs / 3)) k
@@ -54,6 +55,6 @@ full_pool s mesh =
 
 pub record Completed (vs : List Float) (fs : List ℕ) (q : Asked) (n k : ℕ) (w : List ℕ) : Type 0 where
   pub pool : pool_at n w ≡ full_pool (setting q) (mesh_of vs fs)
-  pub edges : edges_at w (open_edges_at n (length fs / 3)) k ≡ (edge_surface q.box q.eps (by_key q.eps) (mesh_of vs fs)).edges
+  pub edges : edges_at w (open_edges_at n (length fs / 3)) k ≡ (edge_surface q.extents q.eps (by_key q.eps) (mesh_of vs fs)).edges
   pub holds : Holds q.eps n w
   pub held : EdgesHeld (pool_at n w) w (open_edges_at n (length fs / 3)) k

@@ -2,4 +2,5 @@
 // `add_aabb_grid_vertices` of `CandidateCapSurface`).
 #![tactic(auto)]
 
+pub mod asked;
 pub mod surface;

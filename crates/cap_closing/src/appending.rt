@@ -1,3 +1,4 @@
+// Stays (C interface), point 6: the facets left and their records stand at places of the one room that C lends, and there is no heap.
 // boundary_closure.rs, `append_selected_candidate_caps`, up to the area test.
 ghost use Rattle.std.specs.Prelude.{◌≡◌, ℕ, ◌+◌, ◌*◌, ◌/◌, ◌≤◌, ◌<◌, length, get_or};
 ghost use Rattle.geometry.specs.Meshes.{points_of};
@@ -80,6 +81,7 @@ fn append_cap(w: &mut [u64], vertices: &[f64], room: CapRoom, i: usize, left: us
     false
 }
 
+// Stays (plainer): `positive` tells the two modes that close apart; `BoundaryClosure` has a third, which never comes here.
 // Triangle i, if the mode takes it.
 fn append_if_taken(
     w: &mut [u64],
@@ -95,13 +97,10 @@ fn append_if_taken(
     requires taking { Taking room.n room.nf room.nc w.old }
     ensures { Turned vertices.now (closing_at room.n room.nf room.nc) room.n room.nf room.nc positive i left (bit result) w.old w.new }
 {
-    let chosen = is_selected(w, room, i);
-    if chosen == positive {
-        return append_cap(w, vertices, room, i, left);
-    }
-    false
+    is_selected(w, room, i) == positive && append_cap(w, vertices, room, i, left)
 }
 
+// Stays (plainer): `positive`, as in `append_if_taken`.
 // The facets of the triangles that the mode takes, in the order supplied; how many are left.
 pub fn append_caps(w: &mut [u64], vertices: &[f64], room: CapRoom, positive: bool) -> usize
     requires names_entering { NamesEntering (closing_at room.n room.nf room.nc) room.n room.nc (length vertices.now / 3) w.old }

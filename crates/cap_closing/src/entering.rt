@@ -1,3 +1,4 @@
+// Stays (C interface), point 6: the numbers given out and the new vertices stand at places of the one room that C lends, and there is no heap.
 // Candidates entered among the mesh vertices: boundary_closure.rs, `materialize_candidate`.
 ghost use Rattle.std.specs.Prelude.{◌≡◌, [], ◌∷◌, ℕ, ◌+◌, ◌-◌, ◌*◌, ◌/◌, ◌≤◌, ◌<◌, length, get_or};
 ghost use Rattle.geometry.specs.Meshes.{vertex, points_of};
@@ -21,6 +22,7 @@ pub fn start_entering(w: &mut [u64], room: CapRoom, nv: usize)
     let count = w[6] as usize;
     w[room.vertices_at()] = nv as u64;
     for c in 0..count {
+        // Stays (plainer): one word of five is copied, so that they are no part of the room to copy whole.
         w[given + c] = w[entry_at(CandidateVertexId(c)) + 3];
     }
 }

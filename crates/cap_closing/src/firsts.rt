@@ -1,3 +1,4 @@
+// Stays (C interface), point 6: records and marks stand at places of the one room that C lends, and there is no heap.
 // "of those left the first for each three mesh corners"
 ghost use Rattle.std.specs.Prelude.{◌≡◌, ℕ, ◌+◌, ◌*◌, ◌≤◌, ◌<◌, length, get_or};
 ghost use Rattle.records.specs.Buffer.{payload_in};
@@ -9,6 +10,7 @@ use cap_triangles::room::CapRoom;
 use records::{put_by_payload, run_end};
 use sorting::sort_records;
 
+// Stays (C interface): the marks are words of the room that C lends, 1 or 0, and the answer is how many runs there are.
 // Of each of the `left` facets 1 if its record begins a run, else 0; how many runs there are.
 fn mark_firsts(w: &mut [u64], records: usize, firsts: usize, left: usize) -> usize
     requires left_bound { (records + 2 * left ≤ firsts) × (firsts + left ≤ length w.old) }
@@ -17,7 +19,7 @@ fn mark_firsts(w: &mut [u64], records: usize, firsts: usize, left: usize) -> usi
 {
     let mut count = 0;
     let mut i = 0;
-    // from run to run: no range counts the places where runs begin
+    // Stays (plainer): the loop goes from run to run, whose ends `run_end` finds; a `for` over the records would ask at each whether it begins one.
     while i < left {
         let end = run_end(w, records, left, i);
         put_by_payload(w, records, firsts, i, i + 1, 1);

@@ -1,7 +1,7 @@
+// Stays (C interface), point 6: facets left, their marks and the new vertices stand at places of the one room that C lends, and there is no heap.
 // Test 12, and a mesh in the outputs if there is room.
 ghost use Rattle.std.specs.Prelude.{◌≡◌, [], ◌∷◌, map, ℕ, ◌+◌, ◌*◌, ◌/◌, ◌%◌, ◌≤◌, ◌<◌, length, get_or};
 ghost use Rattle.std.proofs.lemmas.List.Edits.{sets};
-ghost use Rattle.lists.specs.Regions.{view};
 ghost use Rattle.geometry.specs.Triangles.{reversed, threes, flat};
 ghost use Rattle.geometry.specs.Meshes.{coordinates, mesh_of};
 ghost use Rattle.candidate_pool.specs.Offsets.{entry_at};
@@ -13,7 +13,8 @@ ghost use Rattle.cap_outputs.specs.Written.{points_in, cap_words, all_cap_words,
 
 use candidate_pool::pool::point_of;
 use cap_closing::closing::CapCount;
-use cap_triangles::room::CapRoom;
+use cap_triangles::room::{CapRoom, SuppliedCaps};
+use geometry::mesh::MeshLists;
 use geometry::numbers::CandidateVertexId;
 use geometry::vertices::write_point;
 use refusals::refusal::Refusal;
@@ -22,35 +23,35 @@ use words::{copy_front, write_three};
 
 // The mesh as it came.
 pub fn deliver_mesh(
-    vertices: &[f64],
-    facets: &[u32],
+    mesh: MeshLists<'_>,
     out_vertices: &mut [f64],
     out_facets: &mut [u32],
 ) -> Reply<2>
-    requires { (length vertices.now % 3 ≡ 0) × (length facets.now % 3 ≡ 0) }
+    requires { (length mesh.vertices.now % 3 ≡ 0) × (length mesh.facets.now % 3 ≡ 0) }
     ensures { Answer []
-        (mesh_outputs (mesh_of vertices.now facets.now) out_vertices.old out_vertices.new out_facets.old
+        (mesh_outputs (mesh_of mesh.entry.vertices.now mesh.entry.facets.now) out_vertices.old out_vertices.new out_facets.old
         out_facets.new) (documented_reply result) }
 {
-    if out_vertices.len() < vertices.len() {
-        return Err(Refusal::NoRoom(vertices.len()));
+    if out_vertices.len() < mesh.vertices.len() {
+        return Err(Refusal::NoRoom(mesh.vertices.len()));
     }
-    if out_facets.len() < facets.len() {
-        return Err(Refusal::NoRoom(facets.len()));
+    if out_facets.len() < mesh.facets.len() {
+        return Err(Refusal::NoRoom(mesh.facets.len()));
     }
-    copy_front(vertices, out_vertices);
-    copy_front(facets, out_facets);
-    Ok([vertices.len(), facets.len()])
+    copy_front(mesh.vertices, out_vertices);
+    copy_front(mesh.facets, out_facets);
+    Ok([mesh.vertices.len(), mesh.facets.len()])
 }
 
-// The points of the `count` candidates that became new vertices, from `at` on.
-fn write_fresh(w: &[u64], fresh: usize, count: usize, out: &mut [f64], at: usize)
-    requires count_in_bounds { (fresh + count ≤ length w.now) × (at + 3 * count ≤ length out.old) }
-    requires by_index { (i : ℕ) → i < count → PointStored w.now (entry_at (get_or w.now (fresh + i) 0)) × (entry_at (get_or w.now (fresh + i) 0) + 2 < length w.now) }
-    ensures { out.new ≡ sets out.old at (coordinates (points_in w.now (view w.now fresh count))) }
+// Stays (plainer): `write_fresh` and `write_caps` have nothing in common but the loop: one writes points at even steps, one goes on behind what was written.
+// The points of the candidates that became new vertices, from `at` on.
+fn write_fresh(w: &[u64], fresh: &[u64], out: &mut [f64], at: usize)
+    requires fits { at + 3 * length fresh.now ≤ length out.old }
+    requires by_index { (i : ℕ) → i < length fresh.now → PointStored w.now (entry_at (get_or fresh.now i 0)) × (entry_at (get_or fresh.now i 0) + 2 < length w.now) }
+    ensures { out.new ≡ sets out.old at (coordinates (points_in w.now fresh.now)) }
 {
-    for i in 0..count {
-        let c = w[fresh + i] as usize;
+    for i in 0..fresh.len() {
+        let c = fresh[i] as usize;
         write_point(out, at + 3 * i, point_of(w, CandidateVertexId(c)));
     }
 }
@@ -71,6 +72,7 @@ fn write_reversed(facets: &[u32], out: &mut [u32])
     }
 }
 
+// Stays (plainer): `positive` tells the two modes that close apart; `BoundaryClosure` has a third, which never comes here.
 fn write_own(facets: &[u32], positive: bool, out: &mut [u32])
     requires { (length facets.now % 3 ≡ 0) × (length facets.now ≤ length out.old) }
     ensures { out.new ≡ sets out.old 0 (flat (own_facets positive (threes facets.now))) }
@@ -115,45 +117,56 @@ fn write_caps(w: &[u64], facets: usize, firsts: usize, left: usize, out: &mut [u
     }
 }
 
+// Stays (plainer): `positive`, as in `write_own`.
 // Every length is known before the first output is written.
 pub fn deliver_closed(
     w: &[u64],
-    vertices: &[f64],
-    facets: &[u32],
-    n: usize,
-    nc: usize,
+    mesh: MeshLists<'_>,
+    caps: SuppliedCaps<'_>,
     positive: bool,
     made: CapCount,
     out_vertices: &mut [f64],
     out_facets: &mut [u32],
 ) -> Reply<2>
-    requires { Deliverable vertices.now facets.now n nc made.left made.caps w.now }
+    requires { Deliverable mesh.vertices.now mesh.facets.now caps.n (length caps.list.now / 4) made.left made.caps w.now }
     ensures { Answer []
-        (mesh_outputs (closed_mesh_in vertices.now facets.now n nc positive made.left w.now) out_vertices.old out_vertices.new
-        out_facets.old out_facets.new) (documented_reply result) }
+        (mesh_outputs (closed_mesh_in mesh.entry.vertices.now mesh.entry.facets.now caps.entry.n (length caps.entry.list.now / 4) positive made.left w.now)
+        out_vertices.old out_vertices.new out_facets.old out_facets.new) (documented_reply result) }
 {
-    let nf = facets.len() / 3;
-    let nv = vertices.len() / 3;
-    let room = CapRoom { n, nf, nc };
+    let nf = mesh.facets.len() / 3;
+    let nv = mesh.vertices.len() / 3;
+    let room = CapRoom {
+        n: caps.n,
+        nf,
+        nc: caps.list.len() / 4,
+        k: caps.k,
+    };
     let count = w[room.vertices_at()] as usize;
     let v = 3 * count;
-    let f = facets.len() + 3 * made.caps;
+    let f = mesh.facets.len() + 3 * made.caps;
     if out_vertices.len() < v {
         return Err(Refusal::NoRoom(v));
     }
     if out_facets.len() < f {
         return Err(Refusal::NoRoom(f));
     }
-    copy_front(vertices, out_vertices);
-    write_fresh(w, room.fresh_at(), count - nv, out_vertices, vertices.len());
-    write_own(facets, positive, out_facets);
+    copy_front(mesh.vertices, out_vertices);
+    let entered = count - nv;
+    let fresh = room.fresh_at();
+    write_fresh(
+        w,
+        &w[fresh..fresh + entered],
+        out_vertices,
+        mesh.vertices.len(),
+    );
+    write_own(mesh.facets, positive, out_facets);
     write_caps(
         w,
         room.left_at(),
         room.firsts_at(),
         made.left,
         out_facets,
-        facets.len(),
+        mesh.facets.len(),
     );
     Ok([v, f])
 }

@@ -135,8 +135,8 @@ module _ (n nf k : ℕ) (cap_list w₀ : List ℕ) (tables : TablesFor n nf (len
       zero_there : get_or w₀ (side_target n nf nc w₀ k s) 0 ≡ 0
       zero_there = zeros (get_or w₀ (numbers_at n nf nc + k + s) 0) (low s h)
 
-      pub note_side_asks : ((s : ℕ) → s < 3 * nc → side_face cap_list s < 6) → (held + pair < length w) × (get_or w (held + pair) 0 < 64) × (side_face cap_list s < 6)
-      note_side_asks f = (note_side_low, subst (λ (x : ℕ). get_or w x 0 < 64) (sym side_target_lem) (inv.small (side_target n nf nc w₀ k s) zero_there), f s h)
+      pub note_side_asks : (held + pair < length w) × (get_or w (held + pair) 0 < 64)
+      note_side_asks = (note_side_low, subst (λ (x : ℕ). get_or w x 0 < 64) (sym side_target_lem) (inv.small (side_target n nf nc w₀ k s) zero_there))
 
       pub note_side_turn : (v : List ℕ) → Added w v (held + pair) (eqb (side_face cap_list s)) → Noted (side_target n nf nc w₀ k) (λ s. eqb (side_face cap_list s)) w₀ v (s + 1)
       note_side_turn v a =

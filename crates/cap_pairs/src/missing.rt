@@ -1,6 +1,7 @@
 // Test 11 (document 01, "Refusals").
 ghost use Rattle.std.specs.Prelude.{◌≡◌, ◌+◌, ◌*◌, ◌≤◌, ◌<◌, length};
 ghost use Rattle.lists.specs.Lists.{place};
+ghost use Rattle.geometry.specs.Boxes.{face_of};
 ghost use Rattle.box_faces.specs.Faces.{bit_count};
 ghost use Rattle.candidate_pool.specs.Offsets.{open_edges_at};
 ghost use Rattle.candidate_pool.specs.Standing.{faces_in, pool_at, edges_at};
@@ -11,14 +12,16 @@ ghost use Rattle.cap_pairs.specs.Pairs.{PairsKnown};
 ghost use Rattle.cap_pairs.specs.Steps.{missing_face};
 
 use box_faces::faces::{count_faces, has_face};
-use cap_triangles::room::CapRoom;
+use cap_triangles::room::{CapRoom, SuppliedCaps};
+use geometry::face::{BOX_FACES, BoxFace};
 
+// Stays (plainer): that the counts of six faces are there is all that is asked of the room.
 // A face that has three or more candidates and is not among those that hold the edge.
-fn is_missing(w: &[u64], held: u64, face: usize) -> bool
-    requires { (face < 6) × (6 ≤ length w.now) }
-    ensures { result ≡ missing_face w.now held face }
+fn is_missing(w: &[u64], held: u64, face: BoxFace) -> bool
+    requires { 6 ≤ length w.now }
+    ensures { result ≡ missing_face w.now held (face_of face) }
 {
-    3 <= w[face] && !has_face(held, face)
+    3 <= w[face.index()] && !has_face(held, face)
 }
 
 // Of the mask's faces the place of the first such, if there is one.
@@ -26,25 +29,31 @@ fn first_missing(w: &[u64], mask: u64, held: u64) -> Option<usize>
     requires { 6 ≤ length w.now }
     ensures { FirstPlace (place (missing_face w.now held) (faces_in mask)) (bit_count mask) result }
 {
-    (0..6)
-        .filter(|face| has_face(mask, *face))
-        .position(|face| is_missing(w, held, face))
+    BOX_FACES
+        .iter()
+        .filter(|face| has_face(mask, **face))
+        .position(|face| is_missing(w, held, *face))
 }
 
 // 11: the place of the first such edge in the open-edge list, if there is one. The pairs are numbered, and the faces that hold them noted.
-pub fn missing_place(w: &[u64], n: usize, nf: usize, k: usize, cap_list: &[u64]) -> Option<usize>
-    requires cap_ready { CapReady n nf k cap_list.now w.now }
-    requires pairs_known { PairsKnown n nf k cap_list.now w.now }
-    ensures { FirstPlace (missing_place (pool_at n w.now) (caps_of cap_list.now) (edges_at w.now (open_edges_at n nf) k))
-        (length (edges_at w.now (open_edges_at n nf) k)) result }
+pub fn missing_place(w: &[u64], caps: SuppliedCaps<'_>) -> Option<usize>
+    requires cap_ready { CapReady caps.n caps.nf caps.k caps.list.now w.now }
+    requires pairs_known { PairsKnown caps.n caps.nf caps.k caps.list.now w.now }
+    ensures { FirstPlace (missing_place (pool_at caps.entry.n w.now) (caps_of caps.entry.list.now) (edges_at w.now (open_edges_at caps.entry.n caps.entry.nf) caps.entry.k))
+        (length (edges_at w.now (open_edges_at caps.entry.n caps.entry.nf) caps.entry.k)) result }
 {
-    let nc = cap_list.len() / 4;
-    let room = CapRoom { n, nf, nc };
+    let nc = caps.list.len() / 4;
+    let room = CapRoom {
+        n: caps.n,
+        nf: caps.nf,
+        nc,
+        k: caps.k,
+    };
     let edges = room.open_edges_at();
     let numbers = room.numbers_at();
     let held = room.held_at();
     let mut place = 0;
-    for i in 0..k {
+    for i in 0..caps.k {
         let mask = w[edges + 3 * i + 2];
         let pair = w[numbers + i] as usize;
         if let Some(before) = first_missing(w, mask, w[held + pair]) {

@@ -1,31 +1,35 @@
+// Stays (C interface), point 6: words of faces stand at places of the one room that C lends, and there is no heap.
 // What is known of each pair of candidates: the faces of its open edges, by the way that they run, and of the triangles that hold it.
 ghost use Rattle.std.specs.Prelude.{◌≡◌, ℕ, ◌+◌, ◌*◌, ◌/◌, ◌<◌, cond, eqb, ltb, length, get_or};
 ghost use Rattle.lists.specs.Regions.{Above};
+ghost use Rattle.geometry.specs.Boxes.{face_of};
 ghost use Rattle.box_faces.specs.Faces.{has_bit};
 ghost use Rattle.cap_triangles.specs.Room.{CapReady, numbers_at, up_at, down_at, held_at};
 ghost use Rattle.cap_pairs.specs.Pairs.{PairNumbers, PairsKnown};
 ghost use Rattle.cap_pairs.specs.Steps.{Added, Noted, edge_mask, edge_target, side_target, side_face, TablesFor};
 
 use box_faces::faces::has_face;
-use cap_triangles::room::CapRoom;
+use cap_triangles::listed::supplied_face;
+use cap_triangles::room::{CapRoom, SuppliedCaps};
+use geometry::face::{BOX_FACES, BoxFace};
 use words::zero_part;
 
-fn add_face(w: &mut [u64], at: usize, face: usize)
-    requires { (at < length w.old) × (get_or w.old at 0 < 64) × (face < 6) }
-    ensures { Added w.old w.new at (eqb face) }
+fn add_face(w: &mut [u64], at: usize, face: BoxFace)
+    requires { (at < length w.old) × (get_or w.old at 0 < 64) }
+    ensures { Added w.old w.new at (eqb (face_of face)) }
 {
     let faces = w[at];
     if has_face(faces, face) {
         return;
     }
-    w[at] = faces + (1 << face as u64);
+    w[at] = faces + (1 << face.index());
 }
 
 fn add_faces(w: &mut [u64], at: usize, mask: u64)
     requires { (at < length w.old) × (get_or w.old at 0 < 64) }
     ensures { Added w.old w.new at (has_bit mask) }
 {
-    for face in 0..6 {
+    for face in BOX_FACES {
         if has_face(mask, face) {
             add_face(w, at, face);
         }
@@ -48,19 +52,20 @@ fn edge_faces(w: &[u64], at: usize) -> u64
     if w[at] == w[at + 1] { 0 } else { w[at + 2] }
 }
 
+// Stays (plainer): `note_edges` and `note_sides` have nothing in common but the loop: one takes faces from a word of the room, one from the caller's list.
 // Of each pair the faces of its open edges, by the way that they run. An edge that kept one end has no face, and its pair no triangle.
-fn note_edges(w: &mut [u64], room: CapRoom, k: usize)
-    requires tables_for { TablesFor room.n room.nf room.nc w.old k }
-    requires by_index { (i : ℕ) → i < k → get_or w.old (numbers_at room.n room.nf room.nc + i) 0 < k + 3 * room.nc }
-    requires by_index_2 { (r : ℕ) → r < k + 3 * room.nc
+fn note_edges(w: &mut [u64], room: CapRoom)
+    requires tables_for { TablesFor room.n room.nf room.nc w.old room.k }
+    requires by_index { (i : ℕ) → i < room.k → get_or w.old (numbers_at room.n room.nf room.nc + i) 0 < room.k + 3 * room.nc }
+    requires by_index_2 { (r : ℕ) → r < room.k + 3 * room.nc
         → (get_or w.old (up_at room.n room.nf room.nc + r) 0 ≡ 0) × (get_or w.old (down_at room.n room.nf room.nc + r) 0 ≡ 0) }
-    ensures { Noted (edge_target room.n room.nf room.nc w.old) (λ j. has_bit (edge_mask room.n room.nf room.nc w.old j)) w.old w.new k }
+    ensures { Noted (edge_target room.n room.nf room.nc w.old) (λ j. has_bit (edge_mask room.n room.nf room.nc w.old j)) w.old w.new room.k }
 {
     let edges = room.open_edges_at();
     let numbers = room.numbers_at();
     let up = room.up_at();
     let down = room.down_at();
-    for i in 0..k {
+    for i in 0..room.k {
         let table = way_at(w, edges + 3 * i, up, down);
         let pair = w[numbers + i] as usize;
         let mask = edge_faces(w, edges + 3 * i);
@@ -69,35 +74,46 @@ fn note_edges(w: &mut [u64], room: CapRoom, k: usize)
 }
 
 // Of each pair the faces of the triangles that hold it.
-fn note_sides(w: &mut [u64], n: usize, nf: usize, k: usize, cap_list: &[u64])
-    requires tables_for { TablesFor n nf (length cap_list.now / 4) w.old k }
-    requires by_index { (s : ℕ) → s < 3 * (length cap_list.now / 4) → get_or w.old (numbers_at n nf (length cap_list.now / 4) + k + s) 0 < k + 3 * (length cap_list.now / 4) }
-    requires by_index_2 { (r : ℕ) → r < k + 3 * (length cap_list.now / 4) → get_or w.old (held_at n nf (length cap_list.now / 4) + r) 0 ≡ 0 }
-    requires by_index_3 { (s : ℕ) → s < 3 * (length cap_list.now / 4) → side_face cap_list.now s < 6 }
-    ensures { Noted (side_target n nf (length cap_list.now / 4) w.old k) (λ s. eqb (side_face cap_list.now s))
-        w.old w.new (3 * (length cap_list.now / 4)) }
+fn note_sides(w: &mut [u64], caps: SuppliedCaps<'_>)
+    requires tables_for { TablesFor caps.n caps.nf (length caps.list.now / 4) w.old caps.k }
+    requires by_index { (s : ℕ) → s < 3 * (length caps.list.now / 4)
+        → get_or w.old (numbers_at caps.n caps.nf (length caps.list.now / 4) + caps.k + s) 0 < caps.k + 3 * (length caps.list.now / 4) }
+    requires by_index_2 { (r : ℕ) → r < caps.k + 3 * (length caps.list.now / 4) → get_or w.old (held_at caps.n caps.nf (length caps.list.now / 4) + r) 0 ≡ 0 }
+    requires by_index_3 { (s : ℕ) → s < 3 * (length caps.list.now / 4) → side_face caps.list.now s < 6 }
+    ensures { Noted (side_target caps.entry.n caps.entry.nf (length caps.entry.list.now / 4) w.old caps.entry.k) (λ s. eqb (side_face caps.entry.list.now s))
+        w.old w.new (3 * (length caps.entry.list.now / 4)) }
 {
-    let nc = cap_list.len() / 4;
-    let room = CapRoom { n, nf, nc };
-    let numbers = room.numbers_at() + k;
+    let nc = caps.list.len() / 4;
+    let room = CapRoom {
+        n: caps.n,
+        nf: caps.nf,
+        nc,
+        k: caps.k,
+    };
+    let numbers = room.numbers_at() + caps.k;
     let held = room.held_at();
     for s in 0..3 * nc {
         let pair = w[numbers + s] as usize;
-        let face = cap_list[s / 3 * 4] as usize;
-        add_face(w, held + pair, face);
+        add_face(w, held + pair, supplied_face(caps.list, s / 3));
     }
 }
 
-pub fn note_faces(w: &mut [u64], n: usize, nf: usize, k: usize, cap_list: &[u64])
-    requires cap_ready { CapReady n nf k cap_list.now w.old }
-    requires pair_numbers { PairNumbers n nf k cap_list.now w.old }
-    ensures { Above (up_at n nf (length cap_list.now / 4)) w.old w.new × PairsKnown n nf k cap_list.now w.new }
+pub fn note_faces(w: &mut [u64], caps: SuppliedCaps<'_>)
+    requires cap_ready { CapReady caps.n caps.nf caps.k caps.list.now w.old }
+    requires pair_numbers { PairNumbers caps.n caps.nf caps.k caps.list.now w.old }
+    ensures { Above (up_at caps.entry.n caps.entry.nf (length caps.entry.list.now / 4)) w.old w.new × PairsKnown caps.entry.n caps.entry.nf caps.entry.k caps.entry.list.now w.new }
 {
-    let nc = cap_list.len() / 4;
-    let room = CapRoom { n, nf, nc };
-    zero_part(w, room.up_at(), k + 3 * nc);
-    zero_part(w, room.down_at(), k + 3 * nc);
-    zero_part(w, room.held_at(), k + 3 * nc);
-    note_edges(w, room, k);
-    note_sides(w, n, nf, k, cap_list);
+    let nc = caps.list.len() / 4;
+    let room = CapRoom {
+        n: caps.n,
+        nf: caps.nf,
+        nc,
+        k: caps.k,
+    };
+    let pairs = caps.k + 3 * nc;
+    zero_part(w, room.up_at(), pairs);
+    zero_part(w, room.down_at(), pairs);
+    zero_part(w, room.held_at(), pairs);
+    note_edges(w, room);
+    note_sides(w, caps);
 }

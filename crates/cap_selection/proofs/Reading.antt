@@ -4,9 +4,9 @@
 --   seed_skipped, seed_marked  the store for a triangle that is no seed, and for one that is
 use Prim.Native.Nat.{ℕ, ◌+◌, ◌*◌, ◌≤◌, ◌<◌}
 use mathlib.Core.Path.{◌≡◌, refl, sym, ap, ◌∙◌}
-use mathlib.Core.Bool.{Bool, true, false, not}
+use mathlib.Core.Bool.{Bool, true, false}
 use mathlib.Core.List.{List}
-use borrow.Author.Tests.{lt-ltb, le-ltb, not-true, not-false}
+use borrow.Author.Tests.{lt-ltb, le-ltb}
 use lib.Dec.{ltb}
 use lib.ListN.{get_or, set}
 use Rattle.lists.proofs.Bools.{cond_true, cond_false}
@@ -62,10 +62,10 @@ module _ (n nf nc k : ℕ) (w : List ℕ) (i f : ℕ) (r : Bool) (is : r ≡ see
   abbrev stored : List ℕ
   stored = set w (seeded_at n nf nc + get_or w (components_at n nf nc + i) 0) 1
 
-  pub seed_skipped : not r ≡ true → w ≡ marked_seed n nf nc k w i f
-  seed_skipped off = sym (cond_false (seed_in n nf nc k w i f) stored w w (sym is ∙ not-true r off) refl)
+  pub seed_skipped : r ≡ false → w ≡ marked_seed n nf nc k w i f
+  seed_skipped off = sym (cond_false (seed_in n nf nc k w i f) stored w w (sym is ∙ off) refl)
 
-  pub seed_marked : (components seeded : ℕ) → components ≡ components_at n nf nc → seeded ≡ seeded_at n nf nc → not r ≡ false
+  pub seed_marked : (components seeded : ℕ) → components ≡ components_at n nf nc → seeded ≡ seeded_at n nf nc → r ≡ true
       → set w (seeded + get_or w (components + i) 0) 1 ≡ marked_seed n nf nc k w i f
   seed_marked components seeded c s on =
-      (λ t. set w (s t + get_or w (c t + i) 0) 1) ∙ sym (cond_true (seed_in n nf nc k w i f) stored w stored (sym is ∙ not-false r on) refl)
+      (λ t. set w (s t + get_or w (c t + i) 0) 1) ∙ sym (cond_true (seed_in n nf nc k w i f) stored w stored (sym is ∙ on) refl)

@@ -1,5 +1,7 @@
+// Stays (C interface), point 6: the tables of a side and of a component stand at places of the one room that C lends, and there is no heap.
 // Seeds, and the components that hold one.
 ghost use Rattle.std.specs.Prelude.{◌≡◌, ◌+◌, ◌*◌, ◌/◌, ◌<◌, eqb, length, get_or};
+ghost use Rattle.geometry.specs.Boxes.{face_of};
 ghost use Rattle.cap_triangles.specs.Room.{components_at, seeded_at, CapReady};
 ghost use Rattle.cap_pairs.specs.Pairs.{PairsKnown};
 ghost use Rattle.cap_selection.specs.Chosen.{Chosen};
@@ -7,17 +9,19 @@ ghost use Rattle.cap_selection.specs.Steps.{against_in, seed_in, marked_seed, Si
 
 use crate::labels::join_caps;
 use box_faces::faces::has_face;
-use cap_triangles::room::CapRoom;
+use cap_triangles::listed::supplied_face;
+use cap_triangles::room::{CapRoom, SuppliedCaps};
 use edges::next_side;
+use geometry::face::BoxFace;
 use words::zero_part;
 
 // An open edge of the face runs against side s.
-fn is_against(w: &[u64], room: CapRoom, k: usize, s: usize, face: usize) -> bool
-    requires { SidesNumbered room.n room.nf room.nc k w.now × (s < 3 * room.nc) × (face < 6) }
-    ensures { result ≡ against_in room.n room.nf room.nc k w.now s face }
+fn is_against(w: &[u64], room: CapRoom, s: usize, face: BoxFace) -> bool
+    requires { SidesNumbered room.n room.nf room.nc room.k w.now × (s < 3 * room.nc) }
+    ensures { result ≡ against_in room.n room.nf room.nc room.k w.now s (face_of face) }
 {
     let turned = room.turned_at();
-    let pair = w[room.numbers_at() + k + s] as usize;
+    let pair = w[room.numbers_at() + room.k + s] as usize;
     if w[turned + s] < w[turned + next_side(s)] {
         has_face(w[room.down_at() + pair], face)
     } else {
@@ -27,21 +31,21 @@ fn is_against(w: &[u64], room: CapRoom, k: usize, s: usize, face: usize) -> bool
 
 // "A seed lies on an open edge's face and, so turned, holds that edge backwards"
 #[tactic(auto, unfolding(crate::specs::Steps::seed_in))]
-fn is_seed(w: &[u64], room: CapRoom, k: usize, i: usize, face: usize) -> bool
-    requires { SidesNumbered room.n room.nf room.nc k w.now × (i < room.nc) × (face < 6) }
-    ensures { result ≡ seed_in room.n room.nf room.nc k w.now i face }
+fn is_seed(w: &[u64], room: CapRoom, i: usize, face: BoxFace) -> bool
+    requires { SidesNumbered room.n room.nf room.nc room.k w.now × (i < room.nc) }
+    ensures { result ≡ seed_in room.n room.nf room.nc room.k w.now i (face_of face) }
 {
-    is_against(w, room, k, 3 * i, face)
-        || is_against(w, room, k, 3 * i + 1, face)
-        || is_against(w, room, k, 3 * i + 2, face)
+    is_against(w, room, 3 * i, face)
+        || is_against(w, room, 3 * i + 1, face)
+        || is_against(w, room, 3 * i + 2, face)
 }
 
 // If triangle i is a seed, its component is marked.
-fn mark_seed(w: &mut [u64], room: CapRoom, k: usize, i: usize, face: usize)
-    requires { SidesNumbered room.n room.nf room.nc k w.old × (i < room.nc) × (face < 6) × (get_or w.old (components_at room.n room.nf room.nc + i) 0 < room.nc) }
-    ensures { w.new ≡ marked_seed room.n room.nf room.nc k w.old i face }
+fn mark_seed(w: &mut [u64], room: CapRoom, i: usize, face: BoxFace)
+    requires { SidesNumbered room.n room.nf room.nc room.k w.old × (i < room.nc) × (get_or w.old (components_at room.n room.nf room.nc + i) 0 < room.nc) }
+    ensures { w.new ≡ marked_seed room.n room.nf room.nc room.k w.old i (face_of face) }
 {
-    if !is_seed(w, room, k, i, face) {
+    if !is_seed(w, room, i, face) {
         return;
     }
     let component = w[room.components_at() + i] as usize;
@@ -49,28 +53,38 @@ fn mark_seed(w: &mut [u64], room: CapRoom, k: usize, i: usize, face: usize)
 }
 
 // Of each component 1 if a seed has it.
-fn mark_seeds(w: &mut [u64], n: usize, nf: usize, k: usize, cap_list: &[u64])
-    requires { Markable n nf (length cap_list.now / 4) k cap_list.now w.old }
-    ensures { SeedsMarked n nf (length cap_list.now / 4) k cap_list.now w.old w.new }
+fn mark_seeds(w: &mut [u64], caps: SuppliedCaps<'_>)
+    requires { Markable caps.n caps.nf (length caps.list.now / 4) caps.k caps.list.now w.old }
+    ensures { SeedsMarked caps.entry.n caps.entry.nf (length caps.entry.list.now / 4) caps.entry.k caps.entry.list.now w.old w.new }
 {
-    let nc = cap_list.len() / 4;
-    let room = CapRoom { n, nf, nc };
+    let nc = caps.list.len() / 4;
+    let room = CapRoom {
+        n: caps.n,
+        nf: caps.nf,
+        nc,
+        k: caps.k,
+    };
     for i in 0..nc {
-        mark_seed(w, room, k, i, cap_list[4 * i] as usize);
+        mark_seed(w, room, i, supplied_face(caps.list, i));
     }
 }
 
 // `select_closed_plus`: the seeds and all that is joined to one.
-pub fn select_caps(w: &mut [u64], n: usize, nf: usize, k: usize, cap_list: &[u64])
-    requires cap_ready { CapReady n nf k cap_list.now w.old }
-    requires pairs_known { PairsKnown n nf k cap_list.now w.old }
-    ensures { Chosen n nf k cap_list.now w.old w.new }
+pub fn select_caps(w: &mut [u64], caps: SuppliedCaps<'_>)
+    requires cap_ready { CapReady caps.n caps.nf caps.k caps.list.now w.old }
+    requires pairs_known { PairsKnown caps.n caps.nf caps.k caps.list.now w.old }
+    ensures { Chosen caps.entry.n caps.entry.nf caps.entry.k caps.entry.list.now w.old w.new }
 {
-    let nc = cap_list.len() / 4;
-    let room = CapRoom { n, nf, nc };
-    join_caps(w, room, k);
+    let nc = caps.list.len() / 4;
+    let room = CapRoom {
+        n: caps.n,
+        nf: caps.nf,
+        nc,
+        k: caps.k,
+    };
+    join_caps(w, room);
     zero_part(w, room.seeded_at(), nc);
-    mark_seeds(w, n, nf, k, cap_list);
+    mark_seeds(w, caps);
 }
 
 // Triangle i is a seed, or joined to one.

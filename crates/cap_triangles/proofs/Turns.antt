@@ -2,7 +2,7 @@
 --   turned_as, reversed_as   one triangle, by the test that decides
 --   outward_words    turned by the points in the room is turned by the pool
 --   Turning          the first i triangles stand turned in the room
---   turning_start, turning_more, turning_end   the loop
+--   turning_start, turning_more, turning_end   the loop;   turning_face   each number of a face is one
 use Prim.Native.Nat.{ℕ, ◌+◌, ◌*◌, ◌/◌, ◌≤◌, ◌<◌}
 use mathlib.Core.Path.{◌≡◌, sym, ap, ◌∙◌, subst}
 use mathlib.Core.Bool.{Bool, true, false, cond, beq}
@@ -30,7 +30,7 @@ use Rattle.cap_triangles.specs.Room.{turned_at, Supplied, turned_in, TurnedReady
 use Rattle.cap_triangles.specs.Steps.{Standing, area_of, corners_in, turned_by}
 use Rattle.cap_triangles.proofs.Kept.{pool_kept, supplied_kept}
 use Rattle.cap_triangles.proofs.Fours.{caps_length, cap_at_lem, outward_at}
-use Rattle.cap_triangles.proofs.Good.{GoodCap, good_cap}
+use Rattle.cap_triangles.proofs.Good.{GoodCap, good_cap, good_face}
 
 -- ---- one triangle, by what the calls gave
 
@@ -122,6 +122,10 @@ module _ (n nf : ℕ) (cap_list w : List ℕ) (supplied : Supplied n nf cap_list
 
   pub turning_start : Turning n nf cap_list w w 0
   turning_start = record { low = omega arith; above = above_none o w; done = λ j h. absurd (omega arith) }
+
+  pub turning_face : (j : ℕ) → j < length cap_list / 4 → word (4 * j) < 6
+  turning_face j h =
+      subst (λ (t : Cap). t.face < 6) (cap_at_lem cap_list j h) (good_face (pool_at n w) (caps_of cap_list) good j (let e = caps_length cap_list in omega arith))
 
   module _ (v : List ℕ) (i : ℕ) (s : Turning n nf cap_list w v i) where
     kept : Supplied n nf cap_list v

@@ -1,5 +1,6 @@
 // Test 10 (document 01, "Refusals").
 ghost use Rattle.std.specs.Prelude.{◌≡◌, ◌&&◌, ◌||◌, ◌+◌, ◌*◌, ◌%◌, ◌≤◌, ◌<◌, eqb, length, get_or};
+ghost use Rattle.geometry.specs.Boxes.{face_of};
 ghost use Rattle.geometry.specs.Triangles.{tri};
 ghost use Rattle.geometry.specs.Numbers.{candidates_of};
 ghost use Rattle.candidate_pool.specs.Offsets.{entry_at};
@@ -9,8 +10,10 @@ ghost use Rattle.cap_triangles.specs.Listed.{bad_cap_place, FirstPlace};
 ghost use Rattle.cap_triangles.specs.Room.{Pooled};
 ghost use Rattle.cap_triangles.specs.Steps.{listed_in, bad_words};
 
+use crate::room::SuppliedCaps;
 use box_faces::faces::has_face;
 use candidate_pool::room::entry_at;
+use geometry::face::{BOX_FACES, BoxFace};
 use geometry::numbers::CandidateVertexId;
 use geometry::triangle::CandidateTriangle;
 
@@ -26,20 +29,12 @@ pub fn supplied(cap_list: &[u64], i: usize) -> CandidateTriangle
     }
 }
 
-// A candidate is in a face's list exactly if it has the face's bit.
-#[tactic(auto, unfolding(crate::specs::Steps::listed_in))]
-fn is_listed(w: &[u64], face: usize, id: CandidateVertexId) -> bool
-    requires { (face < 6) × (entry_at (count_at w.now) ≤ length w.now) }
-    ensures { result ≡ listed_in w.now face id.0 }
+// Its face, where test 10 has seen that it is one.
+pub fn supplied_face(cap_list: &[u64], i: usize) -> BoxFace
+    requires { (4 * i < length cap_list.now) × (get_or cap_list.now (4 * i) 0 < 6) }
+    ensures { face_of result ≡ get_or cap_list.now (4 * i) 0 }
 {
-    id.0 < w[6] as usize && has_face(w[entry_at(id) + 4], face)
-}
-
-fn all_listed(w: &[u64], face: usize, t: CandidateTriangle) -> bool
-    requires { (face < 6) × (entry_at (count_at w.now) ≤ length w.now) }
-    ensures { result ≡ (listed_in w.now face t.a.0 && (listed_in w.now face t.b.0 && listed_in w.now face t.c.0)) }
-{
-    is_listed(w, face, t.a) && is_listed(w, face, t.b) && is_listed(w, face, t.c)
+    BOX_FACES[cap_list[4 * i] as usize]
 }
 
 fn has_repeat(t: CandidateTriangle) -> bool
@@ -48,28 +43,54 @@ fn has_repeat(t: CandidateTriangle) -> bool
     t.a == t.b || t.b == t.c || t.c == t.a
 }
 
-// "face above 5 or descending, a repeated candidate, or one not in that face's list": `last` is the face of the triangle before.
-#[tactic(auto, unfolding(crate::specs::Steps::bad_words))]
-fn is_bad_cap(w: &[u64], last: u64, face: u64, t: CandidateTriangle) -> bool
-    requires { entry_at (count_at w.now) ≤ length w.now }
-    ensures { result ≡ bad_words w.now last face t.a.0 t.b.0 t.c.0 }
-{
-    5 < face || face < last || has_repeat(t) || !all_listed(w, face as usize, t)
+// The candidates that stand in the room.
+#[derive(Clone, Copy)]
+struct Candidates<'a> {
+    w: &'a [u64],
+    ghost entries: { entry_at (count_at w.now) ≤ length w.now },
+}
+
+impl Candidates<'_> {
+    // A candidate is in a face's list exactly if it has the face's bit.
+    #[tactic(auto, unfolding(crate::specs::Steps::listed_in))]
+    fn is_listed(self, face: BoxFace, id: CandidateVertexId) -> bool
+        ensures { result ≡ listed_in self.entry.w.now (face_of face) id.0 }
+    {
+        id.0 < self.w[6] as usize && has_face(self.w[entry_at(id) + 4], face)
+    }
+
+    fn all_listed(self, face: BoxFace, t: CandidateTriangle) -> bool
+        ensures { result ≡
+            (listed_in self.entry.w.now (face_of face) t.a.0 && (listed_in self.entry.w.now (face_of face) t.b.0 && listed_in self.entry.w.now (face_of face) t.c.0)) }
+    {
+        self.is_listed(face, t.a) && self.is_listed(face, t.b) && self.is_listed(face, t.c)
+    }
+
+    // "face above 5 or descending, a repeated candidate, or one not in that face's list": `last` is the number of the face of the triangle before.
+    #[tactic(auto, unfolding(crate::specs::Steps::bad_words))]
+    fn is_bad_cap(self, last: u64, number: u64, t: CandidateTriangle) -> bool
+        ensures { result ≡ bad_words self.entry.w.now last number t.a.0 t.b.0 t.c.0 }
+    {
+        match BoxFace::try_from(number) {
+            Ok(face) => number < last || has_repeat(t) || !self.all_listed(face, t),
+            Err(_) => true,
+        }
+    }
 }
 
 // 10: the place of the first such triangle, if there is one.
-pub fn bad_cap_place(w: &[u64], n: usize, cap_list: &[u64]) -> Option<usize>
-    requires { Pooled n w.now × (length cap_list.now % 4 ≡ 0) }
-    ensures { FirstPlace (bad_cap_place (pool_at n w.now) (caps_of cap_list.now)) (length (caps_of cap_list.now)) result }
+pub fn bad_cap_place(w: &[u64], caps: SuppliedCaps<'_>) -> Option<usize>
+    requires { Pooled caps.n w.now × (length caps.list.now % 4 ≡ 0) }
+    ensures { FirstPlace (bad_cap_place (pool_at caps.entry.n w.now) (caps_of caps.entry.list.now)) (length (caps_of caps.entry.list.now)) result }
 {
-    let nc = cap_list.len() / 4;
+    let candidates = Candidates { w };
     let mut last = 0;
-    for i in 0..nc {
-        let face = cap_list[4 * i];
-        if is_bad_cap(w, last, face, supplied(cap_list, i)) {
+    for i in 0..caps.list.len() / 4 {
+        let number = caps.list[4 * i];
+        if candidates.is_bad_cap(last, number, supplied(caps.list, i)) {
             return Some(i);
         }
-        last = face;
+        last = number;
     }
     None
 }

@@ -16,21 +16,32 @@
 //   27 nf + 46 nc + 2 n   nc               of a facet left 1 if it is the first of its three corners
 //   27 nf + 47 nc + 2 n   1                how many vertices there are so far
 // In all 9 + 65 (vertices + G) + 93 facets + 47 triangles, of the 128 (vertices + facets + triangles + G) + 1,024 that are lent.
-ghost use Rattle.std.specs.Prelude.{◌≡◌, ◌+◌, ◌*◌, ◌<◌};
+ghost use Rattle.std.specs.Prelude.{◌≡◌, ◌+◌, ◌*◌, ◌≤◌, ◌<◌};
 ghost use Rattle.candidate_pool.specs.Offsets.{open_edges_at};
 ghost use Rattle.cap_triangles.specs.Room.{turned_at, pair_records_at, numbers_at, up_at, down_at, held_at, labels_at, components_at, seeded_at, closing_at};
 
 use candidate_pool::room::Room;
 
-// How many of each the tables have room for.
+// The supplied triangles, a face and three candidates each, and what they close: k open edges, which stand in a room for at most n candidates and nf facets.
+#[derive(Clone, Copy)]
+pub struct SuppliedCaps<'a> {
+    pub n: usize,
+    pub nf: usize,
+    pub k: usize,
+    pub list: &'a [u64],
+}
+
+// How many of each the tables have room for, and how many open edges there are.
 #[derive(Clone, Copy)]
 pub struct CapRoom {
     pub n: usize,
     pub nf: usize,
     pub nc: usize,
+    pub k: usize,
     pub ghost small: { (n < 268435456) × (nf < 268435456) × (nc < 268435456) },
 }
 
+// Stays (plainer): a method for each table, by its name; one method for all would be told which by an enum of their names.
 impl CapRoom {
     // among the tables of candidates
     pub fn open_edges_at(self) -> usize
@@ -53,6 +64,14 @@ impl CapRoom {
         .end()
     }
 
+    // the table that stands so many words a facet and a triangle behind where those of caps begin
+    fn table(self, facets: usize, caps: usize) -> usize
+        requires { (facets ≤ 27) × (caps ≤ 39) }
+        ensures { result ≡ turned_at self.n self.nf + facets * self.nf + caps * self.nc }
+    {
+        self.turned_at() + facets * self.nf + caps * self.nc
+    }
+
     pub fn records_at(self) -> usize
         ensures { result ≡ pair_records_at self.n self.nf self.nc }
     {
@@ -62,50 +81,58 @@ impl CapRoom {
     pub fn numbers_at(self) -> usize
         ensures { result ≡ numbers_at self.n self.nf self.nc }
     {
-        self.turned_at() + 12 * self.nf + 15 * self.nc
+        self.table(12, 15)
     }
 
     pub fn up_at(self) -> usize
         ensures { result ≡ up_at self.n self.nf self.nc }
     {
-        self.turned_at() + 15 * self.nf + 18 * self.nc
+        self.table(15, 18)
     }
 
     pub fn down_at(self) -> usize
         ensures { result ≡ down_at self.n self.nf self.nc }
     {
-        self.turned_at() + 18 * self.nf + 21 * self.nc
+        self.table(18, 21)
     }
 
     pub fn held_at(self) -> usize
         ensures { result ≡ held_at self.n self.nf self.nc }
     {
-        self.turned_at() + 21 * self.nf + 24 * self.nc
+        self.table(21, 24)
     }
 
     pub fn labels_at(self) -> usize
         ensures { result ≡ labels_at self.n self.nf self.nc }
     {
-        self.turned_at() + 24 * self.nf + 27 * self.nc
+        self.table(24, 27)
     }
 
     pub fn components_at(self) -> usize
         ensures { result ≡ components_at self.n self.nf self.nc }
     {
-        self.turned_at() + 24 * self.nf + 30 * self.nc
+        self.table(24, 30)
     }
 
     pub fn seeded_at(self) -> usize
         ensures { result ≡ seeded_at self.n self.nf self.nc }
     {
-        self.turned_at() + 27 * self.nf + 38 * self.nc
+        self.table(27, 38)
     }
 
-    // behind the tables of the selection: of a candidate its vertex + 1, or 0 while it has none
+    // behind the tables of the selection: the vertices given to candidates
     pub fn given_at(self) -> usize
         ensures { result ≡ closing_at self.n self.nf self.nc }
     {
-        self.turned_at() + 27 * self.nf + 39 * self.nc
+        self.table(27, 39)
+    }
+
+    // the table that stands so many words a candidate and a triangle behind that one
+    fn closing_table(self, candidates: usize, caps: usize) -> usize
+        requires { (candidates ≤ 2) × (caps ≤ 8) }
+        ensures { result ≡ closing_at self.n self.nf self.nc + candidates * self.n + caps * self.nc }
+    {
+        self.given_at() + candidates * self.n + caps * self.nc
     }
 
     pub fn fresh_at(self) -> usize
@@ -123,19 +150,19 @@ impl CapRoom {
     pub fn threes_at(self) -> usize
         ensures { result ≡ closing_at self.n self.nf self.nc + 2 * self.n + 3 * self.nc }
     {
-        self.given_at() + 2 * self.n + 3 * self.nc
+        self.closing_table(2, 3)
     }
 
     pub fn firsts_at(self) -> usize
         ensures { result ≡ closing_at self.n self.nf self.nc + 2 * self.n + 7 * self.nc }
     {
-        self.given_at() + 2 * self.n + 7 * self.nc
+        self.closing_table(2, 7)
     }
 
     // how many vertices there are so far
     pub fn vertices_at(self) -> usize
         ensures { result ≡ closing_at self.n self.nf self.nc + 2 * self.n + 8 * self.nc }
     {
-        self.given_at() + 2 * self.n + 8 * self.nc
+        self.closing_table(2, 8)
     }
 }

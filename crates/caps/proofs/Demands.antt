@@ -15,7 +15,7 @@ use Rattle.refusals.specs.Answers.{mesh_outputs, Answer}
 use Rattle.refusals.proofs.Answers.{answer_done}
 use Rattle.candidate_pool.specs.OpenEdges.{OpenEdge}
 use Rattle.candidate_pool.specs.Pool.{Pool}
-use Rattle.candidate_surface.specs.Asked.{Asked}
+use Rattle.candidate_surface.specs.declared.asked.Asked.{Asked}
 use Rattle.cap_triangles.specs.Selection.{Cap, caps_of, outward_caps, selected, Selects}
 use Rattle.cap_triangles.proofs.Selecting.{selected_selects, selects_unique}
 use Rattle.caps.specs.declared.mode.BoundaryClosure.{BoundaryClosure}

@@ -16,7 +16,8 @@ use Rattle.refusals.specs.Refusals.{Passes}
 use Rattle.input_tests.specs.Front.{limits}
 use Rattle.input_tests.proofs.Lists.{cap_listed}
 use Rattle.candidate_pool.specs.Pool.{Pool, no_candidate}
-use Rattle.candidate_surface.specs.Asked.{Asked, setting}
+use Rattle.candidate_surface.specs.declared.asked.Asked.{Asked}
+use Rattle.candidate_surface.specs.Asked.{setting}
 use Rattle.closure_tests.specs.Tests.{closure_tests}
 use Rattle.candidate_surface.specs.Steps.{Sound, most_candidates, Surfaced, full_pool, Completed}
 use Rattle.closure_tests.proofs.Checking.{room_passed, lists_passed}
@@ -40,7 +41,7 @@ tabled_room vs fs cap_list n w L = let s = L.size in omega (arith, s)
 
 -- w₁ as the open edges left it, w as corner vertices and grids did, w' as the tests did
 pub closable : (vs : List Float) (fs cap_list : List ℕ) (q : Asked) (n k : ℕ) (w₁ w w' : List ℕ) (r : Result (Unit {0}) Refusal) → Sound vs fs q
-    → Surfaced vs fs q.box q.eps n k w₁ → Completed vs fs q n k w → CapsChecked n (length fs / 3) k cap_list r w w' → r ≡ Ok tt → Closable vs fs cap_list n k w'
+    → Surfaced vs fs q.extents q.eps n k w₁ → Completed vs fs q n k w → CapsChecked n (length fs / 3) k cap_list r w w' → r ≡ Ok tt → Closable vs fs cap_list n k w'
 closable vs fs cap_list q n k w₁ w w' r S F D C e =
     let low = full_low vs fs q (subst (λ (p : Pool). (c : ℕ) → c < length p.all → (get_or p.all c no_candidate).mesh ≤ length (points_of vs)) F.pool F.sourced.low) in
     record {

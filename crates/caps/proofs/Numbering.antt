@@ -30,7 +30,8 @@ use Rattle.candidate_pool.specs.Setting.{Setting}
 use Rattle.candidate_pool.specs.Standing.{count_at, candidate_at, pool_at}
 use Rattle.candidate_edges.specs.Surface.{mesh_candidate, edge_faces, corner_vertices, edge_surface, mesh_pool}
 use Rattle.candidate_grids.specs.Grid.{grid_point, interior, skipped, grid_at, face_grid, grid, segments_of}
-use Rattle.candidate_surface.specs.Asked.{Asked, setting}
+use Rattle.candidate_surface.specs.declared.asked.Asked.{Asked}
+use Rattle.candidate_surface.specs.Asked.{setting}
 use Rattle.candidate_surface.specs.Steps.{full_pool}
 use Rattle.cap_closing.specs.Entering.{MeshWords}
 
@@ -115,19 +116,19 @@ grid_low s edges p m =
         one (interior s (u_axis f) i && (interior s (v_axis f) j && skipped s edges p f (project f (grid_point s f i j)))) (grid_point s f i j) (f ∷ [])
 
 pub full_low : (vs : List Float) (fs : List ℕ) (q : Asked)
-    → ((c : ℕ) → c < length (edge_surface q.box q.eps (by_key q.eps) (mesh_of vs fs)).pool.all
-    → (get_or (edge_surface q.box q.eps (by_key q.eps) (mesh_of vs fs)).pool.all c no_candidate).mesh ≤ length (points_of vs))
+    → ((c : ℕ) → c < length (edge_surface q.extents q.eps (by_key q.eps) (mesh_of vs fs)).pool.all
+    → (get_or (edge_surface q.extents q.eps (by_key q.eps) (mesh_of vs fs)).pool.all c no_candidate).mesh ≤ length (points_of vs))
     → Low (length vs / 3) (full_pool (setting q) (mesh_of vs fs))
 unfolding mesh_pool
 full_low vs fs q S =
     let mesh = mesh_of vs fs in
-    let first = (edge_surface q.box q.eps (by_key q.eps) mesh).pool in
+    let first = (edge_surface q.extents q.eps (by_key q.eps) mesh).pool in
     let m = length (points_of vs) in
     let a : Low m first = low_all m first.all S in
-    let b = low_fold (by_key q.eps) m first (corner_vertices q.box q.eps mesh) a (corners_low q.box q.eps mesh) in
-    let c = low_fold (by_key q.eps) m (mesh_pool q.box q.eps (by_key q.eps) mesh)
-    (grid (setting q) (edge_surface q.box q.eps (by_key q.eps) mesh).edges (mesh_pool q.box q.eps (by_key q.eps) mesh)) b
-    (grid_low (setting q) (edge_surface q.box q.eps (by_key q.eps) mesh).edges (mesh_pool q.box q.eps (by_key q.eps) mesh) m) in
+    let b = low_fold (by_key q.eps) m first (corner_vertices q.extents q.eps mesh) a (corners_low q.extents q.eps mesh) in
+    let c = low_fold (by_key q.eps) m (mesh_pool q.extents q.eps (by_key q.eps) mesh)
+    (grid (setting q) (edge_surface q.extents q.eps (by_key q.eps) mesh).edges (mesh_pool q.extents q.eps (by_key q.eps) mesh)) b
+    (grid_low (setting q) (edge_surface q.extents q.eps (by_key q.eps) mesh).edges (mesh_pool q.extents q.eps (by_key q.eps) mesh) m) in
     λ i. let h = c i in let l = length_points_of vs in omega (arith, h, l)
 
 -- ---- in the room

@@ -28,7 +28,7 @@ use Rattle.refusals.proofs.Answers.{refused, after, behind, answered}
 use Rattle.candidate_pool.specs.Pool.{by_key}
 use Rattle.candidate_pool.specs.Standing.{pool_at}
 use Rattle.candidate_edges.specs.Surface.{edge_surface}
-use Rattle.candidate_surface.specs.Asked.{Asked}
+use Rattle.candidate_surface.specs.declared.asked.Asked.{Asked}
 use Rattle.candidate_surface.specs.Candidates.{candidates, no_facet, no_two_ends}
 use Rattle.closure_tests.specs.Tests.{edge_tests}
 use Rattle.candidate_surface.specs.Steps.{Completed}
@@ -71,14 +71,14 @@ module _ (vs : List Float) (fs cap_list : List ℕ) (q : Asked) (mode : Boundary
 
   -- ---- what stands in the room
 
-  module _ (listed : ℕ) (el : listed ≡ length (edge_surface q.box q.eps (by_key q.eps) mesh).edges) where
+  module _ (listed : ℕ) (el : listed ≡ length (edge_surface q.extents q.eps (by_key q.eps) mesh).edges) where
     pub no_ends_left : listed ≡ 0 → none ≡ true
     unfolding no_two_ends
-    no_ends_left e = eq-eqb (length (edge_surface q.box q.eps (by_key q.eps) mesh).edges) 0 (sym el ∙ e)
+    no_ends_left e = eq-eqb (length (edge_surface q.extents q.eps (by_key q.eps) mesh).edges) 0 (sym el ∙ e)
 
     pub ends_left : (listed ≡ 0 → ⊥) → none ≡ false
     unfolding no_two_ends
-    ends_left g = ne_eqb (length (edge_surface q.box q.eps (by_key q.eps) mesh).edges) 0 (λ e. g (el ∙ e))
+    ends_left g = ne_eqb (length (edge_surface q.extents q.eps (by_key q.eps) mesh).edges) 0 (λ e. g (el ∙ e))
 
   module _ (n k : ℕ) (w : List ℕ) (D : Completed vs fs q n k w) where
     pub tests_are : supplied_tests (pool_at n w) (caps_of cap_list) (edges_in n (length fs / 3) k w) ≡ tests

@@ -11,7 +11,7 @@ use Rattle.refusals.specs.Refusals.{documented_reply}
 use Rattle.refusals.specs.Answers.{MeshesAlike}
 use Rattle.refusals.proofs.Answers.{meshes_alike}
 use Rattle.input_tests.specs.Front.{limits, Admits}
-use Rattle.candidate_surface.specs.Asked.{Asked}
+use Rattle.candidate_surface.specs.declared.asked.Asked.{Asked}
 use Rattle.closure_tests.proofs.UnderBoth.{same_tests}
 use Rattle.caps.specs.declared.mode.BoundaryClosure.{BoundaryClosure}
 use Rattle.caps.specs.Operation.{caps_tests, caps_result, Capped}

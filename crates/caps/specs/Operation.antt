@@ -18,7 +18,8 @@ use Rattle.refusals.specs.Answers.{mesh_outputs, Answered}
 use Rattle.input_tests.specs.Front.{Limits, limits}
 use Rattle.candidate_pool.specs.OpenEdges.{OpenEdge}
 use Rattle.candidate_pool.specs.Pool.{Pool}
-use Rattle.candidate_surface.specs.Asked.{Asked, setting}
+use Rattle.candidate_surface.specs.declared.asked.Asked.{Asked}
+use Rattle.candidate_surface.specs.Asked.{setting}
 use Rattle.candidate_surface.specs.Candidates.{Candidates, candidates, no_facet, no_two_ends}
 use Rattle.closure_tests.specs.Tests.{closure_tests, edge_tests}
 use Rattle.cap_triangles.specs.Selection.{Cap, caps_of, outward_caps, selected}

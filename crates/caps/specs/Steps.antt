@@ -16,7 +16,7 @@ use Rattle.candidate_pool.specs.OpenEdges.{OpenEdge}
 use Rattle.candidate_pool.specs.Pool.{Pool}
 use Rattle.candidate_pool.specs.Standing.{pool_at, edges_at}
 use Rattle.candidate_edges.specs.Steps.{VerticesIn}
-use Rattle.candidate_surface.specs.Asked.{Asked}
+use Rattle.candidate_surface.specs.declared.asked.Asked.{Asked}
 use Rattle.candidate_surface.specs.Candidates.{no_two_ends}
 use Rattle.cap_triangles.specs.Selection.{Cap, caps_of, outward_caps, selected}
 use Rattle.cap_triangles.specs.Room.{turned_at, caps_end, CapReady}

@@ -1,10 +1,10 @@
 // The operation caps: the order of its steps. boundary_closure.rs, `cap_mesh_to_aabb`.
+// Stays (C interface), point 6: n says where tables stand in the lent room, since C lends one buffer and there is no heap; k counts its open edges.
 ghost use Rattle.std.specs.Prelude.{◌≡◌, ◌++◌, ◌+◌, ◌*◌, ◌/◌, ◌%◌, ◌≤◌, length};
 ghost use Rattle.refusals.specs.Refusals.{documented_reply, unless};
 ghost use Rattle.refusals.specs.Answers.{mesh_outputs, Answer};
 ghost use Rattle.candidate_edges.specs.Steps.{MeshFits};
 ghost use Rattle.input_tests.specs.Front.{limits};
-ghost use Rattle.candidate_surface.specs.Asked.{asked};
 ghost use Rattle.candidate_surface.specs.Candidates.{no_two_ends};
 ghost use Rattle.closure_tests.specs.Tests.{edge_tests};
 ghost use Rattle.candidate_surface.specs.Steps.{Sound, most_candidates, Tabled};
@@ -13,21 +13,21 @@ ghost use Rattle.caps.specs.Steps.{Listable, surface_mesh};
 
 use crate::closing::{check_caps, close_mesh};
 use crate::mode::{BoundaryClosure, is_positive, leaves_open};
+use candidate_surface::asked::Asked;
 use candidate_surface::surface::{complete, enter_surface, most_candidates, table_edges};
 use cap_outputs::outputs::deliver_mesh;
+use cap_triangles::room::SuppliedCaps;
 use closure_tests::tests::{check_closure, check_edges};
-use geometry::aabb::AABB;
+use geometry::mesh::MeshLists;
 use refusals::reply::Reply;
 use words::zero;
 
 // All that follows test 9, for a mesh with k open edges. "if no open edge keeps two ends", the mesh comes back as it is.
+// Stays (plainer), point 5: the outputs are two parameters; a struct of two `&mut` needs a clause more for each in each function, that it is still the caller's.
 fn cap_edges(
-    vertices: &[f64],
-    facets: &[u32],
+    mesh: MeshLists<'_>,
     cap_list: &[u64],
-    extents: AABB,
-    eps: f64,
-    resolution: f64,
+    asked: Asked,
     mode: BoundaryClosure,
     w: &mut [u64],
     n: usize,
@@ -35,26 +35,31 @@ fn cap_edges(
     out_vertices: &mut [f64],
     out_facets: &mut [u32],
 ) -> Reply<2>
-    requires sound { Sound vertices.now facets.now (asked extents eps resolution) }
-    requires mesh_fits { MeshFits vertices.now facets.now n w.old × (n ≡ most_candidates vertices.now (asked extents eps resolution)) }
-    requires listable { Listable vertices.now facets.now cap_list.now n w.old }
-    requires tabled { Tabled facets.now n k w.old }
+    requires sound { Sound mesh.vertices.now mesh.facets.now asked }
+    requires mesh_fits { MeshFits mesh.vertices.now mesh.facets.now n w.old × (n ≡ most_candidates mesh.vertices.now asked) }
+    requires listable { Listable mesh.vertices.now mesh.facets.now cap_list.now n w.old }
+    requires tabled { Tabled mesh.facets.now n k w.old }
     ensures { Answer
-        (unless (no_two_ends vertices.now facets.now (asked extents eps resolution))
-        (cap_tests vertices.now facets.now (asked extents eps resolution) cap_list.now))
-        (mesh_outputs (surface_mesh vertices.now facets.now cap_list.now (asked extents eps resolution) mode) out_vertices.old
+        (unless (no_two_ends mesh.entry.vertices.now mesh.entry.facets.now asked)
+        (cap_tests mesh.entry.vertices.now mesh.entry.facets.now asked cap_list.now))
+        (mesh_outputs (surface_mesh mesh.entry.vertices.now mesh.entry.facets.now cap_list.now asked mode) out_vertices.old
         out_vertices.new out_facets.old out_facets.new) (documented_reply result) }
 {
-    let listed = enter_surface(vertices, facets, extents, eps, w, n, k);
+    let listed = enter_surface(mesh, asked.extents, asked.eps, w, n, k);
     if listed == 0 {
-        return deliver_mesh(vertices, facets, out_vertices, out_facets);
+        return deliver_mesh(mesh, out_vertices, out_facets);
     }
-    complete(vertices, facets, extents, eps, resolution, w, n, k);
-    check_caps(w, n, facets.len() / 3, k, cap_list)?;
+    complete(mesh, asked, w, n, k);
+    let caps = SuppliedCaps {
+        n,
+        nf: mesh.facets.len() / 3,
+        k,
+        list: cap_list,
+    };
+    check_caps(w, caps)?;
     close_mesh(
         w,
-        vertices,
-        facets,
+        mesh,
         cap_list,
         n,
         k,
@@ -66,36 +71,30 @@ fn cap_edges(
 
 // Tests 8 and 9 and all that follows, for a mesh that has passed those before.
 fn make_caps(
-    vertices: &[f64],
-    facets: &[u32],
+    mesh: MeshLists<'_>,
     cap_list: &[u64],
-    extents: AABB,
-    eps: f64,
-    resolution: f64,
+    asked: Asked,
     mode: BoundaryClosure,
     w: &mut [u64],
     out_vertices: &mut [f64],
     out_facets: &mut [u32],
 ) -> Reply<2>
-    requires sound { Sound vertices.now facets.now (asked extents eps resolution) }
-    requires listable { Listable vertices.now facets.now cap_list.now (most_candidates vertices.now (asked extents eps resolution)) w.old }
+    requires sound { Sound mesh.vertices.now mesh.facets.now asked }
+    requires listable { Listable mesh.vertices.now mesh.facets.now cap_list.now (most_candidates mesh.vertices.now asked) w.old }
     ensures { Answer
-        (edge_tests vertices.now facets.now (asked extents eps resolution) ++ unless
-        (no_two_ends vertices.now facets.now (asked extents eps resolution))
-        (cap_tests vertices.now facets.now (asked extents eps resolution) cap_list.now))
-        (mesh_outputs (surface_mesh vertices.now facets.now cap_list.now (asked extents eps resolution) mode) out_vertices.old
+        (edge_tests mesh.entry.vertices.now mesh.entry.facets.now asked ++ unless
+        (no_two_ends mesh.entry.vertices.now mesh.entry.facets.now asked)
+        (cap_tests mesh.entry.vertices.now mesh.entry.facets.now asked cap_list.now))
+        (mesh_outputs (surface_mesh mesh.entry.vertices.now mesh.entry.facets.now cap_list.now asked mode) out_vertices.old
         out_vertices.new out_facets.old out_facets.new) (documented_reply result) }
 {
-    let n = most_candidates(vertices, extents, eps, resolution);
-    let k = table_edges(facets, w, n);
-    check_edges(vertices, facets, extents, eps, resolution, w, n, k)?;
+    let n = most_candidates(mesh.vertices, asked);
+    let k = table_edges(mesh.facets, w, n);
+    check_edges(mesh, asked, w, n, k)?;
     cap_edges(
-        vertices,
-        facets,
+        mesh,
         cap_list,
-        extents,
-        eps,
-        resolution,
+        asked,
         mode,
         w,
         n,
@@ -107,12 +106,9 @@ fn make_caps(
 
 // Every test, and the mesh where they pass. The work room is left as it came out.
 fn caps_lent(
-    vertices: &[f64],
-    facets: &[u32],
+    mesh: MeshLists<'_>,
     cap_list: &[u64],
-    extents: AABB,
-    eps: f64,
-    resolution: f64,
+    asked: Asked,
     mode: BoundaryClosure,
     ceiling: u64,
     work: &mut [u64],
@@ -120,64 +116,38 @@ fn caps_lent(
     out_facets: &mut [u32],
 ) -> Reply<2>
     ensures { Answer
-        (caps_tests vertices.now facets.now cap_list.now (asked extents eps resolution) mode (limits ceiling (length work.old)))
-        (mesh_outputs (caps_result vertices.now facets.now cap_list.now (asked extents eps resolution) mode) out_vertices.old
+        (caps_tests mesh.entry.vertices.now mesh.entry.facets.now cap_list.now asked mode (limits ceiling (length work.old)))
+        (mesh_outputs (caps_result mesh.entry.vertices.now mesh.entry.facets.now cap_list.now asked mode) out_vertices.old
         out_vertices.new out_facets.old out_facets.new) (documented_reply result) }
 {
-    check_closure(
-        vertices,
-        facets,
-        cap_list.len(),
-        extents,
-        eps,
-        resolution,
-        ceiling,
-        work.len(),
-    )?;
+    check_closure(mesh, cap_list.len(), asked, ceiling, work.len())?;
     if leaves_open(mode) {
-        return deliver_mesh(vertices, facets, out_vertices, out_facets);
+        return deliver_mesh(mesh, out_vertices, out_facets);
     }
-    if facets.len() == 0 {
-        return deliver_mesh(vertices, facets, out_vertices, out_facets);
+    if mesh.facets.len() == 0 {
+        return deliver_mesh(mesh, out_vertices, out_facets);
     }
-    make_caps(
-        vertices,
-        facets,
-        cap_list,
-        extents,
-        eps,
-        resolution,
-        mode,
-        work,
-        out_vertices,
-        out_facets,
-    )
+    make_caps(mesh, cap_list, asked, mode, work, out_vertices, out_facets)
 }
 
 // The work room is cleared once, at the end: what was lent may hold anything.
 pub fn cap_mesh_to_aabb(
-    vertices: &[f64],
-    facets: &[u32],
+    mesh: MeshLists<'_>,
     cap_list: &[u64],
-    extents: AABB,
-    eps: f64,
-    resolution: f64,
+    asked: Asked,
     mode: BoundaryClosure,
     ceiling: u64,
     work: &mut [u64],
     out_vertices: &mut [f64],
     out_facets: &mut [u32],
 ) -> Reply<2>
-    ensures { Capped vertices.now facets.now cap_list.now (asked extents eps resolution) mode ceiling result work.old
+    ensures { Capped mesh.entry.vertices.now mesh.entry.facets.now cap_list.now asked mode ceiling result work.old
         work.new out_vertices.old out_vertices.new out_facets.old out_facets.new }
 {
     let reply = caps_lent(
-        vertices,
-        facets,
+        mesh,
         cap_list,
-        extents,
-        eps,
-        resolution,
+        asked,
         mode,
         ceiling,
         work,

@@ -4,10 +4,12 @@ ghost use Rattle.refusals.specs.Refusals.{documented_reply};
 ghost use Rattle.mesh_cleanup.specs.Clean.{clean_asked};
 ghost use Rattle.cases.specs.Cleaning.{is_mesh, is_key_range, cleans_to, has_far_key, c2_holds, c8_holds, c14_holds};
 
-use crate::bits::{begins_with, begins_with_numbers};
+use crate::bits::begins_with;
+use crate::replies::has_lengths;
+use geometry::mesh::MeshLists;
 use mesh_cleanup::clean_mesh;
+use refusals::refusal::Refusal;
 use refusals::reply::Reply;
-use refusals::report::report_reply;
 
 // 1/1024
 const EPS: f64 = 0.0009765625;
@@ -16,78 +18,52 @@ const EPS: f64 = 0.0009765625;
 const FINE: f64 = 0.00000095367431640625;
 
 // The reply is a mesh of these lengths, and the outputs begin with it.
-fn is_mesh(
-    reply: Reply<2>,
-    vertices: &[f64],
-    facets: &[u32],
-    stated_vertices: &[f64],
-    stated_facets: &[u32],
-) -> bool
-    ensures { result ≡ is_mesh (documented_reply reply) vertices.now facets.now stated_vertices.now stated_facets.now }
+#[tactic(auto, unfolding(crate::specs::Cleaning::is_mesh))]
+fn is_mesh(reply: Reply<2>, made: MeshLists<'_>, stated: MeshLists<'_>) -> bool
+    ensures { result ≡ is_mesh (documented_reply reply) made.entry.vertices.now made.entry.facets.now stated.entry.vertices.now stated.entry.facets.now }
 {
-    let mut values = [0u64; 4];
-    if report_reply(&mut values, reply) != 0 {
-        return false;
-    }
-    if values[0] != stated_vertices.len() as u64 {
-        return false;
-    }
-    if values[1] != stated_facets.len() as u64 {
-        return false;
-    }
-    if !begins_with(vertices, stated_vertices) {
-        return false;
-    }
-    begins_with_numbers(facets, stated_facets)
+    has_lengths(reply, &[stated.vertices.len(), stated.facets.len()])
+        && begins_with(made.vertices, stated.vertices)
+        && made.facets.starts_with(stated.facets)
 }
 
 // 8
+#[tactic(auto, unfolding(refusals::specs::Refusals::documented_reply, refusals::specs::Refusals::documented))]
 fn is_key_range(reply: Reply<2>) -> bool
     ensures { result ≡ is_key_range (documented_reply reply) }
 {
-    let mut values = [0u64; 4];
-    report_reply(&mut values, reply) == 8
+    matches!(reply, Err(Refusal::KeyRange))
 }
 
-fn cleans_to(
-    vertices: &[f64],
-    facets: &[u32],
-    eps: f64,
-    stated_vertices: &[f64],
-    stated_facets: &[u32],
-) -> bool
-    ensures { result ≡ cleans_to vertices.now facets.now (clean_asked eps) stated_vertices.now stated_facets.now }
+fn cleans_to(mesh: MeshLists<'_>, eps: f64, stated: MeshLists<'_>) -> bool
+    ensures { result ≡ cleans_to mesh.entry.vertices.now mesh.entry.facets.now (clean_asked eps) stated.entry.vertices.now stated.entry.facets.now }
 {
     let mut work = [0u64; 2048];
     let mut out_vertices = [0.0; 12];
     let mut out_facets = [0u32; 6];
     let reply = clean_mesh(
-        vertices,
-        facets,
+        mesh,
         eps,
         65536,
         &mut work,
         &mut out_vertices,
         &mut out_facets,
     );
-    is_mesh(
-        reply,
-        &out_vertices,
-        &out_facets,
-        stated_vertices,
-        stated_facets,
-    )
+    let made = MeshLists {
+        vertices: &out_vertices,
+        facets: &out_facets,
+    };
+    is_mesh(reply, made, stated)
 }
 
-fn has_far_key(vertices: &[f64], facets: &[u32], eps: f64) -> bool
-    ensures { result ≡ has_far_key vertices.now facets.now (clean_asked eps) }
+fn has_far_key(mesh: MeshLists<'_>, eps: f64) -> bool
+    ensures { result ≡ has_far_key mesh.entry.vertices.now mesh.entry.facets.now (clean_asked eps) }
 {
     let mut work = [0u64; 2048];
     let mut out_vertices = [0.0; 12];
     let mut out_facets = [0u32; 6];
     is_key_range(clean_mesh(
-        vertices,
-        facets,
+        mesh,
         eps,
         65536,
         &mut work,
@@ -103,7 +79,15 @@ pub fn c2() -> bool
     let points = [0.0, 0.0, 0.0, EPS, 0.0, 0.0];
     let first = [0.0, 0.0, 0.0];
     let none = [0u32; 0];
-    cleans_to(&points, &none, EPS, &first, &none)
+    let mesh = MeshLists {
+        vertices: &points,
+        facets: &none,
+    };
+    let stated = MeshLists {
+        vertices: &first,
+        facets: &none,
+    };
+    cleans_to(mesh, EPS, stated)
 }
 
 // "both stay, four vertices"
@@ -112,7 +96,11 @@ pub fn c8() -> bool
 {
     let square = [0.0, 0.0, 0.0, 1.0, 0.0, 0.0, 1.0, 1.0, 0.0, 0.0, 1.0, 0.0];
     let facets = [0, 1, 2, 0, 2, 3];
-    cleans_to(&square, &facets, FINE, &square, &facets)
+    let mesh = MeshLists {
+        vertices: &square,
+        facets: &facets,
+    };
+    cleans_to(mesh, FINE, mesh)
 }
 
 // "accepted", and "refusal 8"
@@ -122,8 +110,13 @@ pub fn c14() -> bool
     let near = [4611686.0, 0.0, 0.0];
     let far = [4611687.0, 0.0, 0.0];
     let none = [0u32; 0];
-    if !cleans_to(&near, &none, 0.0, &near, &none) {
-        return false;
-    }
-    has_far_key(&far, &none, 0.0)
+    let mesh = MeshLists {
+        vertices: &near,
+        facets: &none,
+    };
+    let too_far = MeshLists {
+        vertices: &far,
+        facets: &none,
+    };
+    cleans_to(mesh, 0.0, mesh) && has_far_key(too_far, 0.0)
 }

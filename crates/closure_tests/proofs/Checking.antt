@@ -32,7 +32,8 @@ use Rattle.refusals.proofs.Replies.{head_passed, tail_passed, row_front, row_res
 use Rattle.input_tests.proofs.Lists.{listed, cap_listed}
 use Rattle.candidate_edges.specs.Surface.{edge_faces}
 use Rattle.candidate_edges.specs.Steps.{MeshFits}
-use Rattle.candidate_surface.specs.Asked.{Asked, one_resolution}
+use Rattle.candidate_surface.specs.declared.asked.Asked.{Asked}
+use Rattle.candidate_surface.specs.Asked.{one_resolution}
 use Rattle.closure_tests.specs.Tests.{mesh, closure_tests, stray_edge, edge_tests}
 use Rattle.candidate_surface.specs.Steps.{Sound, Tabled}
 use Rattle.candidate_surface.proofs.Fitting.{grid_small}
@@ -41,11 +42,11 @@ use Rattle.candidate_pool.specs.Offsets.{edge_table_at}
 -- ---- no count wraps
 
 pub need_small : (vs : List Float) (fs : List ℕ) (q : Asked) (ceiling caps m : ℕ) → first_refusal (list_tests ceiling vs fs caps) ≡ Ok tt
-    → grid_too_fine q.box q.eps (one_resolution q.resolution) ≡ false → m ≡ grid_size q.box q.eps (one_resolution q.resolution) → length vs / 3 + length fs / 3 + caps
+    → grid_too_fine q.extents q.eps (one_resolution q.resolution) ≡ false → m ≡ grid_size q.extents q.eps (one_resolution q.resolution) → length vs / 3 + length fs / 3 + caps
     / 4 + m ≤ 4294967296
 need_small vs fs q ceiling caps m e f g =
     let l = listed ceiling vs fs caps e in
-    omega (arith, l.few_vertices, l.few_facets, (cap_listed ceiling vs fs caps e).few, grid_small q.box q.eps (one_resolution q.resolution) f, g)
+    omega (arith, l.few_vertices, l.few_facets, (cap_listed ceiling vs fs caps e).few, grid_small q.extents q.eps (one_resolution q.resolution) f, g)
 
 -- ---- 1 to 7
 
@@ -54,13 +55,13 @@ module _ (vs : List Float) (fs : List ℕ) (q : Asked) (caps : ℕ) (l : Limits)
   lists = list_tests l.ceiling vs fs caps
 
   abbrev bad : Bool
-  bad = not (every in_range vs && (box_in_range q.box && (eps_in_range q.eps && resolution_in_range q.resolution)))
+  bad = not (every in_range vs && (box_in_range q.extents && (eps_in_range q.eps && resolution_in_range q.resolution)))
 
   abbrev fine : Bool
-  fine = grid_too_fine q.box q.eps (one_resolution q.resolution)
+  fine = grid_too_fine q.extents q.eps (one_resolution q.resolution)
 
   abbrev need : ℕ
-  need = work_need (length vs / 3) (length fs / 3) (caps / 4) (grid_size q.box q.eps (one_resolution q.resolution))
+  need = work_need (length vs / 3) (length fs / 3) (caps / 4) (grid_size q.extents q.eps (one_resolution q.resolution))
 
   abbrev work : List Test
   work = (ltb l.lent need, NoWorkRoom need) ∷ []
@@ -69,7 +70,7 @@ module _ (vs : List Float) (fs : List ℕ) (q : Asked) (caps : ℕ) (l : Limits)
   grids = (fine, GridTooFine) ∷ work
 
   abbrev boxes : List Test
-  boxes = (bad_box q.box, BadBox) ∷ grids
+  boxes = (bad_box q.extents, BadBox) ∷ grids
 
   abbrev rest : List Test
   rest = (bad, BadNumber) ∷ boxes
@@ -93,17 +94,17 @@ module _ (vs : List Float) (fs : List ℕ) (q : Asked) (caps : ℕ) (l : Limits)
       after_numbers : found ≡ first_refusal boxes
       after_numbers = after_lists ∙ passes bad BadNumber boxes h
 
-      pub box_refused : bad_box q.box ≡ true → Err BadBox ≡ found
-      box_refused g = sym (after_numbers ∙ holds (bad_box q.box) BadBox grids g)
+      pub box_refused : bad_box q.extents ≡ true → Err BadBox ≡ found
+      box_refused g = sym (after_numbers ∙ holds (bad_box q.extents) BadBox grids g)
 
-      module _ (g : bad_box q.box ≡ false) where
+      module _ (g : bad_box q.extents ≡ false) where
         after_box : found ≡ first_refusal grids
-        after_box = after_numbers ∙ passes (bad_box q.box) BadBox grids g
+        after_box = after_numbers ∙ passes (bad_box q.extents) BadBox grids g
 
         pub grid_refused : fine ≡ true → Err GridTooFine ≡ found
         grid_refused f = sym (after_box ∙ holds fine GridTooFine work f)
 
-        module _ (f : fine ≡ false) (m : ℕ) (em : m ≡ grid_size q.box q.eps (one_resolution q.resolution)) (n : ℕ)
+        module _ (f : fine ≡ false) (m : ℕ) (em : m ≡ grid_size q.extents q.eps (one_resolution q.resolution)) (n : ℕ)
             (en : n ≡ work_need (length vs / 3) (length fs / 3) (caps / 4) m) where
           after_grid : found ≡ first_refusal ((ltb l.lent n, NoWorkRoom n) ∷ [])
           after_grid =
@@ -129,30 +130,30 @@ module _ (vs : List Float) (fs : List ℕ) (q : Asked) (caps : ℕ) (l : Limits)
     boxes_passed = tail_passed bad BadNumber boxes rest_passed
 
     grids_passed : first_refusal grids ≡ Ok tt
-    grids_passed = tail_passed (bad_box q.box) BadBox grids boxes_passed
+    grids_passed = tail_passed (bad_box q.extents) BadBox grids boxes_passed
 
     work_passed : first_refusal work ≡ Ok tt
     work_passed = tail_passed fine GridTooFine work grids_passed
 
-    numbers_good : (every in_range vs && (box_in_range q.box && (eps_in_range q.eps && resolution_in_range q.resolution))) ≡ true
+    numbers_good : (every in_range vs && (box_in_range q.extents && (eps_in_range q.eps && resolution_in_range q.resolution))) ≡ true
     numbers_good = not-false _ (head_passed bad BadNumber boxes rest_passed)
 
     pub sound : Sound vs fs q
     sound =
         let p = listed l.ceiling vs fs caps lists_passed in
-        let a = and_right (every in_range vs) (box_in_range q.box && (eps_in_range q.eps && resolution_in_range q.resolution)) numbers_good in
-        let b = and_right (box_in_range q.box) (eps_in_range q.eps && resolution_in_range q.resolution) a in
+        let a = and_right (every in_range vs) (box_in_range q.extents && (eps_in_range q.eps && resolution_in_range q.resolution)) numbers_good in
+        let b = and_right (box_in_range q.extents) (eps_in_range q.eps && resolution_in_range q.resolution) a in
         record {
           lists = p;
-          numbers = and_left (every in_range vs) (box_in_range q.box && (eps_in_range q.eps && resolution_in_range q.resolution)) numbers_good;
-          box_in = and_left (box_in_range q.box) (eps_in_range q.eps && resolution_in_range q.resolution) a;
+          numbers = and_left (every in_range vs) (box_in_range q.extents && (eps_in_range q.eps && resolution_in_range q.resolution)) numbers_good;
+          box_in = and_left (box_in_range q.extents) (eps_in_range q.eps && resolution_in_range q.resolution) a;
           eps_in = and_left (eps_in_range q.eps) (resolution_in_range q.resolution) b;
           resolution_in = and_right (eps_in_range q.eps) (resolution_in_range q.resolution) b;
-          box_good = head_passed (bad_box q.box) BadBox grids boxes_passed;
+          box_good = head_passed (bad_box q.extents) BadBox grids boxes_passed;
           coarse = head_passed fine GridTooFine work grids_passed;
         }
 
-    pub room_passed : 128 * (length vs / 3 + length fs / 3 + caps / 4 + grid_size q.box q.eps (one_resolution q.resolution)) + 1024 ≤ l.lent
+    pub room_passed : 128 * (length vs / 3 + length fs / 3 + caps / 4 + grid_size q.extents q.eps (one_resolution q.resolution)) + 1024 ≤ l.lent
     unfolding work_need
     room_passed = ltb-false l.lent need (head_passed (ltb l.lent need) (NoWorkRoom need) [] work_passed)
 
@@ -160,13 +161,13 @@ module _ (vs : List Float) (fs : List ℕ) (q : Asked) (caps : ℕ) (l : Limits)
 
 module _ (vs : List Float) (fs : List ℕ) (q : Asked) where
   abbrev far : Bool
-  far = far_keys q.eps vs || box_far_keys q.eps q.box
+  far = far_keys q.eps vs || box_far_keys q.eps q.extents
 
   abbrev es : List (ℕ × ℕ)
   es = open_edges (threes fs)
 
   abbrev stray : ℕ
-  stray = place (λ e. eqb (length (edge_faces q.box q.eps (mesh vs fs q) e)) 0) es
+  stray = place (λ e. eqb (length (edge_faces q.extents q.eps (mesh vs fs q) e)) 0) es
 
   abbrev pair_at : ℕ → ℕ × ℕ
   pair_at i = sorted_pair (get_or es i (0, 0))

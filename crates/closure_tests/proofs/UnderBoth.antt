@@ -7,7 +7,7 @@ use lib.Ieee.{Float}
 use Rattle.refusals.specs.Refusals.{Test}
 use Rattle.input_tests.specs.Front.{limits, Admits}
 use Rattle.input_tests.proofs.Lists.{same_row}
-use Rattle.candidate_surface.specs.Asked.{Asked}
+use Rattle.candidate_surface.specs.declared.asked.Asked.{Asked}
 use Rattle.closure_tests.specs.Tests.{closure_tests}
 
 module _ (vs : List Float) (fs : List ℕ) (q : Asked) (c d : ℕ) (hc : Admits c vs fs) (hd : Admits d vs fs) (caps lent : ℕ) where

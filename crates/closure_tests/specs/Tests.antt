@@ -10,7 +10,8 @@ use Rattle.refusals.specs.declared.refusal.Refusal.TheVariants.{BadNumber, BadBo
 use Rattle.refusals.specs.Refusals.{Test}
 use Rattle.input_tests.specs.Front.{Limits, list_tests, in_range, eps_in_range, resolution_in_range, box_in_range, bad_box, grid_too_fine, work_need, work_test, far_keys, box_far_keys}
 use Rattle.candidate_edges.specs.Surface.{edge_faces}
-use Rattle.candidate_surface.specs.Asked.{Asked, one_resolution}
+use Rattle.candidate_surface.specs.declared.asked.Asked.{Asked}
+use Rattle.candidate_surface.specs.Asked.{one_resolution}
 
 module _ (vs : List Float) (fs : List ℕ) (q : Asked) where
   abbrev pub mesh : Mesh
@@ -19,18 +20,18 @@ module _ (vs : List Float) (fs : List ℕ) (q : Asked) where
   unfoldable pub closure_tests : ℕ → Limits → List Test
   closure_tests caps l =
       list_tests l.ceiling vs fs caps
-      ++ (not (every in_range vs && (box_in_range q.box && (eps_in_range q.eps && resolution_in_range q.resolution))), BadNumber)
-      ∷ (bad_box q.box, BadBox)
-      ∷ (grid_too_fine q.box q.eps (one_resolution q.resolution), GridTooFine)
-      ∷ work_test (work_need (length vs / 3) (length fs / 3) (caps / 4) (grid_size q.box q.eps (one_resolution q.resolution))) l.lent ∷ []
+      ++ (not (every in_range vs && (box_in_range q.extents && (eps_in_range q.eps && resolution_in_range q.resolution))), BadNumber)
+      ∷ (bad_box q.extents, BadBox)
+      ∷ (grid_too_fine q.extents q.eps (one_resolution q.resolution), GridTooFine)
+      ∷ work_test (work_need (length vs / 3) (length fs / 3) (caps / 4) (grid_size q.extents q.eps (one_resolution q.resolution))) l.lent ∷ []
 
   unfoldable pub stray_edge : ℕ
-  stray_edge = place (λ e. eqb (length (edge_faces q.box q.eps mesh e)) 0) (open_edges mesh.facets)
+  stray_edge = place (λ e. eqb (length (edge_faces q.extents q.eps mesh e)) 0) (open_edges mesh.facets)
 
   -- open edges ascend, so the first that lies on no face is "the smallest such pair"
   unfoldable pub edge_tests : List Test
   edge_tests =
       let es = open_edges mesh.facets in
       let e = sorted_pair (get_or es stray_edge (0, 0)) in
-      (far_keys q.eps vs || box_far_keys q.eps q.box, KeyRange)
+      (far_keys q.eps vs || box_far_keys q.eps q.extents, KeyRange)
       ∷ (ltb stray_edge (length es), OpenEdge e.0 e.1) ∷ []

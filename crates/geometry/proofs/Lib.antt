@@ -5,3 +5,4 @@ pub mod Threes
 pub mod Meshes
 pub mod Within
 pub mod FirstUse
+pub mod Faces

@@ -2,6 +2,8 @@
 #![tactic(auto)]
 
 pub mod aabb;
+pub mod face;
+pub mod mesh;
 pub mod numbers;
 pub mod point;
 #[cfg(test)]

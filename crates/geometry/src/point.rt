@@ -2,8 +2,10 @@
 // Left out, since no operation uses them: add, mul, scale, unit, distance2, distance, close_to, lerp.
 ghost use Rattle.std.specs.Prelude.{◌≡◌, T};
 ghost use Rattle.root.specs.Root.{rootable};
-ghost use Rattle.geometry.specs.Points.{difference, dot, cross, norm2, norm};
+ghost use Rattle.geometry.specs.Points.{along, difference, dot, cross, norm2, norm};
+ghost use Rattle.geometry.specs.Boxes.{axis_of};
 
+use crate::face::Axis;
 use root::sqrt;
 
 #[derive(Clone, Copy)]
@@ -14,6 +16,19 @@ pub struct Point {
 }
 
 impl Point {
+    // The coordinate on an axis.
+    #[tactic(auto, unfolding(crate::specs::Points::along))]
+    #[inline(always)]
+    pub fn along(self, axis: Axis) -> f64
+        ensures { result ≡ along self (axis_of axis) }
+    {
+        match axis {
+            Axis::X => self.x,
+            Axis::Y => self.y,
+            Axis::Z => self.z,
+        }
+    }
+
     #[tactic(auto, unfolding(crate::specs::Points::difference))]
     pub fn sub(self, other: Point) -> Point
         ensures { result ≡ difference self other }

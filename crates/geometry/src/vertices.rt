@@ -1,4 +1,5 @@
 // Points in a flat list of coordinates, three a point, and the vertices that lists of numbers name: here a raw number becomes a vertex's.
+// Stays (C interface), point 6: the caller's lists are flat, three numbers a vertex and three a facet, and a vertex or a facet is named by its place.
 ghost use Rattle.std.specs.Prelude.{◌≡◌, [], ◌∷◌, ◌+◌, ◌*◌, ◌<◌, length, get_or};
 ghost use Rattle.std.proofs.lemmas.List.Edits.{sets};
 ghost use Rattle.geometry.specs.Triangles.{corners_at};
@@ -50,6 +51,7 @@ pub fn facet_at(facets: &[u32], f: usize) -> MeshTriangle
 }
 
 // The vertex whose number stands at the place k of a work room.
+// Stays (plainer): `corner_at` for words of 64 bits; one function for both would need a trait of our own, since neither u32 nor u64 is `Into<usize>`.
 pub fn vertex_in(room: &[u64], k: usize) -> MeshVertexId
     requires { k < length room.now }
     ensures { result.0 ≡ get_or room.now k 0 }

@@ -1,10 +1,15 @@
 -- The computed length of specs/Length.antt is the length: it meets `IsHypot`, it is the only double that does, and it is at most twice the larger bound of the extents.
 -- Assumes nothing.
-use mathlib.Core.Path.{◌≡◌, refl, sym, ap, ◌∙◌, subst}
+use mathlib.Core.Path.{◌≡◌, refl, sym, ap, ap₂, ◌∙◌, subst}
 use mathlib.Core.Logic.{◌⊎◌, inl, inr}
 use mathlib.Core.Bool.{Bool, true, false, cond}
-use Prim.Native.Nat.{ℕ, suc, ◌+◌, ◌*◌, ◌%◌, ◌^◌, ◌≤◌, ◌<◌}
+use Prim.Native.Nat.{ℕ, suc, ◌+◌, ◌*◌, ◌%◌, ◌^◌, ◌≤◌, ◌<◌, max, min}
 use native.Mathlib.Nat.{
+  add_comm,
+  max-eq_left,
+  max-eq_right,
+  min-eq_left,
+  min-eq_right,
   mul_comm,
   mul_assoc,
   mul_left_comm,
@@ -24,11 +29,13 @@ use native.Mathlib.Omega.{arith}
 use lib.Dec.{T, eqb, eqb→eq, eqb_refl, lit<}
 use lib.Arith.{lt_of_le-ne}
 use lib.Pow.{pow_pos, pow_mono}
-use lib.Ieee.{Float, binary64, fits, round, to_bits}
+use lib.Ieee.{Float, binary64, fits, round, of_bits, to_bits}
+use lib.Ieee.Bits.{of_bits-fits}
 use lib.Ieee.Fits.{round-fits}
 use Rattle.root.specs.Doubles.{finite, one, units_of}
 use Rattle.root.specs.Bounds.{Within, Nearest}
 use Rattle.root.specs.Root.{whole_root}
+use Rattle.root.specs.Patterns.{pattern_units}
 use Rattle.root.specs.Drawn.{WholeRoot}
 use Rattle.root.proofs.Grid.{lt_or_ge, sq_lt}
 use Rattle.root.proofs.Nearest.{round_nearest, round_sign, nearest_same}
@@ -36,7 +43,8 @@ use Rattle.root.proofs.Ties.{round_even}
 use Rattle.root.proofs.Bounds.{held_pow, round_within, within_units}
 use Rattle.root.proofs.WholeRoot.{whole_root_lem, whole_unique}
 use Rattle.hypot.specs.Length.{four_squares, IsHypot, more, hypotenuse, Measured}
-use Rattle.hypot.proofs.Length.{hypot_unique}
+use Rattle.hypot.specs.Placing.{LengthAt}
+use Rattle.hypot.proofs.Length.{is_hypot, four_patterns_lem, within_pattern, hypot_unique}
 
 pub hypotenuse_fits : (x y : Float) → T (fits binary64 (hypotenuse x y))
 unfolding hypotenuse
@@ -192,3 +200,34 @@ module _ (x y : Float) (i : ℕ) (I : i ≤ 1021) (h : Within (2 ^ i) x) (g : Wi
 
   pub measured : (r : Float) → T (fits binary64 r) → IsHypot x y r → Measured x y r
   measured r R a = record { nearest = a; computed = hypot_unique x y r (hypotenuse x y) R (hypotenuse_fits x y) a hypotenuse_meets }
+
+-- ---- as `hypot` has it
+
+-- the larger and the lesser of two, in turn
+both : (f : ℕ → ℕ) (a b : ℕ) → f (max a b) + f (min a b) ≡ f a + f b
+both f a b = elim (lt_or_ge a b) [
+  | inl l ↦ ap₂ ◌+◌ (ap f (max-eq_right (le_of_lt l))) (ap f (min-eq_left (le_of_lt l))) ∙ add_comm (f b) (f a)
+  | inr l ↦ ap₂ ◌+◌ (ap f (max-eq_left l)) (ap f (min-eq_right l))
+]
+
+module _ (x y : Float) (f : fits binary64 x ≡ true) (g : fits binary64 y ≡ true) (h : Within (2 ^ 1021) x) (k : Within (2 ^ 1021) y) where
+  F : T (fits binary64 x)
+  F = subst T (sym f) tt
+
+  G : T (fits binary64 y)
+  G = subst T (sym g) tt
+
+  abbrev greater : ℕ
+  greater = max (to_bits binary64 x % 2 ^ 63) (to_bits binary64 y % 2 ^ 63)
+
+  abbrev lesser : ℕ
+  lesser = min (to_bits binary64 x % 2 ^ 63) (to_bits binary64 y % 2 ^ 63)
+
+  pub hypot_asks : (lesser ≤ greater) × (greater < 2045 * 2 ^ 52)
+  hypot_asks = (omega arith, omega (arith, within_pattern x F h, within_pattern y G k))
+
+  pub hypot_meets : {r : ℕ} → LengthAt (4 * (pattern_units greater * pattern_units greater + pattern_units lesser * pattern_units lesser)) r → Measured x y (of_bits binary64 r)
+  hypot_meets {r} L =
+      measured x y 1021 (omega arith) h k (of_bits binary64 r) (of_bits-fits binary64 r)
+      (is_hypot L x y (ap (λ (n : ℕ). 4 * n) (both (λ (n : ℕ). pattern_units n * pattern_units n) (to_bits binary64 x % 2 ^ 63) (to_bits binary64 y % 2 ^ 63))
+      ∙ four_patterns_lem x y F G h.is_finite k.is_finite))

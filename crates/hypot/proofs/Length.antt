@@ -1,18 +1,18 @@
 -- From patterns to doubles: what `hypot` promises, and that only one double is so. Assumes nothing.
 use mathlib.Core.Path.{◌≡◌, refl, sym, ap, ◌∙◌, subst, subst₂}
 use mathlib.Core.Logic.{◌⊎◌, inl, inr}
-use mathlib.Core.Bool.{false}
+use mathlib.Core.Bool.{false, not}
 use Prim.Native.Nat.{ℕ, ◌+◌, ◌-◌, ◌*◌, ◌%◌, ◌^◌, ◌≤◌, ◌<◌}
 use native.Mathlib.Nat.{add_comm, mul-le-mul, le_trans, le_of_eq, le_antisymm, lt_of_lt_of_le, lt_of_le_of_lt, lt_irrefl, eq-or-lt_of_le}
 use native.Mathlib.Omega.{arith}
 use lib.Dec.{T, lit<}
-use lib.Ieee.{Float, binary64, fits, of_bits, to_bits}
+use lib.Ieee.{Float, binary64, fits, of_bits, to_bits, nan_bits}
 use lib.Ieee.Bits.{to_bits-of_bits, of_bits-fits}
 use Rattle.root.specs.Doubles.{finite, negative, one, units_of}
 use Rattle.root.specs.Bounds.{Within}
 use Rattle.root.specs.Patterns.{pattern_units}
 use Rattle.root.proofs.Grid.{lt_or_ge, sq_lt}
-use Rattle.root.proofs.Patterns.{Is, plain_pattern, units_is, sign_is, finite_is, no_nan, same_units, placed}
+use Rattle.root.proofs.Patterns.{Is, plain_pattern, units_is, sign_is, finite_is, no_nan, no_nan_pattern, same_units, placed}
 use Rattle.root.proofs.Order.{pattern_less, pattern_le, pattern_back, unsigned, finite_unsigned, finite_less}
 use Rattle.root.proofs.Bounds.{within_units}
 use Rattle.hypot.specs.Length.{four_squares, four_middle, IsHypot}
@@ -124,6 +124,9 @@ four_patterns_lem x y F G p q =
 
 pub four_turned : (x y : Float) → four_squares y x ≡ four_squares x y
 four_turned x y = ap (λ (k : ℕ). 4 * k) (add_comm (units_of y * units_of y) (units_of x * units_of x))
+
+pub plain_length : {v b : ℕ} → LengthAt v b → T (not (nan_bits binary64 b))
+plain_length {v} {b} L = no_nan_pattern b (bits_finite b L.plain)
 
 bound_at : pattern_units (2045 * 2 ^ 52) ≡ 2 ^ 52 * 2 ^ 2044
 bound_at = placed 2044 (2 ^ 52) (λ _. le_of_eq refl) (omega arith)

@@ -1,7 +1,27 @@
 -- The square of a number of 54 digits in two words, its quotient by a power of four, and the sum of two squares. Nothing here but whole numbers. Assumes nothing.
 use mathlib.Core.Path.{◌≡◌, refl, sym, ap, ◌∙◌, subst}
 use Prim.Native.Nat.{ℕ, zero, suc, ◌+◌, ◌-◌, ◌*◌, ◌/◌, ◌%◌, ◌^◌, ◌≤◌, ◌<◌}
-use native.Mathlib.Nat.{mul_comm, mul_assoc, mul_right_comm, mul-mul-mul_comm, add-mul, mul-add, one-mul, pow-succ', mul-le-mul, mul-le-mul_right, mul-div_cancel, div-le_self, div-add-mod', mod-lt, mod-eq_of_lt, le_trans, le_of_eq, lt_of_lt_of_le, lt_of_mul-lt-mul_right}
+use native.Mathlib.Nat.{
+  mul_comm,
+  mul_assoc,
+  mul_right_comm,
+  mul-mul-mul_comm,
+  add-mul,
+  mul-add,
+  one-mul,
+  pow-succ',
+  mul-le-mul,
+  mul-le-mul_right,
+  mul-div_cancel,
+  div-le_self,
+  div-add-mod',
+  mod-lt,
+  mod-eq_of_lt,
+  le_trans,
+  le_of_eq,
+  lt_of_lt_of_le,
+  lt_of_mul-lt-mul_right,
+}
 use native.Mathlib.Omega.{arith}
 use lib.Pow.{pow_pos, pow-add, pow_mono}
 use Rattle.hypot.specs.Placing.{Squared, Divided, Summed}
@@ -41,6 +61,11 @@ squared v x y z h e l = record { is = is (v * v) x y z e; high = under (v * v) x
 
     under : (s x y z : ℕ) → s ≡ x * 2 ^ 54 + 2 * y * 2 ^ 27 + z → s ≤ (2 ^ 54 - 1) * (2 ^ 54 - 1) → x + 2 * y / 2 ^ 27 + (2 * y % 2 ^ 27 * 2 ^ 27 + z) / 2 ^ 54 < 2 ^ 54
     under s x y z e k = omega (arith, is s x y z e)
+
+pub square_of : (v : ℕ) → v < 2 ^ 54
+    → Squared v (v / 2 ^ 27 * (v / 2 ^ 27) + 2 * (v / 2 ^ 27 * (v % 2 ^ 27)) / 2 ^ 27 + (2 * (v / 2 ^ 27 * (v % 2 ^ 27)) % 2 ^ 27 * 2 ^ 27 + v % 2 ^ 27 * (v % 2 ^ 27)) / 2 ^ 54)
+    ((2 * (v / 2 ^ 27 * (v % 2 ^ 27)) % 2 ^ 27 * 2 ^ 27 + v % 2 ^ 27 * (v % 2 ^ 27)) % 2 ^ 54)
+square_of v h = squared v (v / 2 ^ 27 * (v / 2 ^ 27)) (v / 2 ^ 27 * (v % 2 ^ 27)) (v % 2 ^ 27 * (v % 2 ^ 27)) h (halves v) (bounds v h).2
 
 -- ---- powers of four
 

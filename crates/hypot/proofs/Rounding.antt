@@ -1,6 +1,8 @@
 -- From a root in half units to the pattern of the nearest double, the even one of two. Nothing here but patterns and whole numbers. Assumes nothing.
 use mathlib.Core.Path.{◌≡◌, sym, ap, ◌∙◌, subst}
-use mathlib.Core.Logic.{inl, inr}
+use mathlib.Core.Logic.{◌⊎◌, inl, inr}
+use mathlib.Core.Bool.{Bool, true, false, ◌||◌}
+use lib.Dec.{eqb}
 use Prim.Native.Nat.{ℕ, ◌+◌, ◌*◌, ◌/◌, ◌%◌, ◌^◌, ◌≤◌, ◌<◌}
 use native.Mathlib.Nat.{mul_comm, mul_assoc, add-mul, pow-succ', mul-le-mul, mul-le-mul_right, mul-lt-mul_of_pos_right, le_trans, le_of_eq, le_of_lt, lt_of_lt_of_le, lt_of_le_of_lt}
 use native.Mathlib.Numerals.{add-one}
@@ -64,7 +66,7 @@ rises v b t B l h r k = record {
 
 -- ---- q half units, at p whole ones of 2 ^ j
 
-module _ (v q s j p : ℕ) (n : Near v q s j) (J : j < 2045) (p< : p < 2 ^ 53) (L : 0 < j → 2 ^ 52 ≤ p) where
+module _ (v q : ℕ) (s : Bool) (j p : ℕ) (n : Near v q s j) (J : j < 2045) (p< : p < 2 ^ 53) (L : 0 < j → 2 ^ 52 ≤ p) where
   abbrev u : ℕ
   u = 2 ^ j
 
@@ -107,7 +109,7 @@ module _ (v q s j p : ℕ) (n : Near v q s j) (J : j < 2045) (p< : p < 2 ^ 53) (
     here = ap (λ (x : ℕ). x * u) e ∙ sym middle
 
     -- the root is on it: the even one
-    pub tie_stays : s ≡ 0 → b % 2 ≡ 0 → LengthAt v b
+    pub tie_stays : s ≡ false → b % 2 ≡ 0 → LengthAt v b
     tie_stays z k =
         stays v b (q * u) (omega arith) (le_trans (le_of_eq (twice p at_p)) (mul-le-mul_right u (omega arith))) n.reaches
         (le_of_eq (sym (n.exact z) ∙ ap (λ (x : ℕ). x * x) here)) (λ _. k)
@@ -124,7 +126,7 @@ module _ (v q s j p : ℕ) (n : Near v q s j) (J : j < 2045) (p< : p < 2 ^ 53) (
     tie_rises k = up_to (λ _. k)
 
     -- the root is beyond it
-    pub more_rises : 0 < s → LengthAt v (b + 1)
+    pub more_rises : s ≡ true → LengthAt v (b + 1)
     more_rises z = up_to (λ x. absurd (clash (subst (λ (y : ℕ). y * y < v) here (n.more z)) x))
 
 -- ---- as `place` has it
@@ -132,14 +134,14 @@ module _ (v q s j p : ℕ) (n : Near v q s j) (J : j < 2045) (p< : p < 2 ^ 53) (
 lead_half : (j q : ℕ) → (0 < j → 2 ^ 53 ≤ q) → 0 < j → 2 ^ 52 ≤ q / 2
 lead_half j q f h = omega (arith, f h)
 
-module _ (j q s : ℕ) (J : j < 2045) (Q : q < 2 ^ 54) (L : 0 < j → 2 ^ 53 ≤ q) where
+module _ (j q : ℕ) (s : Bool) (J : j < 2045) (Q : q < 2 ^ 54) (L : 0 < j → 2 ^ 53 ≤ q) where
   abbrev low : ℕ
   low = j * 2 ^ 52 + q / 2
 
   pub place_even : q % 2 ≡ 0 → Placed j q s low
   place_even e = record { nearest = λ v n. even_stays v q s j (q / 2) n J (omega arith) (lead_half j q L) (omega arith) }
 
-  pub place_tie : (q % 2 ≡ 0 → ⊥) → s ≡ 0 → Placed j q s (low + low % 2)
+  pub place_tie : (q % 2 ≡ 0 → ⊥) → s ≡ false → Placed j q s (low + low % 2)
   place_tie e z = record {
     nearest = λ v n. elim (lt_or_ge (low % 2) 1) [
       | inl h ↦ let k = stay low h in subst (LengthAt v) k.1 (tie_stays v q s j (q / 2) n J (omega arith) (lead_half j q L) (omega arith) z k.0)
@@ -153,31 +155,25 @@ module _ (j q s : ℕ) (J : j < 2045) (Q : q < 2 ^ 54) (L : 0 < j → 2 ^ 53 ≤
       rise : (b : ℕ) → 1 ≤ b % 2 → ((b + 1) % 2 ≡ 0) × (b + 1 ≡ b + b % 2)
       rise b h = omega arith
 
-  pub place_more : (q % 2 ≡ 0 → ⊥) → (s ≡ 0 → ⊥) → Placed j q s (low + 1)
-  place_more e z = record { nearest = λ v n. more_rises v q s j (q / 2) n J (omega arith) (lead_half j q L) (omega arith) (omega arith) }
+  pub place_more : (q % 2 ≡ 0 → ⊥) → s ≡ true → Placed j q s (low + 1)
+  place_more e z = record { nearest = λ v n. more_rises v q s j (q / 2) n J (omega arith) (lead_half j q L) (omega arith) z }
 
 -- ---- a digit less: units twice as large
 
-near_half : (v q s j : ℕ) → Near v q s j → Near v (q / 2) (s + q % 2) (j + 1)
-near_half v q s j n = record {
+near_half : {v q j : ℕ} {s t : Bool} → (t ≡ false → (s ≡ false) × (q % 2 ≡ 0)) → (t ≡ true → (s ≡ true) ⊎ (q % 2 ≡ 1)) → Near v q s j → Near v (q / 2) t (j + 1)
+near_half {v} {q} {j} N M n = record {
   reaches = le_trans (mul-le-mul low low) n.reaches;
   next = lt_of_lt_of_le n.next (mul-le-mul high high);
-  exact = λ z. ap (λ (x : ℕ). x * x) (double (q / 2) ∙ ap (λ (x : ℕ). x * 2 ^ j) (whole q (none s (q % 2) z).1)) ∙ n.exact (none s (q % 2) z).0;
-  more = λ z. elim (lt_or_ge 0 s) [
+  exact = λ z. ap (λ (x : ℕ). x * x) (double (q / 2) ∙ ap (λ (x : ℕ). x * 2 ^ j) (whole q (N z).1)) ∙ n.exact (N z).0;
+  more = λ z. elim (M z) [
     | inl h ↦ lt_of_le_of_lt (mul-le-mul low low) (n.more h)
-    | inr h ↦ lt_of_lt_of_le (sq_lt (q / 2 * 2 ^ (j + 1)) (q * 2 ^ j) (less (rest s (q % 2) z h))) n.reaches
+    | inr h ↦ lt_of_lt_of_le (sq_lt (q / 2 * 2 ^ (j + 1)) (q * 2 ^ j) (less h)) n.reaches
   ];
 }
   where
     double : (h : ℕ) → h * 2 ^ (j + 1) ≡ 2 * h * 2 ^ j
     double h =
         ap (λ (x : ℕ). h * x) (ap (λ (x : ℕ). 2 ^ x) (add-one j) ∙ pow-succ' 2 j) ∙ sym (mul_assoc h 2 (2 ^ j)) ∙ ap (λ (x : ℕ). x * 2 ^ j) (mul_comm h 2)
-
-    none : (s t : ℕ) → s + t ≡ 0 → (s ≡ 0) × (t ≡ 0)
-    none s t z = omega arith
-
-    rest : (s t : ℕ) → 0 < s + t → s ≤ 0 → 0 < t
-    rest s t z h = omega arith
 
     whole : (q : ℕ) → q % 2 ≡ 0 → 2 * (q / 2) ≡ q
     whole q e = omega arith
@@ -188,8 +184,14 @@ near_half v q s j n = record {
     high : (q + 1) * 2 ^ j ≤ (q / 2 + 1) * 2 ^ (j + 1)
     high = le_trans (mul-le-mul_right (2 ^ j) (omega arith)) (le_of_eq (sym (double (q / 2 + 1))))
 
-    less : 0 < q % 2 → q / 2 * 2 ^ (j + 1) < q * 2 ^ j
+    less : q % 2 ≡ 1 → q / 2 * 2 ^ (j + 1) < q * 2 ^ j
     less h = lt_of_le_of_lt (le_of_eq (double (q / 2))) (mul-lt-mul_of_pos_right (omega arith) (pow_pos j))
 
-pub placed_half : (j q s b : ℕ) → Placed (j + 1) (q / 2) (s + q % 2) b → Placed j q s b
-placed_half j q s b p = record { nearest = λ v n. p.nearest v (near_half v q s j n) }
+pub placed_half : {j q b : ℕ} {s : Bool} → Placed (j + 1) (q / 2) (s || eqb (q % 2) 1) b → Placed j q s b
+placed_half {j} {q} {b} {s} p = record { nearest = λ v n. p.nearest v (near_half (none s q) (some s q) n) }
+  where
+    none : (s : Bool) (q : ℕ) → (s || eqb (q % 2) 1) ≡ false → (s ≡ false) × (q % 2 ≡ 0)
+    none s q e = grind arith
+
+    some : (s : Bool) (q : ℕ) → (s || eqb (q % 2) 1) ≡ true → (s ≡ true) ⊎ (q % 2 ≡ 1)
+    some s q e = grind arith

@@ -2,7 +2,10 @@
 -- Nothing here but patterns and whole numbers. Assumes nothing.
 use mathlib.Core.Path.{◌≡◌, refl, sym, ap, ◌∙◌, subst, subst₂}
 use mathlib.Core.Logic.{inl, inr}
-use Prim.Native.Nat.{ℕ, ◌+◌, ◌-◌, ◌*◌, ◌^◌, ◌≤◌, ◌<◌}
+use mathlib.Core.Bool.{Bool, true, false, not, ◌||◌}
+use lib.Dec.{ltb, eqb}
+use borrow.Author.Tests.{ltb-true, ltb-false}
+use Prim.Native.Nat.{ℕ, ◌+◌, ◌-◌, ◌*◌, ◌/◌, ◌%◌, ◌^◌, ◌≤◌, ◌<◌}
 use native.Mathlib.Nat.{
   mul_comm,
   mul_assoc,
@@ -29,9 +32,9 @@ use Rattle.root.specs.Patterns.{pattern_units}
 use Rattle.root.specs.Drawn.{Drawn, Appended}
 use Rattle.root.proofs.Grid.{lt_or_ge, double}
 use Rattle.root.proofs.Patterns.{placed}
-use Rattle.root.proofs.Digits.{from_nothing, appended_then, appended_below, appended_room}
+use Rattle.root.proofs.Digits.{from_nothing, appended_then, appended_room}
 use Rattle.hypot.specs.Placing.{Parts, Summed, Near, RootOf, LengthAt, Placed}
-use Rattle.hypot.proofs.Products.{two_four, four_pos, four_most}
+use Rattle.hypot.proofs.Products.{two_four, four_pos}
 use Rattle.hypot.proofs.Rounding.{even_stays}
 
 -- ---- the root q of z, whose square leaves y, is that of four times the sum of the squares of m * 2 ^ (k + d) and l * 2 ^ k
@@ -94,35 +97,31 @@ module _ {m l d h w f q y : ℕ} (S : Summed m l d h w f) (D : Drawn (h * 2 ^ 54
       up : (a b : ℕ) → a < b → a + 1 ≤ b
       up a b h = omega arith
 
-  near_sum : Near v q (y + f) (k + d)
-  near_sum = record {
+  near_sum : {s : Bool} → (s ≡ false → (y ≡ 0) × (f ≡ 0)) → (s ≡ true → 0 < y + f) → Near v q s (k + d)
+  near_sum N M = record {
     reaches = le_trans (le_of_eq (scaled q)) (le_trans (mul-le-mul_right (t * t) (omega (arith, left))) (le_of_eq (sym value)));
     next = lt_of_le_of_lt (le_of_eq value) (lt_of_lt_of_le (mul-lt-mul_of_pos_right upper some) (le_of_eq (sym (scaled (q + 1)))));
-    exact = λ e. scaled q ∙ ap (λ (x : ℕ). x * (t * t)) (all e) ∙ sym value;
-    more = λ e. lt_of_le_of_lt (le_of_eq (scaled q)) (lt_of_lt_of_le (mul-lt-mul_of_pos_right (over e) some) (le_of_eq (sym value)));
+    exact = λ e. scaled q ∙ ap (λ (x : ℕ). x * (t * t)) (all (N e).0 (N e).1) ∙ sym value;
+    more = λ e. lt_of_le_of_lt (le_of_eq (scaled q)) (lt_of_lt_of_le (mul-lt-mul_of_pos_right (over (M e)) some) (le_of_eq (sym value)));
   }
     where
-      none : (y f : ℕ) → y + f ≡ 0 → (y ≡ 0) × (f ≡ 0)
-      none y f e = omega arith
-
-      all : y + f ≡ 0 → q * q * p ≡ z * p + f
-      all e = omega (arith, left, ap (λ (x : ℕ). x * p) (none y f e).0 ∙ zero-mul p, (none y f e).1)
+      all : y ≡ 0 → f ≡ 0 → q * q * p ≡ z * p + f
+      all e g = omega (arith, left, ap (λ (x : ℕ). x * p) e ∙ zero-mul p)
 
       over : 0 < y + f → q * q * p < z * p + f
       over e = omega (arith, left, wide)
 
--- 28 and 27 digits drawn
-pub root_of : {m l d h w f r y r' y' : ℕ} → d < 27 → Summed m l d h w f → Appended 28 h 0 0 r y → Appended 27 w r y r' y' → RootOf m l d r' (y' + f)
-root_of {m} {l} {d} {h} {w} {f} {r} {y} {r'} {y'} D S a b =
+-- 28 and 27 digits drawn: there is more if something is left of the number or of the division
+pub root_of : {m l d h w f r y r' y' : ℕ} → Summed m l d h w f → Appended 28 h 0 0 r y → Appended 27 w r y r' y' → RootOf m l d r' (not (eqb y' 0) || not (eqb f 0))
+root_of {m} {l} {d} {h} {w} {f} {r} {y} {r'} {y'} S a b =
     let c : Appended 55 (h * 2 ^ 54 + w) 0 0 r' y' = appended_then a b in
-    record {
-      near = near_sum S (from_nothing c);
-      few = appended_room c;
-      little = little y' r' f (4 ^ d) (appended_below (omega arith) c) (appended_room c) S.part (four_most d D);
-    }
+    record { near = λ k. near_sum S (from_nothing c) k (none y' f) (some y' f); few = appended_room c }
   where
-    little : (y r f e : ℕ) → y ≤ 2 * r → r < 2 ^ 55 → f < e → e ≤ 2 ^ 52 → y + f < 2 ^ 60
-    little y r f e i j k l = omega arith
+    none : (a b : ℕ) → (not (eqb a 0) || not (eqb b 0)) ≡ false → (a ≡ 0) × (b ≡ 0)
+    none a b e = grind arith
+
+    some : (a b : ℕ) → (not (eqb a 0) || not (eqb b 0)) ≡ true → 0 < a + b
+    some a b e = grind arith
 
 -- ---- far apart: of m * 2 ^ j and l * 2 ^ k the second is too small to count
 
@@ -164,16 +163,19 @@ module _ (m l j k : ℕ) (M : 2 ^ 52 ≤ m) (L : l < 2 ^ 53) (far : 27 + k ≤ j
       expand : (a b : ℕ) → (2 * a + b) * (2 * a + b) ≡ 4 * (a * a) + 4 * (a * b) + b * b
       expand a b = simp (add-mul, mul-add) (omega (arith, double a, mul_comm b (2 * a), mul_assoc 2 a b))
 
-  near_far : Near (4 * (P * P + Y * Y)) (2 * m) Y j
+  near_far : Near (4 * (P * P + Y * Y)) (2 * m) (ltb 0 Y) j
   near_far = record {
     reaches = le_trans (le_of_eq square) (omega arith);
     next = lt_of_lt_of_le (under (P * P) (Y * Y) (P * 2 ^ j) (2 ^ j * 2 ^ j) small (mul-pos (pow_pos j) (pow_pos j))) (le_of_eq (sym square_next));
-    exact = λ e. square ∙ none (P * P) (Y * Y) (ap (λ (x : ℕ). x * Y) e ∙ zero-mul Y);
-    more = λ h. lt_of_le_of_lt (le_of_eq square) (over (P * P) (Y * Y) (mul-pos h h));
+    exact = λ e. square ∙ none (P * P) (Y * Y) (ap (λ (x : ℕ). x * Y) (nothing Y (ltb-false 0 Y e)) ∙ zero-mul Y);
+    more = λ h. lt_of_le_of_lt (le_of_eq square) (over (P * P) (Y * Y) (mul-pos (ltb-true 0 Y h) (ltb-true 0 Y h)));
   }
     where
       under : (a b p w : ℕ) → b ≤ p → 0 < w → 4 * (a + b) < 4 * a + 4 * p + w
       under a b p w h g = omega arith
+
+      nothing : (y : ℕ) → y ≤ 0 → y ≡ 0
+      nothing y l = omega arith
 
       none : (a b : ℕ) → b ≡ 0 → 4 * a ≡ 4 * (a + b)
       none a b e = omega arith
@@ -182,6 +184,13 @@ module _ (m l j k : ℕ) (M : 2 ^ 52 ≤ m) (L : l < 2 ^ 53) (far : 27 + k ≤ j
       over a b h = omega arith
 
 -- ---- patterns
+
+-- the exponent of a pattern: a field of 0 counts as a field of 1
+pub parts_small : (a : ℕ) → a / 2 ^ 52 ≡ 0 → Parts a 0
+parts_small a e = record { m = a; is = omega arith; few = omega arith; lead = λ h. omega arith }
+
+pub parts_large : (a : ℕ) → (a / 2 ^ 52 ≡ 0 → ⊥) → Parts a (a / 2 ^ 52 - 1)
+parts_large a e = record { m = 2 ^ 52 + a % 2 ^ 52; is = omega arith; few = omega arith; lead = λ h. omega arith }
 
 parts_units : {a j : ℕ} (p : Parts a j) → pattern_units a ≡ p.m * 2 ^ j
 parts_units {a} {j} p = ap pattern_units p.is ∙ placed j p.m p.lead (le_of_lt p.few)
@@ -209,12 +218,12 @@ by_parts p q = λ i. 4 * (sym (parts_units p) i * sym (parts_units p) i + sym (p
 pub far_length : {a b j k : ℕ} → Parts a j → Parts b k → j < 2044 → 26 < j - k → LengthAt (four_patterns a b) a
 far_length {a} {b} {j} {k} p q J far =
     let v = 4 * (p.m * 2 ^ j * (p.m * 2 ^ j) + q.m * 2 ^ k * (q.m * 2 ^ k)) in
-    let n : Near v (2 * p.m) (q.m * 2 ^ k) j = near_far p.m q.m j k (p.lead (omega arith)) q.few (omega arith) in
-    subst₂ LengthAt (by_parts p q) (sym p.is) (even_stays v (2 * p.m) (q.m * 2 ^ k) j p.m n (omega arith) p.few p.lead refl)
+    let n : Near v (2 * p.m) (ltb 0 (q.m * 2 ^ k)) j = near_far p.m q.m j k (p.lead (omega arith)) q.few (omega arith) in
+    subst₂ LengthAt (by_parts p q) (sym p.is) (even_stays v (2 * p.m) (ltb 0 (q.m * 2 ^ k)) j p.m n (omega arith) p.few p.lead refl)
 
 -- near to each other
 
-module _ {a b j k q s : ℕ} (p : Parts a j) (p' : Parts b k) (o : k ≤ j) (r : RootOf (a - j * 2 ^ 52) (b - k * 2 ^ 52) (j - k) q s) where
+module _ {a b j k q : ℕ} {s : Bool} (p : Parts a j) (p' : Parts b k) (o : k ≤ j) (r : RootOf (a - j * 2 ^ 52) (b - k * 2 ^ 52) (j - k) q s) where
   taken_off : (a j m : ℕ) → a ≡ j * 2 ^ 52 + m → a - j * 2 ^ 52 ≡ m
   taken_off a j m e = omega arith
 

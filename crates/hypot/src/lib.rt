@@ -9,26 +9,24 @@ ghost use Rattle.root.specs.Patterns.{pattern_units};
 ghost use Rattle.hypot.specs.Length.{Measured};
 ghost use Rattle.hypot.specs.Placing.{Parts, Squared, Divided, Summed, LengthAt, Placed, RootOf};
 
-use root::Drawing;
+use root::{Drawing, LEAD, SIGN};
 
-// 2^27, 2^52, 2^54 and 2^63
-const HALF: u64 = 134217728;
+// the halves of a word of 54 digits are multiples of 2^27
+const HALF: u64 = 1 << 27;
 
-const LEAD: u64 = 4503599627370496;
-
-const WORD: u64 = 18014398509481984;
-
-const SIGN: u64 = 9223372036854775808;
+// and the words of a wide number of 2^54
+const WORD: u64 = 1 << 54;
 
 // high * 2^54 + low, and a part of one
 #[derive(Clone, Copy)]
 struct Parted {
     high: u64,
     low: u64,
-    more: u64,
+    part: u64,
 }
 
 // 4^d
+#[tactic(auto, using(crate::proofs::Products::shifted))]
 fn power(d: u64) -> u64
     requires { d < 27 }
     ensures { result ≡ 4 ^ d }
@@ -45,6 +43,7 @@ struct Wide {
 
 impl Wide {
     // The square of v, from the halves of v.
+    #[tactic(auto, using(crate::proofs::Products::square_of))]
     fn square(v: u64) -> Wide
         requires { v < 2 ^ 54 }
         ensures { Squared v result.high result.low }
@@ -60,15 +59,16 @@ impl Wide {
     }
 
     // The number divided by 4^d, and the part that is left. 4^d divides 2^54.
+    #[tactic(auto, using(crate::proofs::Products::four_pos, crate::proofs::Products::divided))]
     fn divided(self, d: u64) -> Parted
         requires { (self.high < 2 ^ 54) × (self.low < 2 ^ 54) × (d < 27) }
-        ensures { Divided self.high self.low d result.high result.low result.more }
+        ensures { Divided self.high self.low d result.high result.low result.part }
     {
         let p: u64 = power(d);
         Parted {
             high: self.high / p,
             low: self.high % p * (WORD / p) + self.low / p,
-            more: self.low % p,
+            part: self.low % p,
         }
     }
 }
@@ -76,7 +76,7 @@ impl Wide {
 // Four times m * m + l * l / 4^d.
 fn sum_squares(m: u64, l: u64, d: u64) -> Parted
     requires { (m < 2 ^ 53) × (l < 2 ^ 53) × (d < 27) }
-    ensures { Summed m l d result.high result.low result.more }
+    ensures { Summed m l d result.high result.low result.part }
 {
     let a: Wide = Wide::square(2 * m);
     let b: Wide = Wide::square(2 * l);
@@ -85,7 +85,7 @@ fn sum_squares(m: u64, l: u64, d: u64) -> Parted
     Parted {
         high: a.high + c.high + low / WORD,
         low: low % WORD,
-        more: c.more,
+        part: c.part,
     }
 }
 
@@ -93,7 +93,7 @@ fn sum_squares(m: u64, l: u64, d: u64) -> Parted
 #[derive(Clone, Copy)]
 struct Halves {
     root: u64,
-    more: u64,
+    more: bool,
 }
 
 impl Halves {
@@ -108,12 +108,12 @@ impl Halves {
         if q % 2 == 0 {
             return p;
         }
-        if self.more == 0 { p + p % 2 } else { p + 1 }
+        if self.more { p + 1 } else { p + p % 2 }
     }
 
     // The same for a root that may have a digit too many.
     fn settled(self, j: u64) -> u64
-        requires { (j < 2044) × (self.root < 2 ^ 55) × (0 < j → 2 ^ 53 ≤ self.root) × (self.more < 2 ^ 60) }
+        requires { (j < 2044) × (self.root < 2 ^ 55) × (0 < j → 2 ^ 53 ≤ self.root) }
         ensures { Placed j self.root self.more result }
     {
         if self.root < WORD {
@@ -121,13 +121,13 @@ impl Halves {
         }
         let half = Halves {
             root: self.root / 2,
-            more: self.more + self.root % 2,
+            more: self.more | (self.root % 2 == 1),
         };
         half.placed(j + 1)
     }
 }
 
-// Twice the root of m * m + l * l / 4^d: 28 and 27 digits are drawn, and the rest counts as more.
+// Twice the root of m * m + l * l / 4^d: 28 and 27 digits are drawn, and there is more if something is left.
 fn drawn_root(m: u64, l: u64, d: u64) -> Halves
     requires { (m < 2 ^ 53) × (l < 2 ^ 53) × (d < 27) }
     ensures { RootOf m l d result.root result.more }
@@ -137,11 +137,12 @@ fn drawn_root(m: u64, l: u64, d: u64) -> Halves
     let lower: Drawing = upper.bring_down(t.low, 27);
     Halves {
         root: lower.root,
-        more: lower.rest + t.more,
+        more: (lower.rest != 0) | (t.part != 0),
     }
 }
 
 // The exponent of a pattern with no sign: a field of 0 counts as a field of 1.
+#[tactic(auto, using(crate::proofs::Sums::parts_small, crate::proofs::Sums::parts_large))]
 fn exponent(a: u64) -> u64
     requires { a < 2045 * 2 ^ 52 }
     ensures { Parts a result × (result < 2044) }
@@ -151,6 +152,8 @@ fn exponent(a: u64) -> u64
 }
 
 // The pattern of the length, where b is at most a. Where the exponents are 27 or more apart, b is too small to count.
+// Stays (plainer): no conversion; it is a length, from two patterns to a pattern, so that its proof is of whole numbers alone.
+#[tactic(auto, using(crate::proofs::Sums::order))]
 fn hypot_bits(a: u64, b: u64) -> u64
     requires { (b ≤ a) × (a < 2045 * 2 ^ 52) }
     ensures { LengthAt (4 * (pattern_units a * pattern_units a + pattern_units b * pattern_units b)) result }
@@ -165,15 +168,12 @@ fn hypot_bits(a: u64, b: u64) -> u64
 }
 
 // The length of a segment with the extents x and y.
+#[tactic(auto, using(root::proofs::Patterns::no_nan, crate::proofs::Computed::hypot_asks))]
 pub fn hypot(x: f64, y: f64) -> f64
     requires { Within (2 ^ 1021) x × Within (2 ^ 1021) y }
     ensures { Measured x y result }
 {
     let a: u64 = f64::to_bits(x) % SIGN;
     let b: u64 = f64::to_bits(y) % SIGN;
-    if a < b {
-        f64::from_bits(hypot_bits(b, a))
-    } else {
-        f64::from_bits(hypot_bits(a, b))
-    }
+    f64::from_bits(hypot_bits(a.max(b), a.min(b)))
 }

@@ -1,48 +1,73 @@
 // Tests 6 and 8, and the G of test 7. The resolution is one for each axis here; the operations of document 01 give all three the same.
-ghost use Rattle.std.specs.Prelude.{◌≡◌, false, ◌||◌, ◌<◌, min, ltb};
+ghost use Rattle.std.specs.Prelude.{◌≡◌, ◌≤◌, ◌||◌};
+ghost use Rattle.geometry.specs.Boxes.{axis_of};
 ghost use Rattle.geometry.specs.Axes.{segments, grid_size};
-ghost use Rattle.rounding.specs.Rounding.{far_key};
-ghost use Rattle.input_tests.specs.Front.{by_axis, grid_too_fine, far_keys, box_far_keys};
+ghost use Rattle.rounding.specs.Rounding.{far_key, at_most_256};
+ghost use Rattle.input_tests.specs.Front.{by_axis, CutsOf, far_keys, box_far_keys};
+ghost use Rattle.input_tests.specs.Cutting.{IsCut};
 
 use geometry::aabb::AABB;
+use geometry::face::Axis;
 use rounding::{axis_segments, key_beyond, max, quantized_key};
 
-// The segments of an axis, and 257 where it needs more than 256.
-#[tactic(auto, unfolding(geometry::specs::Axes::segments))]
-pub fn segments_of(extents: AABB, eps: f64, resolution: [f64; 3], axis: usize) -> usize
-    requires { axis < 3 }
-    ensures { result ≡ min (segments extents eps (by_axis resolution) axis) 257 }
-{
-    let length = extents.max_corner[axis] - extents.min_corner[axis];
-    axis_segments(length, max(resolution[axis], eps)) as usize
+// The grid of the box, with a resolution for each axis.
+#[derive(Clone, Copy)]
+pub struct Grid {
+    pub extents: AABB,
+    pub eps: f64,
+    pub resolution: [f64; 3],
 }
 
-// 6, of one axis
-#[tactic(auto, using(crate::proofs::Grids::cut_over))]
-fn is_axis_too_fine(extents: AABB, eps: f64, resolution: [f64; 3], axis: usize) -> bool
-    requires { axis < 3 }
-    ensures { result ≡ ltb 256 (segments extents eps (by_axis resolution) axis) }
-{
-    256 < segments_of(extents, eps, resolution, axis)
+// A grid that is not too fine, and how many segments each of its axes has.
+#[derive(Clone, Copy)]
+pub struct Cuts {
+    pub grid: Grid,
+    pub segments: [usize; 3],
+    pub ghost cut: { CutsOf grid.extents grid.eps (by_axis grid.resolution) segments },
 }
 
-// 6
-#[tactic(auto, unfolding(crate::specs::Front::grid_too_fine))]
-pub fn is_grid_too_fine(extents: AABB, eps: f64, resolution: [f64; 3]) -> bool
-    ensures { result ≡ grid_too_fine extents eps (by_axis resolution) }
-{
-    (0..3).any(|axis| is_axis_too_fine(extents, eps, resolution, axis))
+impl Grid {
+    #[tactic(auto, unfolding(geometry::specs::Axes::segments, rounding::specs::Rounding::few_segments))]
+    fn axis_cut(self, axis: Axis) -> Option<usize>
+        ensures { result ≡ at_most_256 (segments self.extents self.eps (by_axis self.resolution) (axis_of axis)) }
+    {
+        let k = axis.index();
+        let length = self.extents.max_corner[k] - self.extents.min_corner[k];
+        let count = axis_segments(length, max(self.resolution[k], self.eps))?;
+        Some(count as usize)
+    }
+
+    // 6: none where an axis needs more than 256 segments
+    pub fn cut(self) -> Option<Cuts>
+        ensures { IsCut self result }
+    {
+        let x = self.axis_cut(Axis::X)?;
+        let y = self.axis_cut(Axis::Y)?;
+        let z = self.axis_cut(Axis::Z)?;
+        Some(Cuts {
+            grid: self,
+            segments: [x, y, z],
+        })
+    }
 }
 
-// G, of a grid that is not too fine
-pub fn grid_size(extents: AABB, eps: f64, resolution: [f64; 3]) -> usize
-    requires { grid_too_fine extents eps (by_axis resolution) ≡ false }
-    ensures { result ≡ grid_size extents eps (by_axis resolution) }
-{
-    let x = segments_of(extents, eps, resolution, 0) + 1;
-    let y = segments_of(extents, eps, resolution, 1) + 1;
-    let z = segments_of(extents, eps, resolution, 2) + 1;
-    2 * (x * y + x * z + y * z)
+impl Cuts {
+    pub fn along(self, axis: Axis) -> usize
+        ensures value { result ≡ segments self.grid.extents self.grid.eps (by_axis self.grid.resolution) (axis_of axis) }
+        ensures bound { result ≤ 256 }
+    {
+        self.segments[axis.index()]
+    }
+
+    // G
+    pub fn size(self) -> usize
+        ensures { result ≡ grid_size self.grid.extents self.grid.eps (by_axis self.grid.resolution) }
+    {
+        let x = self.along(Axis::X) + 1;
+        let y = self.along(Axis::Y) + 1;
+        let z = self.along(Axis::Z) + 1;
+        2 * (x * y + x * z + y * z)
+    }
 }
 
 fn is_far(x: f64, eps: f64) -> bool

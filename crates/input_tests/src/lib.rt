@@ -7,6 +7,7 @@ ghost use Rattle.lists.specs.Lists.{every};
 ghost use Rattle.refusals.specs.Refusals.{first_refusal};
 ghost use Rattle.input_tests.specs.Front.{ragged, too_many, admitted, bad_index, list_tests, cap_ceiling, in_range, eps_in_range, resolution_in_range, work_need};
 
+use geometry::mesh::MeshLists;
 use refusals::refusal::Refusal;
 
 pub mod boxes;
@@ -47,6 +48,7 @@ fn is_over(ceiling: u64, length: usize) -> bool
 }
 
 // 3
+// Stays (plainer): `count` is how many vertices there are, which is no place in `facets`.
 #[tactic(auto, unfolding(crate::specs::Front::bad_index))]
 pub fn has_bad_index(facets: &[u32], count: usize) -> bool
     ensures { result ≡ bad_index count facets.now }
@@ -55,36 +57,34 @@ pub fn has_bad_index(facets: &[u32], count: usize) -> bool
 }
 
 // 1, of all three lists: `caps` is the length of the cap list, 0 where an operation takes none
-fn any_ragged(vertices: usize, facets: usize, caps: usize) -> bool
-    ensures { result ≡ (ragged vertices 3 || (ragged facets 3 || ragged caps 4)) }
+fn any_ragged(mesh: MeshLists<'_>, caps: usize) -> bool
+    ensures { result ≡ (ragged (length mesh.entry.vertices.now) 3 || (ragged (length mesh.entry.facets.now) 3 || ragged caps 4)) }
 {
-    is_ragged(vertices, 3) || is_ragged(facets, 3) || is_ragged(caps, 4)
+    is_ragged(mesh.vertices.len(), 3) || is_ragged(mesh.facets.len(), 3) || is_ragged(caps, 4)
 }
 
 // 2, of all three lists: at most 1,048,576 cap triangles
-fn any_too_many(ceiling: u64, vertices: usize, facets: usize, caps: usize) -> bool
-    ensures { result ≡ (too_many (admitted ceiling) vertices 3 || (too_many (admitted ceiling) facets 3 || too_many cap_ceiling caps 4)) }
+fn any_too_many(ceiling: u64, mesh: MeshLists<'_>, caps: usize) -> bool
+    ensures { result ≡ (too_many (admitted ceiling) (length mesh.entry.vertices.now) 3
+        || (too_many (admitted ceiling) (length mesh.entry.facets.now) 3 || too_many cap_ceiling caps 4)) }
 {
-    is_over(ceiling, vertices) || is_over(ceiling, facets) || is_too_many(1048576, caps, 4)
+    is_over(ceiling, mesh.vertices.len())
+        || is_over(ceiling, mesh.facets.len())
+        || is_too_many(1048576, caps, 4)
 }
 
 // 1, 2 and 3, in that order, 2 by the caller's ceiling
 #[tactic(auto, using(refusals::proofs::Refusals::holds, refusals::proofs::Refusals::passes, refusals::proofs::Refusals::none_left))]
-pub fn check_lists(
-    ceiling: u64,
-    vertices: &[f64],
-    facets: &[u32],
-    caps: usize,
-) -> Result<(), Refusal>
-    ensures { result ≡ first_refusal (list_tests ceiling vertices.now facets.now caps) }
+pub fn check_lists(ceiling: u64, mesh: MeshLists<'_>, caps: usize) -> Result<(), Refusal>
+    ensures { result ≡ first_refusal (list_tests ceiling mesh.entry.vertices.now mesh.entry.facets.now caps) }
 {
-    if any_ragged(vertices.len(), facets.len(), caps) {
+    if any_ragged(mesh, caps) {
         return Err(Refusal::Ragged);
     }
-    if any_too_many(ceiling, vertices.len(), facets.len(), caps) {
+    if any_too_many(ceiling, mesh, caps) {
         return Err(Refusal::TooMany);
     }
-    if has_bad_index(facets, vertices.len() / 3) {
+    if has_bad_index(mesh.facets, mesh.vertices.len() / 3) {
         return Err(Refusal::BadIndex);
     }
     Ok(())

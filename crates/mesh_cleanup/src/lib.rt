@@ -11,6 +11,7 @@ ghost use Rattle.input_tests.specs.Front.{limits};
 ghost use Rattle.mesh_cleanup.specs.Clean.{clean_asked, clean_tests, clean_result, Cleaned};
 ghost use Rattle.mesh_cleanup.specs.Steps.{CleanReady, Staging};
 
+use geometry::mesh::MeshLists;
 use geometry::vertices::{point_at, write_point};
 use input_tests::grid::has_far_key;
 use input_tests::{all_in_range, check_lists, eps_in_range, work_need};
@@ -28,25 +29,29 @@ const MIN_COMPONENT_FACETS: u64 = 2;
 // What is to be cleaned, and by which eps.
 #[derive(Clone, Copy)]
 struct Cleaning<'a> {
-    vertices: &'a [f64],
-    facets: &'a [u32],
+    mesh: MeshLists<'a>,
     eps: f64,
 }
 
 impl Cleaning<'_> {
     // Tests 1, 2, 3, 4, 7 and 8, in that order.
     fn check(&self, ceiling: u64, lent: usize) -> Result<(), Refusal>
-        ensures { result ≡ first_refusal (clean_tests self.now.vertices.now self.now.facets.now (clean_asked self.now.eps) (limits ceiling lent)) }
+        ensures { result ≡ first_refusal (clean_tests self.now.mesh.vertices.now self.now.mesh.facets.now (clean_asked self.now.eps) (limits ceiling lent)) }
     {
-        check_lists(ceiling, self.vertices, self.facets, 0)?;
-        if !all_in_range(self.vertices) || !eps_in_range(self.eps) {
+        check_lists(ceiling, self.mesh, 0)?;
+        if !all_in_range(self.mesh.vertices) || !eps_in_range(self.eps) {
             return Err(Refusal::BadNumber);
         }
-        let need = work_need(self.vertices.len() / 3, self.facets.len() / 3, 0, 0);
+        let need = work_need(
+            self.mesh.vertices.len() / 3,
+            self.mesh.facets.len() / 3,
+            0,
+            0,
+        );
         if lent < need {
             return Err(Refusal::NoWorkRoom(need));
         }
-        if has_far_key(self.vertices, self.eps) {
+        if has_far_key(self.mesh.vertices, self.eps) {
             return Err(Refusal::KeyRange);
         }
         Ok(())
@@ -54,20 +59,19 @@ impl Cleaning<'_> {
 
     // The cleaned mesh in the work room: 14 words a vertex for welding, 14 a facet for the filter, then 2 a vertex and 8 a facet for components and numbers.
     fn stage(&self, work: &mut [u64]) -> Staged
-        requires { CleanReady self.now.vertices.now self.now.facets.now (clean_asked self.now.eps) (length work.old) }
-        ensures { Staging self.now.vertices.now (clean_result self.now.vertices.now self.now.facets.now (clean_asked self.now.eps)) result work.new }
+        requires { CleanReady self.now.mesh.vertices.now self.now.mesh.facets.now (clean_asked self.now.eps) (length work.old) }
+        ensures { Staging self.now.mesh.vertices.now (clean_result self.now.mesh.vertices.now self.now.mesh.facets.now (clean_asked self.now.eps)) result work.new }
     {
-        let nv = self.vertices.len() / 3;
-        let nf = self.facets.len() / 3;
-        let count = weld(work, self.vertices, nv, self.eps);
+        let nv = self.mesh.vertices.len() / 3;
+        let nf = self.mesh.facets.len() / 3;
+        let count = weld(work, self.mesh.vertices, nv, self.eps);
         let filter = Filter {
             welded: WeldedAt {
                 kept: 9 * nv,
                 count,
                 numbers: 10 * nv,
             },
-            vertices: self.vertices,
-            facets: self.facets,
+            mesh: self.mesh,
             at: 14 * nv,
             n: nf,
             eps: self.eps,
@@ -85,15 +89,16 @@ impl Cleaning<'_> {
     }
 
     // Every length is known before the first output is written.
+    // Stays (plainer), point 5: the outputs are two parameters; a struct of two `&mut` needs a clause more for each in each function, that it is still the caller's.
     fn clean_checked(
         &self,
         work: &mut [u64],
         out_vertices: &mut [f64],
         out_facets: &mut [u32],
     ) -> Reply<2>
-        requires { CleanReady self.now.vertices.now self.now.facets.now (clean_asked self.now.eps) (length work.old) }
+        requires { CleanReady self.now.mesh.vertices.now self.now.mesh.facets.now (clean_asked self.now.eps) (length work.old) }
         ensures { Answer []
-            (mesh_outputs (clean_result self.now.vertices.now self.now.facets.now (clean_asked self.now.eps)) out_vertices.old out_vertices.new out_facets.old
+            (mesh_outputs (clean_result self.now.mesh.vertices.now self.now.mesh.facets.now (clean_asked self.now.eps)) out_vertices.old out_vertices.new out_facets.old
             out_facets.new) (documented_reply result) }
     {
         let s = self.stage(work);
@@ -105,7 +110,7 @@ impl Cleaning<'_> {
             return Err(Refusal::NoRoom(s.numbers));
         }
         let order_end = s.order + s.vertices;
-        write_vertices(&work[s.order..order_end], self.vertices, out_vertices);
+        write_vertices(&work[s.order..order_end], self.mesh.vertices, out_vertices);
         let corners_end = s.corners + s.numbers;
         write_numbers(&work[s.corners..corners_end], out_facets);
         Ok([need, s.numbers])
@@ -119,8 +124,8 @@ impl Cleaning<'_> {
         out_vertices: &mut [f64],
         out_facets: &mut [u32],
     ) -> Reply<2>
-        ensures { Answer (clean_tests self.now.vertices.now self.now.facets.now (clean_asked self.now.eps) (limits ceiling (length work.old)))
-            (mesh_outputs (clean_result self.now.vertices.now self.now.facets.now (clean_asked self.now.eps)) out_vertices.old out_vertices.new out_facets.old
+        ensures { Answer (clean_tests self.now.mesh.vertices.now self.now.mesh.facets.now (clean_asked self.now.eps) (limits ceiling (length work.old)))
+            (mesh_outputs (clean_result self.now.mesh.vertices.now self.now.mesh.facets.now (clean_asked self.now.eps)) out_vertices.old out_vertices.new out_facets.old
             out_facets.new) (documented_reply result) }
     {
         self.check(ceiling, work.len())?;
@@ -139,7 +144,7 @@ fn write_vertices(order: &[u64], vertices: &[f64], out: &mut [f64])
     }
 }
 
-// Beside `write_vertices`: one function for both would be passed the closure that is its whole body.
+// Stays (plainer): beside `write_vertices`; one function for both would be passed the closure that is its whole body.
 fn write_numbers(numbers: &[u64], out: &mut [u32])
     requires room { length numbers.now ≤ length out.old }
     requires small { (j : ℕ) → j < length numbers.now → get_or numbers.now j 0 < 196609 }
@@ -152,22 +157,17 @@ fn write_numbers(numbers: &[u64], out: &mut [u32])
 
 // Cleans a mesh. The work room is cleared once, at the end: each table clears what it needs before.
 pub fn clean_mesh(
-    vertices: &[f64],
-    facets: &[u32],
+    mesh: MeshLists<'_>,
     eps: f64,
     ceiling: u64,
     work: &mut [u64],
     out_vertices: &mut [f64],
     out_facets: &mut [u32],
 ) -> Reply<2>
-    ensures { Cleaned vertices.now facets.now (clean_asked eps) ceiling result work.old work.new out_vertices.old
+    ensures { Cleaned mesh.entry.vertices.now mesh.entry.facets.now (clean_asked eps) ceiling result work.old work.new out_vertices.old
         out_vertices.new out_facets.old out_facets.new }
 {
-    let cleaning = Cleaning {
-        vertices,
-        facets,
-        eps,
-    };
+    let cleaning = Cleaning { mesh, eps };
     let reply = cleaning.clean_lent(ceiling, work, out_vertices, out_facets);
     zero(work);
     reply

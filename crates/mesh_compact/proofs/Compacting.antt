@@ -25,7 +25,7 @@ use Rattle.components.specs.Components.{components, component_of}
 use Rattle.components.specs.Table.{LabelsBelow, ComponentNumbers, ComponentTable, size}
 use Rattle.components.proofs.Numbers.{number_in, size_component}
 use Rattle.mesh_filter.specs.Filters.{facet_at}
-use Rattle.mesh_compact.specs.declared.renumber.Numbered.{Numbered}
+use Rattle.mesh_compact.specs.declared.numbered.Numbered.{Numbered}
 use Rattle.mesh_compact.specs.declared.compact.Staged.{Staged}
 use Rattle.mesh_compact.specs.Status.{share_vertex, all_passed, is_alone, kept_facets}
 use Rattle.mesh_compact.specs.Compact.{used_vertices, renumbered, compacted}
@@ -219,14 +219,14 @@ module _ (kept n facets k at least : ℕ) (m : List ℕ) (L : Lent kept n facets
                     (λ v x. numbered_place points (flat held) (each_of (λ v. v < length points) (flat held) (low_corner N)) v x)
                     ∙ sym (flat_mapped (λ v. place (eqb v) (used_vertices held)) held);
                 low = N.low;
-                small = λ j h. let a = N.small j h in let b = G.few in let c = G.within in let d = L.small in omega arith;
+                small = λ j h. let a = N.small j h in let b = w.few in let c = G.within in let d = L.small in omega arith;
               }
 
     pub compacted_is : (k ≡ 0 → ⊥) → 1 < least → (w : Numbered) (u : List ℕ) → length u ≡ length v → NumberedSoFar kept facets at k (at + 2 * k + n) n least k w v u
         → MeshCompacted kept n facets k least (record { order = at + 2 * k + n + n; vertices = w.vertices; corners = at + 2 * k + n + n + 3 * k; numbers = w.corners }) m u
     compacted_is nz big w u e G =
         let a = L.all_in in
-        let b = G.few in
+        let b = w.few in
         let c = G.within in
         let d = L.small in
         let f = C.long in

@@ -18,7 +18,7 @@ use Rattle.lists.proofs.Sequences.{up_snoc}
 use Rattle.geometry.specs.declared.point.Point.{Point}
 use Rattle.geometry.specs.Triangles.{Triangle, tri, vertices, flat, corners_at}
 use Rattle.geometry.proofs.Threes.{flat_append}
-use Rattle.mesh_compact.specs.declared.renumber.Numbered.{Numbered}
+use Rattle.mesh_compact.specs.declared.numbered.Numbered.{Numbered}
 use Rattle.mesh_compact.specs.Room.{numbering, is_large_at, kept_corners, Pointed, Naming, Cornered, Faceted, RenumberRoom, FacetNumbered, NumberedSoFar}
 
 -- ---- the three corners of a facet
@@ -27,11 +27,10 @@ pub pointed_same : (point : ℕ → Point) (points : List Point) (top kept u : �
     Pointed point points top kept u v
 pointed_same point points top kept u m v e P = record { is = P.is ∙ ap point (sym e); low = rw e P.low }
 
-pub none_yet : (kept at n k : ℕ) (w : Numbered) (m : List ℕ) → w.vertices ≤ w.corners → Faceted kept at n k [] w w m m
-none_yet kept at n k w m few =
+pub none_yet : (kept at n k : ℕ) (w : Numbered) (m : List ℕ) → Faceted kept at n k [] w w m m
+none_yet kept at n k w m =
     record {
       corners = omega arith;
-      few = few;
       rest = λ i q. refl;
       naming = λ point points top cs P N. rw (append-nil cs) N;
     }
@@ -41,7 +40,6 @@ one_corner : (kept at n k v : ℕ) (l : List ℕ) (w x y : Numbered) (m m₁ m�
 one_corner kept at n k v l w x y m m₁ m₂ below vn A B =
     record {
       corners = let p = A.corners in let q = B.corners in omega (arith, length-append l (v ∷ []));
-      few = B.few;
       rest = λ i q. B.rest i q ∙ A.rest i q;
       naming = λ point points top cs P N.
           subst (λ (r : List ℕ). Naming point points top at n k y.vertices y.corners r m₂) (append_assoc cs l (v ∷ []))
@@ -86,11 +84,10 @@ three_done kept at n k t j w x m v e F = subst (λ (i : ℕ). Faceted kept at n 
 
 -- ---- a facet dropped, or numbered
 
-module _ (kept facets parts k at n least i : ℕ) (w : Numbered) (m : List ℕ) (few : w.vertices ≤ w.corners) (within : w.corners ≤ 3 * i) where
+module _ (kept facets parts k at n least i : ℕ) (w : Numbered) (m : List ℕ) (within : w.corners ≤ 3 * i) where
   pub passed_over_lem : is_large_at m parts k least i ≡ false → FacetNumbered kept facets parts k at n least i w w m m
   passed_over_lem e =
       record {
-        few = few;
         within = omega arith;
         rest = λ x q. refl;
         naming = λ point points top cs P N.
@@ -102,11 +99,10 @@ module _ (kept facets parts k at n least i : ℕ) (w : Numbered) (m : List ℕ) 
       append_nil [] = refl
       append_nil (x ∷ l) = ap (λ (r : List ℕ). x ∷ r) (append_nil l)
 
-  pub numbered : is_large_at m parts k least i ≡ true → (r : Numbered) (v : List ℕ) → Faceted kept at n k (vertices (corners_at m (facets + 3 * i))) w r m v → FacetNumbered kept facets parts k
-      at n least i w r m v
+  pub numbered : is_large_at m parts k least i ≡ true → (r : Numbered) (v : List ℕ) → Faceted kept at n k (vertices (corners_at m (facets + 3 * i))) w r m v
+      → FacetNumbered kept facets parts k at n least i w r m v
   numbered e r v F =
       record {
-        few = F.few;
         within = let c = F.corners in omega arith;
         rest = F.rest;
         naming = λ point points top cs P N.
@@ -180,7 +176,6 @@ module _ (kept facets parts k at n : ℕ) (m v : List ℕ) (R : RenumberRoom kep
     going_on least i w r u h G T =
         record {
           done = omega arith;
-          few = T.few;
           within = T.within;
           rest = λ x q. T.rest x q ∙ rest x q;
           naming = λ point points top e P.
@@ -195,7 +190,6 @@ module _ (kept facets parts k at n : ℕ) (m v : List ℕ) (R : RenumberRoom kep
     going_from least i w u G =
         record {
           done = G.done;
-          few = G.few;
           within = G.within;
           rest = λ x q. G.rest x q ∙ rest x q;
           naming = λ point points top e P.
@@ -205,17 +199,18 @@ module _ (kept facets parts k at n : ℕ) (m v : List ℕ) (R : RenumberRoom kep
 
 -- ---- the first facet
 
-pub going_start : (kept facets parts k at n least : ℕ) (m v : List ℕ) → at + n ≤ length m → PartZeroed m v at n → NumberedSoFar kept facets parts k at n least 0
-    (record { vertices = 0; corners = 0 }) v v
+pub going_start : (kept facets parts k at n least : ℕ) (w : Numbered) (m v : List ℕ) → w.vertices ≡ 0 → w.corners ≡ 0 → at + n ≤ length m → PartZeroed m v at n
+    → NumberedSoFar kept facets parts k at n least 0 w v v
 unfolding numbering up_from flat_map
-going_start kept facets parts k at n least m v room z =
+going_start kept facets parts k at n least w m v ea ec room z =
     record {
       done = omega arith;
-      few = omega arith;
       within = omega arith;
       rest = λ x q. refl;
       naming = λ point points top e P.
-          record {
+          subst (λ (a : ℕ). Naming point points top at n k a w.corners [] v) (sym ea)
+          (subst (λ (c : ℕ). Naming point points top at n k 0 c [] v) (sym ec)
+          (record {
             given = zeros ∙ ap (λ (x : ℕ). replicate x 0) (sym e);
             used = refl;
             numbers = refl;
@@ -223,7 +218,7 @@ going_start kept facets parts k at n least m v room z =
             low = λ j h. absurd (omega arith);
             ranked = λ u h. rw (z.zero u h) (omega arith);
             small = λ j h. absurd (omega arith);
-          };
+          }));
     }
   where
     no_member : {u : ℕ} → Memᴰ u [] → ⊥

@@ -17,7 +17,7 @@ use Rattle.geometry.specs.declared.point.Point.{Point}
 use Rattle.geometry.specs.Meshes.{vertex}
 use Rattle.geometry.specs.FirstUse.{Named, new_number, enter}
 use Rattle.geometry.proofs.FirstUse.{enter_new, enter_old, enter_stays, entered}
-use Rattle.mesh_compact.specs.declared.renumber.Numbered.{Numbered}
+use Rattle.mesh_compact.specs.declared.numbered.Numbered.{Numbered}
 use Rattle.mesh_compact.specs.Room.{numbering, after_vertex, count_after, Vertexed, Pointed, Naming, Cornered}
 
 pub numbering_more : (points : List Point) (cs : List ℕ) (v : ℕ) → numbering points (cs ++ (v ∷ [])) ≡ enter (vertex points) (numbering points cs) v
@@ -233,7 +233,10 @@ module _ (point : ℕ → Point) (points : List Point) (top kept at n k a c v : 
 -- ---- the contract of a corner
 
 module _ (kept at n k v : ℕ) (w : Numbered) (m m₁ : List ℕ) (r : ℕ) (U : Vertexed kept at n w.vertices v r m m₁)
-    (vn : v < n) (below : kept + n ≤ at) (room : at + n + 6 * k ≤ length m) (ck : w.corners < 3 * k) (ac : w.vertices ≤ w.corners) where
+    (vn : v < n) (below : kept + n ≤ at) (room : at + n + 6 * k ≤ length m) (ck : w.corners < 3 * k) where
+  ac : w.vertices ≤ w.corners
+  ac = w.few
+
   -- the number just read is there
   long₁ : length m₁ ≡ length m
   long₁ = ap length U.room ∙ go (ℕ_discrete (get_or m (at + v) 0) 0)
@@ -261,11 +264,14 @@ module _ (kept at n k v : ℕ) (w : Numbered) (m m₁ : List ℕ) (r : ℕ) (U :
       go (yes h) = rw (after_new m kept at n w.vertices v h).1 (omega arith)
       go (no h) = rw (after_old m kept at n w.vertices v h).1 (omega arith)
 
-  pub cornered : Cornered kept at n k v w (record { vertices = r; corners = w.corners + 1 }) m (set m₁ (at + n + 3 * k + w.corners) (get_or m₁ (at + v) 0 - 1))
-  cornered =
+  pub few_more : r ≤ w.corners + 1
+  few_more = let f = few₁ in let g = ac in omega arith
+
+  pub cornered : (few : r ≤ w.corners + 1)
+      → Cornered kept at n k v w (record { vertices = r; corners = w.corners + 1; few = few }) m (set m₁ (at + n + 3 * k + w.corners) (get_or m₁ (at + v) 0 - 1))
+  cornered few =
       record {
         corners = refl;
-        few = let f = few₁ in omega arith;
         rest = λ x q. get_or-set_other m₁ (at + n + 3 * k + w.corners) x (get_or m₁ (at + v) 0 - 1) 0 (λ d. omega arith) ∙ rest₁ x q;
         naming = λ point points top cs P N.
             numbered_corner point points top kept at n k w.vertices w.corners v cs m P N vn room ac ck r m₁

@@ -20,7 +20,7 @@ use Rattle.geometry.specs.Triangles.{Triangle, vertices, flat, corners_at}
 use Rattle.geometry.specs.Meshes.{Mesh, vertex}
 use Rattle.geometry.specs.FirstUse.{Named, new_number, enter}
 use Rattle.mesh_filter.specs.Filters.{facet_at}
-use Rattle.mesh_compact.specs.declared.renumber.Numbered.{Numbered}
+use Rattle.mesh_compact.specs.declared.numbered.Numbered.{Numbered}
 use Rattle.mesh_compact.specs.declared.compact.Staged.{Staged}
 use Rattle.mesh_compact.specs.Status.{all_passed}
 use Rattle.mesh_compact.specs.Compact.{compacted}
@@ -57,14 +57,12 @@ pub record Naming (point : ℕ → Point) (points : List Point) (top at n k a c 
 
 pub record Cornered (kept at n k v : ℕ) (w r : Numbered) (old new : List ℕ) : Type 0 where
   pub corners : r.corners ≡ w.corners + 1
-  pub few : r.vertices ≤ r.corners
   pub rest : (x : ℕ) → x < at → get_or new x 0 ≡ get_or old x 0
   pub naming : (point : ℕ → Point) (points : List Point) (top : ℕ) (cs : List ℕ) → Pointed point points top kept v old
       → Naming point points top at n k w.vertices w.corners cs old → Naming point points top at n k r.vertices r.corners (cs ++ (v ∷ [])) new
 
 pub record Faceted (kept at n k : ℕ) (l : List ℕ) (w r : Numbered) (old new : List ℕ) : Type 0 where
   pub corners : r.corners ≡ w.corners + length l
-  pub few : r.vertices ≤ r.corners
   pub rest : (x : ℕ) → x < at → get_or new x 0 ≡ get_or old x 0
   pub naming : (point : ℕ → Point) (points : List Point) (top : ℕ) (cs : List ℕ) → ((u : ℕ) → u < n → Pointed point points top kept u old)
       → Naming point points top at n k w.vertices w.corners cs old → Naming point points top at n k r.vertices r.corners (cs ++ l) new
@@ -85,7 +83,6 @@ pub record RenumberRoom (kept facets parts k at n : ℕ) (m : List ℕ) : Type 0
 
 pub record NumberedSoFar (kept facets parts k at n least i : ℕ) (w : Numbered) (old new : List ℕ) : Type 0 where
   pub done : i ≤ k
-  pub few : w.vertices ≤ w.corners
   pub within : w.corners ≤ 3 * i
   pub rest : (x : ℕ) → x < at → get_or new x 0 ≡ get_or old x 0
   pub naming : (point : ℕ → Point) (points : List Point) (top : ℕ) → length points ≡ n → ((u : ℕ) → u < n → Pointed point points top kept u old)
@@ -93,7 +90,6 @@ pub record NumberedSoFar (kept facets parts k at n least i : ℕ) (w : Numbered)
 
 -- facet i dropped or numbered, from the room old to new
 pub record FacetNumbered (kept facets parts k at n least i : ℕ) (w r : Numbered) (old new : List ℕ) : Type 0 where
-  pub few : r.vertices ≤ r.corners
   pub within : r.corners ≤ 3 * (i + 1)
   pub rest : (x : ℕ) → x < at → get_or new x 0 ≡ get_or old x 0
   pub naming : (point : ℕ → Point) (points : List Point) (top : ℕ) (cs : List ℕ) → ((u : ℕ) → u < n → Pointed point points top kept u old)

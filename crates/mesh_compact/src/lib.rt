@@ -2,4 +2,5 @@
 #![tactic(auto)]
 
 pub mod compact;
+pub mod numbered;
 pub mod renumber;

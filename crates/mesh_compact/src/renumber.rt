@@ -1,18 +1,13 @@
 // Numbers by first use (`compact_kept_facets` of mesh_cleanup.rs). specs/Room.antt says what stands where in m.
+// Stays (C interface), point 6: the tables are places in the lent room, since C lends one buffer and there is no heap.
 ghost use Rattle.std.specs.Prelude.{◌≡◌, ◌+◌, ◌*◌, ◌≤◌, ◌<◌, length};
 ghost use Rattle.geometry.specs.Triangles.{vertices, corners_at};
 ghost use Rattle.mesh_compact.specs.Room.{is_large_at, Vertexed, Cornered, Faceted, RenumberRoom, FacetNumbered, NumberedSoFar};
 
+use crate::numbered::Numbered;
 use geometry::numbers::MeshVertexId;
 use geometry::vertices::vertex_in;
 use words::zero_part;
-
-// How many vertices and how many corners have been numbered.
-#[derive(Clone, Copy)]
-pub struct Numbered {
-    pub vertices: usize,
-    pub corners: usize,
-}
 
 // Where renumbering finds and leaves what: the old numbers of the n welded vertices from `kept` on, the corners of the k facets that passed from `facets` on, their components
 // from `parts` on; its own tables from `at` on. Facets of components of fewer than `least` are left out.
@@ -37,6 +32,7 @@ impl Renumbering {
         if m[self.at + v.0] != 0 {
             return count;
         }
+        // Stays (plainer): one word; the library copies parts of a list, and a part of one would have to be named by its two ends.
         m[self.at + self.n + count] = m[self.kept + v.0];
         m[self.at + v.0] = count as u64 + 1;
         count + 1
@@ -46,7 +42,7 @@ impl Renumbering {
     fn number_corner(&self, m: &mut [u64], w: Numbered, v: MeshVertexId) -> Numbered
         requires v_lt_n { (v.0 < self.now.n) × (self.now.kept + self.now.n ≤ self.now.at) }
         requires k_in_bounds { self.now.at + self.now.n + 6 * self.now.k ≤ length m.old }
-        requires corners_bound { (w.corners < 3 * self.now.k) × (w.vertices ≤ w.corners) }
+        requires corners_bound { w.corners < 3 * self.now.k }
         ensures { Cornered self.now.kept self.now.at self.now.n self.now.k v.0 w result m.old m.new }
     {
         let vertices = self.number_vertex(m, w.vertices, v);
@@ -58,10 +54,12 @@ impl Renumbering {
     }
 
     // The corners of facet i, which is kept.
+    // Stays (plainer), point 5: that i is one of the k facets is asked where it is read; as a type it would be made and taken apart at each call.
+    // Stays (plainer), point 5: `RenumberRoom` holds of a room that these functions write; a field for it would be lost at the first word written.
     fn number_facet(&self, m: &mut [u64], mut w: Numbered, i: usize) -> Numbered
         requires i_lt_k { i < self.now.k }
         requires room { RenumberRoom self.now.kept self.now.facets self.now.parts self.now.k self.now.at self.now.n m.old }
-        requires corners_bound { (w.corners ≤ 3 * i) × (w.vertices ≤ w.corners) }
+        requires corners_bound { w.corners ≤ 3 * i }
         ensures { Faceted self.now.kept self.now.at self.now.n self.now.k (vertices (corners_at m.old (self.now.facets + 3 * i))) w result m.old m.new }
     {
         for j in 0..3 {
@@ -85,7 +83,7 @@ impl Renumbering {
     fn number_if_kept(&self, m: &mut [u64], w: Numbered, i: usize) -> Numbered
         requires i_lt_k { i < self.now.k }
         requires room { RenumberRoom self.now.kept self.now.facets self.now.parts self.now.k self.now.at self.now.n m.old }
-        requires corners_bound { (w.corners ≤ 3 * i) × (w.vertices ≤ w.corners) }
+        requires corners_bound { w.corners ≤ 3 * i }
         ensures { FacetNumbered self.now.kept self.now.facets self.now.parts self.now.k self.now.at self.now.n self.now.least i w result m.old m.new }
     {
         if self.is_large(m, i) {
@@ -101,10 +99,7 @@ impl Renumbering {
         ensures { NumberedSoFar self.now.kept self.now.facets self.now.parts self.now.k self.now.at self.now.n self.now.least self.now.k result m.old m.new }
     {
         zero_part(m, self.at, self.n);
-        let mut w = Numbered {
-            vertices: 0,
-            corners: 0,
-        };
+        let mut w = Numbered::none();
         for i in 0..self.k {
             w = self.number_if_kept(m, w, i);
         }

@@ -24,10 +24,10 @@ impl Filter<'_> {
     // The new numbers of the corners of facet f.
     pub fn corners_of(&self, m: &[u64], f: usize) -> MeshTriangle
         requires f_lt_n { f < self.now.n }
-        requires numbered { CornersNumbered self.now.welded self.now.vertices.now self.now.facets.now self.now.at self.now.n m.now }
-        ensures { mesh_vertices_of result ≡ facet_at (facets_in_room self.now.welded self.now.vertices.now self.now.facets.now m.now) f }
+        requires numbered { CornersNumbered self.now.welded self.now.mesh.vertices.now self.now.mesh.facets.now self.now.at self.now.n m.now }
+        ensures { mesh_vertices_of result ≡ facet_at (facets_in_room self.now.welded self.now.mesh.vertices.now self.now.mesh.facets.now m.now) f }
     {
-        let t = facet_at(self.facets, f);
+        let t = facet_at(self.mesh.facets, f);
         let numbers = self.welded.numbers;
         MeshTriangle {
             a: vertex_in(m, numbers + t.a.0),
@@ -39,17 +39,17 @@ impl Filter<'_> {
     // The point of the welded vertex v.
     fn welded_point(&self, m: &[u64], v: MeshVertexId) -> Point
         requires v_lt_count { v.0 < self.now.welded.count }
-        requires numbered { CornersNumbered self.now.welded self.now.vertices.now self.now.facets.now self.now.at self.now.n m.now }
-        ensures { result ≡ vertex (points_in_room self.now.welded self.now.vertices.now m.now) v.0 }
+        requires numbered { CornersNumbered self.now.welded self.now.mesh.vertices.now self.now.mesh.facets.now self.now.at self.now.n m.now }
+        ensures { result ≡ vertex (points_in_room self.now.welded self.now.mesh.vertices.now m.now) v.0 }
     {
         let old = vertex_in(m, self.welded.kept + v.0);
-        vertex_at(self.vertices, old)
+        vertex_at(self.mesh.vertices, old)
     }
 
     pub fn is_flat(&self, m: &[u64], t: MeshTriangle) -> bool
         requires below { Below self.now.welded.count (mesh_vertices_of t) }
-        requires numbered { CornersNumbered self.now.welded self.now.vertices.now self.now.facets.now self.now.at self.now.n m.now }
-        ensures { result ≡ is_flat self.now.eps (points_in_room self.now.welded self.now.vertices.now m.now) (mesh_vertices_of t) }
+        requires numbered { CornersNumbered self.now.welded self.now.mesh.vertices.now self.now.mesh.facets.now self.now.at self.now.n m.now }
+        ensures { result ≡ is_flat self.now.eps (points_in_room self.now.welded self.now.mesh.vertices.now m.now) (mesh_vertices_of t) }
     {
         let corners = Triangle3 {
             a: self.welded_point(m, t.a),

@@ -1,4 +1,5 @@
 // The filter, facet by facet (the second loop of `clean_mesh` in mesh_cleanup.rs). specs/Room.antt says what stands where in m, from `at` on.
+// Stays (C interface), point 6: chains, keys, numbers and corners are places in the lent room, since C lends one buffer and there is no heap.
 ghost use Rattle.std.specs.Prelude.{◌≡◌, ◌+◌, ◌*◌, ◌≤◌, ◌<◌, length, set, eqb};
 ghost use Rattle.lists.specs.Regions.{view};
 ghost use Rattle.chains.specs.Links.{id_in, link_to};
@@ -8,6 +9,7 @@ ghost use Rattle.mesh_filter.specs.Room.{points_in_room, facets_in_room, Corners
 
 use crate::corners::{WeldedAt, corners_key, has_repeated_corner};
 use chains::{Chains, Hashed};
+use geometry::mesh::MeshLists;
 use geometry::triangle::MeshTriangle;
 use words::{write_three, zero_part};
 
@@ -15,8 +17,7 @@ use words::{write_three, zero_part};
 #[derive(Clone, Copy)]
 pub struct Filter<'a> {
     pub welded: WeldedAt,
-    pub vertices: &'a [f64],
-    pub facets: &'a [u32],
+    pub mesh: MeshLists<'a>,
     pub at: usize,
     pub n: usize,
     pub eps: f64,
@@ -57,13 +58,14 @@ impl Filter<'_> {
     }
 
     // Facet f after the `count` that passed before it; how many have passed then.
+    // Stays (plainer), point 5: `CornersNumbered` holds of a room that the filter writes between two facets; for those that only read it a struct would be made anew at each facet.
     fn filter_facet(&self, m: &mut [u64], f: usize, count: usize) -> usize
         requires f_lt_n { f < self.now.n }
-        requires numbered { CornersNumbered self.now.welded self.now.vertices.now self.now.facets.now self.now.at self.now.n m.old }
-        requires filtered_so_far { FilteredSoFar self.now.eps (points_in_room self.now.welded self.now.vertices.now m.old)
-            (facets_in_room self.now.welded self.now.vertices.now self.now.facets.now m.old) self.now.at self.now.n f count m.old }
-        ensures { FacetFiltered self.now.eps (points_in_room self.now.welded self.now.vertices.now m.old)
-            (facets_in_room self.now.welded self.now.vertices.now self.now.facets.now m.old) self.now.at self.now.n (f + 1) result m.old m.new }
+        requires numbered { CornersNumbered self.now.welded self.now.mesh.vertices.now self.now.mesh.facets.now self.now.at self.now.n m.old }
+        requires filtered_so_far { FilteredSoFar self.now.eps (points_in_room self.now.welded self.now.mesh.vertices.now m.old)
+            (facets_in_room self.now.welded self.now.mesh.vertices.now self.now.mesh.facets.now m.old) self.now.at self.now.n f count m.old }
+        ensures { FacetFiltered self.now.eps (points_in_room self.now.welded self.now.mesh.vertices.now m.old)
+            (facets_in_room self.now.welded self.now.mesh.vertices.now self.now.mesh.facets.now m.old) self.now.at self.now.n (f + 1) result m.old m.new }
     {
         let t = self.corners_of(m, f);
         if has_repeated_corner(t) || self.is_flat(m, t) {
@@ -87,9 +89,9 @@ impl Filter<'_> {
 
     // How many of the n facets pass.
     pub fn filter(&self, m: &mut [u64]) -> usize
-        requires { CornersNumbered self.now.welded self.now.vertices.now self.now.facets.now self.now.at self.now.n m.old }
-        ensures { Filtered self.now.eps (points_in_room self.now.welded self.now.vertices.now m.old)
-            (facets_in_room self.now.welded self.now.vertices.now self.now.facets.now m.old) self.now.at self.now.n result m.old m.new }
+        requires { CornersNumbered self.now.welded self.now.mesh.vertices.now self.now.mesh.facets.now self.now.at self.now.n m.old }
+        ensures { Filtered self.now.eps (points_in_room self.now.welded self.now.mesh.vertices.now m.old)
+            (facets_in_room self.now.welded self.now.mesh.vertices.now self.now.mesh.facets.now m.old) self.now.at self.now.n result m.old m.new }
     {
         zero_part(m, self.at, 8 * self.n);
         let mut count = 0;

@@ -62,47 +62,30 @@ pub record Inner (k : ℤ) : Type 0 where
   pub word_same : key_word k - 1 + 1 ≡ key_word k
   pub word_above : key_word k - 1 + 2 ≡ key_word (suc_ℤ k)
 
-pub inner : (k : ℤ) → beyond k ≡ false → Inner k
+-- a number whose word lies inside the words
+fits_word : (k : ℤ) → 0 < key_word k → key_word k < 2 ^ 64 → SFits w64 k
 unfolding key_word
-inner (pos zero) h = record {
-  low = omega arith;
-  high = omega arith;
-  fits = record { sfits = omega arith };
-  below = record { sfits = omega arith };
-  above = record { sfits = omega arith };
-  word_below = omega arith;
-  word_same = omega arith;
-  word_above = omega arith;
-}
-inner (pos (suc n)) h = let l = abs_low (pos (suc n)) h in record {
-  low = omega arith;
-  high = omega arith;
-  fits = record { sfits = omega arith };
-  below = record { sfits = omega arith };
-  above = record { sfits = omega arith };
-  word_below = omega arith;
-  word_same = omega arith;
-  word_above = omega arith;
-}
-inner (negsuc zero) h = record {
-  low = omega arith;
-  high = omega arith;
-  fits = record { sfits = omega arith };
-  below = record { sfits = omega arith };
-  above = record { sfits = omega arith };
-  word_below = omega arith;
-  word_same = omega arith;
-  word_above = omega arith;
-}
-inner (negsuc (suc n)) h = let l = abs_low (negsuc (suc n)) h in record {
-  low = omega arith;
-  high = omega arith;
-  fits = record { sfits = omega arith };
-  below = record { sfits = omega arith };
-  above = record { sfits = omega arith };
-  word_below = omega arith;
-  word_same = omega arith;
-  word_above = omega arith;
+fits_word (pos n) l h = record { sfits = omega arith }
+fits_word (negsuc n) l h = record { sfits = omega arith }
+
+beside_word : (k : ℤ) → nat_abs k ≤ 2 ^ 62
+    → (2 ^ 62 ≤ key_word k) × (key_word k ≤ 2 ^ 63 + 2 ^ 62) × (key_word k ≡ key_word (pred_ℤ k) + 1) × (key_word (suc_ℤ k) ≡ key_word k + 1)
+unfolding key_word
+beside_word (pos zero) l = (omega arith, omega arith, omega arith, omega arith)
+beside_word (pos (suc n)) l = (omega arith, omega arith, omega arith, omega arith)
+beside_word (negsuc zero) l = (omega arith, omega arith, omega arith, omega arith)
+beside_word (negsuc (suc n)) l = (omega arith, omega arith, omega arith, omega arith)
+
+pub inner : (k : ℤ) → beyond k ≡ false → Inner k
+inner k h = let w = beside_word k (abs_low k h) in record {
+  low = w.0;
+  high = w.1;
+  fits = fits_word k (omega (arith, w)) (omega (arith, w));
+  below = fits_word (pred_ℤ k) (omega (arith, w)) (omega (arith, w));
+  above = fits_word (suc_ℤ k) (omega (arith, w)) (omega (arith, w));
+  word_below = omega (arith, w);
+  word_same = omega (arith, w);
+  word_above = omega (arith, w);
 }
 
 pub record InnerKey (k : Key) : Type 0 where

@@ -1,4 +1,5 @@
 // The cell of a point, each key as a word; and the distance test.
+// Stays (C interface), point 6: cells are read at places in the lent room, since C lends one buffer and there is no heap.
 ghost use Rattle.std.specs.Prelude.{◌≡◌, ◌+◌, ◌<◌, length};
 ghost use Rattle.mesh_weld.specs.Cells.{key_of, near};
 ghost use Rattle.mesh_weld.specs.Room.{cell_at, words_of};

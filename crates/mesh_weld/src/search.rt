@@ -1,6 +1,6 @@
 // The search of the 27 cells around a point, by the chains of their buckets (`push_dedup_point` of mesh_cleanup.rs). The room of n vertices stands in the work room from 0 on:
 // 4 n heads, 4 n tails and n nexts (crate chains), the kept vertices from 9 n on, the new numbers from 10 n on, and the cells of the kept from 11 n on, three words each.
-// They are places in one buffer, and links are words in it, since the C interface lends one buffer and there is no heap.
+// Stays (C interface), point 6: they are places in the lent room, and links are words in it, since C lends one buffer and there is no heap.
 ghost use Rattle.std.specs.Prelude.{◌≡◌, ◌&&◌, [], ◌∷◌, ◌+◌, ◌*◌, ◌<◌, get_or};
 ghost use Rattle.geometry.specs.Meshes.{vertex_of};
 ghost use Rattle.mesh_weld.specs.Joining.{Joining};
@@ -50,6 +50,7 @@ impl Kept<'_> {
         };
         let b = table.bucket_at(s);
         let mut here = table.chains.first(self.room, b);
+        // Stays (plainer): each item of a chain is found from the one before; a `for` would need an iterator type of its own for this walk.
         while let Some(i) = here {
             if self.holds(i, c, p) {
                 return Some(i);

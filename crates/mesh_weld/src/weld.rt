@@ -1,4 +1,5 @@
 // Welding, vertex by vertex (the first loop of `clean_mesh` in mesh_cleanup.rs).
+// Stays (C interface), point 6: chains, kept vertices, numbers and cells are places in the lent room, since C lends one buffer and there is no heap.
 ghost use Rattle.std.specs.Prelude.{◌≡◌, ◌+◌, ◌*◌, ◌≤◌, ◌<◌, length, set};
 ghost use Rattle.mesh_weld.specs.Room.{KeysIn, WeldedSoFar, Welds};
 

@@ -7,6 +7,7 @@ use crate::refusal::Refusal;
 use crate::reply::Reply;
 
 // The number 0, for done.
+// Stays (C interface): C lends the four words, so that what a `From` answered would be copied to them by each caller.
 pub fn report_done(values: &mut [u64; 4], a: u64, b: u64, c: u64, d: u64) -> u32
     ensures { (result ≡ 0) × (values.new ≡ a ∷ b ∷ c ∷ d ∷ []) }
 {
@@ -14,6 +15,8 @@ pub fn report_done(values: &mut [u64; 4], a: u64, b: u64, c: u64, d: u64) -> u32
     0
 }
 
+// A number with two values.
+// Stays (C interface): the numbers are documented for C, and the words are lent as in `report_done`.
 fn report_values(values: &mut [u64; 4], number: u32, first: u64, second: u64) -> u32
     ensures { (result ≡ number) × (values.new ≡ first ∷ second ∷ 0 ∷ 0 ∷ []) }
 {
@@ -21,6 +24,7 @@ fn report_values(values: &mut [u64; 4], number: u32, first: u64, second: u64) ->
     number
 }
 
+// Stays (C interface): as `report_done`.
 pub fn report_refusal(values: &mut [u64; 4], refusal: Refusal) -> u32
     ensures { Reported (documented refusal) result values.new }
 {
@@ -41,6 +45,7 @@ pub fn report_refusal(values: &mut [u64; 4], refusal: Refusal) -> u32
 }
 
 // Of more than four lengths the first four.
+// Stays (C interface): as `report_done`.
 pub fn report_reply<const N: usize>(values: &mut [u64; 4], reply: Reply<N>) -> u32
     ensures { Reported (documented_reply reply.entry) result values.new }
 {
@@ -50,6 +55,7 @@ pub fn report_reply<const N: usize>(values: &mut [u64; 4], reply: Reply<N>) -> u
     }
 }
 
+// Stays (C interface): as `report_done`.
 fn report_lengths(values: &mut [u64; 4], lengths: &[usize]) -> u32
     ensures { Reported (0 ∷ lengths.now) result values.new }
 {

@@ -27,14 +27,17 @@ use Rattle.refusals.specs.Refusals.{Test, settle}
 use Rattle.refusals.specs.Answers.{Output, reply_in, reply_with, AllSettled}
 use Rattle.input_tests.specs.Front.{Limits, limits}
 use Rattle.tolerance.specs.Tolerance.{tolerance_reply}
-use Rattle.aabb_clipping.specs.Clip.{ClipAsked, clip_asked, clip_tests, clip_result}
+use Rattle.aabb_planes.specs.declared.clip.Clip.{Clip}
+use Rattle.aabb_clipping.specs.Clip.{clip_asked, clip_tests, clip_result}
 use Rattle.mesh_cleanup.specs.Clean.{CleanAsked, clean_asked, clean_tests, clean_result}
-use Rattle.candidate_surface.specs.Asked.{Asked, asked}
+use Rattle.candidate_surface.specs.declared.asked.Asked.{Asked}
+use Rattle.candidate_surface.specs.Asked.{asked}
 use Rattle.candidate_outputs.specs.Outputs.{candidate_outputs}
 use Rattle.boundary_closure.specs.Operation.{candidates_tests, candidates_result}
 use Rattle.caps.specs.Operation.{caps_result}
 use Rattle.boundary_components.specs.Boundary.{boundary_tests, boundary_outputs}
-use Rattle.yongpham.specs.Calls.{box_of, mode_of, caps_call_tests}
+use Rattle.caps.specs.Modes.{mode_of}
+use Rattle.yongpham.specs.Calls.{box_of, caps_call_tests}
 use Rattle.replay.specs.Words.{Everywhere}
 use Rattle.replay.specs.Layout.{stored_reply, outputs_from, output_one, output_two, output_three, output_four, Few, Laid}
 use Rattle.replay.specs.Contents.{double_of, doubles_in, numbers_in, old_doubles, old_words}
@@ -103,7 +106,7 @@ eps_in stored = double_at stored 12
 abbrev pub resolution_in : List ℕ → Float
 resolution_in stored = double_at stored 13
 
-abbrev pub clip_asked_in : List ℕ → ClipAsked
+abbrev pub clip_asked_in : List ℕ → Clip
 clip_asked_in stored = clip_asked (box_in stored) (eps_in stored)
 
 abbrev pub clean_asked_in : List ℕ → CleanAsked
@@ -146,7 +149,7 @@ abbrev pub outputs_in : List ℕ → List ℕ
 outputs_in stored = get_or stored 15 0 ∷ get_or stored 16 0 ∷ []
 
 -- the definitions' replies, for outputs of these lengths
-abbrev pub clip_reply : List Float → List ℕ → ClipAsked → Limits → List ℕ → List ℕ
+abbrev pub clip_reply : List Float → List ℕ → Clip → Limits → List ℕ → List ℕ
 clip_reply vs fs q l outs = reply_in (clip_tests vs fs q l) (mesh_lengths (clip_result vs fs q)) outs
 
 abbrev pub clean_reply : List Float → List ℕ → CleanAsked → Limits → List ℕ → List ℕ

@@ -24,7 +24,7 @@ use native.Mathlib.Omega.{arith}
 use lib.Dec.{T, eqb, eqb→eq, eqb_refl, lit<, lit≤}
 use lib.Arith.{lt_of_le-ne}
 use lib.Pow.{pow_pos}
-use lib.Ieee.{Float, binary64, fits, round, of_bits}
+use lib.Ieee.{Float, binary64, fits, round, eq, of_bits, to_bits}
 use lib.Ieee.Fits.{round-fits}
 use lib.Ieee.Bits.{of_bits-fits}
 use lib.Ieee.Exact.{round_exact}
@@ -39,8 +39,10 @@ use Rattle.root.proofs.Patterns.{Is, units_is, finite_is, plain_pattern, written
 use Rattle.root.proofs.Nearest.{round_nearest, round_sign, nearest_same, nearest_at_least}
 use Rattle.root.proofs.Bounds.{Held, held_pow, round_within}
 use Rattle.root.proofs.WholeRoot.{whole_root_lem, whole_small, exact_above, exact_below, between_above, between_below, OnGrid, square_on_grid}
-use Rattle.root.proofs.Root.{root_unique, root_le, root_ge, root_within}
-use Rattle.root.proofs.RootAt.{rootable_finite}
+use Rattle.root.proofs.Root.{root_unique, root_within}
+use Rattle.root.specs.Digits.{RootAt}
+use Rattle.root.specs.Patterns.{pattern_units}
+use Rattle.root.proofs.RootAt.{rootable_finite, zero_root, is_root}
 
 -- ---- a double of 2 ^ 54 units, from which on all are even
 
@@ -238,11 +240,17 @@ module _ (x : Float) (F : T (fits binary64 x)) (p : T (rootable x)) where
 
   -- ---- the laws of proofs/Root.antt, of the computed root
 
-  pub computed_le : (y : Float) → T (fits binary64 y) → T (finite y) → n ≤ units_of y * units_of y → units_of (root x) ≤ units_of y
-  computed_le y G f h = root_le x (root x) y root_meets G f h
-
-  pub computed_ge : (y : Float) → T (fits binary64 y) → T (finite y) → units_of y * units_of y ≤ n → units_of y ≤ units_of (root x)
-  computed_ge y G f h = root_ge x (root x) y root_meets G f h
-
   pub computed_within : (B : ℕ) → Held binary64 B → Within (B * B) x → Within B (root x)
   computed_within B R h = root_within x (root x) B root_meets (root_fits x) R h
+
+-- ---- as `sqrt` has them
+pub sqrt_zero : (x : Float) → fits binary64 x ≡ true → T (rootable x) → eq x (of_bits binary64 0) ≡ true → Rooted x x
+sqrt_zero x f p h =
+    let F : T (fits binary64 x) = subst T (sym f) tt in
+    rooted x F p x F (zero_root x p h)
+
+pub sqrt_bits : (x : Float) → fits binary64 x ≡ true → T (rootable x) → eq x (of_bits binary64 0) ≡ false → {b : ℕ} → RootAt (pattern_units (to_bits binary64 x) * 2 ^ 1074) b
+    → Rooted x (of_bits binary64 b)
+sqrt_bits x f p h {b} s =
+    let F : T (fits binary64 x) = subst T (sym f) tt in
+    rooted x F p (of_bits binary64 b) (of_bits-fits binary64 b) (is_root x F p h b s)

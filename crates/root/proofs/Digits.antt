@@ -19,11 +19,9 @@ use native.Mathlib.Nat.{
   div-eq_of_lt,
 }
 use native.Mathlib.Omega.{arith}
-use mathlib.Core.Bool.{Bool, true, false}
 use lib.Dec.{leb}
-use borrow.Author.Tests.{leb-true, leb-false}
-use mir.Syntax.{w64}
-use mir.Val.{Fits, bool_byte}
+use borrow.Author.Tests.{le-leb, lt-leb}
+use mir.Val.{bool_byte}
 use lib.Pow.{pow_pos, pow-add, pow_mono, shr-shr}
 use lib.Bits.{bit_and, and_mask}
 use Rattle.root.specs.Drawn.{WholeRoot, Drawn, Appended}
@@ -59,22 +57,13 @@ module _ (r y p : ℕ) (B : y ≤ 2 * r) (P : p < 4) where
     kept = omega arith;
   }
 
--- a digit is a truth value as a number, and the root has room for it
-pub digit_fits : (r : ℕ) (b : Bool) → r < 2 ^ 61 → Fits w64 (r * 2 % 2 ^ 64 + bool_byte b)
-digit_fits r true h = omega arith
-digit_fits r false h = omega arith
-
 -- as the code has it: R, t and z are the root moved up by one digit, 4 * root + 1, and the rest with the pair behind it
 module _ {r y p R t z : ℕ} (B : y ≤ 2 * r) (P : p < 4) (R= : R ≡ 2 * r) (t= : t ≡ 4 * r + 1) (z= : z ≡ 4 * y + p) where
-  pub append_one : leb t z ≡ true → Appended 1 p r y (R + bool_byte (leb t z)) (z - t)
-  append_one e =
-      let l : t ≤ z = leb-true t z e in
-      subst₂ (Appended 1 p r y) (sym (ap₂ ◌+◌ R= (ap bool_byte e))) (sym (ap₂ ◌-◌ z= t=)) (digit_one r y p B P (omega arith))
+  pub append_one : t ≤ z → Appended 1 p r y (R + bool_byte (leb t z)) (z - t)
+  append_one l = subst₂ (Appended 1 p r y) (sym (ap₂ ◌+◌ R= (ap bool_byte (le-leb t z l)))) (sym (ap₂ ◌-◌ z= t=)) (digit_one r y p B P (omega arith))
 
-  pub append_zero : leb t z ≡ false → Appended 1 p r y (R + bool_byte (leb t z)) z
-  append_zero e =
-      let l : z < t = leb-false t z e in
-      subst₂ (Appended 1 p r y) (sym (ap₂ ◌+◌ R= (ap bool_byte e) ∙ add-zero (2 * r))) (sym z=) (digit_zero r y p B P (omega arith))
+  pub append_zero : z < t → Appended 1 p r y (R + bool_byte (leb t z)) z
+  append_zero l = subst₂ (Appended 1 p r y) (sym (ap₂ ◌+◌ R= (ap bool_byte (lt-leb t z l)) ∙ add-zero (2 * r))) (sym z=) (digit_zero r y p B P (omega arith))
 
 -- ---- steps one after the other
 

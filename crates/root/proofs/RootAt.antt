@@ -7,14 +7,14 @@ use native.Mathlib.Nat.{mul-one, zero-mul, mul-pos, mod-eq_of_lt, eq-zero-or-pos
 use native.Mathlib.Omega.{arith}
 use lib.IntN.{ℤ, pos}
 use lib.Dec.{T, leb, eqb, eqb→eq, nleb→lt}
-use lib.Ieee.{Float, nan, inf, fin, binary64, up, down, level, eq, fits, of_bits, to_bits}
+use lib.Ieee.{Float, nan, inf, fin, binary64, up, down, level, eq, fits, of_bits, to_bits, nan_bits, is_nan}
 use lib.Ieee.Bits.{of_bits-to_bits}
 use lib.Ieee.Fits.{and_l}
 use Rattle.root.specs.Doubles.{finite, negative, one, units_of}
 use Rattle.root.specs.Root.{rootable, IsRoot}
 use Rattle.root.specs.Patterns.{pattern_units}
 use Rattle.root.specs.Digits.{RootAt}
-use Rattle.root.proofs.Patterns.{Is, Pattern, pattern_of, plain_pattern, units_is, sign_is, finite_is, on_grid, written}
+use Rattle.root.proofs.Patterns.{Is, Pattern, pattern_of, plain_pattern, units_is, sign_is, finite_is, on_grid, written, no_nan, no_nan_pattern, small_pattern, large_pattern}
 use Rattle.root.proofs.Grid.{over, under}
 
 pub rootable_finite : (x : Float) → T (rootable x) → T (finite x)
@@ -121,6 +121,9 @@ module _ (x : Float) (F : T (fits binary64 x)) (p : T (rootable x)) (n : eq x (o
   pub asked : (0 < b) × (b < 2047 * 2 ^ 52)
   asked = (some, omega (arith, z.field, same))
 
+pub number : (x : Float) → T (rootable x) → T (not (is_nan x))
+number x p = no_nan x (rootable_finite x p)
+
 -- ---- the result
 plain : (h q : ℕ) → h < 1600 → q ≤ 2 ^ 53 → h * 2 ^ 52 + q < (2047 * 2 ^ 52)
 plain h q a c = omega arith
@@ -130,6 +133,9 @@ result_is {n} {r} s =
     let e : pattern_units r ≡ s.q * 2 ^ s.h = ap pattern_units s.pattern ∙ written s.h s.q s.digits.least s.digits.most in
     subst (λ (a : ℕ). Is (of_bits binary64 r) false a) e (plain_pattern r
     (subst (λ (k : ℕ). k < 2047 * 2 ^ 52) (sym s.pattern) (plain s.h s.q s.range s.digits.most)))
+
+pub plain_root : {n r : ℕ} → RootAt n r → T (not (nan_bits binary64 r))
+plain_root {n} {r} s = no_nan_pattern r (finite_is (of_bits binary64 r) _ _ (result_is s))
 
 pub is_root : (x : Float) (F : T (fits binary64 x)) (p : T (rootable x)) (n : eq x (of_bits binary64 0) ≡ false) (r : ℕ) → RootAt (pattern_units (to_bits binary64 x) * 2 ^ 1074) r →
     IsRoot x (of_bits binary64 r)
@@ -156,3 +162,10 @@ is_root x F p n r s =
           (subst (λ (k : ℕ). (a + k) * (a + k) < 4 * (s.m * 2 ^ (s.h + s.h))) (sym g.2)
           (under s.m s.q s.h g.1 g.0 s.digits s.low g.3 (subst (λ (k : ℕ). g.1 * 2 ^ g.0 < k) R (subst (λ (k : ℕ). k < units_of v) g.2 l)))));
     }
+
+-- ---- the pattern's root, by its exponent's field
+pub small_root : (b : ℕ) {r : ℕ} → b / 2 ^ 52 ≡ 0 → RootAt (b % 2 ^ 52 * 2 ^ 1074) r → RootAt (pattern_units b * 2 ^ 1074) r
+small_root b {r} h = subst (λ (n : ℕ). RootAt (n * 2 ^ 1074) r) (sym (small_pattern b h))
+
+pub large_root : (b : ℕ) {r : ℕ} → (b / 2 ^ 52 ≡ 0 → ⊥) → RootAt ((2 ^ 52 + b % 2 ^ 52) * 2 ^ (b / 2 ^ 52 + 1073)) r → RootAt (pattern_units b * 2 ^ 1074) r
+large_root b {r} h = subst (λ (n : ℕ). RootAt n r) (large_pattern b h)

@@ -1,9 +1,9 @@
 -- From the digits of a root to its pattern: the exponent is halved, and a small number is moved up. Assumes nothing.
-use mathlib.Core.Path.{◌≡◌, refl, sym, ap, ◌∙◌}
-use Prim.Native.Nat.{ℕ, suc, ◌+◌, ◌-◌, ◌*◌, ◌/◌, ◌%◌, ◌^◌, ◌≤◌, ◌<◌}
-use native.Mathlib.Nat.{mul_assoc, mul-one, one-mul, pow-suc, mul-le-mul_right, le_trans, le_of_eq, lt_of_le_of_lt, lt_of_lt_of_le, lt_of_not-le, lt_irrefl}
+use mathlib.Core.Path.{◌≡◌, refl, sym, ap, ◌∙◌, subst}
+use Prim.Native.Nat.{ℕ, ◌+◌, ◌-◌, ◌*◌, ◌/◌, ◌%◌, ◌^◌, ◌≤◌, ◌<◌}
+use native.Mathlib.Nat.{mul_assoc, mul-le-mul_right, mul-lt-mul_of_pos_right, mod-eq_of_lt, le_trans, le_of_eq, lt_of_le_of_lt, lt_of_lt_of_le, lt_of_not-le, lt_irrefl}
 use native.Mathlib.Omega.{arith}
-use lib.Pow.{pow-add, pow_mono}
+use lib.Pow.{pow_pos, pow-add, pow_mono}
 use Rattle.root.specs.Digits.{Digits, RootAt}
 
 -- a * 2 ^ k for a k that is j more than i
@@ -46,37 +46,37 @@ uneven a e q l lo hi p d = record {
   range = omega arith;
 }
 
--- ---- a small number moved up: d is t * 2 ^ i, and e is i less than 1074
-pub record Moved (t d e : ℕ) : Type 0 where
-  pub i : ℕ
-  pub left : e + i ≡ 1074
-  pub few : i ≤ 52
-  pub is : d ≡ t * 2 ^ i
-  pub under : d < 2 ^ 53
-
-pub unmoved : (t : ℕ) → t < 2 ^ 52 → Moved t t 1074
-unmoved t h = record { i = 0; left = refl; few = omega arith; is = sym (mul-one t); under = omega arith }
-
+-- ---- a number t below 2 ^ 52 moved up until it has 53 digits: 2 ^ r is the largest power of two in it
 pub pow_lt_back : (i p : ℕ) → 2 ^ i < 2 ^ p → i < p
 pow_lt_back i p h = lt_of_not-le (λ (g : p ≤ i). lt_irrefl (2 ^ i) (lt_of_lt_of_le h (pow_mono g)))
 
-at_least : (t p : ℕ) → 0 < t → p ≤ t * p
-at_least t p h = le_trans (le_of_eq (sym (one-mul p))) (mul-le-mul_right p h)
+module _ (t r : ℕ) (T : t < 2 ^ 52) (P : 2 ^ r ≤ t) (N : t < 2 * 2 ^ r) where
+  abbrev d : ℕ
+  d = t * 2 ^ (52 - r)
 
-pub still : {t d e : ℕ} (s : Moved t d e) → 0 < t → d < 2 ^ 52 → s.i < 52
-still {t} s T h = pow_lt_back s.i 52 (lt_of_le_of_lt (le_trans (at_least t (2 ^ s.i) T) (le_of_eq (sym s.is))) h)
+  pub few : r < 52
+  few = pow_lt_back r 52 (lt_of_le_of_lt P T)
 
-pub move : {t d e : ℕ} → Moved t d e → 0 < t → d < 2 ^ 52 → Moved t (d * 2) (e - 1)
-move {t} {d} {e} s T h = record {
-  i = suc s.i;
-  left = omega (arith, s.left, still s T h);
-  few = still s T h;
-  is = ap (λ (x : ℕ). x * 2) s.is ∙ mul_assoc t (2 ^ s.i) 2 ∙ ap (λ (x : ℕ). t * x) (sym (pow-suc 2 s.i));
-  under = omega arith;
-}
+  whole : 2 ^ r * 2 ^ (52 - r) ≡ 2 ^ 52
+  whole = sym (pow-add 2 r (52 - r)) ∙ ap (λ (k : ℕ). 2 ^ k) (back r few)
+    where
+      back : (r : ℕ) → r < 52 → r + (52 - r) ≡ 52
+      back r h = omega arith
 
-pub same : {t d e : ℕ} → Moved t d e → d * 2 ^ e ≡ t * 2 ^ 1074
-same {t} {d} {e} s = ap (λ (x : ℕ). x * 2 ^ e) s.is ∙ sym (shift t e s.i 1074 (order e s.i s.left))
-  where
-    order : (a b : ℕ) → a + b ≡ 1074 → 1074 ≡ b + a
-    order a b h = omega arith
+  least : 2 ^ 52 ≤ d
+  least = le_trans (le_of_eq (sym whole)) (mul-le-mul_right (2 ^ (52 - r)) P)
+
+  under : d < 2 ^ 53
+  under = lt_of_lt_of_le (mul-lt-mul_of_pos_right N (pow_pos (52 - r))) (le_of_eq (mul_assoc 2 (2 ^ r) (2 ^ (52 - r)) ∙ ap (λ (x : ℕ). 2 * x) whole))
+
+  in_word : d % 2 ^ 64 ≡ d
+  in_word = mod-eq_of_lt (omega (arith, under))
+
+  pub asked : (2 ^ 52 ≤ d % 2 ^ 64) × (d % 2 ^ 64 < 2 ^ 53) × (1022 ≤ 1074 - (52 - r)) × (1074 - (52 - r) < 3200)
+  asked = (omega (arith, in_word, least), omega (arith, in_word, under), omega arith, omega arith)
+
+  pub moved : {b : ℕ} → RootAt (d % 2 ^ 64 * 2 ^ (1074 - (52 - r))) b → RootAt (t * 2 ^ 1074) b
+  moved {b} = subst (λ (n : ℕ). RootAt n b) (ap (λ (x : ℕ). x * 2 ^ (1074 - (52 - r))) in_word ∙ sym (shift t (1074 - (52 - r)) (52 - r) 1074 (back r few)))
+    where
+      back : (r : ℕ) → r < 52 → 1074 ≡ 52 - r + (1074 - (52 - r))
+      back r h = omega arith

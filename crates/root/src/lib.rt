@@ -9,7 +9,10 @@ ghost use Rattle.root.specs.Drawn.{Appended};
 ghost use Rattle.root.specs.Digits.{Digits, RootAt};
 
 // 2^52: the weight of a pattern's exponent field, and of the leading digit of a significand
-const LEAD: u64 = 4503599627370496;
+pub const LEAD: u64 = 1 << 52;
+
+// 2^63: the weight of a pattern's sign
+pub const SIGN: u64 = 1 << 63;
 
 // What is drawn of a root so far, and what its square leaves of the digits brought down so far: never more than twice the root.
 #[derive(Clone, Copy)]
@@ -61,6 +64,7 @@ fn root_digits(m: u64) -> u64
 }
 
 // The pattern of the root of digits * 2^exp, a square of units. Half of an even exponent is the root's own.
+#[tactic(auto, using(crate::proofs::Scaling::even, crate::proofs::Scaling::uneven))]
 fn root_from(digits: u64, exp: u64) -> u64
     requires { (2 ^ 52 ≤ digits) × (digits < 2 ^ 53) × (1022 ≤ exp) × (exp < 3200) }
     ensures { RootAt (digits * 2 ^ exp) result }
@@ -73,21 +77,18 @@ fn root_from(digits: u64, exp: u64) -> u64
 }
 
 // The pattern of the root of t units, for a t below the least normal double. It is moved up until it has 53 digits.
+#[tactic(auto, using(crate::proofs::Scaling::asked, crate::proofs::Scaling::moved))]
 fn root_small(t: u64) -> u64
     requires { (0 < t) × (t < 2 ^ 52) }
     ensures { RootAt (t * 2 ^ 1074) result }
 {
-    let mut d: u64 = t;
-    let mut e: u64 = 1074;
-    // until it is large enough: no index is counted
-    while d < LEAD {
-        d = d * 2;
-        e = e - 1;
-    }
-    root_from(d, e)
+    let up: u64 = (52 - t.ilog2()) as u64;
+    root_from(t << up, 1074 - up)
 }
 
 // The pattern of the root of the double with the pattern b, which is above zero and finite.
+// Stays (plainer): no conversion; it is a root, from a pattern to a pattern, so that its proof is of whole numbers alone.
+#[tactic(auto, using(crate::proofs::RootAt::small_root, crate::proofs::RootAt::large_root))]
 fn root_of_bits(b: u64) -> u64
     requires { (0 < b) × (b < 2047 * 2 ^ 52) }
     ensures { RootAt (pattern_units b * 2 ^ 1074) result }
@@ -102,6 +103,7 @@ fn root_of_bits(b: u64) -> u64
 }
 
 // The double nearest to the square root of x; -0.0 of -0.0. Serves the tolerance and the cap area.
+#[tactic(auto, using(crate::proofs::RootAt::number, crate::proofs::RootAt::asked))]
 pub fn sqrt(x: f64) -> f64
     requires { T (rootable x) }
     ensures { Rooted x result }

@@ -30,11 +30,13 @@ use Rattle.mesh_cleanup.specs.Clean.{CleanAsked, clean_asked, welded_mesh, clean
 use Rattle.aabb_planes.specs.Planes.{inside, snap_to, snapped, crossing, interpolated, on_plane}
 use Rattle.aabb_polygons.specs.Polygons.{crossed, side_clipped, walk, clip_to_plane, clip_polygon}
 use Rattle.aabb_facets.specs.Clipped.{shared_number, fan, fanned, inside_box, share_once, sharing, clip_facet, clip_facets, clipped}
-use Rattle.aabb_clipping.specs.Clip.{ClipAsked, clip_asked, clip_tests, clip_result}
+use Rattle.aabb_planes.specs.declared.clip.Clip.{Clip}
+use Rattle.aabb_clipping.specs.Clip.{clip_asked, clip_tests, clip_result}
 use Rattle.geometry.specs.Axes.{segments, grid_line, axis_points, grid_size}
 use Rattle.edges.specs.Edges.{same_pair, pair_before, open_edges}
 use Rattle.box_faces.specs.Faces.{on_face, faces_of}
-use Rattle.candidate_surface.specs.Asked.{Asked, asked}
+use Rattle.candidate_surface.specs.declared.asked.Asked.{Asked}
+use Rattle.candidate_surface.specs.Asked.{asked}
 use Rattle.closure_tests.specs.Tests.{closure_tests, stray_edge, edge_tests}
 use Rattle.candidate_outputs.specs.Outputs.{candidate_lengths}
 use Rattle.boundary_closure.specs.Operation.{candidates_tests, candidates_result}
@@ -103,7 +105,7 @@ abbrev pub row : {A : Type 0} → A → A → Row
 row g s = record { Result = _; given = g; stated = s }
 
 -- the replies of operations under document 01's ceiling, for so many words of work room lent and outputs of these lengths
-abbrev pub clip_reply : List Float → List ℕ → ClipAsked → ℕ → List ℕ → List ℕ
+abbrev pub clip_reply : List Float → List ℕ → Clip → ℕ → List ℕ → List ℕ
 clip_reply vs fs q lent outs = reply_in (clip_tests vs fs q (limits mesh_ceiling lent)) (mesh_lengths (clip_result vs fs q)) outs
 
 abbrev pub clean_reply : List Float → List ℕ → CleanAsked → ℕ → List ℕ → List ℕ

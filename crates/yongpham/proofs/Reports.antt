@@ -1,14 +1,13 @@
 -- What the functions for C report, from what the operations promise. Assumes nothing.
 --   tolerance_done, tolerance_refused          the tolerance
---   mode_none, mode_positive, mode_negative    a mode from its number
 --   no_mode_passed, no_mode_refused, no_mode_is   a number that is no mode, after tests 1, 2 and 3
 --   caps_none, caps_reported                   caps, of a number that is no mode and of one that is
 use mathlib.Core.Path.{◌≡◌, refl, sym, ap, ◌∙◌, subst}
-use mathlib.Core.Bool.{Bool, true, false, cond}
+use mathlib.Core.Bool.{true, false}
 use mathlib.Core.List.{List, [], ◌∷◌, ◌++◌}
 use Prim.Native.Nat.{ℕ, ◌<◌, ◌≤◌}
-use borrow.Author.Tests.{lt-ltb, le-ltb, ne_eqb}
-use lib.Dec.{ltb, eqb}
+use borrow.Author.Tests.{lt-ltb, le-ltb}
+use lib.Dec.{ltb}
 use lib.ListN.{length, get_or, replicate, take, drop}
 use lib.Ieee.{Float, binary64, to_bits}
 use Rattle.lists.proofs.Bools.{cond_true, cond_false}
@@ -24,12 +23,12 @@ use Rattle.refusals.proofs.Answers.{refused, answered, called}
 use Rattle.refusals.proofs.Reports.{same_reply}
 use Rattle.std.specs.Prelude.{Result, Ok, Err}
 use Rattle.tolerance.specs.Tolerance.{tolerance_reply, documented_tolerance, Tolerated}
-use Rattle.candidate_surface.specs.Asked.{Asked}
+use Rattle.candidate_surface.specs.declared.asked.Asked.{Asked}
 use Rattle.caps.specs.declared.mode.BoundaryClosure.{BoundaryClosure}
-use Rattle.caps.specs.declared.mode.BoundaryClosure.TheVariants.{None, ClosePositive, CloseNegative}
 use Rattle.caps.specs.Operation.{caps_tests, caps_result, unchanged, Closes, Capped}
 use Rattle.caps.proofs.Demands.{closes}
-use Rattle.yongpham.specs.Calls.{mode_of, no_mode_tests, caps_call_tests, CapsCalled}
+use Rattle.caps.specs.Modes.{mode_of}
+use Rattle.yongpham.specs.Calls.{no_mode_tests, caps_call_tests, CapsCalled}
 
 pub tolerance_done : (b : AABB) (t : Result Float Refusal) (eps : Float) (r : ℕ) (ws : List ℕ) → Tolerated b t → t ≡ Ok eps → (r ≡ 0) ×
     (ws ≡ to_bits binary64 eps ∷ 0 ∷ 0 ∷ 0 ∷ []) → Reported
@@ -42,19 +41,6 @@ pub tolerance_refused : (b : AABB) (t : Result Float Refusal) (q : Refusal) (r :
 tolerance_refused b t q r ws h e k = same_reply (documented q) (tolerance_reply b) r ws (sym (ap documented_tolerance e) ∙ h.replied) k
 
 -- ---- caps
-
-module _ (m : ℕ) where
-  pub mode_none : m ≡ 0 → None ≡ mode_of m
-  mode_none e = sym (ap mode_of e)
-
-  pub mode_positive : m ≡ 1 → ClosePositive ≡ mode_of m
-  mode_positive e = sym (ap mode_of e)
-
-  pub mode_negative : (m ≡ 0 → ⊥) → (m ≡ 1 → ⊥) → CloseNegative ≡ mode_of m
-  mode_negative f g =
-      sym
-      (ap (λ (b : Bool). cond b None (cond (eqb m 1) ClosePositive CloseNegative)) (ne_eqb m 0 f)
-      ∙ ap (λ (b : Bool). cond b ClosePositive CloseNegative) (ne_eqb m 1 g))
 
 -- a number that is no mode is refused: by one of tests 1, 2 and 3, or as part of 4
 module _ (ceiling : ℕ) (vs : List Float) (fs : List ℕ) (n : ℕ) where

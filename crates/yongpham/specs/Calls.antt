@@ -1,26 +1,21 @@
 -- Calls from C (include/yongpham.h): a box is six doubles, a mode is a number. What a call promises is `Called` of crate refusals. Assumes nothing.
 --   box_of           the box from its corners
---   mode_of          a mode from its number
+--   mode_of          a mode from its number, as crate caps has it
 --   no_mode_tests     the tests of a number that is no mode: "part of 4, in its place"        caps_call_tests   those of any number
 --   CapsCalled      what the function of caps promises: the answer; and of a call that is done, on a mesh that has an open edge with two ends, demand 3
-use Rattle.std.specs.Prelude.{ℕ, ◌≡◌, true, false, cond, List, [], ◌∷◌, ◌++◌, eqb, ltb, length, get_or, Float}
+use Rattle.std.specs.Prelude.{ℕ, ◌≡◌, true, false, cond, List, [], ◌∷◌, ◌++◌, ltb, length, get_or, Float}
 use Rattle.geometry.specs.declared.aabb.AABB.{AABB}
 use Rattle.refusals.specs.declared.refusal.Refusal.TheVariants.{BadNumber}
 use Rattle.refusals.specs.Refusals.{Test}
 use Rattle.refusals.specs.Answers.{mesh_outputs, Called}
 use Rattle.input_tests.specs.Front.{Limits, limits, list_tests}
-use Rattle.candidate_surface.specs.Asked.{Asked}
-use Rattle.caps.specs.declared.mode.BoundaryClosure.{BoundaryClosure}
-use Rattle.caps.specs.declared.mode.BoundaryClosure.TheVariants.{None, ClosePositive, CloseNegative}
+use Rattle.candidate_surface.specs.declared.asked.Asked.{Asked}
+use Rattle.caps.specs.Modes.{mode_of}
 use Rattle.caps.specs.Operation.{caps_tests, caps_result, unchanged, Closes}
 
 abbrev pub box_of : Float → Float → Float → Float → Float → Float → AABB
 box_of min_x min_y min_z max_x max_y max_z =
     record { min_corner = min_x ∷ min_y ∷ min_z ∷ []; max_corner = max_x ∷ max_y ∷ max_z ∷ [] }
-
--- 0, 1 and 2; any other number is no mode, and is turned down
-abbrev pub mode_of : ℕ → BoundaryClosure
-mode_of m = cond (eqb m 0) None (cond (eqb m 1) ClosePositive CloseNegative)
 
 module _ (vs : List Float) (fs cap_list : List ℕ) (q : Asked) (mode : ℕ) where
   -- of a number that is no mode: "part of 4, in its place"

@@ -6,11 +6,14 @@ ghost use Rattle.candidate_outputs.specs.Outputs.{candidate_outputs};
 ghost use Rattle.boundary_closure.specs.Operation.{candidates_tests, candidates_result};
 ghost use Rattle.yongpham.specs.Calls.{box_of};
 
+use crate::boxes::box_of;
 use boundary_closure::cap_candidates;
-use geometry::aabb::AABB;
+use candidate_surface::asked::Asked;
+use geometry::mesh::MeshLists;
 use refusals::report::report_reply;
 
 // `cap_candidates`: the four values get the lengths written.
+// Stays (C interface), point 5: the parameters are those of include/yongpham.h; replay calls this crate, since no crate can use a static library (yongpham_c).
 pub fn yongpham_candidates(
     vertices: &[f64],
     facets: &[u32],
@@ -36,16 +39,15 @@ pub fn yongpham_candidates(
         face_lists.new constraints.old constraints.new open_edges.old open_edges.new) work.old
         work.new result values.new }
 {
-    let extents = AABB {
-        min_corner: [min_x, min_y, min_z],
-        max_corner: [max_x, max_y, max_z],
-    };
-    let reply = cap_candidates(
-        vertices,
-        facets,
+    let extents = box_of(min_x, min_y, min_z, max_x, max_y, max_z);
+    let asked = Asked {
         extents,
         eps,
         resolution,
+    };
+    let reply = cap_candidates(
+        MeshLists { vertices, facets },
+        asked,
         ceiling,
         work,
         candidates,

@@ -3,10 +3,12 @@ ghost use Rattle.refusals.specs.Answers.{mesh_outputs, Called};
 ghost use Rattle.input_tests.specs.Front.{limits};
 ghost use Rattle.mesh_cleanup.specs.Clean.{clean_asked, clean_tests, clean_result, KeptRule};
 
+use geometry::mesh::MeshLists;
 use mesh_cleanup::clean_mesh;
 use refusals::report::report_reply;
 
 // `clean_mesh`: values[0] and values[1] get the lengths written.
+// Stays (C interface), point 5: the parameters are those of include/yongpham.h; replay calls this crate, since no crate can use a static library (yongpham_c).
 pub fn yongpham_clean(
     vertices: &[f64],
     facets: &[u32],
@@ -23,8 +25,7 @@ pub fn yongpham_clean(
     ensures rule { KeptRule vertices.now facets.now (clean_asked eps) }
 {
     let reply = clean_mesh(
-        vertices,
-        facets,
+        MeshLists { vertices, facets },
         eps,
         ceiling,
         work,

@@ -3,6 +3,7 @@
 #![tactic(auto)]
 
 mod boundary;
+mod boxes;
 mod candidates;
 mod cap_mesh;
 mod clean;

@@ -2,11 +2,12 @@ ghost use Rattle.refusals.specs.Reports.{Reported};
 ghost use Rattle.yongpham.specs.Calls.{box_of};
 ghost use Rattle.tolerance.specs.Tolerance.{tolerance_reply};
 
-use geometry::aabb::AABB;
+use crate::boxes::box_of;
 use refusals::report::{report_done, report_refusal};
 use tolerance::bbox_eps;
 
 // `bbox_eps` of the box with these two corners: values[0] gets the bits of the tolerance.
+// Stays (C interface), point 5: the parameters are those of include/yongpham.h; replay calls this crate, since no crate can use a static library (yongpham_c).
 pub fn yongpham_tolerance(
     min_x: f64,
     min_y: f64,
@@ -18,10 +19,7 @@ pub fn yongpham_tolerance(
 ) -> u32
     ensures { Reported (tolerance_reply (box_of min_x min_y min_z max_x max_y max_z)) result values.new }
 {
-    let extents = AABB {
-        min_corner: [min_x, min_y, min_z],
-        max_corner: [max_x, max_y, max_z],
-    };
+    let extents = box_of(min_x, min_y, min_z, max_x, max_y, max_z);
     match bbox_eps(extents) {
         Ok(eps) => report_done(values, f64::to_bits(eps), 0, 0, 0),
         Err(refusal) => report_refusal(values, refusal),

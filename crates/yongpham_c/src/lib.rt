@@ -17,6 +17,7 @@ ghost use Rattle.tolerance.specs.Tolerance.{tolerance_reply};
 ghost use Rattle.yongpham.specs.Calls.{CapsCalled, box_of};
 
 // `bbox_eps` of the box with these two corners: values[0] gets the bits of the tolerance.
+// Stays (C interface): the parameters are those of include/yongpham.h, and the library for C is a crate of its own, which says each function again.
 #[unsafe(no_mangle)]
 pub extern "C" fn yongpham_tolerance(
     min_x: f64,
@@ -33,6 +34,7 @@ pub extern "C" fn yongpham_tolerance(
 }
 
 // `clip_mesh_to_aabb`: values[0] and values[1] get the lengths written.
+// Stays (C interface): the parameters are those of include/yongpham.h, and the library for C is a crate of its own, which says each function again.
 #[unsafe(no_mangle)]
 pub extern "C" fn yongpham_clip(
     vertices: &[f64],
@@ -75,6 +77,7 @@ pub extern "C" fn yongpham_clip(
 }
 
 // `clean_mesh`: values[0] and values[1] get the lengths written.
+// Stays (C interface): the parameters are those of include/yongpham.h, and the library for C is a crate of its own, which says each function again.
 #[unsafe(no_mangle)]
 pub extern "C" fn yongpham_clean(
     vertices: &[f64],
@@ -104,6 +107,7 @@ pub extern "C" fn yongpham_clean(
 }
 
 // `cap_candidates`: the four values get the lengths written.
+// Stays (C interface): the parameters are those of include/yongpham.h, and the library for C is a crate of its own, which says each function again.
 #[unsafe(no_mangle)]
 pub extern "C" fn yongpham_candidates(
     vertices: &[f64],
@@ -152,6 +156,7 @@ pub extern "C" fn yongpham_candidates(
 }
 
 // `cap_mesh_to_aabb`: values[0] and values[1] get the lengths written. Only numbers come from C, so that a mode is tested here.
+// Stays (C interface): the parameters are those of include/yongpham.h, and the library for C is a crate of its own, which says each function again.
 #[unsafe(no_mangle)]
 pub extern "C" fn yongpham_caps(
     vertices: &[f64],
@@ -198,6 +203,7 @@ pub extern "C" fn yongpham_caps(
 }
 
 // `boundary_components`: values[0] to values[2] get the lengths written.
+// Stays (C interface): the parameters are those of include/yongpham.h, and the library for C is a crate of its own, which says each function again.
 #[unsafe(no_mangle)]
 pub extern "C" fn yongpham_boundary_components(
     vertex_count: u64,

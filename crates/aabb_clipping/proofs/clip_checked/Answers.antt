@@ -1,5 +1,5 @@
 use Rattle.aabb_clipping.proofs.Delivery.{done}
-use Rattle.aabb_clipping.specs.Clip.{clip_asked, clip_result}
+use Rattle.aabb_clipping.specs.Clip.{clip_result}
 use native.Mathlib.Omega.{arith}
 use Rattle.aabb_clipping.proofs.clip_checked.Goals as goal
 
@@ -13,7 +13,7 @@ returns c =
     let a = s.args in
     let p = run-pass in
     let fits = is-ample.ensures if1.false in
-    let m = clip_result a.mesh.vertices.now a.mesh.facets.now (clip_asked a.clip.extents a.clip.eps) in
+    let m = clip_result a.admitted.mesh.vertices.now a.admitted.mesh.facets.now a.admitted.clip in
     done m a.out_vertices.now _ a.out_facets.now _ p.result.vertices p.result.numbers p.ensures.ran.count p.ensures.ran.numbers (omega (
       arith,
       p.ensures.ran.count,

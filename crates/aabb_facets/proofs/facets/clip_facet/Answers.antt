@@ -28,7 +28,7 @@ returns-then-all_marked c =
     let r = room a.at w a.out_vertices.now a.out_facets.now in
     let m = c.all_marked in
     let g = c.share_facet in record {
-      out_facets_after = facet_shared a.vertices.now a.facets.now a.clip.extents a.clip.eps r a.i _ m.result (m.ensures ∙ ap (all_marked w) e)
+      out_facets_after = facet_shared a.mesh.vertices.now a.mesh.facets.now a.clip.extents a.clip.eps r a.i _ m.result (m.ensures ∙ ap (all_marked w) e)
           c.if-all_marked.true g.ensures.out_facets_after;
       vertices_bound_2 = (omega (arith, g.ensures.vertices_bound_2), omega (arith, g.ensures.vertices_bound_2));
     }
@@ -65,8 +65,8 @@ returns c =
     let r = room a.at w a.out_vertices.now a.out_facets.now in
     let m = c.all_marked in
     let g = c.cut_facet in record {
-      out_facets_after = facet_fanned a.vertices.now a.facets.now a.clip.extents a.clip.eps r a.i _ m.result (m.ensures ∙ ap (all_marked w) e)
+      out_facets_after = facet_fanned a.mesh.vertices.now a.mesh.facets.now a.clip.extents a.clip.eps r a.i _ m.result (m.ensures ∙ ap (all_marked w) e)
           c.if-all_marked.false
-          (g.ensures.by_index w ∙ ap (λ (u : Triangle ℕ). fan_room r (clip_polygon a.clip.extents a.clip.eps faces (vertices (mapped (vertex_of a.vertices.now) u)))) e);
+          (g.ensures.by_index w ∙ ap (λ (u : Triangle ℕ). fan_room r (clip_polygon a.clip.extents a.clip.eps faces (vertices (mapped (vertex_of a.mesh.vertices.now) u)))) e);
       vertices_bound_2 = g.ensures.vertices_bound_2;
     }

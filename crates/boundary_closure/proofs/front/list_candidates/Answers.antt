@@ -1,6 +1,5 @@
 use mathlib.Core.Path.{◌∙◌}
 use native.Mathlib.Omega.{arith}
-use Rattle.candidate_surface.specs.Asked.{asked}
 use Rattle.boundary_closure.proofs.Listing.{no_ends_left, ends_left, Made, made_of}
 use Rattle.boundary_closure.proofs.Delivery.{no_ends, some_ends}
 use Rattle.candidate_surface.proofs.Fitting.{vertices_in, most_small}
@@ -12,15 +11,15 @@ enter_surface-listed-requires c =
     let a = c.args in record {
       mesh_fits = c.requires.mesh_fits.0;
       tabled = c.requires.tabled;
-      vertices_in = vertices_in a.vertices.now a.facets.now (asked a.extents a.eps a.resolution)
+      vertices_in = vertices_in a.mesh.vertices.now a.mesh.facets.now a.asked
           c.requires.sound;
     }
 
 pub returns-then-listed-eq0 : goal.returns-then-listed-eq0
 returns-then-listed-eq0 c =
     let a = c.args in
-    no_ends a.vertices.now a.facets.now (asked a.extents a.eps a.resolution) a.candidates.now a.face_lists.now a.constraints.now a.open_edges.now
-    (no_ends_left a.vertices.now a.facets.now (asked a.extents a.eps a.resolution) c.enter_surface-listed.result
+    no_ends a.mesh.vertices.now a.mesh.facets.now a.asked a.candidates.now a.face_lists.now a.constraints.now a.open_edges.now
+    (no_ends_left a.mesh.vertices.now a.mesh.facets.now a.asked c.enter_surface-listed.result
     c.enter_surface-listed.ensures.1 c.if-listed-eq0.true)
 
 pub complete-requires : goal.complete-requires
@@ -28,7 +27,7 @@ complete-requires c =
     let a = c.args in record {
       sound = c.requires.sound;
       mesh_fits = (
-        (fits_same a.vertices.now a.facets.now a.n a.w.now c.enter_surface-listed.new.w
+        (fits_same a.mesh.vertices.now a.mesh.facets.now a.n a.w.now c.enter_surface-listed.new.w
             c.enter_surface-listed.auto.w
             c.requires.mesh_fits.0),
         c.requires.mesh_fits.1,
@@ -45,7 +44,7 @@ all_constraints-total-requires c =
     let s = c in
     let a = s.args in
     let M = s.requires.mesh_fits.0 in
-    let m = most_small a.vertices.now a.facets.now (asked a.extents a.eps a.resolution) s.requires.sound in record {
+    let m = most_small a.mesh.vertices.now a.mesh.facets.now a.asked s.requires.sound in record {
       holds = c.complete.ensures.holds;
       edges_held = c.complete.ensures.held;
       n_bound = (
@@ -57,31 +56,31 @@ all_constraints-total-requires c =
 
 pub deliver-requires : goal.deliver-requires
 deliver-requires c =
-    let made : Made c.args.vertices.now c.args.facets.now (asked c.args.extents c.args.eps c.args.resolution) c.args.n
+    let made : Made c.args.mesh.vertices.now c.args.mesh.facets.now c.args.asked c.args.n
     c.args.k c.enter_surface-listed.result c.all_constraints-total.result c.all_constraints-total.new.w = let completed = c in
     let a = c.args in
     let w = completed.complete.new.w in
-    made_of a.vertices.now a.facets.now (asked a.extents a.eps a.resolution) c.enter_surface-listed.result c.enter_surface-listed.ensures.1 a.n a.k
+    made_of a.mesh.vertices.now a.mesh.facets.now a.asked c.enter_surface-listed.result c.enter_surface-listed.ensures.1 a.n a.k
     c.all_constraints-total.result w c.all_constraints-total.new.w
-    (fits_same a.vertices.now a.facets.now a.n a.w.now w
+    (fits_same a.mesh.vertices.now a.mesh.facets.now a.n a.w.now w
     (completed.complete.auto.w ∙ c.enter_surface-listed.auto.w) c.requires.mesh_fits.0) c.requires.tabled.table.within
     completed.complete.ensures c.all_constraints-total.ensures in
     made.readable
 
 pub returns : goal.returns
 returns c =
-    let made : Made c.args.vertices.now c.args.facets.now (asked c.args.extents c.args.eps c.args.resolution) c.args.n
+    let made : Made c.args.mesh.vertices.now c.args.mesh.facets.now c.args.asked c.args.n
     c.args.k c.enter_surface-listed.result c.all_constraints-total.result c.all_constraints-total.new.w = let completed = c in
     let a = c.args in
     let w = completed.complete.new.w in
-    made_of a.vertices.now a.facets.now (asked a.extents a.eps a.resolution) c.enter_surface-listed.result c.enter_surface-listed.ensures.1 a.n a.k
+    made_of a.mesh.vertices.now a.mesh.facets.now a.asked c.enter_surface-listed.result c.enter_surface-listed.ensures.1 a.n a.k
     c.all_constraints-total.result w c.all_constraints-total.new.w
-    (fits_same a.vertices.now a.facets.now a.n a.w.now w
+    (fits_same a.mesh.vertices.now a.mesh.facets.now a.n a.w.now w
     (completed.complete.auto.w ∙ c.enter_surface-listed.auto.w) c.requires.mesh_fits.0) c.requires.tabled.table.within
     completed.complete.ensures c.all_constraints-total.ensures in
     let m = c in
     let a = c.args in
-    let q = asked a.extents a.eps a.resolution in
-    some_ends a.vertices.now a.facets.now q a.candidates.now _ a.face_lists.now _ a.constraints.now _ a.open_edges.now _
-    (ends_left a.vertices.now a.facets.now q c.enter_surface-listed.result c.enter_surface-listed.ensures.1
+    let q = a.asked in
+    some_ends a.mesh.vertices.now a.mesh.facets.now q a.candidates.now _ a.face_lists.now _ a.constraints.now _ a.open_edges.now _
+    (ends_left a.mesh.vertices.now a.mesh.facets.now q c.enter_surface-listed.result c.enter_surface-listed.ensures.1
     m.if-listed-eq0.false) _ made.standing _ c.deliver.ensures

@@ -1,31 +1,31 @@
 use Rattle.candidate_constraints.proofs.Pairing.{edging_start, edging_shown, edging_roomy, edging_placed, edging_held, edging_next, edging_end}
 use native.Mathlib.Omega.{arith}
 use Rattle.candidate_pool.specs.Offsets.{open_edges_at}
+use Rattle.geometry.specs.Boxes.{face_of}
+use Rattle.geometry.proofs.Faces.{face_in}
 use Rattle.candidate_constraints.proofs.pairs.push_open_edges.Goals as goal
 
 pub loop-i-init : goal.loop-i-init
 loop-i-init c =
-    edging_start c.args.room.n c.args.face (open_edges_at c.args.room.n c.args.room.nf) c.args.count c.args.w.now
-    c.args.k
+    edging_start c.args.edged.room.n (face_of c.args.face) (open_edges_at c.args.edged.room.n c.args.edged.room.nf) c.args.count c.args.w.now
+    c.args.edged.k
 
 pub push_open_edge-c-requires : goal.push_open_edge-c-requires
 push_open_edge-c-requires c =
     let s = c in
     let a = s.args in
     let l = c.loop-i in record {
-      shown = edging_shown a.room.n a.face (open_edges_at a.room.n a.room.nf) a.count a.w.now a.room.nf a.k s.requires.shown s.requires.roomy s.requires.placed s.requires.edges_held
-          s.requires.face_bound.0 (omega (arith, s.requires.face_bound)) l.w l.c l.i l.invariant;
-      roomy = edging_roomy a.room.n a.face (open_edges_at a.room.n a.room.nf) a.count a.w.now a.room.nf a.k s.requires.shown s.requires.roomy s.requires.placed s.requires.edges_held
-          s.requires.face_bound.0 (omega (arith, s.requires.face_bound)) l.w l.c l.i l.invariant;
-      placed = edging_placed a.room.n a.face (open_edges_at a.room.n a.room.nf) a.count a.w.now a.room.nf a.k s.requires.shown s.requires.roomy s.requires.placed s.requires.edges_held
-          s.requires.face_bound.0 (omega (arith, s.requires.face_bound)) l.w l.c l.i l.invariant;
-      edges_held = edging_held a.room.n a.face (open_edges_at a.room.n a.room.nf) a.count a.w.now a.room.nf a.k s.requires.shown s.requires.roomy s.requires.placed s.requires.edges_held
-          s.requires.face_bound.0 (omega (arith, s.requires.face_bound)) l.w l.c l.i l.invariant c.loop-i-test.true;
-      face_bound = (
-        s.requires.face_bound.0,
-        omega (arith, s.requires.face_bound, c.loop-i-test.true),
-        omega
-            (arith, s.requires.face_bound, l.invariant.pushed.few, c.loop-i-test.true),
+      shown = edging_shown a.edged.room.n (face_of a.face) (open_edges_at a.edged.room.n a.edged.room.nf) a.count a.w.now a.edged.room.nf a.edged.k s.requires.shown s.requires.roomy
+          s.requires.placed s.requires.edges_held (face_in s.args.face) (omega (arith, s.requires.few, a.edged.few)) l.w l.c l.i l.invariant;
+      roomy = edging_roomy a.edged.room.n (face_of a.face) (open_edges_at a.edged.room.n a.edged.room.nf) a.count a.w.now a.edged.room.nf a.edged.k s.requires.shown s.requires.roomy
+          s.requires.placed s.requires.edges_held (face_in s.args.face) (omega (arith, s.requires.few, a.edged.few)) l.w l.c l.i l.invariant;
+      placed = edging_placed a.edged.room.n (face_of a.face) (open_edges_at a.edged.room.n a.edged.room.nf) a.count a.w.now a.edged.room.nf a.edged.k s.requires.shown s.requires.roomy
+          s.requires.placed s.requires.edges_held (face_in s.args.face) (omega (arith, s.requires.few, a.edged.few)) l.w l.c l.i l.invariant;
+      edges_held = edging_held a.edged.room.n (face_of a.face) (open_edges_at a.edged.room.n a.edged.room.nf) a.count a.w.now a.edged.room.nf a.edged.k s.requires.shown s.requires.roomy
+          s.requires.placed s.requires.edges_held (face_in s.args.face) (omega (arith, s.requires.few, a.edged.few)) l.w l.c l.i l.invariant c.loop-i-test.true;
+      bounds = (
+        omega (arith, a.edged.few, c.loop-i-test.true),
+        omega (arith, a.edged.few, s.requires.few, l.invariant.pushed.few, c.loop-i-test.true),
       );
     }
 
@@ -35,16 +35,6 @@ loop-i-preserved c =
     let a = s.args in
     let l = c.loop-i in
     let push-open-edge' = c.push_open_edge-c in
-    edging_next a.room.n a.face (open_edges_at a.room.n a.room.nf) a.count a.w.now a.room.nf a.k s.requires.shown s.requires.roomy s.requires.placed s.requires.edges_held
-    s.requires.face_bound.0 (omega (arith, s.requires.face_bound)) l.w l.c l.i l.invariant push-open-edge'.new.w push-open-edge'.result
+    edging_next a.edged.room.n (face_of a.face) (open_edges_at a.edged.room.n a.edged.room.nf) a.count a.w.now a.edged.room.nf a.edged.k s.requires.shown s.requires.roomy
+    s.requires.placed s.requires.edges_held (face_in s.args.face) (omega (arith, s.requires.few, a.edged.few)) l.w l.c l.i l.invariant push-open-edge'.new.w push-open-edge'.result
     c.loop-i-test.true push-open-edge'.ensures
-
-pub shape_of-w : goal.shape_of-w
-shape_of-w c = c.loop-i.invariant.pushed.kept.long
-
-pub returns : goal.returns
-returns c =
-    let s = c in
-    let a = s.args in
-    edging_end a.room.n a.face (open_edges_at a.room.n a.room.nf) a.count a.w.now a.k c.loop-i.w c.loop-i.c c.loop-i.i c.loop-i.invariant
-    c.loop-i-test.false

@@ -10,6 +10,8 @@ use Rattle.candidate_constraints.specs.Steps.{Fractioned}
 use Rattle.candidate_constraints.proofs.Showing.{in_list}
 use Rattle.candidate_constraints.proofs.Along.{Collecting, fraction_one, fraction_none, collecting_start, collected_stored, on_side_no_nan, collecting_named, collecting_end}
 use Rattle.candidate_constraints.proofs.side.collect_side.Goals.{In-loop-i, in-Some, in_default}
+use Rattle.geometry.specs.Boxes.{face_of}
+use Rattle.geometry.proofs.Faces.{face_in}
 use Rattle.candidate_constraints.proofs.side.collect_side.Goals as goal
 
 -- the place that a turn reads, the two that it writes, and that no more are kept than were read
@@ -18,41 +20,25 @@ turn_in : (c : In-loop-i) → (c.list_at-list.result + c.loop-i.i < length c.loo
 turn_in c =
     let s = c in
     let l = c.loop-i in
-    let h = in_list s.args.room.n s.args.w.now s.requires.shown s.args.face s.requires.n_bound.1 c.list_at-list.result
-    (get_or s.args.w.now s.args.face 0) l.i l.invariant.1 refl (omega (arith, l.invariant.3, c.loop-i-test.true)) in
+    let h = in_list s.args.room.n s.args.w.now s.requires.shown (face_of s.args.face) (face_in s.args.face) c.list_at-list.result
+    (get_or s.args.w.now (face_of s.args.face) 0) l.i l.invariant.1 refl (omega (arith, l.invariant.3, c.loop-i-test.true)) in
     let e = l.invariant.0.kept.long in
-    (omega (arith, h.0, e, s.requires.shown.size), omega (arith, h.1, l.invariant.0.few, l.invariant.2, e, s.requires.n_bound.2), l.invariant.0.few)
-
-pub list_at-list-requires : goal.list_at-list-requires
-list_at-list-requires c = c.requires.n_bound.1
-
-pub offset_bounds-w-face : goal.offset_bounds-w-face
-offset_bounds-w-face c = omega (arith, c.requires.n_bound.1)
-
-pub bounds-w-face : goal.bounds-w-face
-bounds-w-face c =
-    let s = c in
-    omega (arith, s.requires.shown.size, s.requires.n_bound.1)
+    (omega (arith, h.0, e, s.requires.shown.size), omega (arith, h.1, l.invariant.0.few, l.invariant.2, e, s.requires.fits), l.invariant.0.few)
 
 pub loop-i-init : goal.loop-i-init
 loop-i-init c =
     let s = c in (
-      collecting_start s.args.eps s.args.room.n s.args.face s.args.side s.args.w.now,
+      collecting_start s.args.eps s.args.room.n (face_of s.args.face) s.args.side s.args.w.now,
       c.list_at-list.ensures,
       c.side_at-at.ensures,
-      refl,
+      ap (λ (f : ℕ). get_or s.args.w.now f 0) c.index.ensures.value,
     )
-
-pub candidate_of_place-requires : goal.candidate_of_place-requires
-candidate_of_place-requires c =
-    let turn_in = turn_in (goal.at.candidate_of_place-requires c).In-loop-i in
-    turn_in.0
 
 pub point_of-requires : goal.point_of-requires
 point_of-requires c =
     let s = c in
     let loop' = c.loop-i in
-    rw c.candidate_of_place.ensures (collected_stored s.args.eps s.args.room.n s.args.face s.args.side s.args.w.now s.requires.shown s.requires.n_bound.1 loop'.w
+    rw c.candidate_of_place.ensures (collected_stored s.args.eps s.args.room.n (face_of s.args.face) s.args.side s.args.w.now s.requires.shown (face_in s.args.face) loop'.w
     loop'.m loop'.i loop'.invariant.0
     c.list_at-list.result loop'.invariant.1 (omega (arith, loop'.invariant.3, c.loop-i-test.true)))
 
@@ -65,12 +51,12 @@ note_fraction-requires c =
 -- a turn leaves r more records
 turned : (c : goal.Joined-candidate_on_face_side) (w : List ℕ) (r : ℕ)
     → Fractioned (c.side_at-at.result + 2 * c.loop-i.m) c.candidate_on_face_side.result c.loop-i.i r c.loop-i.w w
-    → Collecting c.args.eps c.args.room.n c.args.face c.args.side c.args.w.now w (c.loop-i.m + r) (c.loop-i.i + 1)
+    → Collecting c.args.eps c.args.room.n (face_of c.args.face) c.args.side c.args.w.now w (c.loop-i.m + r) (c.loop-i.i + 1)
 turned c w r f =
     let a = c.args in
     let l = c.loop-i in
     let read = c.point_of.ensures ∙ ap (λ (d : ℕ). point_at l.w (entry_at d)) c.candidate_of_place.ensures in
-    collecting_named a.eps a.room.n a.face a.side a.w.now c.requires.shown c.requires.n_bound.1 l.w l.m l.i l.invariant.0 c.list_at-list.result l.invariant.1
+    collecting_named a.eps a.room.n (face_of a.face) a.side a.w.now c.requires.shown (face_in c.args.face) l.w l.m l.i l.invariant.0 c.list_at-list.result l.invariant.1
     c.side_at-at.result w c.point_of.result c.project-p.result c.candidate_on_face_side.result r l.invariant.2
     (omega (arith, l.invariant.3, c.loop-i-test.true)) read c.project-p.ensures c.candidate_on_face_side.ensures f
 
@@ -87,7 +73,7 @@ loop-i-preserved c =
             (fraction_one (c.side_at-at.result + 2 * l.m) l.i c.candidate_on_face_side.result w.in-Some.t (order_key w.in-Some.t) l.w w.in-Some.is refl inside)))
         | in_default w ↦ rw (w.w-is, w.m-is)
             (let none : l.m + 0 ≡ l.m = omega arith in
-            subst (λ (m : ℕ). Collecting a.eps a.room.n a.face a.side a.w.now l.w m (l.i + 1)) none
+            subst (λ (m : ℕ). Collecting a.eps a.room.n (face_of a.face) a.side a.w.now l.w m (l.i + 1)) none
             (turned c l.w 0 (fraction_none (c.side_at-at.result + 2 * l.m) l.i c.candidate_on_face_side.result l.w w.in_default.is)))
       ],
       l.invariant.1,
@@ -95,13 +81,10 @@ loop-i-preserved c =
       l.invariant.3,
     )
 
-pub shape_of-w : goal.shape_of-w
-shape_of-w c = c.loop-i.invariant.0.kept.long
-
 pub returns : goal.returns
 returns c =
     let s = c in
     let loop' = c.loop-i in
-    collecting_end s.args.eps s.args.room.n s.args.face s.args.side s.args.w.now s.requires.shown s.requires.n_bound.1 loop'.w loop'.m loop'.i
+    collecting_end s.args.eps s.args.room.n (face_of s.args.face) s.args.side s.args.w.now s.requires.shown (face_in s.args.face) loop'.w loop'.m loop'.i
     loop'.invariant.0
     (omega (arith, loop'.invariant.3, c.loop-i-test.false))

@@ -3,6 +3,7 @@ use native.Mathlib.Omega.{arith}
 use Prim.Native.Nat.{◌+◌, ◌*◌, ◌<◌}
 use lib.ListN.{length}
 use Rattle.candidate_constraints.proofs.side.push_neighbours.Goals.{In-loop-j}
+use Rattle.geometry.specs.Boxes.{face_of}
 use Rattle.candidate_constraints.proofs.side.push_neighbours.Goals as goal
 
 -- the two places that a turn reads, and the pair that it writes
@@ -11,90 +12,25 @@ turn_in : (c : In-loop-j) → (c.side_at-at.result + 2 * c.loop-j.j + 3 < length
 turn_in c =
     let l = c.loop-j in
     let o = l.invariant.0 in (
-      omega (arith, c.requires.n_bound, o.within, o.pushed.kept.long, l.invariant.1, c.loop-j-test.true),
-      omega (arith, c.requires.n_bound, o.sum, o.pushed.kept.long, l.invariant.2, c.loop-j-test.true),
+      omega (arith, c.requires.bounds, o.within, o.pushed.kept.long, l.invariant.1, c.loop-j-test.true),
+      omega (arith, c.requires.bounds, o.sum, o.pushed.kept.long, l.invariant.2, c.loop-j-test.true),
     )
 
 pub loop-j-init : goal.loop-j-init
 loop-j-init c =
     let s = c in
     let a = s.args in
-    (nearing_start a.room.n a.face a.m a.count a.w.now, c.side_at-at.ensures, c.pairs_at-pairs.ensures)
-
-pub overflow_mul-a : goal.overflow_mul-a
-overflow_mul-a c =
-    let turn_in = turn_in (goal.at.overflow_mul-a c).In-loop-j in
-    omega (arith, turn_in)
-
-pub overflow_add-a : goal.overflow_add-a
-overflow_add-a c =
-    let turn_in = turn_in (goal.at.overflow_add-a c).In-loop-j in
-    omega (arith, turn_in)
-
-pub overflow_add-a-in-loop-j : goal.overflow_add-a-in-loop-j
-overflow_add-a-in-loop-j c =
-    let turn_in = turn_in (goal.at.overflow_add-a-in-loop-j c).In-loop-j in
-    omega (arith, turn_in)
-
-pub offset_bounds-w-at : goal.offset_bounds-w-at
-offset_bounds-w-at c =
-    let turn_in = turn_in (goal.at.offset_bounds-w-at c).In-loop-j in
-    omega (arith, turn_in)
-
-pub bounds-w-at : goal.bounds-w-at
-bounds-w-at c =
-    let turn_in = turn_in (goal.at.bounds-w-at c).In-loop-j in
-    omega (arith, turn_in)
-
-pub overflow_mul-b : goal.overflow_mul-b
-overflow_mul-b c =
-    let turn_in = turn_in (goal.at.overflow_mul-b c).In-loop-j in
-    omega (arith, turn_in)
-
-pub overflow_add-b : goal.overflow_add-b
-overflow_add-b c =
-    let turn_in = turn_in (goal.at.overflow_add-b c).In-loop-j in
-    omega (arith, turn_in)
-
-pub overflow_add-b-in-loop-j : goal.overflow_add-b-in-loop-j
-overflow_add-b-in-loop-j c =
-    let turn_in = turn_in (goal.at.overflow_add-b-in-loop-j c).In-loop-j in
-    omega (arith, turn_in)
-
-pub offset_bounds-w-at-in-loop-j : goal.offset_bounds-w-at-in-loop-j
-offset_bounds-w-at-in-loop-j c =
-    let turn_in = turn_in (goal.at.offset_bounds-w-at-in-loop-j c).In-loop-j in
-    omega (arith, turn_in)
-
-pub bounds-w-at-in-loop-j : goal.bounds-w-at-in-loop-j
-bounds-w-at-in-loop-j c =
-    let turn_in = turn_in (goal.at.bounds-w-at-in-loop-j c).In-loop-j in
-    omega (arith, turn_in)
-
-pub overflow_mul-c : goal.overflow_mul-c
-overflow_mul-c c =
-    let turn_in = turn_in (goal.at.overflow_mul-c c).In-loop-j in
-    omega (arith, turn_in)
-
-pub overflow_add-pairs : goal.overflow_add-pairs
-overflow_add-pairs c =
-    let turn_in = turn_in (goal.at.overflow_add-pairs c).In-loop-j in
-    omega (arith, turn_in)
+    (nearing_start a.room.n (face_of a.face) a.m a.count a.w.now, c.side_at-at.ensures, c.pairs_at-pairs.ensures)
 
 pub put_pair-requires : goal.put_pair-requires
 put_pair-requires c =
     let turn_in = turn_in (goal.at.put_pair-requires c).In-loop-j in
     let s = c in
     let loop' = c.loop-j in
-    let places = near_named s.args.room.n s.args.face s.args.m s.args.count s.args.w.now s.requires.n_bound.2 s.requires.n_bound.3 loop'.w loop'.c loop'.j
+    let places = near_named s.args.room.n (face_of s.args.face) s.args.m s.args.count s.args.w.now s.requires.bounds.0 s.requires.bounds.1 loop'.w loop'.c loop'.j
     loop'.invariant.0
     c.side_at-at.result loop'.invariant.1 s.requires.low_places (omega (arith, c.loop-j-test.true)) in
-    (omega (arith, turn_in), s.requires.n_bound.1, places.0, places.1)
-
-pub overflow_add-c : goal.overflow_add-c
-overflow_add-c c =
-    let turn_in = turn_in (goal.at.overflow_add-c c).In-loop-j in
-    omega (arith, turn_in)
+    (omega (arith, turn_in), places.0, places.1)
 
 pub loop-j-preserved : goal.loop-j-preserved
 loop-j-preserved c =
@@ -102,7 +38,7 @@ loop-j-preserved c =
     let a = s.args in
     let l = c.loop-j in
     let put-pair' = c.put_pair in (
-      nearing_named a.room.n a.face a.m a.count a.w.now s.requires.n_bound.2 s.requires.n_bound.3 l.w l.c l.j l.invariant.0
+      nearing_named a.room.n (face_of a.face) a.m a.count a.w.now s.requires.bounds.0 s.requires.bounds.1 l.w l.c l.j l.invariant.0
           c.side_at-at.result
           c.pairs_at-pairs.result put-pair'.new.w l.invariant.1 l.invariant.2
           (omega (arith, c.loop-j-test.true)) put-pair'.ensures,
@@ -110,12 +46,9 @@ loop-j-preserved c =
       l.invariant.2,
     )
 
-pub shape_of-w : goal.shape_of-w
-shape_of-w c = c.loop-j.invariant.0.pushed.kept.long
-
 pub returns : goal.returns
 returns c =
     let s = c in
     let a = s.args in
-    nearing_end a.room.n a.face a.m a.count a.w.now s.requires.n_bound.2 s.requires.n_bound.3 c.loop-j.w c.loop-j.c c.loop-j.j
+    nearing_end a.room.n (face_of a.face) a.m a.count a.w.now s.requires.bounds.0 s.requires.bounds.1 c.loop-j.w c.loop-j.c c.loop-j.j
     c.loop-j.invariant.0 (omega (arith, c.loop-j-test.false))

@@ -18,26 +18,26 @@ abbrev side : List ℕ → ℕ → ℕ → ℕ
 side w at' i = get_or w (at' + 2 * i + 1) 0
 
 -- it is a side of the mesh
-named : (c : After-edge_table_at) → side c.args.w.now c.edge_table_at.result c.args.i < length c.args.facets.now
+named : (c : After-edge_table_at) → side c.args.w.now c.edge_table_at.result c.args.i < length c.args.mesh.facets.now
 named c =
     let a = c.args in
     let t = c.edge_table_at in
-    side_low a.facets.now a.w.now (edge_table_at a.n (length a.facets.now / 3)) t.result (length (open_edges (threes a.facets.now))) a.i c.requires.edges_entering.table
+    side_low a.mesh.facets.now a.w.now (edge_table_at a.n (length a.mesh.facets.now / 3)) t.result (length (open_edges (threes a.mesh.facets.now))) a.i c.requires.edges_entering.table
     t.ensures c.requires.i_in_bounds
 
 -- both ends are vertices of the mesh, and the mask is a word of faces
-entering : (c : After-edge_to) → side c.args.w.now c.edge_table_at.result c.args.i < length c.args.facets.now
-    → (c.edge_from.result < length c.args.vertices.now / 3) × (c.edge_to.result < length c.args.vertices.now / 3)
+entering : (c : After-edge_to) → side c.args.w.now c.edge_table_at.result c.args.i < length c.args.mesh.facets.now
+    → (c.edge_from.result < length c.args.mesh.vertices.now / 3) × (c.edge_to.result < length c.args.mesh.vertices.now / 3)
     × (c.side_mask-mask.result < 64)
 entering c low =
     let a = c.args in
     let f = c.requires.edges_entering.fits in
     let j = side a.w.now c.edge_table_at.result a.i in
-    let e = get_or (sides (threes a.facets.now)) j (0, 0) in (
-      omega (arith, c.edge_from.ensures, from_low a.facets.now (length a.vertices.now / 3) j f.threes f.numbers low),
-      omega (arith, c.edge_to.ensures, to_low a.facets.now (length a.vertices.now / 3) j f.threes f.numbers low),
+    let e = get_or (sides (threes a.mesh.facets.now)) j (0, 0) in (
+      omega (arith, c.edge_from.ensures, from_low a.mesh.facets.now (length a.mesh.vertices.now / 3) j f.threes f.numbers low),
+      omega (arith, c.edge_to.ensures, to_low a.mesh.facets.now (length a.mesh.vertices.now / 3) j f.threes f.numbers low),
       subst (λ (x : ℕ). x < 64) (sym c.side_mask-mask.ensures)
-          (mask_small a.extents a.eps (vertex (points_of a.vertices.now) e.0) (vertex (points_of a.vertices.now) e.1)),
+          (mask_small a.extents a.eps (vertex (points_of a.mesh.vertices.now) e.0) (vertex (points_of a.mesh.vertices.now) e.1)),
     )
 
 -- the three words of the open edge
@@ -111,9 +111,9 @@ returns c =
     let u = c.enter_vertex-b in
     let e = c.open_edges_at in
     let p = c.put_edge in
-    edge_done a.vertices.now a.facets.now a.extents a.eps a.n a.i (side a.w.now t.result a.i) e.result from.result to.result
+    edge_done a.mesh.vertices.now a.mesh.facets.now a.extents a.eps a.n a.i (side a.w.now t.result a.i) e.result from.result to.result
     m.result v.result.0 u.result.0 p.result
     a.w.now v.new.w u.new.w p.new.w s.requires.edges_entering s.requires.i_in_bounds
-    (side_is a.facets.now a.w.now (edge_table_at a.n (length a.facets.now / 3)) t.result (length (open_edges (threes a.facets.now))) a.i s.requires.edges_entering.table
+    (side_is a.mesh.facets.now a.w.now (edge_table_at a.n (length a.mesh.facets.now / 3)) t.result (length (open_edges (threes a.mesh.facets.now))) a.i s.requires.edges_entering.table
     t.ensures s.requires.i_in_bounds)
     e.ensures m.ensures from.ensures to.ensures v.ensures u.ensures p.ensures

@@ -3,12 +3,11 @@ use native.Mathlib.Omega.{arith}
 use mathlib.Core.Path.{◌≡◌, refl, sym, ap, ◌∙◌}
 use mathlib.Core.Bool.{Bool, true, false, cond}
 use mathlib.Core.List.{List, [], ◌∷◌}
-use borrow.Author.Tests.{eq-eqb, ne_eqb}
 use lib.Dec.{eqb}
 use lib.ListN.{set}
 use lib.Seq.{sets}
 use Rattle.box_faces.specs.Faces.{has_bit, bit_count}
-use Rattle.candidate_edges.proofs.open.put_edge.Goals.{then-a-b, else-a-b}
+use Rattle.candidate_edges.proofs.open.put_edge.Goals.{then-eq, else-eq}
 use Rattle.candidate_edges.proofs.open.put_edge.Goals as goal
 
 none_counted : (t : Bool) (mask : ℕ) → bit_count (cond t 0 mask) ≡ cond t 0 (bit_count mask)
@@ -25,10 +24,10 @@ three_put w at a b c =
 pub returns : goal.returns
 returns c =
     let a = c.args in
-    let faces : c.if-a-b.faces ≡ cond (eqb a.a.0 a.b.0) 0 a.mask = elim c.if-a-b.branch [
-      | then-a-b w ↦ w.faces-is ∙ sym (ap (λ (t : Bool). cond t 0 a.mask) (eq-eqb a.a.0 a.b.0 w.if-a-b.true))
-      | else-a-b w ↦ w.faces-is ∙ sym (ap (λ (t : Bool). cond t 0 a.mask) (ne_eqb a.a.0 a.b.0 w.if-a-b.false))
+    let faces : c.if-eq.faces ≡ cond (eqb a.a.0 a.b.0) 0 a.mask = elim c.if-eq.branch [
+      | then-eq w ↦ w.faces-is ∙ sym (ap (λ (t : Bool). cond t 0 a.mask) (sym c.eq.ensures ∙ w.if-eq.true))
+      | else-eq w ↦ w.faces-is ∙ sym (ap (λ (t : Bool). cond t 0 a.mask) (sym c.eq.ensures ∙ w.if-eq.false))
     ] in (
-      c.write_three.ensures ∙ three_put a.w.now a.at a.a.0 a.b.0 c.if-a-b.faces ∙ ap (λ (x : ℕ). set (set (set a.w.now a.at a.a.0) (a.at + 1) a.b.0) (a.at + 2) x) faces,
+      c.write_three.ensures ∙ three_put a.w.now a.at a.a.0 a.b.0 c.if-eq.faces ∙ ap (λ (x : ℕ). set (set (set a.w.now a.at a.a.0) (a.at + 1) a.b.0) (a.at + 2) x) faces,
       c.count_faces.ensures ∙ ap bit_count faces ∙ none_counted (eqb a.a.0 a.b.0) a.mask,
     )

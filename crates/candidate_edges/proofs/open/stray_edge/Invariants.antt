@@ -9,5 +9,6 @@ use Rattle.candidate_edges.proofs.open.stray_edge.Given as goal
 
 -- `stray_edge` meets its contract. The invariant: none of the first i open edges is on no face. Assumes nothing.
 abbrev pub invariant-loop-i : goal.invariant-loop-i
-invariant-loop-i l = (l.i ≤ l.k) × (place (stray l.vertices l.facets l.extents l.eps) (open_edges (threes l.facets)) ≡ l.i + place (stray l.vertices l.facets
-    l.extents l.eps) (drop l.i (open_edges (threes l.facets))))
+invariant-loop-i l =
+    (l.i ≤ l.k) × (place (stray l.mesh.vertices.now l.mesh.facets.now l.extents l.eps) (open_edges (threes l.mesh.facets.now))
+    ≡ l.i + place (stray l.mesh.vertices.now l.mesh.facets.now l.extents l.eps) (drop l.i (open_edges (threes l.mesh.facets.now))))

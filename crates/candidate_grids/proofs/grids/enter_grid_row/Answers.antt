@@ -1,45 +1,28 @@
-use Prim.Native.Nat.{ℕ, ◌+◌, ◌≤◌, ◌<◌}
+use Prim.Native.Nat.{ℕ, ◌≤◌, ◌<◌}
 use native.Mathlib.Omega.{arith}
 use mathlib.Core.Path.{◌≡◌, refl, ap, subst, ◌∙◌}
-use mathlib.Core.List.{flat_map}
+use mathlib.Core.Bool.{Bool, ◌&&◌}
 use borrow.Author.Rules.{rules}
-use Rattle.lists.specs.Lists.{up_to}
-use Rattle.geometry.specs.Boxes.{lowest, highest}
+use Rattle.geometry.specs.Boxes.{lowest, highest, face_of}
+use Rattle.geometry.proofs.Faces.{axis_in}
 use Rattle.box_faces.specs.Faces.{v_axis}
 use Rattle.box_faces.specs.Lines.{line_at}
-use Rattle.candidate_grids.specs.Steps.{skips_near, row_cell, PointsEntered}
 use Rattle.candidate_grids.proofs.Bounded.{point_in}
 use Rattle.candidate_grids.proofs.Entries.{entered_none, entered_more, row_line_in, row_point_ready, row_cell_lem}
 use Rattle.candidate_grids.proofs.grids.enter_grid_row.Goals as goal
 
-pub v_axis-axis-requires : goal.v_axis-axis-requires
-v_axis-axis-requires c = tt
-
 pub loop-j-init : goal.loop-j-init
 loop-j-init c = (omega arith, entered_none _ _ _ _ _ c.requires.holds)
-
-pub grid_line-v-requires : goal.grid_line-v-requires
-grid_line-v-requires c =
-    let f = c.requires.few_parts in
-    let l = c.loop-j-test.true in
-    (c.v_axis-axis.ensures.0, (omega arith, f))
-
-pub point_on_face-p-requires : goal.point_on_face-p-requires
-point_on_face-p-requires c =
-    c.requires.face_in
-
-pub is_inner-requires : goal.is_inner-requires
-is_inner-requires c = tt
 
 -- the three bounds are looked for, so that this does not say which goes where
 pub enter_grid_point-requires : goal.enter_grid_point-requires
 enter_grid_point-requires c =
-    let v_low : v_axis c.args.face < 3 = subst (λ (a : ℕ). a < 3) c.v_axis-axis.ensures.1 c.v_axis-axis.ensures.0 in
+    let v_low : v_axis (face_of c.args.face) < 3 = subst (λ (a : ℕ). a < 3) c.uv_axes-axis.ensures.1 (axis_in c.uv_axes-axis.result.1) in
     let along-v : c.grid_line-v.result
-    ≡ line_at (lowest c.args.extents (v_axis c.args.face)) (highest c.args.extents (v_axis c.args.face))
+    ≡ line_at (lowest c.args.extents (v_axis (face_of c.args.face))) (highest c.args.extents (v_axis (face_of c.args.face)))
     c.args.last c.loop-j.j = let s = c in
     c.grid_line-v.ensures ∙ ap (λ (a : ℕ). line_at (lowest s.args.extents a) (highest s.args.extents a) s.args.last c.loop-j.j)
-    c.v_axis-axis.ensures.1 in
+    c.uv_axes-axis.ensures.1 in
     let t = c in
     let most : c.loop-j.j ≤ c.args.last = omega (arith, c.loop-j-test.true) in
     let p = c.requires in
@@ -52,30 +35,16 @@ enter_grid_point-requires c =
 pub loop-j-preserved : goal.loop-j-preserved
 loop-j-preserved c =
     let along-v : c.grid_line-v.result
-    ≡ line_at (lowest c.args.extents (v_axis c.args.face)) (highest c.args.extents (v_axis c.args.face))
+    ≡ line_at (lowest c.args.extents (v_axis (face_of c.args.face))) (highest c.args.extents (v_axis (face_of c.args.face)))
     c.args.last c.loop-j.j = let s = c in
     c.grid_line-v.ensures ∙ ap (λ (a : ℕ). line_at (lowest s.args.extents a) (highest s.args.extents a) s.args.last c.loop-j.j)
-    c.v_axis-axis.ensures.1 in
+    c.uv_axes-axis.ensures.1 in
     let t = c in
     let l : c.loop-j.j ≤ c.args.last = omega (arith, c.loop-j-test.true) in (
       omega arith,
       entered_more _ _ _ _ _ _ _ _ _ _ _ t.loop-j.invariant.1
           (row_cell_lem _ _ _ _ _ _ _ _ _ c.requires _ t.loop-j.invariant.1 l _ _ _ along-v
           c.point_on_face-p.ensures
-          c.is_inner.ensures)
+          (ap (λ (b : Bool). c.args.row.inner && b) c.is_interior.ensures))
           c.enter_grid_point.ensures refl,
     )
-
-pub shape_of-w : goal.shape_of-w
-shape_of-w c = c.loop-j.invariant.1.long
-
-pub returns : goal.returns
-returns c =
-    let s = c in
-    let a = c.loop-j.invariant.0 in
-    let b = c.loop-j-test.false in
-    let e : c.loop-j.j ≡ s.args.last + 1 = omega arith in
-    subst (λ (x : ℕ). PointsEntered s.args.eps s.args.room.n (flat_map
-    (row_cell (skips_near s.args.w.now s.args.near) s.args.extents s.args.face s.args.row s.args.last) (up_to x)) x s.args.w.now
-    c.loop-j.w)
-    e c.loop-j.invariant.1

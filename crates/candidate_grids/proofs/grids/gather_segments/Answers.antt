@@ -1,9 +1,9 @@
 use Prim.Native.Nat.{ℕ, ◌+◌, ◌*◌}
-use native.Mathlib.Omega.{arith}
 use mathlib.Core.Path.{◌≡◌, ap, ◌∙◌}
 use lib.ListN.{get_or}
+use Rattle.geometry.specs.Boxes.{face_of}
 use Rattle.box_faces.specs.Faces.{has_bit}
-use Rattle.candidate_grids.proofs.Gathering.{gather_start, gather_pass, gather_one, gather_end, edge_ready}
+use Rattle.candidate_grids.proofs.Gathering.{gather_start, gather_pass, gather_one}
 use Rattle.candidate_pool.specs.Offsets.{open_edges_at}
 use Rattle.candidate_grids.proofs.grids.gather_segments.Goals.{then-has_face, else-has_face}
 use Rattle.candidate_grids.proofs.grids.gather_segments.Goals as goal
@@ -11,54 +11,11 @@ use Rattle.candidate_grids.proofs.grids.gather_segments.Goals as goal
 pub loop-i-init : goal.loop-i-init
 loop-i-init c = gather_start _ _ _ _ _ _
 
-pub overflow_mul-i : goal.overflow_mul-i
-overflow_mul-i c = omega arith
-
-pub overflow_add-edges : goal.overflow_add-edges
-overflow_add-edges c = omega arith
-
-pub overflow_add-edges-in-loop-i : goal.overflow_add-edges-in-loop-i
-overflow_add-edges-in-loop-i c = omega arith
-
-pub offset_bounds-w-edges : goal.offset_bounds-w-edges
-offset_bounds-w-edges c = omega arith
-
-pub bounds-w-edges : goal.bounds-w-edges
-bounds-w-edges c = omega arith
-
-pub has_face-requires : goal.has_face-requires
-has_face-requires c = c.requires.face_in
-
-pub overflow_mul-count : goal.overflow_mul-count
-overflow_mul-count c = omega arith
-
-pub overflow_add-segments : goal.overflow_add-segments
-overflow_add-segments c = omega arith
-
-pub overflow_mul-i-then-has_face : goal.overflow_mul-i-then-has_face
-overflow_mul-i-then-has_face c = omega arith
-
-pub overflow_add-edges-then-has_face : goal.overflow_add-edges-then-has_face
-overflow_add-edges-then-has_face c = omega arith
-
-pub gather_segment-requires : goal.gather_segment-requires
-gather_segment-requires c =
-    let bit : c.has_face.result
-    ≡ has_bit (get_or c.loop-i.w (open_edges_at c.args.room.n c.args.room.nf + 3 * c.loop-i.i + 2) 0) c.args.face = let l = c.loop-i in
-    c.has_face.ensures ∙ ap (λ (x : ℕ). has_bit (get_or l.w (x + 3 * l.i + 2) 0) c.args.face) c.open_edges_at-edges.ensures in
-    let t = c in
-    let l = t.loop-i in
-    rw (t.segments_at-segments.ensures, t.open_edges_at-edges.ensures)
-    (edge_ready _ _ _ _ _ _ c.requires l.w l.count l.i l.invariant t.loop-i-test.true _ bit c.if-has_face.true)
-
-pub overflow_add-count : goal.overflow_add-count
-overflow_add-count c = omega arith
-
 pub loop-i-preserved : goal.loop-i-preserved
 loop-i-preserved c =
     let bit : c.has_face.result
-    ≡ has_bit (get_or c.loop-i.w (open_edges_at c.args.room.n c.args.room.nf + 3 * c.loop-i.i + 2) 0) c.args.face = let l = c.loop-i in
-    c.has_face.ensures ∙ ap (λ (x : ℕ). has_bit (get_or l.w (x + 3 * l.i + 2) 0) c.args.face) c.open_edges_at-edges.ensures in
+    ≡ has_bit (get_or c.loop-i.w (open_edges_at c.args.room.n c.args.room.nf + 3 * c.loop-i.i + 2) 0) (face_of c.args.face) = let l = c.loop-i in
+    c.has_face.ensures ∙ ap (λ (x : ℕ). has_bit (get_or l.w (x + 3 * l.i + 2) 0) (face_of c.args.face)) c.open_edges_at-edges.ensures in
     let t = c in
     let l = t.loop-i in
     elim c.if-has_face.branch [
@@ -68,9 +25,3 @@ loop-i-preserved c =
       | else-has_face w ↦ rw (w.w-is, w.count-is)
           (gather_pass _ _ _ _ _ _ c.requires l.w l.count l.i l.invariant t.loop-i-test.true _ bit w.if-has_face.false)
     ]
-
-pub shape_of-w : goal.shape_of-w
-shape_of-w c = c.loop-i.invariant.long
-
-pub returns : goal.returns
-returns c = gather_end _ _ _ _ _ _ _ _ _ c.loop-i.invariant c.loop-i-test.false

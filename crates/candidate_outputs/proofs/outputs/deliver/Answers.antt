@@ -6,9 +6,10 @@ use Rattle.lists.specs.Regions.{view}
 use lib.Seq.{sets}
 use lib.ListN.{length}
 use Prim.Native.Nat.{ℕ}
-use mathlib.Core.List.{map}
+use mathlib.Core.List.{List, map}
 use mathlib.Core.Path.{ap, ◌∙◌}
 use native.Mathlib.Omega.{arith}
+use Rattle.candidate_outputs.proofs.Blocks.{part_is}
 use Rattle.candidate_outputs.proofs.Lengths.{all_lists_long, edges_long, edges_few}
 use Rattle.candidate_outputs.proofs.Delivery.{short_candidates, short_lists, short_constraints, short_edges, done}
 use Rattle.candidate_outputs.proofs.outputs.deliver.Goals as goal
@@ -80,8 +81,9 @@ returns c =
     let a = s.args in
     let w = a.w.now in
     done a.room.n a.room.nf a.k a.listed a.total w s.requires _ numbers.listed_numbers-l.ensures.0 a.candidates.now a.face_lists.now a.constraints.now
-    a.open_edges.now fit.if-candidates-c.false fit.if-face_lists-l.false fit.if-constraints-t.false fit.if-open_edges-e.false _ _ _ _ words.write_words.ensures
+    a.open_edges.now fit.if-candidates-c.false fit.if-face_lists-l.false fit.if-constraints-t.false fit.if-open_edges-e.false _ _ _ _
+    (words.write_words.ensures ∙ ap (sets a.candidates.now 0) (part_is w 8 _))
     lists.write_face_lists.ensures
-    (constraints.write_constraints.ensures ∙ ap (λ (x : ℕ). sets a.constraints.now 0 (constraint_words (map unpacked (view w x a.total))))
-    before-constraints.constraints_at.ensures)
+    (constraints.write_constraints.ensures ∙ ap (λ (l : List ℕ). sets a.constraints.now 0 (constraint_words (map unpacked l)))
+    (part_is w c.constraints_at-keys.result a.total ∙ ap (λ (x : ℕ). view w x a.total) c.constraints_at-keys.ensures))
     (c.write_edges.ensures ∙ ap (λ (x : ℕ). sets a.open_edges.now 0 (open_edge_words (edges_at w x a.k))) edges.open_edges_at.ensures)

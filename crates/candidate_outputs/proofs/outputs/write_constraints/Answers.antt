@@ -1,3 +1,4 @@
+use lib.ListN.{length}
 use lib.Seq.{sets}
 use mathlib.Core.List.{[], ◌∷◌}
 use mathlib.Core.Path.{refl, ◌∙◌}
@@ -7,40 +8,31 @@ use Rattle.lists.proofs.Blocks.{blocks_start, blocks_turn, blocks_room, blocks_l
 use Rattle.candidate_outputs.proofs.outputs.write_constraints.Goals as goal
 
 pub loop-i-init : goal.loop-i-init
-loop-i-init c = let a = c.args in (omega arith, blocks_start (key_block a.w.now a.at) a.out.now 0 _ refl)
-
-pub overflow_add-key : goal.overflow_add-key
-overflow_add-key c = omega (arith, c.requires.0)
-
-pub offset_bounds-w-at : goal.offset_bounds-w-at
-offset_bounds-w-at c = omega (arith, c.requires.0)
-
-pub bounds-w-at : goal.bounds-w-at
-bounds-w-at c = omega (arith, c.requires.0)
+loop-i-init c = let a = c.args in (omega arith, blocks_start (key_block a.keys.now) a.out.now 0 _ refl)
 
 pub write_three-requires : goal.write_three-requires
 write_three-requires c =
     let a = c.args in
-    let l = keys_long a.w.now a.at a.total c.requires.0 in
-    let r = blocks_room (key_block a.w.now a.at) a.out.now c.loop-i.out 0
+    let l = keys_long a.keys.now in
+    let r = blocks_room (key_block a.keys.now) a.out.now c.loop-i.out 0
     c.loop-i.i c.loop-i.o
-    c.loop-i.invariant.1 a.total c.loop-i-test.true
-    (omega (arith, l, c.requires.1)) in
+    c.loop-i.invariant.1 (length a.keys.now) c.loop-i-test.true
+    (omega (arith, l, c.requires)) in
     omega (arith, r)
 
 pub overflow_add-o : goal.overflow_add-o
 overflow_add-o c =
     let a = c.args in
-    let l = keys_long a.w.now a.at a.total c.requires.0 in
-    let r = blocks_room (key_block a.w.now a.at) a.out.now c.loop-i.out 0
+    let l = keys_long a.keys.now in
+    let r = blocks_room (key_block a.keys.now) a.out.now c.loop-i.out 0
     c.loop-i.i c.loop-i.o
-    c.loop-i.invariant.1 a.total
+    c.loop-i.invariant.1 (length a.keys.now)
     c.loop-i-test.true
-    (omega (arith, l, c.requires.1)) in
+    (omega (arith, l, c.requires)) in
     omega (
       arith,
       r,
-      blocks_long (key_block a.w.now a.at) a.out.now c.loop-i.out 0
+      blocks_long (key_block a.keys.now) a.out.now c.loop-i.out 0
           c.loop-i.i c.loop-i.o
           c.loop-i.invariant.1,
     )
@@ -49,7 +41,7 @@ pub loop-i-preserved : goal.loop-i-preserved
 loop-i-preserved c =
     let a = c.args in (
       omega arith,
-      blocks_turn (key_block a.w.now a.at) a.out.now c.loop-i.out 0
+      blocks_turn (key_block a.keys.now) a.out.now c.loop-i.out 0
           c.loop-i.i c.loop-i.o
           c.loop-i.invariant.1 _ _
           (c.write_three.ensures ∙ (λ t. sets c.loop-i.out
@@ -60,10 +52,10 @@ loop-i-preserved c =
 pub shape_of-out : goal.shape_of-out
 shape_of-out c =
     let a = c.args in
-    blocks_long (key_block a.w.now a.at) a.out.now c.loop-i.out 0 c.loop-i.i c.loop-i.o c.loop-i.invariant.1
+    blocks_long (key_block a.keys.now) a.out.now c.loop-i.out 0 c.loop-i.i c.loop-i.o c.loop-i.invariant.1
 
 pub returns : goal.returns
 returns c =
     let a = c.args in
-    blocks_end (key_block a.w.now a.at) a.out.now c.loop-i.out 0 c.loop-i.i c.loop-i.o c.loop-i.invariant.1 a.total
-    c.loop-i.invariant.0 c.loop-i-test.false _ (keys_are a.w.now a.at a.total c.requires.0)
+    blocks_end (key_block a.keys.now) a.out.now c.loop-i.out 0 c.loop-i.i c.loop-i.o c.loop-i.invariant.1 (length a.keys.now)
+    c.loop-i.invariant.0 c.loop-i-test.false _ (keys_are a.keys.now)

@@ -1,4 +1,4 @@
-use Prim.Native.Nat.{◌≤◌, ◌-◌}
+use Prim.Native.Nat.{◌≤◌}
 use Rattle.candidate_outputs.proofs.Blocks.{edge_block}
 use Rattle.lists.proofs.Blocks.{BlocksStored}
 use Rattle.candidate_outputs.proofs.outputs.write_edges.Given as goal

@@ -2,7 +2,4 @@ use Rattle.candidate_outputs.proofs.Blocks.{part_copied}
 use Rattle.candidate_outputs.proofs.outputs.write_words.Goals as goal
 
 pub returns : goal.returns
-returns c =
-    let a = c.args in
-    part_copied a.w.now a.out.now _ a.from a.n a.at c.requires.0
-    c.requires.1 c.copy_front.ensures
+returns c = part_copied c.args.words.now c.args.out.now _ c.args.at c.requires c.copy_front.ensures

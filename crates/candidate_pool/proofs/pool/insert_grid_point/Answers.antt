@@ -1,17 +1,12 @@
+use Rattle.geometry.specs.Boxes.{face_of}
+use Rattle.geometry.proofs.Faces.{face_in}
 use Rattle.candidate_pool.proofs.Adding.{number_in, inserted_face}
 use Rattle.candidate_pool.proofs.pool.insert_grid_point.Goals as goal
 
-pub push_face-requires : goal.push_face-requires
-push_face-requires c =
-    let place-candidate' = c.place_candidate-id in
-    let s = c in record {
-      holds = place-candidate'.ensures.0.holds;
-      id_bound = (
-        number_in s.args.eps s.args.room.n s.args.w.now place-candidate'.new.w _ place-candidate'.result.0 place-candidate'.ensures.0
-            place-candidate'.ensures.1,
-        s.requires.point_in.1,
-      );
-    }
+pub push_face-requires-clause-id_bound : goal.push_face-requires-clause-id_bound
+push_face-requires-clause-id_bound c =
+    let place = c.place_candidate-id in
+    number_in c.args.eps c.args.room.n c.args.w.now place.new.w _ place.result.0 place.ensures.0 place.ensures.1
 
 pub returns : goal.returns
 returns c =
@@ -19,4 +14,4 @@ returns c =
     let place-candidate' = c.place_candidate-id in
     let push-face' = c.push_face in
     inserted_face s.args.eps s.args.room.n s.args.w.now place-candidate'.new.w push-face'.new.w s.args.p 0 place-candidate'.result.0
-    s.requires.holds place-candidate'.ensures.0 place-candidate'.ensures.1 s.args.face s.requires.point_in.1 push-face'.ensures
+    s.requires.holds place-candidate'.ensures.0 place-candidate'.ensures.1 (face_of s.args.face) (face_in s.args.face) push-face'.ensures

@@ -25,9 +25,9 @@ pub append_caps-left-requires : goal.append_caps-left-requires
 append_caps-left-requires c =
     let s = c in
     let a = s.args in
-    let nc = length a.cap_list.now / 4 in
+    let nc = length a.caps.list.now / 4 in
     let nv = length a.vertices.now / 3 in
-    let b = closing_at a.n a.nf nc in
+    let b = closing_at a.caps.n a.caps.nf nc in
     let D = s.requires.turned_ready in
     let P = D.supplied in
     let x = P.small in
@@ -37,16 +37,16 @@ append_caps-left-requires c =
     let k = P.pooled.few in
     let S = c.start_entering.ensures in
     let w₁ = c.start_entering.new.w in
-    let E = entering_first b a.n nc nv a.w.now w₁ (omega arith) k (omega arith) x z s.requires.vertices_in.1 s.requires.vertices_in.2 S in record {
+    let E = entering_first b a.caps.n nc nv a.w.now w₁ (omega arith) k (omega arith) x z s.requires.vertices_in.1 s.requires.vertices_in.2 S in record {
       names_entering = E;
-      shaped = shaped_kept a.n a.nf nc a.w.now w₁ S.above a.vertices.now k
-          (shaped_first a.n a.nf a.cap_list.now a.w.now D a.vertices.now s.requires.vertices_in.0);
-      taking = taking_kept a.n a.nf nc a.w.now w₁ S.above
-          (taking_first a.n a.nf a.cap_list.now a.w.now D s.requires.by_index);
+      shaped = shaped_kept a.caps.n a.caps.nf nc a.w.now w₁ S.above a.vertices.now k
+          (shaped_first a.caps.n a.caps.nf a.caps.list.now a.w.now D a.vertices.now s.requires.vertices_in.0);
+      taking = taking_kept a.caps.n a.caps.nf nc a.w.now w₁ S.above
+          (taking_first a.caps.n a.caps.nf a.caps.list.now a.w.now D s.requires.by_index);
     }
 
-pub find_firsts-caps-requires : goal.find_firsts-caps-requires
-find_firsts-caps-requires c =
+pub find_firsts-firsts-requires : goal.find_firsts-firsts-requires
+find_firsts-firsts-requires c =
     let s = c in
     let a = s.args in
     let D = s.requires.turned_ready in
@@ -71,9 +71,9 @@ returns c =
     let z = P.caps in
     let q = P.size in
     let k = P.pooled.few in
-    closed a.n a.nf a.cap_list.now a.w.now D a.vertices.now s.requires.vertices_in.1 s.requires.vertices_in.2 s.requires.by_index a.positive
-    c.append_caps-left.result c.find_firsts-caps.result
+    closed a.caps.n a.caps.nf a.caps.list.now a.w.now D a.vertices.now s.requires.vertices_in.1 s.requires.vertices_in.2 s.requires.by_index a.positive
+    c.append_caps-left.result c.find_firsts-firsts.result
     c.start_entering.new.w
-    c.append_caps-left.new.w c.find_firsts-caps.new.w
+    c.append_caps-left.new.w c.find_firsts-firsts.new.w
     c.start_entering.ensures
-    c.append_caps-left.ensures c.find_firsts-caps.ensures
+    c.append_caps-left.ensures c.find_firsts-firsts.ensures

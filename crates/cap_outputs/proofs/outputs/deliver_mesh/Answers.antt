@@ -8,30 +8,30 @@ use mathlib.Core.List.{List}
 use mathlib.Core.Path.{ap, ◌∙◌}
 use Rattle.cap_outputs.proofs.outputs.deliver_mesh.Goals as goal
 
-pub returns-then-out_vertices-vertices : goal.returns-then-out_vertices-vertices
-returns-then-out_vertices-vertices c =
+pub returns-then-out_vertices-mesh : goal.returns-then-out_vertices-mesh
+returns-then-out_vertices-mesh c =
     let a = c.args in
-    let x = mesh_numbers a.vertices.now a.facets.now c.requires.0 c.requires.1 in
-    let y = mesh_facets a.vertices.now a.facets.now c.requires.0 c.requires.1 in
-    short_vertices (mesh_of a.vertices.now a.facets.now) (length a.vertices.now) (length a.facets.now) (ap length x) (ap length y) a.out_vertices.now
-    a.out_facets.now c.if-out_vertices-vertices.true
+    let x = mesh_numbers a.mesh.vertices.now a.mesh.facets.now c.requires.0 c.requires.1 in
+    let y = mesh_facets a.mesh.vertices.now a.mesh.facets.now c.requires.0 c.requires.1 in
+    short_vertices (mesh_of a.mesh.vertices.now a.mesh.facets.now) (length a.mesh.vertices.now) (length a.mesh.facets.now) (ap length x) (ap length y) a.out_vertices.now
+    a.out_facets.now c.if-out_vertices-mesh.true
 
-pub returns-then-out_facets-facets : goal.returns-then-out_facets-facets
-returns-then-out_facets-facets c =
+pub returns-then-out_facets-mesh : goal.returns-then-out_facets-mesh
+returns-then-out_facets-mesh c =
     let a = c.args in
-    let x = mesh_numbers a.vertices.now a.facets.now c.requires.0 c.requires.1
+    let x = mesh_numbers a.mesh.vertices.now a.mesh.facets.now c.requires.0 c.requires.1
     in
-    let y = mesh_facets a.vertices.now a.facets.now c.requires.0 c.requires.1
+    let y = mesh_facets a.mesh.vertices.now a.mesh.facets.now c.requires.0 c.requires.1
     in
-    short_facets (mesh_of a.vertices.now a.facets.now) (length a.vertices.now) (length a.facets.now) (ap length x) (ap length y) a.out_vertices.now
-    a.out_facets.now c.if-out_vertices-vertices.false c.if-out_facets-facets.true
+    short_facets (mesh_of a.mesh.vertices.now a.mesh.facets.now) (length a.mesh.vertices.now) (length a.mesh.facets.now) (ap length x) (ap length y) a.out_vertices.now
+    a.out_facets.now c.if-out_vertices-mesh.false c.if-out_facets-mesh.true
 
 pub returns : goal.returns
 returns c =
     let a = c.args in
-    let x = mesh_numbers a.vertices.now a.facets.now c.requires.0 c.requires.1 in
-    let y = mesh_facets a.vertices.now a.facets.now c.requires.0 c.requires.1 in
-    done (mesh_of a.vertices.now a.facets.now) (length a.vertices.now) (length a.facets.now) (ap length x) (ap length y) a.out_vertices.now a.out_facets.now
-    c.if-out_vertices-vertices.false c.if-out_facets-facets.false _ _
+    let x = mesh_numbers a.mesh.vertices.now a.mesh.facets.now c.requires.0 c.requires.1 in
+    let y = mesh_facets a.mesh.vertices.now a.mesh.facets.now c.requires.0 c.requires.1 in
+    done (mesh_of a.mesh.vertices.now a.mesh.facets.now) (length a.mesh.vertices.now) (length a.mesh.facets.now) (ap length x) (ap length y) a.out_vertices.now a.out_facets.now
+    c.if-out_vertices-mesh.false c.if-out_facets-mesh.false _ _
     (c.copy_front.ensures ∙ ap (λ (l : List Float). overlay l a.out_vertices.now) x)
     (c.copy_front-2.ensures ∙ ap (λ (l : List ℕ). overlay l a.out_facets.now) y)

@@ -6,4 +6,4 @@ use Rattle.cap_pairs.proofs.noting.note_edges.Given as goal
 -- `note_edges` meets its contract: the faces of the first i open edges are added to the words of their pairs. Assumes nothing.
 abbrev pub invariant-loop-i : goal.invariant-loop-i
 invariant-loop-i l =
-    Noted (edge_target l.fn.room.n l.fn.room.nf l.fn.room.nc l.initial.w) (λ j. has_bit (edge_mask l.fn.room.n l.fn.room.nf l.fn.room.nc l.initial.w j)) l.initial.w l.w l.i × (l.i ≤ l.k)
+    Noted (edge_target l.fn.room.n l.fn.room.nf l.fn.room.nc l.initial.w) (λ j. has_bit (edge_mask l.fn.room.n l.fn.room.nf l.fn.room.nc l.initial.w j)) l.initial.w l.w l.i × (l.i ≤ l.fn.room.k)

@@ -11,15 +11,18 @@ use Rattle.cap_pairs.proofs.pairs.number_pairs.Goals as goal
 pub put_edges-requires : goal.put_edges-requires
 put_edges-requires c =
     let s = c in
-    let a = s.args in record { tables_for = tables_for a.n a.nf a.k a.cap_list.now a.w.now s.requires; by_index = edge_ends a.n a.nf a.k a.cap_list.now a.w.now s.requires }
+    let a = s.args in record {
+      tables_for = tables_for a.caps.n a.caps.nf a.caps.k a.caps.list.now a.w.now s.requires;
+      by_index = edge_ends a.caps.n a.caps.nf a.caps.k a.caps.list.now a.w.now s.requires;
+    }
 
 pub put_sides-requires : goal.put_sides-requires
 put_sides-requires c =
     let s = c in
     let a = s.args in
     let put-edges' = c.put_edges in record {
-      tables_for = tables_then a.n a.nf a.k a.cap_list.now a.w.now put-edges'.new.w s.requires put-edges'.ensures;
-      by_index = words_then a.n a.nf a.k a.cap_list.now
+      tables_for = tables_then a.caps.n a.caps.nf a.caps.k a.caps.list.now a.w.now put-edges'.new.w s.requires put-edges'.ensures;
+      by_index = words_then a.caps.n a.caps.nf a.caps.k a.caps.list.now
           a.w.now put-edges'.new.w s.requires put-edges'.ensures;
     }
 
@@ -32,7 +35,7 @@ slice_bounds-sort_records-end c =
     let records-at' = c.records_at-records in
     omega (
       arith,
-      sort_room a.n a.nf a.k a.cap_list.now a.w.now put-edges'.new.w s.requires put-edges'.ensures put-sides'.new.w put-sides'.ensures
+      sort_room a.caps.n a.caps.nf a.caps.k a.caps.list.now a.w.now put-edges'.new.w s.requires put-edges'.ensures put-sides'.new.w put-sides'.ensures
           records-at'.result records-at'.ensures,
     )
 
@@ -45,15 +48,15 @@ number_records-requires c =
     let records-at' = c.records_at-records in
     let sort-records' = c.sort_records in
     let numbers-at' = c.numbers_at in record {
-      p_bound = numbers_room a.n a.nf a.k a.cap_list.now a.w.now put-edges'.new.w s.requires put-edges'.ensures put-sides'.new.w put-sides'.ensures
-          records-at'.result records-at'.ensures (put_mid records-at'.result (records-at'.result + 4 * (a.k + 3 * (length a.cap_list.now / 4)) - records-at'.result)
+      p_bound = numbers_room a.caps.n a.caps.nf a.caps.k a.caps.list.now a.w.now put-edges'.new.w s.requires put-edges'.ensures put-sides'.new.w put-sides'.ensures
+          records-at'.result records-at'.ensures (put_mid records-at'.result (records-at'.result + 4 * (a.caps.k + 3 * (length a.caps.list.now / 4)) - records-at'.result)
           put-sides'.new.w sort-records'.new.m) (sorted_part put-sides'.new.w sort-records'.new.m records-at'.result
-          (a.k + 3 * (length a.cap_list.now / 4)) (sort_room a.n a.nf a.k a.cap_list.now a.w.now put-edges'.new.w s.requires put-edges'.ensures
+          (a.caps.k + 3 * (length a.caps.list.now / 4)) (sort_room a.caps.n a.caps.nf a.caps.k a.caps.list.now a.w.now put-edges'.new.w s.requires put-edges'.ensures
           put-sides'.new.w put-sides'.ensures records-at'.result records-at'.ensures) sort-records'.ensures) numbers-at'.result numbers-at'.ensures;
-      sorted_places = sorted_there a.n a.nf a.k a.cap_list.now a.w.now put-edges'.new.w s.requires put-edges'.ensures put-sides'.new.w put-sides'.ensures
-          records-at'.result records-at'.ensures (put_mid records-at'.result (records-at'.result + 4 * (a.k + 3 * (length a.cap_list.now / 4)) - records-at'.result)
+      sorted_places = sorted_there a.caps.n a.caps.nf a.caps.k a.caps.list.now a.w.now put-edges'.new.w s.requires put-edges'.ensures put-sides'.new.w put-sides'.ensures
+          records-at'.result records-at'.ensures (put_mid records-at'.result (records-at'.result + 4 * (a.caps.k + 3 * (length a.caps.list.now / 4)) - records-at'.result)
           put-sides'.new.w sort-records'.new.m) (sorted_part put-sides'.new.w sort-records'.new.m records-at'.result
-          (a.k + 3 * (length a.cap_list.now / 4)) (sort_room a.n a.nf a.k a.cap_list.now a.w.now put-edges'.new.w s.requires put-edges'.ensures
+          (a.caps.k + 3 * (length a.caps.list.now / 4)) (sort_room a.caps.n a.caps.nf a.caps.k a.caps.list.now a.w.now put-edges'.new.w s.requires put-edges'.ensures
           put-sides'.new.w put-sides'.ensures records-at'.result records-at'.ensures) sort-records'.ensures);
     }
 
@@ -67,9 +70,9 @@ returns c =
     let sort-records' = c.sort_records in
     let numbers-at' = c.numbers_at in
     let number-records' = c.number_records in
-    numbered a.n a.nf a.k a.cap_list.now a.w.now put-edges'.new.w s.requires put-edges'.ensures put-sides'.new.w put-sides'.ensures
-    records-at'.result records-at'.ensures (put_mid records-at'.result (records-at'.result + 4 * (a.k + 3 * (length a.cap_list.now / 4)) - records-at'.result)
+    numbered a.caps.n a.caps.nf a.caps.k a.caps.list.now a.w.now put-edges'.new.w s.requires put-edges'.ensures put-sides'.new.w put-sides'.ensures
+    records-at'.result records-at'.ensures (put_mid records-at'.result (records-at'.result + 4 * (a.caps.k + 3 * (length a.caps.list.now / 4)) - records-at'.result)
     put-sides'.new.w sort-records'.new.m) (sorted_part put-sides'.new.w sort-records'.new.m records-at'.result
-    (a.k + 3 * (length a.cap_list.now / 4)) (sort_room a.n a.nf a.k a.cap_list.now a.w.now put-edges'.new.w s.requires put-edges'.ensures
+    (a.caps.k + 3 * (length a.caps.list.now / 4)) (sort_room a.caps.n a.caps.nf a.caps.k a.caps.list.now a.w.now put-edges'.new.w s.requires put-edges'.ensures
     put-sides'.new.w put-sides'.ensures records-at'.result records-at'.ensures) sort-records'.ensures) numbers-at'.result numbers-at'.ensures
     number-records'.new.w number-records'.ensures

@@ -6,11 +6,11 @@ components-requires c =
     let s = c.args in
     let p = c.put_labels in
     let split = c.split_at_mut-front in
-    let read = caps_read s.room.n s.room.nf s.room.nc s.k s.w.now c.requires p.new.w p.ensures split.result.0.now _ _ c.labels_at-labels.ensures c.components_at.ensures
+    let read = caps_read s.room.n s.room.nf s.room.nc s.room.k s.w.now c.requires p.new.w p.ensures split.result.0.now _ _ c.labels_at-labels.ensures c.components_at.ensures
     split.ensures.front in
     record {
-      item_labels = caps_asked s.room.n s.room.nf s.room.nc s.k s.w.now c.requires p.new.w p.ensures _ read;
-      room = caps_fit s.room.n s.room.nf s.room.nc s.k s.w.now c.requires p.new.w p.ensures _ read _ _ c.components_at.ensures split.ensures.back;
+      item_labels = caps_asked s.room.n s.room.nf s.room.nc s.room.k s.w.now c.requires p.new.w p.ensures _ read;
+      room = caps_fit s.room.n s.room.nf s.room.nc s.room.k s.w.now c.requires p.new.w p.ensures _ read _ _ c.components_at.ensures split.ensures.back;
     }
 
 pub returns : goal.returns
@@ -18,7 +18,7 @@ returns c =
     let s = c.args in
     let p = c.put_labels in
     let split = c.split_at_mut-front in
-    let read = caps_read s.room.n s.room.nf s.room.nc s.k s.w.now c.requires p.new.w p.ensures split.result.0.now _ _ c.labels_at-labels.ensures c.components_at.ensures
+    let read = caps_read s.room.n s.room.nf s.room.nc s.room.k s.w.now c.requires p.new.w p.ensures split.result.0.now _ _ c.labels_at-labels.ensures c.components_at.ensures
     split.ensures.front in
-    joined_caps s.room.n s.room.nf s.room.nc s.k s.w.now c.requires p.new.w p.ensures _ read _ _ _ _ c.components_at.ensures split.ensures.front split.ensures.back
+    joined_caps s.room.n s.room.nf s.room.nc s.room.k s.w.now c.requires p.new.w p.ensures _ read _ _ _ _ c.components_at.ensures split.ensures.front split.ensures.back
     c.components.ensures

@@ -11,7 +11,7 @@ pub join_caps-requires : goal.join_caps-requires
 join_caps-requires c =
     let z = c in
     let s = z.args in
-    sides_numbered s.n s.nf s.k s.cap_list.now s.w.now z.requires.cap_ready z.requires.pairs_known
+    sides_numbered s.caps.n s.caps.nf s.caps.k s.caps.list.now s.w.now z.requires.cap_ready z.requires.pairs_known
 
 pub mark_seeds-requires : goal.mark_seeds-requires
 mark_seeds-requires c =
@@ -19,8 +19,8 @@ mark_seeds-requires c =
     let s = z.args in
     let u = c.join_caps in
     let v = c.zero_part in
-    let e = subst (λ (x : ℕ). PartZeroed u.new.w v.new.w x (length s.cap_list.now / 4)) c.seeded_at.ensures v.ensures in
-    markable s.n s.nf s.k s.cap_list.now s.w.now u.new.w v.new.w z.requires.cap_ready z.requires.pairs_known u.ensures e
+    let e = subst (λ (x : ℕ). PartZeroed u.new.w v.new.w x (length s.caps.list.now / 4)) c.seeded_at.ensures v.ensures in
+    markable s.caps.n s.caps.nf s.caps.k s.caps.list.now s.w.now u.new.w v.new.w z.requires.cap_ready z.requires.pairs_known u.ensures e
 
 pub returns : goal.returns
 returns c =
@@ -28,7 +28,7 @@ returns c =
     let s = z.args in
     let u = c.join_caps in
     let v = c.zero_part in
-    let e = subst (λ (x : ℕ). PartZeroed u.new.w v.new.w x (length s.cap_list.now / 4)) c.seeded_at.ensures
+    let e = subst (λ (x : ℕ). PartZeroed u.new.w v.new.w x (length s.caps.list.now / 4)) c.seeded_at.ensures
     v.ensures in
-    chosen s.n s.nf s.k s.cap_list.now s.w.now u.new.w v.new.w z.requires.cap_ready z.requires.pairs_known u.ensures e c.mark_seeds.new.w
+    chosen s.caps.n s.caps.nf s.caps.k s.caps.list.now s.w.now u.new.w v.new.w z.requires.cap_ready z.requires.pairs_known u.ensures e c.mark_seeds.new.w
     c.mark_seeds.ensures

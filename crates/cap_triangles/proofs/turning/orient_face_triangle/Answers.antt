@@ -1,5 +1,6 @@
 use mathlib.Core.Path.{ap}
 use Rattle.cap_triangles.proofs.Turns.{turned_as, reversed_as}
+use Rattle.geometry.specs.Boxes.{face_of}
 use Rattle.geometry.specs.Numbers.{candidates_of}
 use Rattle.cap_triangles.proofs.turning.orient_face_triangle.Goals as goal
 
@@ -8,7 +9,7 @@ pub returns-then-signed_area2-ccw_is_outward : goal.returns-then-signed_area2-cc
 returns-then-signed_area2-ccw_is_outward c =
     let start = c in
     let a = start.args in
-    turned_as a.w.now a.face (candidates_of a.t) c.point_of.result
+    turned_as a.w.now (face_of a.face) (candidates_of a.t) c.point_of.result
     c.point_of-2.result c.point_of-3.result
     c.project-a.result c.project-b.result
     c.project-c.result c.signed_area2.result c.ccw_is_outward.result
@@ -21,7 +22,7 @@ pub returns-else-signed_area2-ccw_is_outward : goal.returns-else-signed_area2-cc
 returns-else-signed_area2-ccw_is_outward c =
     let start = c in
     let a = start.args in
-    reversed_as a.w.now a.face (candidates_of a.t) c.point_of.result
+    reversed_as a.w.now (face_of a.face) (candidates_of a.t) c.point_of.result
     c.point_of-2.result c.point_of-3.result
     c.project-a.result c.project-b.result
     c.project-c.result c.signed_area2.result c.ccw_is_outward.result

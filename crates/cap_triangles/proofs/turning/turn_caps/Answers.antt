@@ -1,20 +1,23 @@
-use Rattle.cap_triangles.proofs.Turns.{turning_start, turning_asks, turning_more, turning_end}
+use Rattle.cap_triangles.proofs.Turns.{turning_start, turning_face, turning_asks, turning_more, turning_end}
 use Rattle.geometry.specs.Numbers.{candidates_of}
+use mathlib.Core.Path.{ap, ◌∙◌}
+use Prim.Native.Nat.{ℕ}
 use native.Mathlib.Omega.{arith}
+use Rattle.cap_triangles.specs.Steps.{turned_by}
 use Rattle.cap_triangles.proofs.turning.turn_caps.Goals as goal
 
-pub loop-i-init : goal.loop-i-init
-loop-i-init c =
+pub supplied_face-requires : goal.supplied_face-requires
+supplied_face-requires c =
     let start = c in
     let a = start.args in
-    turning_start a.n a.nf a.cap_list.now a.w.now start.requires.supplied start.requires.cap_list_value
+    (omega arith, turning_face a.caps.n a.caps.nf a.caps.list.now a.w.now start.requires.supplied start.requires.good _ (omega arith))
 
 pub orient_face_triangle-t-requires : goal.orient_face_triangle-t-requires
 orient_face_triangle-t-requires c =
     let start = c in
     let a = start.args in
     let l = c.loop-i in
-    turning_asks a.n a.nf a.cap_list.now a.w.now start.requires.supplied start.requires.cap_list_value l.w l.i l.invariant c.loop-i-test.true
+    turning_asks a.caps.n a.caps.nf a.caps.list.now a.w.now start.requires.supplied start.requires.good l.w l.i l.invariant c.loop-i-test.true
     (candidates_of c.supplied.result) c.supplied.ensures
 
 pub loop-i-preserved : goal.loop-i-preserved
@@ -22,16 +25,14 @@ loop-i-preserved c =
     let start = c in
     let a = start.args in
     let l = c.loop-i in
-    turning_more a.n a.nf a.cap_list.now a.w.now start.requires.supplied start.requires.cap_list_value l.w l.i l.invariant c.loop-i-test.true
+    turning_more a.caps.n a.caps.nf a.caps.list.now a.w.now start.requires.supplied start.requires.good l.w l.i l.invariant c.loop-i-test.true
     (candidates_of c.supplied.result) c.supplied.ensures c.turned_at-turned.result
-    c.turned_at-turned.ensures (candidates_of c.orient_face_triangle-t.result) c.orient_face_triangle-t.ensures
-
-pub shape_of-w : goal.shape_of-w
-shape_of-w c = c.loop-i.invariant.above.long
+    c.turned_at-turned.ensures (candidates_of c.orient_face_triangle-t.result)
+    (c.orient_face_triangle-t.ensures ∙ ap (λ (f : ℕ). turned_by l.w f (candidates_of c.supplied.result)) c.supplied_face.ensures)
 
 pub returns : goal.returns
 returns c =
     let start = c in
     let a = start.args in
     let l = c.loop-i in
-    (l.invariant.above, turning_end a.n a.nf a.cap_list.now a.w.now start.requires.supplied start.requires.cap_list_value l.w l.i l.invariant (omega (arith, c.loop-i-test.false)))
+    (l.invariant.above, turning_end a.caps.n a.caps.nf a.caps.list.now a.w.now start.requires.supplied start.requires.good l.w l.i l.invariant (omega (arith, c.loop-i-test.false)))

@@ -8,14 +8,14 @@ select_caps-requires c = record { cap_ready = c.requires.ready; pairs_known = c.
 pub close_caps-made-requires : goal.close_caps-made-requires
 close_caps-made-requires c =
     let a = c.args in record {
-      turned_ready = chosen_ready a.vertices.now a.facets.now a.cap_list.now a.n a.k a.positive a.w.now
+      turned_ready = chosen_ready a.mesh.vertices.now a.mesh.facets.now a.cap_list.now a.n a.k a.positive a.w.now
           c.requires c.select_caps.new.w
           c.select_caps.ensures;
       vertices_in = (
         c.requires.within,
         omega
             (arith, c.requires.lists.few_vertices),
-        chosen_words a.vertices.now a.facets.now
+        chosen_words a.mesh.vertices.now a.mesh.facets.now
             a.cap_list.now a.n a.k a.positive a.w.now c.requires
             c.select_caps.new.w c.select_caps.ensures,
       );
@@ -25,7 +25,7 @@ close_caps-made-requires c =
 pub deliver_closed-requires : goal.deliver_closed-requires
 deliver_closed-requires c =
     let a = c.args in
-    deliverable a.vertices.now a.facets.now a.cap_list.now a.n a.k a.positive a.w.now
+    deliverable a.mesh.vertices.now a.mesh.facets.now a.cap_list.now a.n a.k a.positive a.w.now
     c.requires
     c.select_caps.new.w
     c.select_caps.ensures c.close_caps-made.result.left
@@ -35,7 +35,7 @@ deliver_closed-requires c =
 pub returns : goal.returns
 returns c =
     let a = c.args in
-    answered a.vertices.now a.facets.now a.cap_list.now a.n a.k a.positive a.w.now
+    answered a.mesh.vertices.now a.mesh.facets.now a.cap_list.now a.n a.k a.positive a.w.now
     c.requires c.select_caps.new.w
     c.select_caps.ensures
     c.close_caps-made.result.left

@@ -8,7 +8,6 @@ use Rattle.candidate_surface.proofs.Fitting.{vertices_in, most_small}
 use Rattle.refusals.specs.Refusals.{first_refusal}
 use native.Mathlib.Omega.{arith}
 use mathlib.Core.Path.{sym, ap, ◌∙◌}
-use Rattle.candidate_surface.specs.Asked.{asked}
 use Rattle.caps.proofs.front.cap_edges.Goals as goal
 
 pub enter_surface-listed-requires : goal.enter_surface-listed-requires
@@ -16,7 +15,7 @@ enter_surface-listed-requires c =
     let a = c.args in record {
       mesh_fits = c.requires.mesh_fits.0;
       tabled = c.requires.tabled;
-      vertices_in = vertices_in a.vertices.now a.facets.now (asked a.extents a.eps a.resolution)
+      vertices_in = vertices_in a.mesh.vertices.now a.mesh.facets.now a.asked
           c.requires.sound;
     }
 
@@ -29,8 +28,8 @@ deliver_mesh-requires c = (
 pub returns-then-listed-eq0 : goal.returns-then-listed-eq0
 returns-then-listed-eq0 c =
     let a = c.args in
-    no_ends a.vertices.now a.facets.now a.cap_list.now (asked a.extents a.eps a.resolution) a.mode a.out_vertices.now _ a.out_facets.now _ _
-    (no_ends_left a.vertices.now a.facets.now a.cap_list.now (asked a.extents a.eps a.resolution) a.mode
+    no_ends a.mesh.vertices.now a.mesh.facets.now a.cap_list.now a.asked a.mode a.out_vertices.now _ a.out_facets.now _ _
+    (no_ends_left a.mesh.vertices.now a.mesh.facets.now a.cap_list.now a.asked a.mode
     c.enter_surface-listed.result
     c.enter_surface-listed.ensures.1
     c.if-listed-eq0.true) c.deliver_mesh.ensures
@@ -40,7 +39,7 @@ complete-requires c =
     let a = c.args in record {
       sound = c.requires.sound;
       mesh_fits = (
-        fits_same a.vertices.now a.facets.now a.n a.w.now c.enter_surface-listed.new.w
+        fits_same a.mesh.vertices.now a.mesh.facets.now a.n a.w.now c.enter_surface-listed.new.w
             c.enter_surface-listed.auto.w
             c.requires.mesh_fits.0,
         c.requires.mesh_fits.1,
@@ -52,8 +51,8 @@ complete-requires c =
 pub check_caps-requires : goal.check_caps-requires
 check_caps-requires c =
     let a = c.args in record {
-      supplied = supplied a.eps a.vertices.now a.facets.now a.cap_list.now a.n a.w.now c.complete.new.w
-          (let q = most_small a.vertices.now a.facets.now (asked a.extents a.eps a.resolution)
+      supplied = supplied a.asked.eps a.mesh.vertices.now a.mesh.facets.now a.cap_list.now a.n a.w.now c.complete.new.w
+          (let q = most_small a.mesh.vertices.now a.mesh.facets.now a.asked
           c.requires.sound in omega
           (arith, c.requires.mesh_fits.1, q))
           c.requires.sound.lists.few_facets
@@ -71,7 +70,7 @@ check_caps-requires c =
 pub close_mesh-requires : goal.close_mesh-requires
 close_mesh-requires c =
     let a = c.args in
-    closable a.vertices.now a.facets.now a.cap_list.now (asked a.extents a.eps a.resolution) a.n a.k
+    closable a.mesh.vertices.now a.mesh.facets.now a.cap_list.now a.asked a.n a.k
     c.enter_surface-listed.new.w
     c.complete.new.w
     c.check_caps.new.w _
@@ -81,17 +80,17 @@ close_mesh-requires c =
 pub returns : goal.returns
 returns c =
     let a = c.args in
-    ends_closed a.vertices.now a.facets.now a.cap_list.now (asked a.extents a.eps a.resolution) a.mode a.out_vertices.now _ a.out_facets.now _ _
-    (ends_left a.vertices.now a.facets.now a.cap_list.now (asked a.extents a.eps a.resolution) a.mode
+    ends_closed a.mesh.vertices.now a.mesh.facets.now a.cap_list.now a.asked a.mode a.out_vertices.now _ a.out_facets.now _ _
+    (ends_left a.mesh.vertices.now a.mesh.facets.now a.cap_list.now a.asked a.mode
     c.enter_surface-listed.result c.enter_surface-listed.ensures.1
-    (omega arith)) (ap first_refusal (sym (tests_are a.vertices.now a.facets.now a.cap_list.now (asked a.extents a.eps a.resolution) a.mode a.n a.k
+    (omega arith)) (ap first_refusal (sym (tests_are a.mesh.vertices.now a.mesh.facets.now a.cap_list.now a.asked a.mode a.n a.k
     c.complete.new.w c.complete.ensures)) ∙ sym c.check_caps.ensures.found ∙ c.in_ok-check_caps.was)
-    (closed_mesh a.vertices.now a.facets.now a.cap_list.now a.n a.k
+    (closed_mesh a.mesh.vertices.now a.mesh.facets.now a.cap_list.now a.n a.k
     c.is_positive.result
     c.check_caps.new.w)
-    (closed_is a.vertices.now a.facets.now a.cap_list.now (asked a.extents a.eps a.resolution) a.mode a.n a.k
+    (closed_is a.mesh.vertices.now a.mesh.facets.now a.cap_list.now a.asked a.mode a.n a.k
     c.complete.new.w c.complete.ensures c.check_caps.new.w
-    (pooled a.eps a.n c.complete.new.w c.complete.ensures.holds) (let t = c.requires.tabled.table.within in
+    (pooled a.asked.eps a.n c.complete.new.w c.complete.ensures.holds) (let t = c.requires.tabled.table.within in
     let u = c.requires.mesh_fits.0.threes in omega (arith, t, u))
     (c.check_caps.ensures.above
     c.in_ok-check_caps.was)
@@ -103,12 +102,12 @@ returns-in_err-check_caps c =
     let a = c.args in
     let p = err_from_is_err_and c.from_residual.result c.from_residual.ensures.1 in
     rw (p.1, p.2)
-    (ends_refused a.vertices.now a.facets.now a.cap_list.now (asked a.extents a.eps a.resolution) a.mode a.out_vertices.now a.out_facets.now _
-    (ends_left a.vertices.now a.facets.now a.cap_list.now (asked a.extents a.eps a.resolution) a.mode
+    (ends_refused a.mesh.vertices.now a.mesh.facets.now a.cap_list.now a.asked a.mode a.out_vertices.now a.out_facets.now _
+    (ends_left a.mesh.vertices.now a.mesh.facets.now a.cap_list.now a.asked a.mode
     c.enter_surface-listed.result
     c.enter_surface-listed.ensures.1
     (omega arith))
-    (ap first_refusal (sym (tests_are a.vertices.now a.facets.now a.cap_list.now (asked a.extents a.eps a.resolution) a.mode a.n a.k
+    (ap first_refusal (sym (tests_are a.mesh.vertices.now a.mesh.facets.now a.cap_list.now a.asked a.mode a.n a.k
     c.complete.new.w
     c.complete.ensures)) ∙ sym c.check_caps.ensures.found ∙
     c.in_err-check_caps.was))

@@ -4,7 +4,6 @@ use lib.ListN.{length, get_or}
 use mathlib.Core.Path.{sym, ap, ◌∙◌}
 use Rattle.lists.proofs.Bools.{or_next, or_stop}
 use Rattle.lists.proofs.Found.{some_found, none_found}
-use Rattle.candidate_surface.specs.Asked.{asked}
 use Rattle.closure_tests.proofs.Checking.{key_refused, edge_refused, edges_passed, ends_of}
 use Rattle.closure_tests.proofs.tests.check_edges.Goals as goal
 use Rattle.closure_tests.proofs.tests.check_edges.Goals.{After-edge_table_at, then-has_far_key-via-then-has_far_key, then-has_far_key-via-else-has_far_key+then-box_has_far_key}
@@ -19,7 +18,7 @@ stray_in c =
 pub returns-then-has_far_key : goal.returns-then-has_far_key
 returns-then-has_far_key c =
     let a = c.args in
-    key_refused a.vertices.now a.facets.now (asked a.extents a.eps a.resolution)
+    key_refused a.mesh.vertices.now a.mesh.facets.now a.asked
     (elim c.then-has_far_key.branch [
       | then-has_far_key-via-then-has_far_key w ↦ or_stop _ _ (sym c.has_far_key.ensures ∙ w.if-has_far_key.true)
       | then-has_far_key-via-else-has_far_key+then-box_has_far_key w ↦
@@ -43,9 +42,9 @@ returns-in-Some c =
     let a = c.args in
     let f = some_found _ _ _ (sym c.stray_edge.ensures ∙ c.in-Some.is) in
     let l = (stray_in (goal.at.returns-in-Some c).After-edge_table_at).0 in
-    let q = ends_of a.vertices.now a.facets.now a.n a.k a.w.now c.requires.mesh_fits c.requires.tabled _ l _
+    let q = ends_of a.mesh.vertices.now a.mesh.facets.now a.n a.k a.w.now c.requires.mesh_fits c.requires.tabled _ l _
     (ap (λ (x : ℕ). get_or a.w.now (x + 2 * c.in-Some.stray) 0) c.edge_table_at.ensures) in
-    edge_refused a.vertices.now a.facets.now (asked a.extents a.eps a.resolution)
+    edge_refused a.mesh.vertices.now a.mesh.facets.now a.asked
     (or_next _ _ _ (sym c.has_far_key.ensures ∙ c.if-has_far_key.false) (sym c.box_has_far_key.ensures ∙ c.if-box_has_far_key.false)) _ (sym f.0) a.k
     c.requires.tabled.table.count _ _ (c.pair_first-smaller.ensures ∙ q.smaller) (c.pair_second-greater.ensures ∙ q.greater) l
 
@@ -53,6 +52,6 @@ pub returns : goal.returns
 returns c =
     let a = c.args in
     let e = none_found _ _ (sym c.stray_edge.ensures ∙ c.in_default.is) in
-    edges_passed a.vertices.now a.facets.now (asked a.extents a.eps a.resolution)
+    edges_passed a.mesh.vertices.now a.mesh.facets.now a.asked
     (or_next _ _ _ (sym c.has_far_key.ensures ∙ c.if-has_far_key.false) (sym c.box_has_far_key.ensures ∙ c.if-box_has_far_key.false)) _ (sym e) a.k
     c.requires.tabled.table.count (omega (arith, c.requires.tabled.table.count))

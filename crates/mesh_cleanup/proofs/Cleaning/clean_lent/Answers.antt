@@ -12,13 +12,13 @@ pub clean_checked-requires : goal.clean_checked-requires
 clean_checked-requires c =
     let a = c.args in
     let k = a.self.now in
-    ready k.vertices.now k.facets.now (clean_asked k.eps) (limits a.ceiling (length a.work.now)) (sym c.check.ensures ∙ c.in_ok-check.was)
+    ready k.mesh.vertices.now k.mesh.facets.now (clean_asked k.eps) (limits a.ceiling (length a.work.now)) (sym c.check.ensures ∙ c.in_ok-check.was)
 
 pub returns : goal.returns
 returns c =
     let a = c.args in
     let k = a.self.now in
-    behind (clean_tests k.vertices.now k.facets.now (clean_asked k.eps) (limits a.ceiling (length a.work.now))) _ _
+    behind (clean_tests k.mesh.vertices.now k.mesh.facets.now (clean_asked k.eps) (limits a.ceiling (length a.work.now))) _ _
     (sym c.check.ensures ∙ c.in_ok-check.was) c.clean_checked.ensures
 
 pub returns-in_err-check : goal.returns-in_err-check
@@ -27,6 +27,6 @@ returns-in_err-check c =
     let k = a.self.now in
     let p = err_from_is_err_and c.from_residual.result c.from_residual.ensures.1 in
     rw (p.1, p.2)
-    (refused (clean_tests k.vertices.now k.facets.now (clean_asked k.eps) (limits a.ceiling (length a.work.now)))
-    (mesh_outputs (clean_result k.vertices.now k.facets.now (clean_asked k.eps)) a.out_vertices.now a.out_vertices.now a.out_facets.now a.out_facets.now) _
+    (refused (clean_tests k.mesh.vertices.now k.mesh.facets.now (clean_asked k.eps) (limits a.ceiling (length a.work.now)))
+    (mesh_outputs (clean_result k.mesh.vertices.now k.mesh.facets.now (clean_asked k.eps)) a.out_vertices.now a.out_vertices.now a.out_facets.now a.out_facets.now) _
     (sym c.check.ensures ∙ c.in_err-check.was) (refl, (refl, tt)))

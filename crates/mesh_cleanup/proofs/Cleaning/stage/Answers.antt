@@ -8,8 +8,8 @@ weld-count-requires c =
     let s = c in
     let a = s.args in
     let k = a.self.now in record {
-      n_bound = weld_room k.vertices.now k.facets.now (clean_asked k.eps) (length a.work.now) s.requires;
-      keys_in = keys_in k.vertices.now k.facets.now (clean_asked
+      n_bound = weld_room k.mesh.vertices.now k.mesh.facets.now (clean_asked k.eps) (length a.work.now) s.requires;
+      keys_in = keys_in k.mesh.vertices.now k.mesh.facets.now (clean_asked
           k.eps) (length a.work.now) s.requires;
     }
 
@@ -18,7 +18,7 @@ filter-passed-requires c =
     let s = c in
     let a = s.args in
     let k = a.self.now in
-    numbered k.vertices.now k.facets.now (clean_asked k.eps) (length a.work.now) s.requires c.weld-count.new.m
+    numbered k.mesh.vertices.now k.mesh.facets.now (clean_asked k.eps) (length a.work.now) s.requires c.weld-count.new.m
     c.weld-count.auto.m
     c.weld-count.result c.weld-count.ensures
 
@@ -27,7 +27,7 @@ remove_small_disconnected_components-requires c =
     let s = c in
     let a = s.args in
     let k = a.self.now in
-    last_room k.vertices.now k.facets.now (clean_asked k.eps) (length a.work.now) s.requires c.weld-count.new.m
+    last_room k.mesh.vertices.now k.mesh.facets.now (clean_asked k.eps) (length a.work.now) s.requires c.weld-count.new.m
     c.weld-count.auto.m c.weld-count.result
     c.weld-count.ensures c.filter-passed.new.m c.filter-passed.result
     c.filter-passed.ensures
@@ -37,7 +37,7 @@ returns c =
     let s = c in
     let a = s.args in
     let k = a.self.now in
-    staged k.vertices.now k.facets.now (clean_asked k.eps) (length a.work.now) s.requires
+    staged k.mesh.vertices.now k.mesh.facets.now (clean_asked k.eps) (length a.work.now) s.requires
     c.weld-count.new.m
     c.weld-count.auto.m
     c.weld-count.result

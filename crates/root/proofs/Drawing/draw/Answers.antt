@@ -4,7 +4,7 @@ use native.Mathlib.Omega.{arith}
 use lib.Dec.{leb}
 use mir.Val.{bool_byte}
 use Rattle.root.specs.Drawn.{Appended}
-use Rattle.root.proofs.Digits.{digit_fits, append_one, append_zero}
+use Rattle.root.proofs.Digits.{append_one, append_zero}
 use Rattle.root.proofs.Drawing.draw.Goals as goal
 use Rattle.root.proofs.Drawing.draw.Goals.{then-goes, else-goes}
 
@@ -14,10 +14,6 @@ returns c =
     let s = c.args.self.rest in
     let d : ℕ = r * 2 % 2 ^ 64 + bool_byte (leb (r * 4 % 2 ^ 64 + 1) (s * 4 % 2 ^ 64 + c.args.pair)) in
     elim c.if-goes.branch [
-      | then-goes w ↦ subst (Appended 1 c.args.pair r s d) (sym w.result-is) (append_one c.args.self.left_over c.requires.1 (omega arith) (omega arith) (omega arith) w.if-goes.true-raw)
-      | else-goes w ↦ subst (Appended 1 c.args.pair r s d) (sym w.result-is) (append_zero c.args.self.left_over c.requires.1 (omega arith) (omega arith) (omega arith) w.if-goes.false-raw)
+      | then-goes w ↦ subst (Appended 1 c.args.pair r s d) (sym w.result-is) (append_one c.args.self.left_over c.requires.1 (omega arith) (omega arith) (omega arith) w.if-goes.true)
+      | else-goes w ↦ subst (Appended 1 c.args.pair r s d) (sym w.result-is) (append_zero c.args.self.left_over c.requires.1 (omega arith) (omega arith) (omega arith) w.if-goes.false)
     ]
-
-pub overflow_add-result : goal.overflow_add-result
-overflow_add-result c =
-    digit_fits c.args.self.root (leb (c.args.self.root * 4 % 2 ^ 64 + 1) (c.args.self.rest * 4 % 2 ^ 64 + c.args.pair)) c.requires.0

@@ -7,64 +7,37 @@ use Rattle.aabb_facets.proofs.passes.Admitted.clip_pass.Goals as goal
 pub loop-i-init : goal.loop-i-init
 loop-i-init c =
     let a = c.args in
-    pass_start a.self.vertices.now a.self.facets.now a.clip.extents a.clip.eps a.ids.now a.out_vertices.now a.out_facets.now c.requires
+    pass_start a.self.mesh.vertices.now a.self.mesh.facets.now a.self.clip.extents a.self.clip.eps a.ids.now a.out_vertices.now a.out_facets.now c.requires
 
 pub clip_facet-at-requires : goal.clip_facet-at-requires
 clip_facet-at-requires c =
-    let loop = c.loop-i in
-    let loop-test = c.loop-i-test in
-    let s = c in record {
-      i_in_bounds = (omega (arith, loop-test.true), omega (arith, loop-test.true, s.args.self.few));
-      by_index = all_below
-          s.args.self.vertices.now s.args.self.facets.now s.args.clip.extents s.args.clip.eps s.args.ids.now loop.ids s.args.self.below s.requires
-          loop.invariant.ids_length;
-      by_index_2 = loop.invariant.low;
-      vertices_bound = (
-        omega (arith, loop.invariant.nv, loop-test.true, s.args.self.few),
-        omega (
-          arith,
-          loop.invariant.nf,
-          loop-test.true,
-          s.args.self.few,
-        ),
-      );
+    let a = c.args in
+    let i = c.loop-i.invariant in
+    let few = a.self.few in
+    let low = c.loop-i-test.true in record {
+      i_in_bounds = (omega (arith, low), omega (arith, low, few));
+      by_index = all_below a.self.mesh.vertices.now a.self.mesh.facets.now a.self.clip.extents a.self.clip.eps a.ids.now c.loop-i.ids a.self.below c.requires i.ids_length;
+      by_index_2 = i.low;
+      vertices_bound = (omega (arith, i.nv, low, few), omega (arith, i.nf, low, few));
     }
 
 pub loop-i-preserved : goal.loop-i-preserved
 loop-i-preserved c =
-    let clip-facet = c.clip_facet-at in
-    let loop = c.loop-i in
+    let f = c.clip_facet-at in
+    let l = c.loop-i in
     let a = c.args in
-    pass_more a.self.vertices.now a.self.facets.now a.clip.extents a.clip.eps a.ids.now a.out_vertices.now a.out_facets.now loop.ids loop.out_vertices loop.out_facets
-    loop.at loop.i loop.invariant (all_below a.self.vertices.now a.self.facets.now a.clip.extents a.clip.eps a.ids.now a.ids.now c.args.self.below c.requires refl)
-    (omega (arith, c.loop-i-test.true)) clip-facet.new.ids clip-facet.new.out_vertices clip-facet.new.out_facets clip-facet.result
-    clip-facet.ensures.out_facets_after clip-facet.ensures.vertices_bound_2 clip-facet.auto.ids clip-facet.auto.out_vertices clip-facet.auto.out_facets
-
-pub shape_of-ids : goal.shape_of-ids
-shape_of-ids c = c.loop-i.invariant.ids_length
-
-pub shape_of-out_vertices : goal.shape_of-out_vertices
-shape_of-out_vertices c = c.loop-i.invariant.v_length
-
-pub shape_of-out_facets : goal.shape_of-out_facets
-shape_of-out_facets c = c.loop-i.invariant.f_length
+    pass_more a.self.mesh.vertices.now a.self.mesh.facets.now a.self.clip.extents a.self.clip.eps a.ids.now a.out_vertices.now a.out_facets.now l.ids l.out_vertices l.out_facets
+    l.at l.i l.invariant (all_below a.self.mesh.vertices.now a.self.mesh.facets.now a.self.clip.extents a.self.clip.eps a.ids.now a.ids.now a.self.below c.requires refl)
+    (omega (arith, c.loop-i-test.true)) f.new.ids f.new.out_vertices f.new.out_facets f.result
+    f.ensures.out_facets_after f.ensures.vertices_bound_2 f.auto.ids f.auto.out_vertices f.auto.out_facets
 
 pub returns : goal.returns
 returns c =
-    let loop = c.loop-i in
-    let s = c in record {
-      out_facets_after = pass_end s.args.self.vertices.now s.args.self.facets.now s.args.clip.extents s.args.clip.eps s.args.ids.now s.args.out_vertices.now
-          s.args.out_facets.now loop.ids loop.out_vertices loop.out_facets loop.at loop.i loop.invariant (omega (
-            arith,
-            c.loop-i-test.false,
-          ));
-      vertices_bound = (
-        omega (arith, loop.invariant.nv, c.loop-i-test.false, s.args.self.few),
-        omega (
-          arith,
-          loop.invariant.nf,
-          c.loop-i-test.false,
-          s.args.self.few,
-        ),
-      );
+    let l = c.loop-i in
+    let a = c.args in
+    let few = a.self.few in
+    let end = c.loop-i-test.false in record {
+      out_facets_after = pass_end a.self.mesh.vertices.now a.self.mesh.facets.now a.self.clip.extents a.self.clip.eps a.ids.now a.out_vertices.now a.out_facets.now
+          l.ids l.out_vertices l.out_facets l.at l.i l.invariant (omega (arith, end));
+      vertices_bound = (omega (arith, l.invariant.nv, end, few), omega (arith, l.invariant.nf, end, few));
     }

@@ -1,11 +1,11 @@
+use mathlib.Core.Path.{sym, ◌∙◌}
 use Rattle.aabb_planes.specs.Planes.{inside}
-use Rattle.aabb_planes.proofs.Sides.{min_side, max_side}
 use Rattle.aabb_planes.proofs.clip.Clip.point_inside_plane.Goals as goal
 
-pub returns-in-XMin : goal.returns-in-XMin
+pub returns-then-is_min : goal.returns-then-is_min
 unfolding inside
-returns-in-XMin c = rw (← c.place-at.ensures, ← c.coordinate-v.ensures) (simp (min_side _ c.in-XMin.is))
+returns-then-is_min c = rw (← c.place-at.ensures, ← c.axis.ensures, ← c.along-v.ensures) (simp (sym c.is_min.ensures ∙ c.if-is_min.true))
 
-pub returns-in-XMax : goal.returns-in-XMax
+pub returns-else-is_min : goal.returns-else-is_min
 unfolding inside
-returns-in-XMax c = rw (← c.place-at.ensures, ← c.coordinate-v.ensures) (simp (max_side _ c.in-XMax.is))
+returns-else-is_min c = rw (← c.place-at.ensures, ← c.axis.ensures, ← c.along-v.ensures) (simp (sym c.is_min.ensures ∙ c.if-is_min.false))

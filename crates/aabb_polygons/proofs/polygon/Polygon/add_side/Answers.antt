@@ -3,7 +3,7 @@ use mathlib.Core.Path.{ap, ◌∙◌}
 use mathlib.Core.List.{List, ◌++◌}
 use lib.ListN.{length}
 use Rattle.geometry.specs.declared.point.Point.{Point}
-use Rattle.aabb_planes.specs.Planes.{face_of}
+use Rattle.geometry.specs.Boxes.{face_of}
 use Rattle.aabb_polygons.proofs.Walks.{side_room, side_more, side_in, side_out, differ, agree}
 use Rattle.aabb_polygons.proofs.polygon.Polygon.add_side.Goals as goal
 use Rattle.aabb_polygons.proofs.polygon.Polygon.add_side.Goals.{then-curr_inside-prev_inside, else-curr_inside-prev_inside}

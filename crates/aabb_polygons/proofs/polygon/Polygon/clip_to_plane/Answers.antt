@@ -3,7 +3,8 @@ use mathlib.Core.Path.{sym, ◌∙◌}
 use Rattle.std.proofs.lemmas.Iterator.{YieldsList-from_slice}
 use Rattle.std.proofs.lemmas.Iterator.Search.{all_from_yields_List, any_from_yields_List}
 use Rattle.geometry.specs.declared.point.Point.{Point}
-use Rattle.aabb_planes.specs.Planes.{face_of, inside}
+use Rattle.geometry.specs.Boxes.{face_of}
+use Rattle.aabb_planes.specs.Planes.{inside}
 use Rattle.aabb_polygons.proofs.Planes.{whole, gone, unsnapped_same}
 use Rattle.aabb_polygons.proofs.polygon.Polygon.clip_to_plane.Goals as goal
 

@@ -1,5 +1,6 @@
 use mathlib.Core.Path.{◌≡◌}
-use Rattle.aabb_planes.specs.Planes.{face_of, inside}
+use Rattle.geometry.specs.Boxes.{face_of}
+use Rattle.aabb_planes.specs.Planes.{inside}
 use Rattle.aabb_polygons.proofs.Walks.{Walked}
 use Rattle.aabb_polygons.proofs.polygon.Polygon.walk_sides.Given as goal
 

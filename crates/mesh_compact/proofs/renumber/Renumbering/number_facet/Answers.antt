@@ -6,7 +6,7 @@ use mathlib.Core.Path.{refl, ◌∙◌}
 use Rattle.mesh_compact.proofs.renumber.Renumbering.number_facet.Goals as goal
 
 pub loop-j-init : goal.loop-j-init
-loop-j-init c = let s = c.args.self.now in (none_yet s.kept s.at s.n s.k c.args.w c.args.m.now c.requires.corners_bound.1, refl)
+loop-j-init c = let s = c.args.self.now in (none_yet s.kept s.at s.n s.k c.args.w c.args.m.now, refl)
 
 pub number_corner-w-requires : goal.number_corner-w-requires
 number_corner-w-requires c =
@@ -20,7 +20,7 @@ number_corner-w-requires c =
     record {
       v_lt_n = (low, R.kept_in);
       k_in_bounds = omega (arith, R.all_in, l.invariant.1);
-      corners_bound = (omega (arith, far, c.requires.corners_bound.0, c.requires.i_lt_k, c.loop-j-test.true), l.invariant.0.few);
+      corners_bound = omega (arith, far, c.requires.corners_bound, c.requires.i_lt_k, c.loop-j-test.true);
     }
 
 pub loop-j-preserved : goal.loop-j-preserved

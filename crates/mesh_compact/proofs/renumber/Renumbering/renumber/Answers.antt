@@ -9,7 +9,7 @@ loop-i-init c =
     let z = c.zero_part.ensures in (
       going_from s.kept s.facets s.parts s.k s.at s.n c.args.m.now c.zero_part.new.w c.requires z.long (λ x q. z.rest x (λ i l e. omega arith))
           s.least 0 _ c.zero_part.new.w
-          (going_start s.kept s.facets s.parts s.k s.at s.n s.least c.args.m.now c.zero_part.new.w (omega (arith, c.requires.all_in)) z),
+          (going_start s.kept s.facets s.parts s.k s.at s.n s.least c.none-w.result c.args.m.now c.zero_part.new.w c.none-w.ensures.0 c.none-w.ensures.1 (omega (arith, c.requires.all_in)) z),
       z.long,
     )
 
@@ -19,7 +19,7 @@ number_if_kept-w-requires c =
     let i = c.loop-i.invariant in record {
       i_lt_k = c.loop-i-test.true;
       room = still_room s.kept s.facets s.parts s.k s.at s.n c.args.m.now c.loop-i.m c.requires i.1 i.0.rest;
-      corners_bound = (i.0.within, i.0.few);
+      corners_bound = i.0.within;
     }
 
 pub loop-i-preserved : goal.loop-i-preserved

@@ -10,4 +10,4 @@ returns c =
     let k = c.args.self.now in
     (λ i. tri (c.vertex_in.ensures i) (c.vertex_in-2.ensures i) (c.vertex_in-3.ensures i))
     ∙ ap (mapped (λ v. get_or c.args.m.now (k.welded.numbers + v) 0)) c.facet_at-t.ensures
-    ∙ sym (facet_is k.welded k.vertices.now k.facets.now k.at k.n c.args.m.now c.requires.numbered c.args.f c.requires.f_lt_n)
+    ∙ sym (facet_is k.welded k.mesh.vertices.now k.mesh.facets.now k.at k.n c.args.m.now c.requires.numbered c.args.f c.requires.f_lt_n)

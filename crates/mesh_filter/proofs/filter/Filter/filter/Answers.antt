@@ -14,8 +14,8 @@ filter_facet-count-requires c =
     let i = c.loop-f.invariant in
     record {
       f_lt_n = c.loop-f-test.true;
-      numbered = still_numbered k.welded k.vertices.now k.facets.now k.at k.n c.args.m.now c.loop-f.m c.requires i.1 i.0.rest;
-      filtered_so_far = turn_same k.welded k.vertices.now k.facets.now k.at k.n c.args.m.now c.loop-f.m c.requires i.1 i.0.rest
+      numbered = still_numbered k.welded k.mesh.vertices.now k.mesh.facets.now k.at k.n c.args.m.now c.loop-f.m c.requires i.1 i.0.rest;
+      filtered_so_far = turn_same k.welded k.mesh.vertices.now k.mesh.facets.now k.at k.n c.args.m.now c.loop-f.m c.requires i.1 i.0.rest
           k.eps c.loop-f.f c.loop-f.count c.loop-f.m i.0.going;
     }
 
@@ -23,7 +23,7 @@ pub loop-f-preserved : goal.loop-f-preserved
 loop-f-preserved c =
     let k = c.args.self.now in
     let i = c.loop-f.invariant in (
-      turned_on k.welded k.vertices.now k.facets.now k.at k.n c.args.m.now c.loop-f.m c.requires i.1 i.0.rest
+      turned_on k.welded k.mesh.vertices.now k.mesh.facets.now k.at k.n c.args.m.now c.loop-f.m c.requires i.1 i.0.rest
           k.eps (c.loop-f.f + 1) c.filter_facet-count.result c.filter_facet-count.new.m c.filter_facet-count.ensures,
       c.filter_facet-count.auto.m ∙ i.1,
     )

@@ -5,5 +5,5 @@ use Rattle.mesh_filter.proofs.filter.Filter.filter.Given as goal
 
 abbrev pub invariant-loop-f : goal.invariant-loop-f
 invariant-loop-f l =
-    FacetFiltered l.self.eps (points_in_room l.self.welded l.self.vertices.now l.fn.m) (facets_in_room l.self.welded l.self.vertices.now l.self.facets.now l.fn.m)
+    FacetFiltered l.self.eps (points_in_room l.self.welded l.self.mesh.vertices.now l.fn.m) (facets_in_room l.self.welded l.self.mesh.vertices.now l.self.mesh.facets.now l.fn.m)
     l.self.at l.self.n l.f l.count l.fn.m l.m × (length l.m ≡ length l.fn.m)

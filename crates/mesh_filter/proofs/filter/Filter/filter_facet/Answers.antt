@@ -19,14 +19,14 @@ pub is_flat-requires-clause-below : goal.is_flat-requires-clause-below
 is_flat-requires-clause-below c =
     let k = c.args.self.now in
     subst (Below k.welded.count) (sym c.corners_of-t.ensures)
-    (facet_below k.welded k.vertices.now k.facets.now k.at k.n c.args.m.now c.requires.numbered c.args.f c.requires.f_lt_n)
+    (facet_below k.welded k.mesh.vertices.now k.mesh.facets.now k.at k.n c.args.m.now c.requires.numbered c.args.f c.requires.f_lt_n)
 
 pub returns-then-has_repeated_corner : goal.returns-then-has_repeated_corner
 returns-then-has_repeated_corner c =
     let k = c.args.self.now in
     let m = c.args.m.now in
-    let P = points_in_room k.welded k.vertices.now m in
-    let F = facets_in_room k.welded k.vertices.now k.facets.now m in
+    let P = points_in_room k.welded k.mesh.vertices.now m in
+    let F = facets_in_room k.welded k.mesh.vertices.now k.mesh.facets.now m in
     let f = c.args.f in
     dropped k.eps P F k.at k.n f c.args.count m c.requires.filtered_so_far c.requires.numbered.room c.requires.f_lt_n
     (elim c.then-has_repeated_corner.branch [
@@ -41,7 +41,7 @@ returns-then-has_repeated_corner c =
 pub corners_key-key-requires : goal.corners_key-key-requires
 corners_key-key-requires c =
     let k = c.args.self.now in
-    subst (Below 2097152) (sym c.corners_of-t.ensures) (facet_small k.welded k.vertices.now k.facets.now k.at k.n c.args.m.now c.requires.numbered c.args.f)
+    subst (Below 2097152) (sym c.corners_of-t.ensures) (facet_small k.welded k.mesh.vertices.now k.mesh.facets.now k.at k.n c.args.m.now c.requires.numbered c.args.f)
 
 pub returns-then-is_some : goal.returns-then-is_some
 returns-then-is_some c =
@@ -49,13 +49,13 @@ returns-then-is_some c =
     let m = c.args.m.now in
     let N = c.requires.numbered in
     let G = c.requires.filtered_so_far in
-    let P = points_in_room k.welded k.vertices.now m in
-    let F = facets_in_room k.welded k.vertices.now k.facets.now m in
+    let P = points_in_room k.welded k.mesh.vertices.now m in
+    let F = facets_in_room k.welded k.mesh.vertices.now k.mesh.facets.now m in
     let f = c.args.f in
     dropped k.eps P F k.at k.n f c.args.count m G N.room c.requires.f_lt_n
     (duplicate_stops k.eps P F (passed k.eps P F f) (facet_at F f)
-    (is_duplicate_lem k.welded k.vertices.now k.facets.now k.at k.n m N (facet_at F f)
-    (facet_small k.welded k.vertices.now k.facets.now k.at k.n m N f) (passed k.eps P F f) _ G.keys c.find_key.result
+    (is_duplicate_lem k.welded k.mesh.vertices.now k.mesh.facets.now k.at k.n m N (facet_at F f)
+    (facet_small k.welded k.mesh.vertices.now k.mesh.facets.now k.at k.n m N f) (passed k.eps P F f) _ G.keys c.find_key.result
     (c.find_key.ensures ∙ ap (λ (x : ℕ). id_in (link_to (eqb x) (view m (k.at + 9 * k.n) c.args.count)))
     (c.corners_key-key.ensures ∙ ap corners_key c.corners_of-t.ensures)) (sym c.is_some.ensures ∙ c.if-is_some.true)))
 
@@ -71,8 +71,8 @@ returns c =
     let m = c.args.m.now in
     let N = c.requires.numbered in
     let G = c.requires.filtered_so_far in
-    let P = points_in_room k.welded k.vertices.now m in
-    let F = facets_in_room k.welded k.vertices.now k.facets.now m in
+    let P = points_in_room k.welded k.mesh.vertices.now m in
+    let F = facets_in_room k.welded k.mesh.vertices.now k.mesh.facets.now m in
     let f = c.args.f in
     let n = c.args.count in
     let t = c.corners_of-t.result in
@@ -88,7 +88,7 @@ returns c =
     (goes_through k.eps P F (passed k.eps P F f) (facet_at F f)
     (ap has_repeated_corner (sym e) ∙ sym c.has_repeated_corner.ensures ∙ c.if-has_repeated_corner.false)
     (ap (λ (u : Triangle ℕ). is_flat k.eps P u) (sym e) ∙ sym c.is_flat.ensures ∙ c.if-is_flat.false)
-    (no_duplicate k.welded k.vertices.now k.facets.now k.at k.n m N (facet_at F f)
-    (facet_small k.welded k.vertices.now k.facets.now k.at k.n m N f) (passed k.eps P F f) _ G.keys c.find_key.result
+    (no_duplicate k.welded k.mesh.vertices.now k.mesh.facets.now k.at k.n m N (facet_at F f)
+    (facet_small k.welded k.mesh.vertices.now k.mesh.facets.now k.at k.n m N f) (passed k.eps P F f) _ G.keys c.find_key.result
     (c.find_key.ensures ∙ ap (λ (x : ℕ). id_in (link_to (eqb x) (view m (k.at + 9 * k.n) n)))
     (c.corners_key-key.ensures ∙ ap corners_key e)) (sym c.is_some.ensures ∙ c.if-is_some.false))))

@@ -1,0 +1,26 @@
+// What is asked of candidates and of caps beside the mesh: the box, how near to a face is on it, and how far apart grid points stand.
+ghost use Rattle.std.specs.Prelude.{◌≡◌};
+ghost use Rattle.candidate_surface.specs.Asked.{grid_of};
+
+use geometry::aabb::AABB;
+use input_tests::grid::Grid;
+
+#[derive(Clone, Copy)]
+pub struct Asked {
+    pub extents: AABB,
+    pub eps: f64,
+    pub resolution: f64,
+}
+
+impl Asked {
+    // The one resolution is that of each axis.
+    pub fn grid(self) -> Grid
+        ensures { result ≡ grid_of self }
+    {
+        Grid {
+            extents: self.extents,
+            eps: self.eps,
+            resolution: [self.resolution; 3],
+        }
+    }
+}
