@@ -16,7 +16,7 @@ use input_tests::{has_bad_index, is_ragged, is_too_many, most_admitted, work_nee
 use irregular_edges::irregular_edges;
 use refusals::refusal::Refusal;
 use refusals::reply::Reply;
-use words::{copy_front, zero_front, zero_part};
+use words::{copy_front, zero, zero_part};
 
 // Tests 1, 2, 3 and 7, in that order.
 fn check(vertices: u64, facets: &[u32], ceiling: u64, lent: usize) -> Result<(), Refusal>
@@ -70,6 +70,7 @@ fn stage(vertices: usize, facets: &[u32], work: &mut [u64]) -> Found
 }
 
 // Every length is known before the first output is written.
+// Stays (C interface), point 5: the three outputs of list_lent and boundary_components too, which C lends one by one.
 fn list_checked(
     vertices: usize,
     facets: &[u32],
@@ -153,7 +154,6 @@ pub fn boundary_components(
         out_components,
         out_irregular,
     );
-    let lent = work.len();
-    zero_front(work, lent);
+    zero(work);
     reply
 }

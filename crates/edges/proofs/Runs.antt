@@ -168,4 +168,3 @@ module _ (f w w' : List ℕ) (whole : length f % 3 ≡ 0) (bound : (i : ℕ) →
         ap (map (λ (r : ℕ × ℕ). r.1))
         (sym part ∙ run ∙ (λ u. keep (λ r. eqb (row_key i (omega arith) u) r.0) (t.table u)))
         ∙ table_bearing S small s (small (get_or w' (2 * i + 1) 0))
-
