@@ -17,7 +17,7 @@ use input_tests::boxes::{box_in_range, is_bad_box};
 use input_tests::{all_in_range, check_lists, eps_in_range, work_need};
 use refusals::refusal::Refusal;
 use refusals::reply::Reply;
-use words::zero_front;
+use words::zero;
 
 // Tests 1, 2, 3, 4, 5 and 7, in that order.
 fn check(mesh: MeshLists<'_>, clip: Clip, ceiling: u64, lent: usize) -> Result<(), Refusal>
@@ -130,8 +130,7 @@ pub fn clip_mesh_to_aabb(
         (mesh_outputs (clip_result mesh.entry.vertices.now mesh.entry.facets.now clip) out_vertices.old out_vertices.new out_facets.old
         out_facets.new) work.old work.new (documented_reply result) }
 {
-    let lent = work.len();
     let reply = clip_lent(mesh, clip, ceiling, work, out_vertices, out_facets);
-    zero_front(work, lent);
+    zero(work);
     reply
 }

@@ -17,7 +17,7 @@ use input_tests::{has_bad_index, is_ragged, is_too_many, most_admitted, work_nee
 use irregular_edges::irregular_edges;
 use refusals::refusal::Refusal;
 use refusals::reply::Reply;
-use words::{copy_front, zero_front, zero_part};
+use words::{copy_front, zero, zero_part};
 
 // Tests 1, 2, 3 and 7, in that order.
 fn check(vertices: u64, facets: &[u32], ceiling: u64, lent: usize) -> Result<(), Refusal>
@@ -160,7 +160,6 @@ pub fn boundary_components(
         out_components,
         out_irregular,
     );
-    let lent = work.len();
-    zero_front(work, lent);
+    zero(work);
     reply
 }

@@ -6,7 +6,7 @@ mod copying;
 mod packing;
 mod parts;
 
-pub use clearing::{zero, zero_front};
+pub use clearing::zero;
 pub use copying::{copy_front, put, write_three};
 pub use packing::{
     pack_edge, pack_pair, pack_triple, pair_first, pair_second, triple_first, triple_second,
