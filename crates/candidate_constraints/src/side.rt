@@ -71,6 +71,7 @@ fn push_neighbours(w: &mut [u64], room: Room, face: BoxFace, m: usize, count: us
     c
 }
 
+// Stays (plainer): that places have 21 bits is asked where records are sorted and paired, and is no part of what the room is elsewhere.
 // By t, then by place: stable, since places ascend.
 fn push_side(w: &mut [u64], room: Room, face: BoxFace, side: Side, eps: f64, count: usize) -> usize
     requires shown { Shown room.n w.old }

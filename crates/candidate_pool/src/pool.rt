@@ -1,7 +1,7 @@
 // boundary_closure.rs, `insert_candidate`: "One key, one candidate". A candidate is found by the bucket chain of its key. Its word of faces says whether
 // it is in a face's list already, where the Rust's `push_unique` searches the list.
 // Stays (C interface), point 6: candidates, keys and lists stand at places of the lent room, since C lends one buffer and there is no heap; `b` is a bucket.
-ghost use Rattle.std.specs.Prelude.{◌≡◌, [], ◌∷◌, ◌+◌, ◌*◌, ◌≤◌, ◌<◌, length};
+ghost use Rattle.std.specs.Prelude.{◌≡◌, [], ◌∷◌, ◌+◌, ◌*◌, ◌≤◌, ◌<◌, length, Float};
 ghost use Rattle.geometry.specs.Boxes.{face_of};
 ghost use Rattle.candidate_pool.specs.Offsets.{entry_at, pool_end};
 ghost use Rattle.candidate_pool.specs.Pool.{by_key, number_for};
@@ -33,9 +33,9 @@ fn mesh_word(mesh: Option<MeshVertexId>) -> u64
 
 // The room of no candidate.
 // Stays (plainer): how much room the pool needs stands beside the room's name, since most functions of a pool ask for more than that.
-pub fn clear_pool(w: &mut [u64], room: Room, eps: f64)
+pub fn clear_pool(w: &mut [u64], room: Room)
     requires { pool_end room.n ≤ length w.old }
-    ensures { Cleared eps room.n w.old w.new }
+    ensures { (eps : Float) → Cleared eps room.n w.old w.new }
 {
     zero_part(w, 0, 8);
     zero_part(w, room.chain_at(), 2 * room.n);
@@ -119,7 +119,8 @@ fn place_candidate(
 }
 
 // "faces add up": the face is added to the candidate, and the candidate to the face's list, unless it is there.
-// Stays (plainer): a candidate's number is looked up in the room that is handed with it; a number of one room may be none of another's.
+// Stays (plainer), point 5: a candidate's number is looked up in the room that is handed with it; a number of one room may be none of another's.
+// Stays (proof), point 5: `eps` is read by the clauses alone; as a ghost value no caller could choose it, since a choice reads the call's arguments and not the caller's.
 fn push_face(w: &mut [u64], room: Room, id: CandidateVertexId, face: BoxFace, eps: f64)
     requires holds { Holds eps room.n w.old }
     requires id_bound { id.0 < count_at w.old }

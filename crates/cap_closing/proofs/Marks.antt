@@ -69,7 +69,8 @@ module _ (w₀ : List ℕ) (records firsts left : ℕ) (behind : records + 2 * l
       put_here : (j : ℕ) → i ≤ j → j < e → get_or v (firsts + payload_in w₀ records j) 0 ≡ x
       put_here j l h = ap (λ (y : ℕ). get_or v (firsts + y) 0) (sym (place_same j (omega arith))) ∙ P.put j l h
 
-      put_there : (j : ℕ) → j < left → ((k : ℕ) → i ≤ k → k < e → j ≡ k → ⊥) → get_or v (firsts + payload_in w₀ records j) 0 ≡ get_or w (firsts + payload_in w₀ records j) 0
+      put_there : (j : ℕ) → j < left → ((k : ℕ) → i ≤ k → k < e → j ≡ k → ⊥)
+          → get_or v (firsts + payload_in w₀ records j) 0 ≡ get_or w (firsts + payload_in w₀ records j) 0
       put_there j h n =
           P.rest (firsts + payload_in w₀ records j) (λ k l g q.
           let k<left : k < left = omega arith in

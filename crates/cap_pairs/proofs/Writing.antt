@@ -85,7 +85,8 @@ module _ (w₀ w : List ℕ) (n nf nc k turned records s : ℕ) (tables : Tables
         let a = f s h in
         let b = f (next_side s) next_low in
         let x : get_or w (turned + s) 0 ≡ get_or w₀ (turned_at n nf + s) 0 = same_from ∙ ap (λ (y : ℕ). get_or w₀ (y + s) 0) e in
-        let z : get_or w (turned + next) 0 ≡ get_or w₀ (turned_at n nf + next_side s) 0 = ap (λ (y : ℕ). get_or w (turned + y) 0) q ∙ same_to ∙ ap (λ (y : ℕ). get_or w₀ (y + next_side s) 0) e
+        let z : get_or w (turned + next) 0 ≡ get_or w₀ (turned_at n nf + next_side s) 0
+        = ap (λ (y : ℕ). get_or w (turned + y) 0) q ∙ same_to ∙ ap (λ (y : ℕ). get_or w₀ (y + next_side s) 0) e
         in
         (omega (arith, a, x), omega (arith, b, z))
 

@@ -1,5 +1,5 @@
 // The tests of candidates before 12, which are those of caps too.
-// Stays (C interface), point 6: n and k say where the open edges stand in the lent room, since C lends one buffer and there is no heap.
+// Stays (C interface), point 6: n says where the open edges stand in the lent room, since C lends one buffer and there is no heap; k counts them.
 ghost use Rattle.std.specs.Prelude.{◌≡◌, ◌&&◌};
 ghost use Rattle.lists.specs.Lists.{every};
 ghost use Rattle.refusals.specs.Refusals.{first_refusal};

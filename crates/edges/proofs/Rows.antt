@@ -121,8 +121,6 @@ module _ (S : List (ℕ × ℕ)) (small : (i : ℕ) → Small (get_or S i (0, 0)
   agree = agree_from 0 S from_all
 
   -- ---- the table
-  pub table_length : length (edge_table S) ≡ length S
-  table_length = length_sort_by record_before (side_records S) ∙ length_records_from 0 S
 
   pub table_rows : Each (Row 0) (edge_table S)
   table_rows = each_sort_by record_before (Row 0) (side_records S) rows

@@ -3,9 +3,6 @@ use native.Mathlib.Omega.{arith}
 use Rattle.boundary_groups.proofs.Walks.{every_records_stop, every_records_more, every_records_end}
 use Rattle.boundary_groups.proofs.EndTables.is_ring.Goals as goal
 
-pub turns_once-requires : goal.turns_once-requires
-turns_once-requires c = record { ends_ready = c.requires.ends_ready; j_lt_k = omega arith }
-
 pub returns-then-not-turns_once : goal.returns-then-not-turns_once
 returns-then-not-turns_once c = sym (every_records_stop _ _ _ _ _ (omega arith) c.loop-j.invariant (sym c.turns_once.ensures ∙ c.if-not-turns_once.true))
 

@@ -9,9 +9,6 @@ use Rattle.candidate_constraints.proofs.side.push_sides.Goals as goal
 pub loop-k-init : goal.loop-k-init
 loop-k-init c = siding_start c.args.extents c.args.eps c.args.room.n (face_of c.args.face) c.args.w.now
 
-pub face_boundary_side-side-requires : goal.face_boundary_side-side-requires
-face_boundary_side-side-requires c = c.loop-k-test.true
-
 pub push_side-c-requires : goal.push_side-c-requires
 push_side-c-requires c =
     let s = c in
@@ -35,9 +32,6 @@ loop-k-preserved c =
     siding_turn a.extents a.eps a.room.n (face_of a.face) a.w.now s.requires.shown l.w l.c l.k l.invariant (side_from (uv zero_f zero_f) (uv zero_f zero_f))
     face-boundary-side'.result push-side'.result push-side'.new.w c.loop-k-test.true face-boundary-side'.ensures
     push-side'.ensures
-
-pub shape_of-w : goal.shape_of-w
-shape_of-w c = c.loop-k.invariant.pushed.kept.long
 
 pub returns : goal.returns
 returns c =

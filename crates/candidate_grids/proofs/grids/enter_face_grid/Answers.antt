@@ -102,9 +102,6 @@ loop-i-preserved c =
           c.enter_grid_row.ensures (turn_size _ _),
     )
 
-pub shape_of-w : goal.shape_of-w
-shape_of-w c = c.loop-i.invariant.1.long ∙ c.gather_segments-count.ensures.long
-
 pub returns : goal.returns
 returns c =
     let s = (goal.at.returns c).After-segments_at in

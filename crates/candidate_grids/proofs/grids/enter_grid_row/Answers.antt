@@ -1,27 +1,18 @@
-use Prim.Native.Nat.{ℕ, ◌+◌, ◌≤◌, ◌<◌}
+use Prim.Native.Nat.{ℕ, ◌≤◌, ◌<◌}
 use native.Mathlib.Omega.{arith}
 use mathlib.Core.Path.{◌≡◌, refl, ap, subst, ◌∙◌}
 use mathlib.Core.Bool.{Bool, ◌&&◌}
-use mathlib.Core.List.{flat_map}
 use borrow.Author.Rules.{rules}
-use Rattle.lists.specs.Lists.{up_to}
 use Rattle.geometry.specs.Boxes.{lowest, highest, face_of}
 use Rattle.geometry.proofs.Faces.{axis_in}
 use Rattle.box_faces.specs.Faces.{v_axis}
 use Rattle.box_faces.specs.Lines.{line_at}
-use Rattle.candidate_grids.specs.Steps.{skips_near, row_cell, PointsEntered}
 use Rattle.candidate_grids.proofs.Bounded.{point_in}
 use Rattle.candidate_grids.proofs.Entries.{entered_none, entered_more, row_line_in, row_point_ready, row_cell_lem}
 use Rattle.candidate_grids.proofs.grids.enter_grid_row.Goals as goal
 
 pub loop-j-init : goal.loop-j-init
 loop-j-init c = (omega arith, entered_none _ _ _ _ _ c.requires.holds)
-
-pub grid_line-v-requires : goal.grid_line-v-requires
-grid_line-v-requires c =
-    let f = c.requires.few_parts in
-    let l = c.loop-j-test.true in
-    (omega arith, f)
 
 -- the three bounds are looked for, so that this does not say which goes where
 pub enter_grid_point-requires : goal.enter_grid_point-requires
@@ -57,17 +48,3 @@ loop-j-preserved c =
           (ap (λ (b : Bool). c.args.row.inner && b) c.is_interior.ensures))
           c.enter_grid_point.ensures refl,
     )
-
-pub shape_of-w : goal.shape_of-w
-shape_of-w c = c.loop-j.invariant.1.long
-
-pub returns : goal.returns
-returns c =
-    let s = c in
-    let a = c.loop-j.invariant.0 in
-    let b = c.loop-j-test.false in
-    let e : c.loop-j.j ≡ s.args.last + 1 = omega arith in
-    subst (λ (x : ℕ). PointsEntered s.args.eps s.args.room.n (flat_map
-    (row_cell (skips_near s.args.w.now s.args.near) s.args.extents (face_of s.args.face) s.args.row s.args.last) (up_to x)) x s.args.w.now
-    c.loop-j.w)
-    e c.loop-j.invariant.1

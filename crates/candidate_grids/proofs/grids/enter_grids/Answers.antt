@@ -23,8 +23,5 @@ loop-face-preserved c =
     (subst (λ (f : ℕ). FaceEntered g.extents g.eps g.resolution a.skip a.room.n a.room.nf a.k f c.loop-face.w c.enter_face_grid.new.w)
     (face_at c.loop-face.face-index _ c.loop-face-test.true) c.enter_face_grid.ensures)
 
-pub shape_of-w : goal.shape_of-w
-shape_of-w c = c.loop-face.invariant.long
-
 pub returns : goal.returns
 returns c = gridding_end _ _ _ _ _ _ _ _ c.requires _ _ c.loop-face.invariant c.loop-face-test.false

@@ -1,6 +1,4 @@
 use mathlib.Core.Path.{refl}
-use lib.ListN.{length-set}
-use native.Mathlib.Omega.{arith}
 use Rattle.candidate_pool.proofs.Numbers.{bits_of}
 use Rattle.root.proofs.Patterns.{no_nan}
 use Rattle.candidate_pool.proofs.pool.put_point.Goals as goal
@@ -15,21 +13,10 @@ float_to_bits-w-2 c =
     let s = c in
     no_nan s.args.p.y s.requires.point_in.0.y.is_finite
 
-pub bounds-w-at-2 : goal.bounds-w-at-2
-bounds-w-at-2 c = simp length-set (omega (arith, c.entry_at-at.ensures, c.requires.point_in.1))
-
 pub float_to_bits-w-3 : goal.float_to_bits-w-3
 float_to_bits-w-3 c =
     let s = c in
     no_nan s.args.p.z s.requires.point_in.0.z.is_finite
-
-pub bounds-w-at-3 : goal.bounds-w-at-3
-bounds-w-at-3 c =
-    simp length-set (omega (arith, c.entry_at-at.ensures, c.requires.point_in.1))
-
-pub bounds-w-at-4 : goal.bounds-w-at-4
-bounds-w-at-4 c =
-    simp length-set (omega (arith, c.entry_at-at.ensures, c.requires.point_in.1))
 
 pub returns : goal.returns
 returns c =

@@ -15,11 +15,6 @@ by-words c =
     c.is_bad_cap.ensures
     ∙ ap (λ (t : Triangle ℕ). bad_words c.args.w.now c.loop-i.last (get_or c.args.caps.list.now (4 * c.loop-i.i) 0) t.a t.b t.c) c.supplied.ensures
 
-pub loop-i-init : goal.loop-i-init
-loop-i-init c =
-    let s = c in
-    passed_start s.args.caps.n s.args.w.now s.args.caps.list.now
-
 pub returns-then-is_bad_cap : goal.returns-then-is_bad_cap
 returns-then-is_bad_cap c =
     let by-words = by-words (goal.at.returns-then-is_bad_cap c).After-is_bad_cap in

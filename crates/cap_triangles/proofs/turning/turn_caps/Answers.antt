@@ -6,12 +6,6 @@ use native.Mathlib.Omega.{arith}
 use Rattle.cap_triangles.specs.Steps.{turned_by}
 use Rattle.cap_triangles.proofs.turning.turn_caps.Goals as goal
 
-pub loop-i-init : goal.loop-i-init
-loop-i-init c =
-    let start = c in
-    let a = start.args in
-    turning_start a.caps.n a.caps.nf a.caps.list.now a.w.now start.requires.supplied start.requires.good
-
 pub supplied_face-requires : goal.supplied_face-requires
 supplied_face-requires c =
     let start = c in
@@ -35,9 +29,6 @@ loop-i-preserved c =
     (candidates_of c.supplied.result) c.supplied.ensures c.turned_at-turned.result
     c.turned_at-turned.ensures (candidates_of c.orient_face_triangle-t.result)
     (c.orient_face_triangle-t.ensures ∙ ap (λ (f : ℕ). turned_by l.w f (candidates_of c.supplied.result)) c.supplied_face.ensures)
-
-pub shape_of-w : goal.shape_of-w
-shape_of-w c = c.loop-i.invariant.above.long
 
 pub returns : goal.returns
 returns c =

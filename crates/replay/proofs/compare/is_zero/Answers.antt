@@ -1,14 +1,7 @@
-use Rattle.replay.proofs.Deciding.{passed_start, passed_more, passed_stop, passed_end}
+use Rattle.std.proofs.Common.{rules, ◌≡◌, ◌<◌, ℕ, length, get_or}
+use Rattle.std.specs.Prelude.{IsTrue, ◌↔◌}
+use Rattle.replay.proofs.Deciding.{decides}
 use Rattle.replay.proofs.compare.is_zero.Goals as goal
 
-pub loop-i-init : goal.loop-i-init
-loop-i-init c = passed_start _ _
-
-pub returns-then-room-i-ne0 : goal.returns-then-room-i-ne0
-returns-then-room-i-ne0 c = passed_stop _ _ _ c.loop-i-test.true c.if-room-i-ne0.true
-
-pub loop-i-preserved : goal.loop-i-preserved
-loop-i-preserved c = passed_more _ _ _ c.loop-i.invariant c.loop-i-test.true c.if-room-i-ne0.false
-
 pub returns : goal.returns
-returns c = passed_end _ _ _ c.loop-i.invariant c.loop-i-test.false
+returns c = let h : IsTrue c.all.result ↔ ((k : ℕ) → k < length c.args.room.now → get_or c.args.room.now k 0 ≡ 0) = search rules in decides h

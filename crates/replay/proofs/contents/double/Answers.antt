@@ -12,5 +12,5 @@ returns-then-is_nan c = sym (cond_true _ _ _ _ (sym c.is_nan.ensures ∙ c.if-is
 pub float_from_bits-result : goal.float_from_bits-result
 float_from_bits-result c = subst T (ap not (sym (sym c.is_nan.ensures ∙ c.if-is_nan.false))) tt
 
-pub returns : goal.returns
-returns c = sym (cond_false _ _ _ _ (sym c.is_nan.ensures ∙ c.if-is_nan.false) refl)
+pub returns-else-is_nan : goal.returns-else-is_nan
+returns-else-is_nan c = sym (cond_false _ _ _ _ (sym c.is_nan.ensures ∙ c.if-is_nan.false) refl)
