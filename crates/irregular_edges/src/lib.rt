@@ -12,7 +12,7 @@ ghost use Rattle.edges.specs.Table.{edge_table};
 ghost use Rattle.irregular_edges.specs.Listed.{irregular_run, IrregularListed};
 
 use edges::edge_from;
-use records::run_end;
+use records::{put_record, run_end};
 use words::{pair_first, pair_second};
 
 // Whether the sides of the records from i up to e, which are all that bear a pair, make it irregular. Of two that bear one pair it is enough to ask
@@ -44,8 +44,7 @@ pub fn irregular_edges(facets: &[u32], w: &mut [u64], at: usize) -> usize
         let e = run_end(w, 0, n, i);
         if is_irregular(facets, w, i, e) {
             let key = w[2 * i];
-            w[at + 2 * q] = pair_first(key);
-            w[at + 2 * q + 1] = pair_second(key);
+            put_record(w, at + 2 * q, (pair_first(key), pair_second(key)));
             q += 1;
         }
         i = e;
