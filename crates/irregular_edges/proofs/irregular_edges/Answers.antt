@@ -1,4 +1,6 @@
 use Rattle.irregular_edges.proofs.Walking.{walk_start, walk_room, walk_yes, walk_no, walk_end, table_kept}
+use Prim.Native.Nat.{ℕ}
+use mathlib.Core.Path.{ap}
 use lib.ListN.{length-set}
 use native.Mathlib.Omega.{arith}
 use Rattle.irregular_edges.proofs.irregular_edges.Goals as goal
@@ -18,7 +20,7 @@ loop-i-preserved-then-is_irregular c =
     let asked = c.is_irregular in
     rw c.put_record.ensures (walk_yes s.args.facets.now s.args.w.now s.args.at s.requires.facets_len.1 s.requires.facets_len.2 l.w l.q l.i l.invariant run.result run.ensures
     asked.result asked.ensures c.if-is_irregular.true
-    c.pair_first.result c.pair_second.result c.pair_first.ensures c.pair_second.ensures)
+    c.unpack_pair-ends.result.0 c.unpack_pair-ends.result.1 (ap (λ (r : ℕ × ℕ). r.0) c.unpack_pair-ends.ensures) (ap (λ (r : ℕ × ℕ). r.1) c.unpack_pair-ends.ensures))
 
 pub loop-i-preserved : goal.loop-i-preserved
 loop-i-preserved c =
