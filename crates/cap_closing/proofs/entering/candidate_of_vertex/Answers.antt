@@ -26,8 +26,3 @@ bounds-w-fresh_at c =
     let a = s.args in
     let m = most_vertices (closing_at a.room.n a.room.nf a.room.nc) a.room.n a.room.nc a.nv a.w.now s.requires.names_entering in
     omega (arith, s.requires.own.1, s.requires.names_entering.size, s.requires.names_entering.count, c.fresh_at.ensures)
-
-pub returns : goal.returns
-returns c =
-    let a = c.args in
-    ap (λ (x : ℕ). get_or a.w.now (x + (a.v.0 - a.nv)) 0) c.fresh_at.ensures
