@@ -3,7 +3,6 @@
 --   fresh_block, fresh_are         the points of candidates that became new vertices       fresh_long   how many numbers they are
 --   reversed_block, reversed_are   facets with their last two corners swapped
 --   own_positive, own_negative, own_long   the mesh's own facets, as the mode writes them
---   cap_taken, cap_left           a facet left, by its word
 --   cap_block, caps_are            those that are the first of their three corners
 use Prim.Native.Nat.{ℕ, ◌+◌, ◌*◌, ◌/◌, ◌%◌, ◌<◌}
 use native.Mathlib.Omega.{arith}
@@ -100,12 +99,6 @@ module _ (l : List ℕ) (whole : length l % 3 ≡ 0) where
 -- ---- caps
 
 module _ (w : List ℕ) (facet first : ℕ) where
-  pub cap_taken : get_or w first 0 ≡ 1 → cap_words w facet first ≡ get_or w facet 0 ∷ get_or w (facet + 1) 0 ∷ get_or w (facet + 2) 0 ∷ []
-  cap_taken e = cond_true (eqb (get_or w first 0) 1) _ _ _ (eq-eqb (get_or w first 0) 1 e) refl
-
-  pub cap_left : (get_or w first 0 ≡ 1 → ⊥) → cap_words w facet first ≡ []
-  cap_left e = cond_false (eqb (get_or w first 0) 1) _ _ _ (ne_eqb (get_or w first 0) 1 e) refl
-
 abbrev pub cap_block : List ℕ → ℕ → ℕ → ℕ → List ℕ
 cap_block w facets firsts i = cap_words w (facets + 3 * i) (firsts + i)
 

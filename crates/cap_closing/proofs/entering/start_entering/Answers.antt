@@ -2,7 +2,7 @@ use mathlib.Core.Path.{◌∙◌}
 use native.Mathlib.Omega.{arith}
 use lib.ListN.{set, length-set}
 use Rattle.cap_triangles.specs.Room.{closing_at}
-use Rattle.cap_closing.proofs.Beginning.{copy_none, copy_more, started}
+use Rattle.cap_closing.proofs.Beginning.{copy_more}
 use Rattle.cap_closing.proofs.entering.start_entering.Goals as goal
 
 pub loop-c-preserved : goal.loop-c-preserved
