@@ -7,11 +7,10 @@ use Prim.Native.Nat.{ℕ, ◌+◌, ◌*◌, ◌-◌, ◌≤◌, ◌<◌}
 use mathlib.Core.Path.{◌≡◌, sym, ap, ◌∙◌, subst}
 use mathlib.Core.List.{List, ◌++◌, map, append-nil, map-map}
 use native.Mathlib.Omega.{arith}
-use lib.ListN.{length, get_or, set, length-set}
-use lib.Seq.{get_or-set_same, get_or-set_other}
+use lib.ListN.{length, get_or, set}
 use Rattle.lists.specs.Lists.{up_to}
 use Rattle.lists.specs.Regions.{view}
-use Rattle.lists.proofs.Regions.{Filled, filled_none, filled_more, view_map}
+use Rattle.lists.proofs.Regions.{Filled, filled_more, view_map}
 use Rattle.lists.proofs.Sequences.{map_below}
 use Rattle.geometry.specs.declared.point.Point.{Point}
 use Rattle.candidate_pool.specs.Offsets.{entry_at, keys_at}

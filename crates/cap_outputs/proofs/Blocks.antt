@@ -7,15 +7,13 @@
 use Prim.Native.Nat.{ℕ, ◌+◌, ◌*◌, ◌/◌, ◌%◌, ◌<◌}
 use native.Mathlib.Omega.{arith}
 use mathlib.Core.Bool.{Bool, true, false, cond}
-use mathlib.Core.Path.{◌≡◌, refl, sym, ap, ◌∙◌}
+use mathlib.Core.Path.{◌≡◌, sym, ap, ◌∙◌}
 use mathlib.Core.List.{List, [], ◌∷◌, map, flat_map}
-use borrow.Author.Tests.{eq-eqb, ne_eqb}
 use lib.Dec.{eqb}
 use lib.ListN.{length, get_or, length-map}
 use lib.Seq.{ext_get_or}
 use lib.Ieee.{Float}
 use Rattle.lists.specs.Lists.{keep, up_to}
-use Rattle.lists.proofs.Bools.{cond_true, cond_false}
 use Rattle.lists.proofs.Places.{length_up, at_map_up}
 use Rattle.lists.proofs.Sequences.{flat_map_lem, flat_keep}
 use Rattle.geometry.specs.declared.point.Point.{Point}
@@ -98,7 +96,6 @@ module _ (l : List ℕ) (whole : length l % 3 ≡ 0) where
 
 -- ---- caps
 
-module _ (w : List ℕ) (facet first : ℕ) where
 abbrev pub cap_block : List ℕ → ℕ → ℕ → ℕ → List ℕ
 cap_block w facets firsts i = cap_words w (facets + 3 * i) (firsts + i)
 

@@ -6,7 +6,7 @@ use Rattle.geometry.proofs.Faces.{face_at}
 use native.Mathlib.Omega.{arith}
 use Rattle.candidate_outputs.specs.Written.{face_words}
 use Rattle.candidate_outputs.proofs.Blocks.{faces_are, faces_long}
-use Rattle.lists.proofs.Blocks.{blocks_start, blocks_turn, blocks_room, blocks_long, blocks_end, blocks_place}
+use Rattle.lists.proofs.Blocks.{blocks_start, blocks_turn, blocks_room, blocks_end, blocks_place}
 use Rattle.candidate_outputs.proofs.outputs.write_edge.Goals as goal
 
 pub loop-face-init : goal.loop-face-init

@@ -1,14 +1,12 @@
 use Prim.Native.Nat.{ℕ}
 use mathlib.Core.Path.{sym, subst, ◌∙◌}
-use native.Mathlib.Omega.{arith}
 use Rattle.geometry.specs.Numbers.{candidates_of, mesh_vertices_of}
 use Rattle.geometry.specs.Triangles.{Triangle}
 use Rattle.mesh_filter.specs.Room.{Below}
 use Rattle.candidate_pool.specs.Standing.{count_at}
 use Rattle.cap_triangles.specs.Room.{closing_at}
 use Rattle.cap_closing.specs.Steps.{put_left, cap_at_room, Appended}
-use Rattle.cap_closing.proofs.Turns.{shaped_kept}
-use Rattle.cap_closing.proofs.Remaining.{append_below, append_small, appended_large, appended_small}
+use Rattle.cap_closing.proofs.Remaining.{append_small, appended_large, appended_small}
 use Rattle.cap_closing.proofs.appending.append_cap.Goals as goal
 
 pub put_left-requires : goal.put_left-requires

@@ -1,9 +1,7 @@
-use mathlib.Core.List.{[], ◌∷◌}
-use native.Mathlib.Omega.{arith}
 use Rattle.geometry.specs.Triangles.{tri}
 use Rattle.geometry.specs.Numbers.{candidates_of}
 use Rattle.cap_triangles.specs.Room.{closing_at}
-use Rattle.cap_closing.proofs.Corners.{entered_count, entered_three, numbers_three}
+use Rattle.cap_closing.proofs.Corners.{entered_three, numbers_three}
 use Rattle.cap_closing.proofs.appending.materialize_triangle.Goals as goal
 
 pub returns : goal.returns

@@ -1,7 +1,4 @@
-use Prim.Native.Nat.{ℕ, ◌+◌, ◌-◌}
-use mathlib.Core.Path.{ap}
 use native.Mathlib.Omega.{arith}
-use lib.ListN.{get_or}
 use Rattle.cap_triangles.specs.Room.{closing_at}
 use Rattle.cap_closing.proofs.Numbering.{most_vertices}
 use Rattle.cap_closing.proofs.entering.candidate_of_vertex.Goals as goal

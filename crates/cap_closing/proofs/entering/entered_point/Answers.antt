@@ -1,7 +1,5 @@
-use Prim.Native.Nat.{◌-◌, ◌/◌}
 use mathlib.Core.Path.{ap, ◌∙◌}
 use native.Mathlib.Omega.{arith}
-use lib.ListN.{length}
 use Rattle.cap_triangles.specs.Room.{closing_at}
 use Rattle.cap_closing.specs.Steps.{point_in}
 use Rattle.cap_closing.proofs.Corners.{own_point, new_point}

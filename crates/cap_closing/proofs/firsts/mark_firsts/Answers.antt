@@ -1,6 +1,4 @@
-use Prim.Native.Nat.{◌+◌, ◌≤◌}
-use native.Mathlib.Omega.{arith}
-use Rattle.cap_closing.proofs.Marks.{marking_start, put_long, put_below, marking_turn, marking_end}
+use Rattle.cap_closing.proofs.Marks.{marking_start, marking_turn}
 use Rattle.cap_closing.proofs.firsts.mark_firsts.Goals as goal
 
 pub loop-i-init : goal.loop-i-init
