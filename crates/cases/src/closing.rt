@@ -7,6 +7,7 @@ use crate::listed::{is_alone, place_of};
 use boundary_closure::cap_candidates;
 use candidate_surface::asked::Asked;
 use geometry::aabb::AABB;
+use geometry::face::Axis;
 use geometry::mesh::MeshLists;
 use refusals::report::report_reply;
 
@@ -147,7 +148,7 @@ pub fn c13() -> bool
         eps: 0.0,
         resolution: 1.0,
     };
-    if !asked.grid().cut().is_some_and(|cuts| cuts.segments[0] == 256) {
+    if asked.grid().segments_of(Axis::X) != 256 {
         return false;
     }
     if reply_to_facet(asked, &mut work, &mut values) != 0 {
