@@ -192,7 +192,8 @@ module _ (eps : Float) (n f : ℕ) (s : Side) (w₀ : List ℕ) where
             omega (arith, o.few, o.size, c.kept.long),
           )
 
-      pub collecting_named : (at : ℕ) (w' : List ℕ) (q : Point) (p : Uv) (t : Option Float) (r : ℕ) → at ≡ side_at n → i < get_or w₀ f 0 → q ≡ point_at w (entry_at (get_or w (list + i) 0))
+      pub collecting_named : (at : ℕ) (w' : List ℕ) (q : Point) (p : Uv) (t : Option Float) (r : ℕ) → at ≡ side_at n → i < get_or w₀ f 0
+          → q ≡ point_at w (entry_at (get_or w (list + i) 0))
           → p ≡ project f q → t ≡ on_side eps s p → Fractioned (at + 2 * m) t i r w w' → Collecting w' (m + r) (i + 1)
       collecting_named at w' q p t r b h eq ep et g =
           collecting_turn w' t r h

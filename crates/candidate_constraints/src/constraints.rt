@@ -43,7 +43,8 @@ fn face_constraints(
     requires fits { total + (4 * edged.room.n + 3 * edged.room.nf) ≤ 24 * edged.room.n + 18 * edged.room.nf }
     ensures { FaceListed extents eps edged.room.n edged.room.nf edged.k (face_of face) total result w.old w.new }
 {
-    if w[face.index()] < 3 {
+    let few = w[face.index()] < 3;
+    if few {
         return total;
     }
     let c = list_pairs(w, edged, face, extents, eps);

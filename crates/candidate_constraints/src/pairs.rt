@@ -26,6 +26,7 @@ fn pair_key(face: BoxFace, a: FacePlace, b: FacePlace) -> u64
     )
 }
 
+// Stays (plainer): that a record's two words are in the room is all that is asked of its place.
 pub fn put_pair(w: &mut [u64], at: usize, face: BoxFace, a: FacePlace, b: FacePlace)
     requires { (at + 1 < length w.old) × (a.0 < 2097152) × (b.0 < 2097152) }
     ensures { w.new ≡ put_record w.old at (pair_record (face_of face) (a.0, b.0)) }

@@ -97,11 +97,7 @@ fn append_if_taken(
     requires taking { Taking room.n room.nf room.nc w.old }
     ensures { Turned vertices.now (closing_at room.n room.nf room.nc) room.n room.nf room.nc positive i left (bit result) w.old w.new }
 {
-    let chosen = is_selected(w, room, i);
-    if chosen == positive {
-        return append_cap(w, vertices, room, i, left);
-    }
-    false
+    is_selected(w, room, i) == positive && append_cap(w, vertices, room, i, left)
 }
 
 // Stays (plainer): `positive`, as in `append_if_taken`.

@@ -3,23 +3,18 @@
 --   fresh_block, fresh_are         the points of candidates that became new vertices       fresh_long   how many numbers they are
 --   reversed_block, reversed_are   facets with their last two corners swapped
 --   own_positive, own_negative, own_long   the mesh's own facets, as the mode writes them
---   cap_taken, cap_left           a facet left, by its word
 --   cap_block, caps_are            those that are the first of their three corners
-use Prim.Native.Nat.{ℕ, ◌+◌, ◌*◌, ◌/◌, ◌%◌, ◌≤◌, ◌<◌}
+use Prim.Native.Nat.{ℕ, ◌+◌, ◌*◌, ◌/◌, ◌%◌, ◌<◌}
 use native.Mathlib.Omega.{arith}
 use mathlib.Core.Bool.{Bool, true, false, cond}
-use mathlib.Core.Path.{◌≡◌, refl, sym, ap, ◌∙◌}
+use mathlib.Core.Path.{◌≡◌, sym, ap, ◌∙◌}
 use mathlib.Core.List.{List, [], ◌∷◌, map, flat_map}
-use borrow.Author.Tests.{eq-eqb, ne_eqb}
 use lib.Dec.{eqb}
 use lib.ListN.{length, get_or, length-map}
 use lib.Seq.{ext_get_or}
 use lib.Ieee.{Float}
 use Rattle.lists.specs.Lists.{keep, up_to}
-use Rattle.lists.specs.Regions.{view}
-use Rattle.lists.proofs.Bools.{cond_true, cond_false}
 use Rattle.lists.proofs.Places.{length_up, at_map_up}
-use Rattle.lists.proofs.Regions.{view_length, view_map}
 use Rattle.lists.proofs.Sequences.{flat_map_lem, flat_keep}
 use Rattle.geometry.specs.declared.point.Point.{Point}
 use Rattle.geometry.specs.Triangles.{Triangle, tri, vertices, reversed, threes, flat}
@@ -36,21 +31,25 @@ use Rattle.cap_outputs.specs.Written.{points_in, cap_words, all_cap_words}
 abbrev pub three : Point → List Float
 three p = p.x ∷ p.y ∷ p.z ∷ []
 
-abbrev pub fresh_block : List ℕ → ℕ → ℕ → List Float
-fresh_block w fresh i = three (point_at w (entry_at (get_or w (fresh + i) 0)))
+abbrev pub fresh_block : List ℕ → List ℕ → ℕ → List Float
+fresh_block w fresh i = three (point_at w (entry_at (get_or fresh i 0)))
 
-module _ (w : List ℕ) (fresh count : ℕ) (room : fresh + count ≤ length w) where
-  pub fresh_are : flat_map (fresh_block w fresh) (up_to count) ≡ coordinates (points_in w (view w fresh count))
+module _ (w fresh : List ℕ) where
+  by_places : map (λ i. get_or fresh i 0) (up_to (length fresh)) ≡ fresh
+  by_places =
+      let long : length (map (λ i. get_or fresh i 0) (up_to (length fresh))) ≡ length fresh = length-map (up_to (length fresh)) (λ i. get_or fresh i 0) ∙ length_up 0 (length fresh) in
+      ext_get_or 0 (map (λ i. get_or fresh i 0) (up_to (length fresh))) fresh long
+      (λ j h. at_map_up (λ i. get_or fresh i 0) 0 0 (length fresh) j (omega (arith, h, long)) ∙ ap (λ (i : ℕ). get_or fresh i 0) (omega arith))
+
+  pub fresh_are : flat_map (fresh_block w fresh) (up_to (length fresh)) ≡ coordinates (points_in w fresh)
   fresh_are =
       sym
-      (ap (λ (l : List ℕ). coordinates (points_in w l)) (view_map w fresh count room)
-      ∙ flat_map_lem three (λ c. point_at w (entry_at c)) (map (λ i. get_or w (fresh + i) 0) (up_to count))
-      ∙ flat_map_lem (λ c. three (point_at w (entry_at c))) (λ i. get_or w (fresh + i) 0) (up_to count))
+      (ap (λ (l : List ℕ). coordinates (points_in w l)) (sym by_places)
+      ∙ flat_map_lem three (λ c. point_at w (entry_at c)) (map (λ i. get_or fresh i 0) (up_to (length fresh)))
+      ∙ flat_map_lem (λ c. three (point_at w (entry_at c))) (λ i. get_or fresh i 0) (up_to (length fresh)))
 
-  pub fresh_long : length (coordinates (points_in w (view w fresh count))) ≡ 3 * count
-  fresh_long =
-      length_coordinates (points_in w (view w fresh count))
-      ∙ ap (λ (x : ℕ). 3 * x) (length-map (view w fresh count) (λ c. point_at w (entry_at c)) ∙ view_length w fresh count room)
+  pub fresh_long : length (coordinates (points_in w fresh)) ≡ 3 * length fresh
+  fresh_long = length_coordinates (points_in w fresh) ∙ ap (λ (x : ℕ). 3 * x) (length-map fresh (λ c. point_at w (entry_at c)))
 
 -- ---- facets
 
@@ -96,13 +95,6 @@ module _ (l : List ℕ) (whole : length l % 3 ≡ 0) where
       omega (arith, a, c, d, whole)
 
 -- ---- caps
-
-module _ (w : List ℕ) (facet first : ℕ) where
-  pub cap_taken : get_or w first 0 ≡ 1 → cap_words w facet first ≡ get_or w facet 0 ∷ get_or w (facet + 1) 0 ∷ get_or w (facet + 2) 0 ∷ []
-  cap_taken e = cond_true (eqb (get_or w first 0) 1) _ _ _ (eq-eqb (get_or w first 0) 1 e) refl
-
-  pub cap_left : (get_or w first 0 ≡ 1 → ⊥) → cap_words w facet first ≡ []
-  cap_left e = cond_false (eqb (get_or w first 0) 1) _ _ _ (ne_eqb (get_or w first 0) 1 e) refl
 
 abbrev pub cap_block : List ℕ → ℕ → ℕ → ℕ → List ℕ
 cap_block w facets firsts i = cap_words w (facets + 3 * i) (firsts + i)

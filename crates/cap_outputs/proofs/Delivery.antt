@@ -1,19 +1,20 @@
 -- Laws of both outputs: test 12, and the writing. Assumes nothing.
 --   short_vertices, short_facets, done   test 12, and a mesh written
 --   mesh_numbers, mesh_facets            a mesh as it came is the lists that it came in
---   caps_few, many_few, own_least, fresh_room, fresh_stored, low_at   what the writing of a closed mesh asks
+--   caps_few, many_few, own_least, fresh_room, fresh_is, fresh_count, read_stored, low_at   what the writing of a closed mesh asks
 --   vertices_long, vertices_laid, firsts_long, facets_long, facets_laid   a closed mesh, in two parts
 use Prim.Native.Nat.{ℕ, ◌+◌, ◌*◌, ◌-◌, ◌/◌, ◌%◌, ◌≤◌, ◌<◌}
 use native.Mathlib.Omega.{arith}
 use mathlib.Core.Bool.{Bool}
 use mathlib.Core.List.{List, [], ◌∷◌, ◌++◌}
-use mathlib.Core.Path.{◌≡◌, refl, sym, ap, ◌∙◌}
+use mathlib.Core.Path.{◌≡◌, refl, sym, ap, subst, ◌∙◌}
 use lib.Dec.{eqb}
-use lib.ListN.{length, get_or, length-append, length-map}
+use lib.ListN.{length, get_or, take, drop, length-append, length-map}
 use lib.Seq.{sets}
 use lib.Ieee.{Float}
 use Rattle.lists.specs.Lists.{keep, up_to}
 use Rattle.lists.specs.Regions.{view}
+use Rattle.lists.proofs.Regions.{view_length, view_at}
 use Rattle.lists.proofs.Places.{length_up}
 use Rattle.lists.proofs.Counts.{count_le}
 use Rattle.lists.proofs.Stores.{sets_append}
@@ -108,12 +109,29 @@ module _ (vs : List Float) (fs : List ℕ) (n nc left caps : ℕ) (positive : Bo
     pub fresh_room : (fa : ℕ) → fa ≡ fresh_at n nf nc → fa + (many - nv) ≤ length w
     fresh_room fa e = let a = many_is in omega (arith, e, a, D.size, D.most, D.own)
 
-    pub fresh_stored : (fa : ℕ) → fa ≡ fresh_at n nf nc → (i : ℕ) → i < many - nv → PointStored w (entry_at (get_or w (fa + i) 0)) × (entry_at (get_or w (fa + i) 0) + 2 < length w)
+    fresh_stored : (fa : ℕ) → fa ≡ fresh_at n nf nc → (i : ℕ) → i < many - nv → PointStored w (entry_at (get_or w (fa + i) 0)) × (entry_at (get_or w (fa + i) 0) + 2 < length w)
     fresh_stored fa e i h =
         let a = many_is in
         let b : get_or w (fa + i) 0 ≡ get_or w (fresh_at n nf nc + i) 0 = ap (λ (x : ℕ). get_or w (x + i) 0) e in
         let c = D.fresh i (omega (arith, a, h)) in
         (D.stored (get_or w (fa + i) 0) (omega (arith, b, c)), omega (arith, b, c, D.few, D.size))
+
+    -- the new vertices' candidates as the code reads them, from their first place to their end
+    abbrev pub fresh_read : ℕ → List ℕ
+    fresh_read fa = take (fa + (many - nv) - fa) (drop fa w)
+
+    pub fresh_is : (fa : ℕ) → fresh_read fa ≡ view w fa (many - nv)
+    fresh_is fa = let e : fa + (many - nv) - fa ≡ many - nv = omega arith in ap (λ (m : ℕ). take m (drop fa w)) e
+
+    pub fresh_count : (fa : ℕ) → fa ≡ fresh_at n nf nc → length (fresh_read fa) ≡ many - nv
+    fresh_count fa e = ap length (fresh_is fa) ∙ view_length w fa (many - nv) (fresh_room fa e)
+
+    pub read_stored : (fa : ℕ) → fa ≡ fresh_at n nf nc → (i : ℕ) → i < length (fresh_read fa)
+        → PointStored w (entry_at (get_or (fresh_read fa) i 0)) × (entry_at (get_or (fresh_read fa) i 0) + 2 < length w)
+    read_stored fa e i h =
+        let k : i < many - nv = omega (arith, h, fresh_count fa e) in
+        let g = ap (λ (l : List ℕ). get_or l i 0) (fresh_is fa) ∙ view_at w fa (many - nv) i k in
+        subst (λ (c : ℕ). PointStored w (entry_at c) × (entry_at c + 2 < length w)) (sym g) (fresh_stored fa e i k)
 
     vertices_are : (fa : ℕ) → fa ≡ fresh_at n nf nc → coordinates m.points ≡ vs ++ newest fa
     vertices_are fa e =
@@ -123,9 +141,10 @@ module _ (vs : List Float) (fs : List ℕ) (n nc left caps : ℕ) (positive : Bo
     pub vertices_long : 3 * many ≡ length (coordinates m.points)
     vertices_long =
         let a = ap length (vertices_are (fresh_at n nf nc) refl) ∙ length-append vs (newest (fresh_at n nf nc)) in
-        let b = fresh_long w (fresh_at n nf nc) (many - nv) (fresh_room (fresh_at n nf nc) refl) in
+        let b = fresh_long w (view w (fresh_at n nf nc) (many - nv)) in
+        let d = view_length w (fresh_at n nf nc) (many - nv) (fresh_room (fresh_at n nf nc) refl) in
         let c = own_least in
-        omega (arith, a, b, c, D.lists.whole_vertices)
+        omega (arith, a, b, c, d, D.lists.whole_vertices)
 
     pub vertices_laid : (fa : ℕ) → fa ≡ fresh_at n nf nc → (v mid new : List Float) → 3 * many ≤ length v → mid ≡ overlay vs v → new ≡ sets mid (length vs) (newest fa)
         → new ≡ overlay (coordinates m.points) v

@@ -2,7 +2,6 @@
 // Test 12, and a mesh in the outputs if there is room.
 ghost use Rattle.std.specs.Prelude.{◌≡◌, [], ◌∷◌, map, ℕ, ◌+◌, ◌*◌, ◌/◌, ◌%◌, ◌≤◌, ◌<◌, length, get_or};
 ghost use Rattle.std.proofs.lemmas.List.Edits.{sets};
-ghost use Rattle.lists.specs.Regions.{view};
 ghost use Rattle.geometry.specs.Triangles.{reversed, threes, flat};
 ghost use Rattle.geometry.specs.Meshes.{coordinates, mesh_of};
 ghost use Rattle.candidate_pool.specs.Offsets.{entry_at};
@@ -45,14 +44,14 @@ pub fn deliver_mesh(
 }
 
 // Stays (plainer): `write_fresh` and `write_caps` have nothing in common but the loop: one writes points at even steps, one goes on behind what was written.
-// The points of the `count` candidates that became new vertices, from `at` on.
-fn write_fresh(w: &[u64], fresh: usize, count: usize, out: &mut [f64], at: usize)
-    requires count_in_bounds { (fresh + count ≤ length w.now) × (at + 3 * count ≤ length out.old) }
-    requires by_index { (i : ℕ) → i < count → PointStored w.now (entry_at (get_or w.now (fresh + i) 0)) × (entry_at (get_or w.now (fresh + i) 0) + 2 < length w.now) }
-    ensures { out.new ≡ sets out.old at (coordinates (points_in w.now (view w.now fresh count))) }
+// The points of the candidates that became new vertices, from `at` on.
+fn write_fresh(w: &[u64], fresh: &[u64], out: &mut [f64], at: usize)
+    requires fits { at + 3 * length fresh.now ≤ length out.old }
+    requires by_index { (i : ℕ) → i < length fresh.now → PointStored w.now (entry_at (get_or fresh.now i 0)) × (entry_at (get_or fresh.now i 0) + 2 < length w.now) }
+    ensures { out.new ≡ sets out.old at (coordinates (points_in w.now fresh.now)) }
 {
-    for i in 0..count {
-        let c = w[fresh + i] as usize;
+    for i in 0..fresh.len() {
+        let c = fresh[i] as usize;
         write_point(out, at + 3 * i, point_of(w, CandidateVertexId(c)));
     }
 }
@@ -92,17 +91,19 @@ fn write_cap(w: &[u64], facet: usize, first: usize, out: &mut [u32], at: usize) 
     requires first_in_bounds { at + length (cap_words w.now facet first) ≤ length out.old }
     ensures { (result ≡ at + length (cap_words w.now facet first)) × (out.new ≡ sets out.old at (cap_words w.now facet first)) }
 {
-    if w[first] != 1 {
-        return at;
+    let is_first = w[first] == 1;
+    if is_first {
+        write_three(
+            out,
+            at,
+            w[facet] as u32,
+            w[facet + 1] as u32,
+            w[facet + 2] as u32,
+        );
+        at + 3
+    } else {
+        at
     }
-    write_three(
-        out,
-        at,
-        w[facet] as u32,
-        w[facet + 1] as u32,
-        w[facet + 2] as u32,
-    );
-    at + 3
 }
 
 // Those of the facets left that are the first of their three corners, from `at` on.
@@ -152,10 +153,11 @@ pub fn deliver_closed(
         return Err(Refusal::NoRoom(f));
     }
     copy_front(mesh.vertices, out_vertices);
+    let entered = count - nv;
+    let fresh = room.fresh_at();
     write_fresh(
         w,
-        room.fresh_at(),
-        count - nv,
+        &w[fresh..fresh + entered],
         out_vertices,
         mesh.vertices.len(),
     );

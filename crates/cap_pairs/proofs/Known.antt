@@ -45,8 +45,8 @@ use Rattle.cap_pairs.proofs.Sums.{some_map, some_threes, some_places}
 use Rattle.cap_pairs.proofs.Ends.{pair_listed, pair_side, pair_kept}
 
 -- ---- the numbers
-pub numbers_kept : (n nf k : ℕ) (cap_list w w' : List ℕ) (b : ℕ) → Above b w w' → up_at n nf (length cap_list / 4) ≤ b → k ≤ 3 * nf → PairNumbers n nf k cap_list w → PairNumbers n nf k
-    cap_list w'
+pub numbers_kept : (n nf k : ℕ) (cap_list w w' : List ℕ) (b : ℕ) → Above b w w' → up_at n nf (length cap_list / 4) ≤ b → k ≤ 3 * nf → PairNumbers n nf k cap_list w
+    → PairNumbers n nf k cap_list w'
 numbers_kept n nf k cap_list w w' b above end few N =
     record {
       low = λ q h. let e = number q h in let l = N.low q h in omega arith;

@@ -15,6 +15,7 @@ use box_faces::faces::{count_faces, has_face};
 use cap_triangles::room::{CapRoom, SuppliedCaps};
 use geometry::face::{BOX_FACES, BoxFace};
 
+// Stays (plainer): that the counts of six faces are there is all that is asked of the room.
 // A face that has three or more candidates and is not among those that hold the edge.
 fn is_missing(w: &[u64], held: u64, face: BoxFace) -> bool
     requires { 6 ≤ length w.now }

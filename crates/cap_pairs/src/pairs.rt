@@ -14,6 +14,7 @@ use edges::next_side;
 use records::{put_by_payload, run_end};
 use sorting::sort_records;
 
+// Stays (plainer): what the packing asks of two words.
 // Two candidates in one word, the same either way round.
 fn pair_word(a: u64, b: u64) -> u64
     requires { (a < 4294967296) × (b < 4294967296) }

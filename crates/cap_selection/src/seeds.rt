@@ -1,3 +1,4 @@
+// Stays (C interface), point 6: the tables of a side and of a component stand at places of the one room that C lends, and there is no heap.
 // Seeds, and the components that hold one.
 ghost use Rattle.std.specs.Prelude.{◌≡◌, ◌+◌, ◌*◌, ◌/◌, ◌<◌, eqb, length, get_or};
 ghost use Rattle.geometry.specs.Boxes.{face_of};

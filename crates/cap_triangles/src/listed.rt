@@ -37,37 +37,44 @@ pub fn supplied_face(cap_list: &[u64], i: usize) -> BoxFace
     BOX_FACES[cap_list[4 * i] as usize]
 }
 
-// A candidate is in a face's list exactly if it has the face's bit.
-#[tactic(auto, unfolding(crate::specs::Steps::listed_in))]
-fn is_listed(w: &[u64], face: BoxFace, id: CandidateVertexId) -> bool
-    requires { entry_at (count_at w.now) ≤ length w.now }
-    ensures { result ≡ listed_in w.now (face_of face) id.0 }
-{
-    id.0 < w[6] as usize && has_face(w[entry_at(id) + 4], face)
-}
-
-fn all_listed(w: &[u64], face: BoxFace, t: CandidateTriangle) -> bool
-    requires { entry_at (count_at w.now) ≤ length w.now }
-    ensures { result ≡ (listed_in w.now (face_of face) t.a.0 && (listed_in w.now (face_of face) t.b.0 && listed_in w.now (face_of face) t.c.0)) }
-{
-    is_listed(w, face, t.a) && is_listed(w, face, t.b) && is_listed(w, face, t.c)
-}
-
 fn has_repeat(t: CandidateTriangle) -> bool
     ensures { result ≡ (eqb t.a.0 t.b.0 || (eqb t.b.0 t.c.0 || eqb t.c.0 t.a.0)) }
 {
     t.a == t.b || t.b == t.c || t.c == t.a
 }
 
-// "face above 5 or descending, a repeated candidate, or one not in that face's list": `last` is the number of the face of the triangle before.
-#[tactic(auto, unfolding(crate::specs::Steps::bad_words))]
-fn is_bad_cap(w: &[u64], last: u64, number: u64, t: CandidateTriangle) -> bool
-    requires { entry_at (count_at w.now) ≤ length w.now }
-    ensures { result ≡ bad_words w.now last number t.a.0 t.b.0 t.c.0 }
-{
-    match BoxFace::try_from(number) {
-        Ok(face) => number < last || has_repeat(t) || !all_listed(w, face, t),
-        Err(_) => true,
+// The candidates that stand in the room.
+#[derive(Clone, Copy)]
+struct Candidates<'a> {
+    w: &'a [u64],
+    ghost entries: { entry_at (count_at w.now) ≤ length w.now },
+}
+
+impl Candidates<'_> {
+    // A candidate is in a face's list exactly if it has the face's bit.
+    #[tactic(auto, unfolding(crate::specs::Steps::listed_in))]
+    fn is_listed(self, face: BoxFace, id: CandidateVertexId) -> bool
+        ensures { result ≡ listed_in self.entry.w.now (face_of face) id.0 }
+    {
+        id.0 < self.w[6] as usize && has_face(self.w[entry_at(id) + 4], face)
+    }
+
+    fn all_listed(self, face: BoxFace, t: CandidateTriangle) -> bool
+        ensures { result ≡
+            (listed_in self.entry.w.now (face_of face) t.a.0 && (listed_in self.entry.w.now (face_of face) t.b.0 && listed_in self.entry.w.now (face_of face) t.c.0)) }
+    {
+        self.is_listed(face, t.a) && self.is_listed(face, t.b) && self.is_listed(face, t.c)
+    }
+
+    // "face above 5 or descending, a repeated candidate, or one not in that face's list": `last` is the number of the face of the triangle before.
+    #[tactic(auto, unfolding(crate::specs::Steps::bad_words))]
+    fn is_bad_cap(self, last: u64, number: u64, t: CandidateTriangle) -> bool
+        ensures { result ≡ bad_words self.entry.w.now last number t.a.0 t.b.0 t.c.0 }
+    {
+        match BoxFace::try_from(number) {
+            Ok(face) => number < last || has_repeat(t) || !self.all_listed(face, t),
+            Err(_) => true,
+        }
     }
 }
 
@@ -76,10 +83,11 @@ pub fn bad_cap_place(w: &[u64], caps: SuppliedCaps<'_>) -> Option<usize>
     requires { Pooled caps.n w.now × (length caps.list.now % 4 ≡ 0) }
     ensures { FirstPlace (bad_cap_place (pool_at caps.entry.n w.now) (caps_of caps.entry.list.now)) (length (caps_of caps.entry.list.now)) result }
 {
+    let candidates = Candidates { w };
     let mut last = 0;
     for i in 0..caps.list.len() / 4 {
         let number = caps.list[4 * i];
-        if is_bad_cap(w, last, number, supplied(caps.list, i)) {
+        if candidates.is_bad_cap(last, number, supplied(caps.list, i)) {
             return Some(i);
         }
         last = number;

@@ -1,4 +1,4 @@
-use Rattle.candidate_constraints.proofs.Listing.{face_none, sorted_roomy, face_listed}
+use Rattle.candidate_constraints.proofs.Listing.{face_none, face_listed}
 use Rattle.sorting.proofs.Sorting.{sorted_part}
 use borrow.Rule.Slice.PartMut.{put_mid}
 use native.Mathlib.Omega.{arith}
@@ -9,32 +9,12 @@ use Rattle.geometry.specs.Boxes.{face_of}
 use Rattle.geometry.proofs.Faces.{face_in}
 use Rattle.candidate_constraints.proofs.constraints.face_constraints.Goals as goal
 
-pub returns-then-w-index-lt3 : goal.returns-then-w-index-lt3
-returns-then-w-index-lt3 c =
+pub returns-then-few : goal.returns-then-few
+returns-then-few c =
     let s = c in
     let a = s.args in
     face_none a.extents a.eps a.edged.room.n a.edged.room.nf a.edged.k (face_of a.face) a.total a.w.now s.requires.shown s.requires.roomy (face_in s.args.face) s.requires.fits
-    (subst (λ (f : ℕ). get_or a.w.now f 0 < 3) c.index.ensures.value (omega (arith, c.if-w-index-lt3.true)))
-
-pub list_pairs-c-requires : goal.list_pairs-c-requires
-list_pairs-c-requires c =
-    let s = c in record { shown = s.requires.shown; roomy = s.requires.roomy; edges_held = s.requires.edges_held }
-
-pub keep_distinct-requires : goal.keep_distinct-requires
-keep_distinct-requires c =
-    let s = c in
-    let a = s.args in
-    let list-pairs' = c.list_pairs-c in
-    let pairs-at' = c.pairs_at-pairs in
-    let sort-records' = c.sort_records in record {
-      roomy = sorted_roomy a.extents a.eps a.edged.room.n a.edged.room.nf a.edged.k (face_of a.face) a.total a.w.now s.requires.shown s.requires.roomy (face_in s.args.face) s.requires.fits
-          list-pairs'.new.w (put_mid pairs-at'.result (pairs-at'.result + 4 * list-pairs'.result - pairs-at'.result) list-pairs'.new.w sort-records'.new.m)
-          (put_mid pairs-at'.result (pairs-at'.result + 4 * list-pairs'.result - pairs-at'.result) list-pairs'.new.w sort-records'.new.m) list-pairs'.result 0
-          pairs-at'.result list-pairs'.ensures pairs-at'.ensures
-          (sorted_part list-pairs'.new.w sort-records'.new.m pairs-at'.result list-pairs'.result
-          (omega (arith, s.requires.roomy.room, pairs-at'.ensures, list-pairs'.ensures.few, list-pairs'.ensures.kept.long)) sort-records'.ensures);
-      c_bound = (omega (arith, s.requires.roomy.room, pairs-at'.ensures, list-pairs'.ensures.few, list-pairs'.ensures.kept.long), s.requires.fits);
-    }
+    (subst (λ (f : ℕ). get_or a.w.now f 0 < 3) c.index.ensures.value (omega (arith, c.if-few.true)))
 
 pub returns : goal.returns
 returns c =
@@ -49,4 +29,4 @@ returns c =
     keep-distinct'.new.w list-pairs'.result keep-distinct'.result pairs-at'.result list-pairs'.ensures pairs-at'.ensures
     (sorted_part list-pairs'.new.w sort-records'.new.m pairs-at'.result list-pairs'.result
     (omega (arith, s.requires.roomy.room, pairs-at'.ensures, list-pairs'.ensures.few, list-pairs'.ensures.kept.long)) sort-records'.ensures)
-    (subst (λ (f : ℕ). 3 ≤ get_or a.w.now f 0) c.index.ensures.value (omega (arith, c.if-w-index-lt3.false))) keep-distinct'.ensures
+    (subst (λ (f : ℕ). 3 ≤ get_or a.w.now f 0) c.index.ensures.value (omega (arith, c.if-few.false))) keep-distinct'.ensures

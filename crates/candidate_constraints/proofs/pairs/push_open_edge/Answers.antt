@@ -8,7 +8,7 @@ use Rattle.lists.specs.Lists.{has}
 use Rattle.candidate_pool.specs.Pool.{face_list}
 use Rattle.candidate_pool.specs.Standing.{pool_at}
 use Rattle.candidate_constraints.proofs.Noting.{member_low, noted_place}
-use Rattle.candidate_constraints.proofs.Pairing.{edge_ends, edge_pushed, edge_skipped}
+use Rattle.candidate_constraints.proofs.Pairing.{edge_ends, edge_pushed}
 use Rattle.candidate_constraints.proofs.pairs.push_open_edge.Goals.{Then-has_face}
 use Rattle.geometry.specs.Boxes.{face_of}
 use Rattle.geometry.proofs.Faces.{face_in}
@@ -71,11 +71,3 @@ returns-then-has_face c =
     (face_in s.args.face) s.requires.bounds.1 open-edges-at'.result open-edges-at'.ensures (sym c.has_face.ensures ∙ c.if-has_face.true)
     place-of-candidate'.result.0 place-of-candidate2'.result.0 pairs-at'.result put-pair'.new.w
     place-of-candidate'.ensures place-of-candidate2'.ensures pairs-at'.ensures put-pair'.ensures
-
-pub returns-else-has_face : goal.returns-else-has_face
-returns-else-has_face c =
-    let s = c in
-    let open-edges-at' = c.open_edges_at in
-    edge_skipped s.args.room.n s.args.room.nf s.args.i (face_of s.args.face) s.args.c s.args.w.now (face_in s.args.face) open-edges-at'.result
-    open-edges-at'.ensures
-    (sym c.has_face.ensures ∙ c.if-has_face.false)

@@ -1,4 +1,4 @@
-use Rattle.candidate_constraints.proofs.Pairing.{edging_start, edging_shown, edging_roomy, edging_placed, edging_held, edging_next, edging_end}
+use Rattle.candidate_constraints.proofs.Pairing.{edging_start, edging_shown, edging_roomy, edging_placed, edging_held, edging_next}
 use native.Mathlib.Omega.{arith}
 use Rattle.candidate_pool.specs.Offsets.{open_edges_at}
 use Rattle.geometry.specs.Boxes.{face_of}
@@ -15,14 +15,14 @@ push_open_edge-c-requires c =
     let s = c in
     let a = s.args in
     let l = c.loop-i in record {
-      shown = edging_shown a.edged.room.n (face_of a.face) (open_edges_at a.edged.room.n a.edged.room.nf) a.count a.w.now a.edged.room.nf a.edged.k s.requires.shown s.requires.roomy s.requires.placed s.requires.edges_held
-          (face_in s.args.face) (omega (arith, s.requires.few, a.edged.few)) l.w l.c l.i l.invariant;
-      roomy = edging_roomy a.edged.room.n (face_of a.face) (open_edges_at a.edged.room.n a.edged.room.nf) a.count a.w.now a.edged.room.nf a.edged.k s.requires.shown s.requires.roomy s.requires.placed s.requires.edges_held
-          (face_in s.args.face) (omega (arith, s.requires.few, a.edged.few)) l.w l.c l.i l.invariant;
-      placed = edging_placed a.edged.room.n (face_of a.face) (open_edges_at a.edged.room.n a.edged.room.nf) a.count a.w.now a.edged.room.nf a.edged.k s.requires.shown s.requires.roomy s.requires.placed s.requires.edges_held
-          (face_in s.args.face) (omega (arith, s.requires.few, a.edged.few)) l.w l.c l.i l.invariant;
-      edges_held = edging_held a.edged.room.n (face_of a.face) (open_edges_at a.edged.room.n a.edged.room.nf) a.count a.w.now a.edged.room.nf a.edged.k s.requires.shown s.requires.roomy s.requires.placed s.requires.edges_held
-          (face_in s.args.face) (omega (arith, s.requires.few, a.edged.few)) l.w l.c l.i l.invariant c.loop-i-test.true;
+      shown = edging_shown a.edged.room.n (face_of a.face) (open_edges_at a.edged.room.n a.edged.room.nf) a.count a.w.now a.edged.room.nf a.edged.k s.requires.shown s.requires.roomy
+          s.requires.placed s.requires.edges_held (face_in s.args.face) (omega (arith, s.requires.few, a.edged.few)) l.w l.c l.i l.invariant;
+      roomy = edging_roomy a.edged.room.n (face_of a.face) (open_edges_at a.edged.room.n a.edged.room.nf) a.count a.w.now a.edged.room.nf a.edged.k s.requires.shown s.requires.roomy
+          s.requires.placed s.requires.edges_held (face_in s.args.face) (omega (arith, s.requires.few, a.edged.few)) l.w l.c l.i l.invariant;
+      placed = edging_placed a.edged.room.n (face_of a.face) (open_edges_at a.edged.room.n a.edged.room.nf) a.count a.w.now a.edged.room.nf a.edged.k s.requires.shown s.requires.roomy
+          s.requires.placed s.requires.edges_held (face_in s.args.face) (omega (arith, s.requires.few, a.edged.few)) l.w l.c l.i l.invariant;
+      edges_held = edging_held a.edged.room.n (face_of a.face) (open_edges_at a.edged.room.n a.edged.room.nf) a.count a.w.now a.edged.room.nf a.edged.k s.requires.shown s.requires.roomy
+          s.requires.placed s.requires.edges_held (face_in s.args.face) (omega (arith, s.requires.few, a.edged.few)) l.w l.c l.i l.invariant c.loop-i-test.true;
       bounds = (
         omega (arith, a.edged.few, c.loop-i-test.true),
         omega (arith, a.edged.few, s.requires.few, l.invariant.pushed.few, c.loop-i-test.true),
@@ -35,16 +35,6 @@ loop-i-preserved c =
     let a = s.args in
     let l = c.loop-i in
     let push-open-edge' = c.push_open_edge-c in
-    edging_next a.edged.room.n (face_of a.face) (open_edges_at a.edged.room.n a.edged.room.nf) a.count a.w.now a.edged.room.nf a.edged.k s.requires.shown s.requires.roomy s.requires.placed s.requires.edges_held
-    (face_in s.args.face) (omega (arith, s.requires.few, a.edged.few)) l.w l.c l.i l.invariant push-open-edge'.new.w push-open-edge'.result
+    edging_next a.edged.room.n (face_of a.face) (open_edges_at a.edged.room.n a.edged.room.nf) a.count a.w.now a.edged.room.nf a.edged.k s.requires.shown s.requires.roomy
+    s.requires.placed s.requires.edges_held (face_in s.args.face) (omega (arith, s.requires.few, a.edged.few)) l.w l.c l.i l.invariant push-open-edge'.new.w push-open-edge'.result
     c.loop-i-test.true push-open-edge'.ensures
-
-pub shape_of-w : goal.shape_of-w
-shape_of-w c = c.loop-i.invariant.pushed.kept.long
-
-pub returns : goal.returns
-returns c =
-    let s = c in
-    let a = s.args in
-    edging_end a.edged.room.n (face_of a.face) (open_edges_at a.edged.room.n a.edged.room.nf) a.count a.w.now a.edged.k c.loop-i.w c.loop-i.c c.loop-i.i c.loop-i.invariant
-    c.loop-i-test.false

@@ -7,4 +7,6 @@ use Rattle.candidate_constraints.proofs.places.note_places.Given as goal
 
 -- `note_places` meets its contract: after i turns the first i candidates of the list have their places noted. Assumes nothing.
 abbrev pub invariant-loop-i : goal.invariant-loop-i
-invariant-loop-i l = Noting l.fn.room.n (face_of l.fn.face) l.initial.w l.w l.i × (l.list ≡ list_at l.fn.room.n (face_of l.fn.face)) × (l.places ≡ places_at l.fn.room.n) × (l.count ≡ get_or l.initial.w (face_of l.fn.face) 0)
+invariant-loop-i l =
+    Noting l.fn.room.n (face_of l.fn.face) l.initial.w l.w l.i × (l.list ≡ list_at l.fn.room.n (face_of l.fn.face))
+    × (l.places ≡ places_at l.fn.room.n) × (l.count ≡ get_or l.initial.w (face_of l.fn.face) 0)

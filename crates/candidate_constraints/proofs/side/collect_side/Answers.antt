@@ -25,11 +25,6 @@ turn_in c =
     let e = l.invariant.0.kept.long in
     (omega (arith, h.0, e, s.requires.shown.size), omega (arith, h.1, l.invariant.0.few, l.invariant.2, e, s.requires.fits), l.invariant.0.few)
 
-pub bounds-w-index : goal.bounds-w-index
-bounds-w-index c =
-    let s = c in
-    omega (arith, s.requires.shown.size, c.index.ensures.bound)
-
 pub loop-i-init : goal.loop-i-init
 loop-i-init c =
     let s = c in (
@@ -38,11 +33,6 @@ loop-i-init c =
       c.side_at-at.ensures,
       ap (λ (f : ℕ). get_or s.args.w.now f 0) c.index.ensures.value,
     )
-
-pub candidate_of_place-requires : goal.candidate_of_place-requires
-candidate_of_place-requires c =
-    let turn_in = turn_in (goal.at.candidate_of_place-requires c).In-loop-i in
-    turn_in.0
 
 pub point_of-requires : goal.point_of-requires
 point_of-requires c =
@@ -90,9 +80,6 @@ loop-i-preserved c =
       l.invariant.2,
       l.invariant.3,
     )
-
-pub shape_of-w : goal.shape_of-w
-shape_of-w c = c.loop-i.invariant.0.kept.long
 
 pub returns : goal.returns
 returns c =

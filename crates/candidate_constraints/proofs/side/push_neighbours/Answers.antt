@@ -22,66 +22,6 @@ loop-j-init c =
     let a = s.args in
     (nearing_start a.room.n (face_of a.face) a.m a.count a.w.now, c.side_at-at.ensures, c.pairs_at-pairs.ensures)
 
-pub overflow_mul-a : goal.overflow_mul-a
-overflow_mul-a c =
-    let turn_in = turn_in (goal.at.overflow_mul-a c).In-loop-j in
-    omega (arith, turn_in)
-
-pub overflow_add-a : goal.overflow_add-a
-overflow_add-a c =
-    let turn_in = turn_in (goal.at.overflow_add-a c).In-loop-j in
-    omega (arith, turn_in)
-
-pub overflow_add-a-in-loop-j : goal.overflow_add-a-in-loop-j
-overflow_add-a-in-loop-j c =
-    let turn_in = turn_in (goal.at.overflow_add-a-in-loop-j c).In-loop-j in
-    omega (arith, turn_in)
-
-pub offset_bounds-w-at : goal.offset_bounds-w-at
-offset_bounds-w-at c =
-    let turn_in = turn_in (goal.at.offset_bounds-w-at c).In-loop-j in
-    omega (arith, turn_in)
-
-pub bounds-w-at : goal.bounds-w-at
-bounds-w-at c =
-    let turn_in = turn_in (goal.at.bounds-w-at c).In-loop-j in
-    omega (arith, turn_in)
-
-pub overflow_mul-b : goal.overflow_mul-b
-overflow_mul-b c =
-    let turn_in = turn_in (goal.at.overflow_mul-b c).In-loop-j in
-    omega (arith, turn_in)
-
-pub overflow_add-b : goal.overflow_add-b
-overflow_add-b c =
-    let turn_in = turn_in (goal.at.overflow_add-b c).In-loop-j in
-    omega (arith, turn_in)
-
-pub overflow_add-b-in-loop-j : goal.overflow_add-b-in-loop-j
-overflow_add-b-in-loop-j c =
-    let turn_in = turn_in (goal.at.overflow_add-b-in-loop-j c).In-loop-j in
-    omega (arith, turn_in)
-
-pub offset_bounds-w-at-in-loop-j : goal.offset_bounds-w-at-in-loop-j
-offset_bounds-w-at-in-loop-j c =
-    let turn_in = turn_in (goal.at.offset_bounds-w-at-in-loop-j c).In-loop-j in
-    omega (arith, turn_in)
-
-pub bounds-w-at-in-loop-j : goal.bounds-w-at-in-loop-j
-bounds-w-at-in-loop-j c =
-    let turn_in = turn_in (goal.at.bounds-w-at-in-loop-j c).In-loop-j in
-    omega (arith, turn_in)
-
-pub overflow_mul-c : goal.overflow_mul-c
-overflow_mul-c c =
-    let turn_in = turn_in (goal.at.overflow_mul-c c).In-loop-j in
-    omega (arith, turn_in)
-
-pub overflow_add-pairs : goal.overflow_add-pairs
-overflow_add-pairs c =
-    let turn_in = turn_in (goal.at.overflow_add-pairs c).In-loop-j in
-    omega (arith, turn_in)
-
 pub put_pair-requires : goal.put_pair-requires
 put_pair-requires c =
     let turn_in = turn_in (goal.at.put_pair-requires c).In-loop-j in
@@ -91,11 +31,6 @@ put_pair-requires c =
     loop'.invariant.0
     c.side_at-at.result loop'.invariant.1 s.requires.low_places (omega (arith, c.loop-j-test.true)) in
     (omega (arith, turn_in), places.0, places.1)
-
-pub overflow_add-c : goal.overflow_add-c
-overflow_add-c c =
-    let turn_in = turn_in (goal.at.overflow_add-c c).In-loop-j in
-    omega (arith, turn_in)
 
 pub loop-j-preserved : goal.loop-j-preserved
 loop-j-preserved c =
@@ -110,9 +45,6 @@ loop-j-preserved c =
       l.invariant.1,
       l.invariant.2,
     )
-
-pub shape_of-w : goal.shape_of-w
-shape_of-w c = c.loop-j.invariant.0.pushed.kept.long
 
 pub returns : goal.returns
 returns c =

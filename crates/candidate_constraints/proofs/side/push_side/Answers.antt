@@ -7,27 +7,6 @@ use Rattle.geometry.specs.Boxes.{face_of}
 use Rattle.geometry.proofs.Faces.{face_in}
 use Rattle.candidate_constraints.proofs.side.push_side.Goals as goal
 
-pub overflow_mul-m : goal.overflow_mul-m
-overflow_mul-m c =
-    let s = c in
-    let a = s.args in
-    let collect-side' = c.collect_side-m in
-    omega (arith, s.requires.n_bound, c.side_at-at.ensures, collect-side'.ensures.few, collect-side'.ensures.kept.long, s.requires.shown.lengths (face_of a.face) (face_in s.args.face))
-
-pub overflow_add-at : goal.overflow_add-at
-overflow_add-at c =
-    let s = c in
-    let a = s.args in
-    let collect-side' = c.collect_side-m in
-    omega (arith, s.requires.n_bound, c.side_at-at.ensures, collect-side'.ensures.few, collect-side'.ensures.kept.long, s.requires.shown.lengths (face_of a.face) (face_in s.args.face))
-
-pub slice_bounds-sort_records-end : goal.slice_bounds-sort_records-end
-slice_bounds-sort_records-end c =
-    let s = c in
-    let a = s.args in
-    let collect-side' = c.collect_side-m in
-    omega (arith, s.requires.n_bound, c.side_at-at.ensures, collect-side'.ensures.few, collect-side'.ensures.kept.long, s.requires.shown.lengths (face_of a.face) (face_in s.args.face))
-
 pub push_neighbours-requires : goal.push_neighbours-requires
 push_neighbours-requires c =
     let s = c in

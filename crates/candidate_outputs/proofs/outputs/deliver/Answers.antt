@@ -81,7 +81,8 @@ returns c =
     let a = s.args in
     let w = a.w.now in
     done a.room.n a.room.nf a.k a.listed a.total w s.requires _ numbers.listed_numbers-l.ensures.0 a.candidates.now a.face_lists.now a.constraints.now
-    a.open_edges.now fit.if-candidates-c.false fit.if-face_lists-l.false fit.if-constraints-t.false fit.if-open_edges-e.false _ _ _ _ (words.write_words.ensures ∙ ap (sets a.candidates.now 0) (part_is w 8 _))
+    a.open_edges.now fit.if-candidates-c.false fit.if-face_lists-l.false fit.if-constraints-t.false fit.if-open_edges-e.false _ _ _ _
+    (words.write_words.ensures ∙ ap (sets a.candidates.now 0) (part_is w 8 _))
     lists.write_face_lists.ensures
     (constraints.write_constraints.ensures ∙ ap (λ (l : List ℕ). sets a.constraints.now 0 (constraint_words (map unpacked l)))
     (part_is w c.constraints_at-keys.result a.total ∙ ap (λ (x : ℕ). view w x a.total) c.constraints_at-keys.ensures))

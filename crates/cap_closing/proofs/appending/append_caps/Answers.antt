@@ -1,11 +1,10 @@
-use Prim.Native.Nat.{ℕ, ◌≤◌}
+use Prim.Native.Nat.{ℕ}
 use mathlib.Core.Bool.{Bool, true, false}
-use mathlib.Core.Path.{◌≡◌, subst}
 use mir.Val.{bool_byte}
 use native.Mathlib.Omega.{arith}
 use Rattle.cap_triangles.specs.Room.{closing_at}
-use Rattle.cap_closing.specs.Steps.{Turned, Appending, bit}
-use Rattle.cap_closing.proofs.Turns.{appending_none, appending_turn, taking_kept, shaped_kept}
+use Rattle.cap_closing.specs.Steps.{Turned, bit}
+use Rattle.cap_closing.proofs.Turns.{appending_none, appending_turn}
 use Rattle.cap_closing.proofs.appending.append_caps.Goals as goal
 
 -- a truth value counted, as the code has it
@@ -21,35 +20,6 @@ loop-i-init c =
     let K = s.requires.taking in
     (appending_none a.vertices.now a.room.n a.room.nf a.room.nc a.positive a.w.now E K, omega arith)
 
-pub append_if_taken-requires : goal.append_if_taken-requires
-append_if_taken-requires c =
-    let s = c in
-    let a = s.args in
-    let E = s.requires.names_entering in
-    let H = s.requires.shaped in
-    let K = s.requires.taking in
-    let P = c.loop-i.invariant.0 in
-    let h = c.loop-i-test.true in
-    let f = P.few in record {
-      left_below = (h, omega arith);
-      names_entering = P.entering;
-      shaped = shaped_kept a.room.n a.room.nf a.room.nc a.w.now c.loop-i.w P.above a.vertices.now E.count H;
-      taking = taking_kept
-          a.room.n a.room.nf a.room.nc a.w.now c.loop-i.w P.above K;
-    }
-
-pub overflow_add-left : goal.overflow_add-left
-overflow_add-left c =
-    let s = c in
-    let a = s.args in
-    let E = s.requires.names_entering in
-    let P = c.loop-i.invariant.0 in
-    let h = c.loop-i-test.true in
-    let f = P.few in
-    let q = by_byte c.append_if_taken.result (λ r. r ≤ 1) c.append_if_taken.ensures.few in
-    let x = E.caps in
-    omega arith
-
 pub loop-i-preserved : goal.loop-i-preserved
 loop-i-preserved c =
     let s = c in
@@ -64,15 +34,3 @@ loop-i-preserved c =
           c.append_if_taken.ensures),
       omega (arith, c.loop-i-test.true),
     )
-
-pub shape_of-w : goal.shape_of-w
-shape_of-w c = c.loop-i.invariant.0.above.long
-
-pub returns : goal.returns
-returns c =
-    let s = c in
-    let a = s.args in
-    let b = closing_at a.room.n a.room.nf a.room.nc in
-    let E = s.requires.names_entering in
-    let l : c.loop-i.i ≡ a.room.nc = (let x = c.loop-i.invariant.1 in let y = c.loop-i-test.false in omega arith) in
-    subst (λ (k : ℕ). Appending a.vertices.now b a.room.n a.room.nf a.room.nc a.positive k c.loop-i.left a.w.now c.loop-i.w) l c.loop-i.invariant.0

@@ -1,4 +1,4 @@
-use Rattle.cap_outputs.specs.Written.{closed_mesh_in}
+use Rattle.cap_outputs.specs.Written.{closed_mesh_in, points_in}
 use Rattle.cap_outputs.proofs.Delivery.{
   short_vertices,
   short_facets,
@@ -7,7 +7,9 @@ use Rattle.cap_outputs.proofs.Delivery.{
   many_few,
   own_least,
   fresh_room,
-  fresh_stored,
+  fresh_is,
+  fresh_count,
+  read_stored,
   low_at,
   vertices_long,
   vertices_laid,
@@ -17,7 +19,11 @@ use Rattle.cap_outputs.proofs.Delivery.{
 }
 use native.Mathlib.Omega.{arith}
 use lib.ListN.{length, get_or}
-use Prim.Native.Nat.{◌+◌, ◌*◌, ◌/◌}
+use lib.Seq.{sets}
+use mathlib.Core.List.{List}
+use mathlib.Core.Path.{ap, ◌∙◌}
+use Rattle.geometry.specs.Meshes.{coordinates}
+use Prim.Native.Nat.{ℕ, ◌+◌, ◌*◌, ◌/◌}
 use Rattle.cap_outputs.proofs.outputs.deliver_closed.Goals as goal
 
 pub overflow_mul-v : goal.overflow_mul-v
@@ -74,37 +80,29 @@ copy_front-requires c =
     c.vertices_at.ensures in
     omega (arith, q, c.if-out_vertices-v.false, c.requires.lists.whole_vertices)
 
-pub overflow_sub-count : goal.overflow_sub-count
-overflow_sub-count c =
+pub overflow_sub-entered : goal.overflow_sub-entered
+overflow_sub-entered c =
     let a = c.args in
     own_least a.mesh.vertices.now a.mesh.facets.now a.caps.n (length a.caps.list.now / 4) a.made.left a.made.caps a.positive a.w.now
-    c.requires
-    c.vertices_at.result
-    c.vertices_at.ensures
+    c.requires c.vertices_at.result c.vertices_at.ensures
+
+pub slice_bounds-write_fresh-end : goal.slice_bounds-write_fresh-end
+slice_bounds-write_fresh-end c =
+    let a = c.args in
+    fresh_room a.mesh.vertices.now a.mesh.facets.now a.caps.n (length a.caps.list.now / 4) a.made.left a.made.caps a.positive a.w.now
+    c.requires c.vertices_at.result c.vertices_at.ensures c.fresh_at-fresh.result c.fresh_at-fresh.ensures
 
 pub write_fresh-requires : goal.write_fresh-requires
 write_fresh-requires c =
     let a = c.args in
     let q = own_least a.mesh.vertices.now a.mesh.facets.now a.caps.n (length a.caps.list.now / 4) a.made.left a.made.caps a.positive a.w.now
-    c.requires
-    c.vertices_at.result
-    c.vertices_at.ensures in record {
-      count_in_bounds = (
-        fresh_room a.mesh.vertices.now a.mesh.facets.now a.caps.n (length a.caps.list.now / 4) a.made.left a.made.caps a.positive a.w.now
-            c.requires
-            c.vertices_at.result
-            c.vertices_at.ensures c.fresh_at.result c.fresh_at.ensures,
-        omega (
-          arith,
-          q,
-          c.if-out_vertices-v.false,
-          c.requires.lists.whole_vertices,
-          c.copy_front.auto.to,
-        ),
-      );
-      by_index = fresh_stored a.mesh.vertices.now a.mesh.facets.now
-          a.caps.n (length a.caps.list.now / 4) a.made.left a.made.caps a.positive a.w.now c.requires c.vertices_at.result
-          c.vertices_at.ensures c.fresh_at.result c.fresh_at.ensures;
+    c.requires c.vertices_at.result c.vertices_at.ensures in
+    let r = fresh_count a.mesh.vertices.now a.mesh.facets.now a.caps.n (length a.caps.list.now / 4) a.made.left a.made.caps a.positive a.w.now
+    c.requires c.vertices_at.result c.vertices_at.ensures c.fresh_at-fresh.result c.fresh_at-fresh.ensures in
+    record {
+      fits = omega (arith, q, r, c.if-out_vertices-v.false, c.requires.lists.whole_vertices, c.copy_front.auto.to);
+      by_index = read_stored a.mesh.vertices.now a.mesh.facets.now a.caps.n (length a.caps.list.now / 4) a.made.left a.made.caps a.positive a.w.now
+          c.requires c.vertices_at.result c.vertices_at.ensures c.fresh_at-fresh.result c.fresh_at-fresh.ensures;
     }
 
 pub write_caps-requires : goal.write_caps-requires
@@ -150,11 +148,13 @@ returns c =
     c.if-out_facets-f.false _ _
     (vertices_laid a.mesh.vertices.now a.mesh.facets.now a.caps.n (length a.caps.list.now / 4) a.made.left a.made.caps a.positive a.w.now
     c.requires c.vertices_at.result
-    c.vertices_at.ensures c.fresh_at.result
-    c.fresh_at.ensures a.out_vertices.now _ _
+    c.vertices_at.ensures c.fresh_at-fresh.result
+    c.fresh_at-fresh.ensures a.out_vertices.now _ _
     c.if-out_vertices-v.false
     c.copy_front.ensures
-    c.write_fresh.ensures)
+    (c.write_fresh.ensures ∙ ap (λ (l : List ℕ). sets c.copy_front.new.to (length a.mesh.vertices.now) (coordinates (points_in a.w.now l)))
+    (fresh_is a.mesh.vertices.now a.mesh.facets.now a.caps.n (length a.caps.list.now / 4) a.made.left a.made.caps a.positive a.w.now
+    c.requires c.vertices_at.result c.vertices_at.ensures c.fresh_at-fresh.result)))
     (facets_laid a.mesh.vertices.now a.mesh.facets.now a.caps.n (length a.caps.list.now / 4) a.made.left a.made.caps a.positive a.w.now
     c.requires c.left_at.result
     c.firsts_at.result c.left_at.ensures c.firsts_at.ensures

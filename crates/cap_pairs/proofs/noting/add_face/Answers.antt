@@ -1,18 +1,10 @@
-use Rattle.cap_pairs.proofs.Adding.{added_there, added_new}
+use Rattle.cap_pairs.proofs.Adding.{added_new}
 use Prim.Native.Nat.{ℕ, ◌+◌, ◌*◌, ◌^◌, ◌%◌}
 use lib.ListN.{get_or}
 use mathlib.Core.Path.{sym, ap, ◌∙◌}
 use Rattle.geometry.specs.Boxes.{face_of}
 use Rattle.geometry.proofs.Faces.{face_in}
 use Rattle.cap_pairs.proofs.noting.add_face.Goals as goal
-
-pub returns-then-has_face : goal.returns-then-has_face
-returns-then-has_face c =
-    let s = c in
-    let a = s.args in
-    let has-face' = c.has_face in
-    let branch = c.if-has_face in
-    added_there a.w.now a.at (face_of a.face) s.requires.0 s.requires.1 (face_in a.face) (sym has-face'.ensures ∙ branch.true)
 
 pub returns : goal.returns
 returns c =

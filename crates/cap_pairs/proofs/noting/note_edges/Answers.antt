@@ -1,37 +1,17 @@
-use Rattle.cap_pairs.proofs.Targets.{edge_in_lem, edge_in_1, note_edge_asks, note_edge_turn}
+use Rattle.cap_pairs.proofs.Targets.{note_edge_asks, note_edge_turn}
 use Rattle.cap_pairs.proofs.Adding.{noted_start}
-use Rattle.cap_pairs.specs.Steps.{Noted, edge_mask, edge_target}
+use Rattle.cap_pairs.specs.Steps.{edge_mask, edge_target}
 use Rattle.box_faces.specs.Faces.{has_bit}
 use native.Mathlib.Omega.{arith}
 use lib.ListN.{get_or}
-use mathlib.Core.Path.{refl, subst}
-use Prim.Native.Nat.{ℕ, ◌+◌}
+use mathlib.Core.Path.{refl}
+use Prim.Native.Nat.{◌+◌}
 use Rattle.cap_pairs.proofs.noting.note_edges.Goals as goal
 
 pub loop-i-init : goal.loop-i-init
 loop-i-init c =
     let a = c.args in
     (noted_start (edge_target a.room.n a.room.nf a.room.nc a.w.now) (λ j. has_bit (edge_mask a.room.n a.room.nf a.room.nc a.w.now j)) a.w.now, omega arith)
-
-pub way_at-table-requires : goal.way_at-table-requires
-way_at-table-requires c =
-    let s = c in
-    let a = s.args in
-    let open-edges-at' = c.open_edges_at-edges in
-    let numbers-at' = c.numbers_at-numbers in
-    let l = c.loop-i in
-    edge_in_1 a.room.n a.room.nf a.room.nc a.room.k a.w.now l.w s.requires.tables_for l.invariant.0.long open-edges-at'.result numbers-at'.result l.i open-edges-at'.ensures
-    numbers-at'.ensures (omega arith)
-
-pub edge_faces-mask-requires : goal.edge_faces-mask-requires
-edge_faces-mask-requires c =
-    let s = c in
-    let a = s.args in
-    let open-edges-at' = c.open_edges_at-edges in
-    let numbers-at' = c.numbers_at-numbers in
-    let l = c.loop-i in
-    edge_in_lem a.room.n a.room.nf a.room.nc a.room.k a.w.now l.w s.requires.tables_for l.invariant.0.long open-edges-at'.result numbers-at'.result l.i open-edges-at'.ensures
-    numbers-at'.ensures (omega arith)
 
 pub add_faces-requires : goal.add_faces-requires
 add_faces-requires c =
@@ -64,13 +44,3 @@ loop-i-preserved c =
           (get_or l.w (numbers-at'.result + l.i) 0) way-at'.ensures refl edge-faces'.result add-faces'.new.w edge-faces'.ensures add-faces'.ensures,
       omega arith,
     )
-
-pub shape_of-w : goal.shape_of-w
-shape_of-w c = c.loop-i.invariant.0.long
-
-pub returns : goal.returns
-returns c =
-    let a = c.args in
-    let l = c.loop-i in
-    subst (λ (x : ℕ). Noted (edge_target a.room.n a.room.nf a.room.nc a.w.now) (λ j. has_bit (edge_mask a.room.n a.room.nf a.room.nc a.w.now j)) a.w.now l.w x) (omega arith)
-    l.invariant.0

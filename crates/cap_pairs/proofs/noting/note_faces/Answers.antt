@@ -1,52 +1,5 @@
-use Rattle.cap_pairs.proofs.Tables.{up_room, down_room, held_room, tables_cleared, numbers_cleared, zeros_cleared, tables_noted, numbers_noted, zeros_noted, sides_faces, above_all, known}
-use mathlib.Core.Path.{refl, ◌∙◌}
+use Rattle.cap_pairs.proofs.Tables.{tables_noted, numbers_noted, zeros_noted, sides_faces, above_all, known}
 use Rattle.cap_pairs.proofs.noting.note_faces.Goals as goal
-
-pub zero_part-requires : goal.zero_part-requires
-zero_part-requires c =
-    let s = c in
-    let a = s.args in
-    let up-at' = c.up_at in
-    up_room a.caps.n a.caps.nf a.caps.k a.caps.list.now a.w.now s.requires.cap_ready a.w.now refl up-at'.result up-at'.ensures
-
-pub zero_part-requires-2 : goal.zero_part-requires-2
-zero_part-requires-2 c =
-    let s = c in
-    let a = s.args in
-    let zero-part' = c.zero_part in
-    let down-at' = c.down_at in
-    down_room a.caps.n a.caps.nf a.caps.k a.caps.list.now a.w.now s.requires.cap_ready zero-part'.new.w zero-part'.ensures.long down-at'.result down-at'.ensures
-
-pub zero_part-requires-3 : goal.zero_part-requires-3
-zero_part-requires-3 c =
-    let s = c in
-    let a = s.args in
-    let zero-part' = c.zero_part in
-    let zero-part2' = c.zero_part-2 in
-    let held-at' = c.held_at in
-    held_room a.caps.n a.caps.nf a.caps.k a.caps.list.now a.w.now s.requires.cap_ready zero-part2'.new.w (zero-part2'.ensures.long ∙ zero-part'.ensures.long) held-at'.result
-    held-at'.ensures
-
-pub note_edges-requires : goal.note_edges-requires
-note_edges-requires c =
-    let s = c in
-    let a = s.args in
-    let up-at' = c.up_at in
-    let zero-part' = c.zero_part in
-    let down-at' = c.down_at in
-    let zero-part2' = c.zero_part-2 in
-    let held-at' = c.held_at in
-    let zero-part3' = c.zero_part-3 in record {
-      tables_for = tables_cleared a.caps.n a.caps.nf a.caps.k a.caps.list.now a.w.now s.requires.cap_ready s.requires.pair_numbers zero-part'.new.w zero-part2'.new.w zero-part3'.new.w
-          up-at'.result down-at'.result held-at'.result up-at'.ensures down-at'.ensures held-at'.ensures zero-part'.ensures zero-part2'.ensures
-          zero-part3'.ensures;
-      by_index = numbers_cleared a.caps.n a.caps.nf a.caps.k a.caps.list.now a.w.now s.requires.cap_ready s.requires.pair_numbers zero-part'.new.w zero-part2'.new.w
-          zero-part3'.new.w up-at'.result down-at'.result held-at'.result up-at'.ensures down-at'.ensures held-at'.ensures zero-part'.ensures
-          zero-part2'.ensures zero-part3'.ensures;
-      by_index_2 = zeros_cleared a.caps.n a.caps.nf a.caps.k a.caps.list.now a.w.now s.requires.cap_ready s.requires.pair_numbers zero-part'.new.w
-          zero-part2'.new.w zero-part3'.new.w up-at'.result down-at'.result held-at'.result up-at'.ensures down-at'.ensures held-at'.ensures
-          zero-part'.ensures zero-part2'.ensures zero-part3'.ensures;
-    }
 
 pub note_sides-requires : goal.note_sides-requires
 note_sides-requires c =

@@ -11,7 +11,10 @@ use Rattle.cap_pairs.proofs.pairs.number_pairs.Goals as goal
 pub put_edges-requires : goal.put_edges-requires
 put_edges-requires c =
     let s = c in
-    let a = s.args in record { tables_for = tables_for a.caps.n a.caps.nf a.caps.k a.caps.list.now a.w.now s.requires; by_index = edge_ends a.caps.n a.caps.nf a.caps.k a.caps.list.now a.w.now s.requires }
+    let a = s.args in record {
+      tables_for = tables_for a.caps.n a.caps.nf a.caps.k a.caps.list.now a.w.now s.requires;
+      by_index = edge_ends a.caps.n a.caps.nf a.caps.k a.caps.list.now a.w.now s.requires;
+    }
 
 pub put_sides-requires : goal.put_sides-requires
 put_sides-requires c =

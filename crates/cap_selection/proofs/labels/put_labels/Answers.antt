@@ -2,25 +2,11 @@ use Prim.Native.Nat.{ℕ, ◌+◌}
 use mathlib.Core.Path.{sym, subst, ◌∙◌}
 use native.Mathlib.Omega.{arith}
 use lib.ListN.{set}
-use Rattle.lists.proofs.Regions.{Filled, filled_none, filled_more}
+use Rattle.lists.proofs.Regions.{Filled, filled_more}
 use Rattle.cap_selection.specs.Steps.{label_in}
-use Rattle.cap_selection.proofs.Same.{label_same, numbered_same}
-use Rattle.cap_selection.proofs.Tabling.{labels_above, labelled_end}
+use Rattle.cap_selection.proofs.Same.{label_same}
+use Rattle.cap_selection.proofs.Tabling.{labels_above}
 use Rattle.cap_selection.proofs.labels.put_labels.Goals as goal
-
-pub loop-s-init : goal.loop-s-init
-loop-s-init c =
-    let s = c.args in
-    (omega arith, filled_none (label_in s.room.n s.room.nf s.room.nc s.room.k s.w.now) s.w.now c.labels_at-labels.result)
-
-pub side_label-requires : goal.side_label-requires
-side_label-requires c =
-    let z = c in
-    let s = z.args in
-    let l = c.loop-s in
-    let o = c.labels_at-labels in
-    let above = labels_above s.room.n s.room.nf s.room.nc s.room.k s.w.now z.requires l.w o.result l.s o.ensures l.invariant.1 in
-    (numbered_same s.room.n s.room.nf s.room.nc s.room.k s.w.now z.requires l.w above, omega arith)
 
 pub loop-s-preserved : goal.loop-s-preserved
 loop-s-preserved c =
@@ -32,14 +18,3 @@ loop-s-preserved c =
     let e = c.side_label.ensures ∙ label_same s.room.n s.room.nf s.room.nc s.room.k s.w.now z.requires l.w above l.s (omega arith) in
     let more = filled_more (label_in s.room.n s.room.nf s.room.nc s.room.k s.w.now) s.w.now l.w o.result l.s (omega arith) l.invariant.1 in
     (omega arith, subst (λ (x : ℕ). Filled (label_in s.room.n s.room.nf s.room.nc s.room.k s.w.now) s.w.now (set l.w (o.result + l.s) x) o.result (l.s + 1)) (sym e) more)
-
-pub shape_of-w : goal.shape_of-w
-shape_of-w c = c.loop-s.invariant.1.long
-
-pub returns : goal.returns
-returns c =
-    let z = c in
-    let s = z.args in
-    let l = c.loop-s in
-    let o = c.labels_at-labels in
-    labelled_end s.room.n s.room.nf s.room.nc s.room.k s.w.now z.requires l.w o.result l.s o.ensures (omega arith) l.invariant.0 l.invariant.1

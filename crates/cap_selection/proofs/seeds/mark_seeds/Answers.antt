@@ -3,7 +3,7 @@ use native.Mathlib.Omega.{arith}
 use lib.ListN.{length}
 use mathlib.Core.Path.{ap, ◌∙◌}
 use Rattle.cap_selection.specs.Steps.{marked_seed}
-use Rattle.cap_selection.proofs.Marking.{mark_start, marking_numbered, component_low, mark_turn, mark_end}
+use Rattle.cap_selection.proofs.Marking.{mark_start, mark_turn}
 use Rattle.cap_selection.proofs.seeds.mark_seeds.Goals as goal
 
 pub loop-i-init : goal.loop-i-init
@@ -11,19 +11,6 @@ loop-i-init c =
     let z = c in
     let s = z.args in
     mark_start s.caps.n s.caps.nf (length s.caps.list.now / 4) s.caps.k s.caps.list.now s.w.now z.requires
-
-pub supplied_face-requires : goal.supplied_face-requires
-supplied_face-requires c = (omega arith, c.requires.faces _ (omega arith))
-
-pub mark_seed-requires : goal.mark_seed-requires
-mark_seed-requires c =
-    let z = c in
-    let s = z.args in
-    let l = c.loop-i in (
-      marking_numbered s.caps.n s.caps.nf (length s.caps.list.now / 4) s.caps.k s.caps.list.now s.w.now z.requires l.w l.i (omega arith) l.invariant,
-      omega arith,
-      component_low s.caps.n s.caps.nf (length s.caps.list.now / 4) s.caps.k s.caps.list.now s.w.now z.requires l.w l.i (omega arith) l.invariant,
-    )
 
 pub loop-i-preserved : goal.loop-i-preserved
 loop-i-preserved c =
@@ -33,13 +20,3 @@ loop-i-preserved c =
     mark_turn s.caps.n s.caps.nf (length s.caps.list.now / 4) s.caps.k s.caps.list.now s.w.now z.requires l.w l.i (omega arith) l.invariant
     c.mark_seed.new.w
     (c.mark_seed.ensures ∙ ap (marked_seed s.caps.n s.caps.nf (length s.caps.list.now / 4) s.caps.k l.w l.i) c.supplied_face.ensures)
-
-pub shape_of-w : goal.shape_of-w
-shape_of-w c = c.loop-i.invariant.above.long
-
-pub returns : goal.returns
-returns c =
-    let z = c in
-    let s = z.args in
-    let l = c.loop-i in
-    mark_end s.caps.n s.caps.nf (length s.caps.list.now / 4) s.caps.k s.caps.list.now s.w.now l.w l.i (omega arith) l.invariant

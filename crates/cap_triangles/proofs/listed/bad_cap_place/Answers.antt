@@ -4,7 +4,7 @@ use lib.ListN.{get_or}
 use native.Mathlib.Omega.{arith}
 use Rattle.geometry.specs.Triangles.{Triangle}
 use Rattle.cap_triangles.specs.Steps.{bad_words}
-use Rattle.cap_triangles.proofs.Passing.{passed_start, passed_stop, passed_more, passed_end}
+use Rattle.cap_triangles.proofs.Passing.{passed_stop, passed_more, passed_end}
 use Rattle.cap_triangles.proofs.listed.bad_cap_place.Goals.{After-is_bad_cap}
 use Rattle.cap_triangles.proofs.listed.bad_cap_place.Goals as goal
 
@@ -14,11 +14,6 @@ by-words : (c : After-is_bad_cap) → let word : ℕ → ℕ = λ k. get_or c.ar
 by-words c =
     c.is_bad_cap.ensures
     ∙ ap (λ (t : Triangle ℕ). bad_words c.args.w.now c.loop-i.last (get_or c.args.caps.list.now (4 * c.loop-i.i) 0) t.a t.b t.c) c.supplied.ensures
-
-pub loop-i-init : goal.loop-i-init
-loop-i-init c =
-    let s = c in
-    passed_start s.args.caps.n s.args.w.now s.args.caps.list.now
 
 pub returns-then-is_bad_cap : goal.returns-then-is_bad_cap
 returns-then-is_bad_cap c =

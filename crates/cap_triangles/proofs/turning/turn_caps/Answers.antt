@@ -1,16 +1,10 @@
-use Rattle.cap_triangles.proofs.Turns.{turning_start, turning_face, turning_asks, turning_more, turning_end}
+use Rattle.cap_triangles.proofs.Turns.{turning_face, turning_asks, turning_more, turning_end}
 use Rattle.geometry.specs.Numbers.{candidates_of}
 use mathlib.Core.Path.{ap, ◌∙◌}
 use Prim.Native.Nat.{ℕ}
 use native.Mathlib.Omega.{arith}
 use Rattle.cap_triangles.specs.Steps.{turned_by}
 use Rattle.cap_triangles.proofs.turning.turn_caps.Goals as goal
-
-pub loop-i-init : goal.loop-i-init
-loop-i-init c =
-    let start = c in
-    let a = start.args in
-    turning_start a.caps.n a.caps.nf a.caps.list.now a.w.now start.requires.supplied start.requires.good
 
 pub supplied_face-requires : goal.supplied_face-requires
 supplied_face-requires c =
@@ -35,9 +29,6 @@ loop-i-preserved c =
     (candidates_of c.supplied.result) c.supplied.ensures c.turned_at-turned.result
     c.turned_at-turned.ensures (candidates_of c.orient_face_triangle-t.result)
     (c.orient_face_triangle-t.ensures ∙ ap (λ (f : ℕ). turned_by l.w f (candidates_of c.supplied.result)) c.supplied_face.ensures)
-
-pub shape_of-w : goal.shape_of-w
-shape_of-w c = c.loop-i.invariant.above.long
 
 pub returns : goal.returns
 returns c =
