@@ -1,6 +1,7 @@
 // Components of open edges (document 02, E13), staged in the work room: the edges in groups, and of each group how many edges it has and whether
 // it is a ring. Item i is open edge i, its labels are its two ends, so that `components` joins what shares a vertex; a component's number is its
 // smallest edge, and records (number, edge), sorted, are the groups in order.
+// Stays (C interface), point 6: `group_edges` is told where its tables begin and how large they are, since C lends one buffer and there is no heap; its steps are lent slices.
 #![tactic(auto)]
 
 ghost use Rattle.std.specs.Prelude.{◌≡◌, ℕ, ◌+◌, ◌*◌, ◌/◌, ◌-◌, ◌≤◌, ◌<◌, length, get_or};
@@ -20,7 +21,7 @@ fn put_ends(records: &[u64], ends: &mut [u64])
 {
     for i in 0..ends.len() / 2 {
         let key = records[2 * i];
-        put_record(ends, 2 * i, pair_first(key), pair_second(key));
+        put_record(ends, 2 * i, (pair_first(key), pair_second(key)));
     }
 }
 
@@ -30,7 +31,7 @@ fn number_records(numbers: &[u64], records: &mut [u64])
     ensures { PairsPut (λ (i : ℕ). (get_or numbers.now i 0, i)) records.new (length numbers.now) }
 {
     for (i, number) in numbers.iter().enumerate() {
-        put_record(records, 2 * i, *number, i as u64);
+        put_record(records, 2 * i, (*number, i as u64));
     }
 }
 
@@ -42,9 +43,7 @@ fn put_grouped(records: &[u64], ends: &[u64], edges: &mut [u64])
 {
     for j in 0..edges.len() / 2 {
         let i = records[2 * j + 1] as usize;
-        let from = ends[2 * i];
-        let other = ends[2 * i + 1];
-        put_record(edges, 2 * j, from, other);
+        put_record(edges, 2 * j, (ends[2 * i], ends[2 * i + 1]));
     }
 }
 
@@ -76,12 +75,7 @@ impl EndTables<'_> {
         requires low { (j : ℕ) → j < length records.now / 2 → get_or records.now (2 * j + 1) 0 < length self.now.ends.now / 2 }
         ensures { result ≡ every (turns_of self.now.ends.now self.now.degrees.now) (records_at records.now (2 * i) (e - i)) }
     {
-        for j in i..e {
-            if !self.turns_once(records, j) {
-                return false;
-            }
-        }
-        true
+        (i..e).all(|j| self.turns_once(records, j))
     }
 }
 
@@ -100,7 +94,7 @@ fn put_components(records: &[u64], ends: &[u64], degrees: &[u64], counts: &mut [
     while i < k {
         let e = run_end(records, 0, k, i);
         let ring = tables.is_ring(records, i, e);
-        put_record(counts, 2 * c, (e - i) as u64, ring as u64);
+        put_record(counts, 2 * c, ((e - i) as u64, ring as u64));
         c += 1;
         i = e;
     }
@@ -109,7 +103,6 @@ fn put_components(records: &[u64], ends: &[u64], degrees: &[u64], counts: &mut [
 
 // The k open edges, whose records stand at the front, by components. From `at` on stand then: ends, as before (2n words, for n sides); the table of components
 // (2n and a word a vertex); degrees (a word a vertex); the edges in groups (2n); the components (2n). Answers how many components there are.
-// Stays (C interface), point 6: where the tables begin, for how many edges, sides and vertices, since C lends one buffer and there is no heap.
 pub fn group_edges(w: &mut [u64], k: usize, n: usize, m: usize, at: usize) -> usize
     requires { GroupRoom w.old k n m at }
     ensures { Grouped (keyed_edges w.old k) w.old w.new k n m at result }

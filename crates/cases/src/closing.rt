@@ -130,6 +130,7 @@ pub fn c10() -> bool
 }
 
 // 6
+// Stays (plainer): as `is_key_range`.
 #[tactic(auto, unfolding(refusals::specs::Refusals::documented_reply, refusals::specs::Refusals::documented))]
 fn is_too_fine(reply: Reply<4>) -> bool
     ensures { result ≡ is_too_fine (documented_reply reply) }

@@ -11,6 +11,8 @@ ghost use Rattle.components.specs.Table.{ItemLabels, ComponentTable};
 ghost use Rattle.components.specs.Forest.{Forest, RootFound, RootOf, Flattened, LabelEntered, Swept, SizesTallied};
 
 // The root of x's tree, with the path to it halved.
+// Stays (plainer), point 5: `Forest links (length links)` of enter and flatten, ItemLabels of join_item, join and components too: a struct of the links lent for writing would be made
+// anew for each call, and says no more than the slice.
 fn find(links: &mut [u64], x: usize) -> usize
     requires x_in { x < length links.old }
     requires forest { Forest links.old (length links.old) }
@@ -28,6 +30,7 @@ fn find(links: &mut [u64], x: usize) -> usize
     r
 }
 
+// Stays (C interface): `first` is a word of the lent table, 0 while there is no first item, since C lends one buffer and there is no heap.
 // A label of item i: i is the first, or its tree and the first's are made one. r is the root of i's tree, before and after.
 // The larger root is linked to the smaller, so that a root is its tree's least item.
 fn enter(links: &mut [u64], first: &mut u64, i: usize, r: usize) -> usize
@@ -55,8 +58,8 @@ fn enter(links: &mut [u64], first: &mut u64, i: usize, r: usize) -> usize
 fn own(links: &mut [u64])
     ensures { links.new ≡ up_to (length links.old) }
 {
-    for i in 0..links.len() {
-        links[i] = i as u64;
+    for (i, link) in links.iter_mut().enumerate() {
+        *link = i as u64;
     }
 }
 
@@ -80,7 +83,7 @@ pub fn tally(numbers: &[u64], sizes: &mut [u64])
 {
     for number in numbers {
         let r = *number as usize;
-        sizes[r] = sizes[r] + 1;
+        sizes[r] += 1;
     }
 }
 

@@ -1,9 +1,8 @@
 -- Laws of open edges, for any numbers of vertices. Callers cite these, and need not look into `open_edges`. Assumes nothing.
 --   same_pair_refl, same_pair_sym, same_pair_as   `same_pair` is an equivalence: who has the pair of s is as near to any pair as s
 --   open_is_side, open_once, once_open            an open edge is a side that alone bears its pair, and each such side is an open edge
---   open_pair                                     a pair is that of an open edge exactly if exactly one side bears it
 --   open_small                                    corners below 2^32 make open edges with ends below 2^32
---   open_distinct, open_ascending                 no two have the same pair; of two places the earlier has the lesser pair
+--   open_distinct                                 no two have the same pair
 use Prim.Native.Nat.{ℕ, ◌%◌, ◌≤◌, ◌<◌}
 use mathlib.Core.Bool.{Bool, true, false}
 use mathlib.Core.List.{List, [], ◌∷◌, map, Memᴰ}

@@ -2,7 +2,7 @@
 --   Row                          what a record says: which side it is of, and its key
 --   length_records_from, records_from_at, numbers_from, sides_from   of the records in the order of the sides
 --   row_order                    of two records the later is before the earlier exactly if its pair is
---   table_length, table_rows, table_ascends
+--   table_rows, table_ascends
 --   table_sides                  the edge table holds the sides in ascending order of their sorted pair, those of one pair in their order
 --   table_bearing                the records of one pair are those of the sides that bear it, in their order
 --   table_open                   the records whose key stands once are those of the open edges, in order

@@ -13,8 +13,6 @@ pub fn next_side(side: usize) -> usize
     if side % 3 == 2 { side - 2 } else { side + 1 }
 }
 
-// Stays (plainer), point 5: `side < length facets` of edge_to, side_key and side_mask (candidate_edges) too: the facets are lent by C, and a struct of them and a number would be
-// made anew for each side.
 pub fn edge_from(facets: &[u32], side: usize) -> u32
     requires { (length facets.now % 3 ≡ 0) × (side < length facets.now) }
     ensures { result ≡ (get_or (sides (threes facets.now)) side (0, 0)).0 }

@@ -19,10 +19,7 @@ pub fn keep_open(w: &mut [u64], n: usize) -> usize
     // Stays (plainer): from run to run; a `for` would count single records.
     while i < n {
         let end = records::run_end(w, 0, n, i);
-        let key = w[2 * i];
-        let side = w[2 * i + 1];
-        w[2 * k] = key;
-        w[2 * k + 1] = side;
+        records::move_record(w, 2 * i, 2 * k);
         k += (end == i + 1) as usize;
         i = end;
     }

@@ -12,8 +12,8 @@ ghost use Rattle.edges.specs.Table.{edge_table};
 ghost use Rattle.irregular_edges.specs.Listed.{irregular_run, IrregularListed};
 
 use edges::edge_from;
-use records::run_end;
-use words::{pair_first, pair_second};
+use records::{put_record, run_end};
+use words::unpack_pair;
 
 // Whether the sides of the records from i up to e, which are all that bear a pair, make it irregular. Of two that bear one pair it is enough to ask
 // where they begin.
@@ -43,9 +43,8 @@ pub fn irregular_edges(facets: &[u32], w: &mut [u64], at: usize) -> usize
     while i < n {
         let e = run_end(w, 0, n, i);
         if is_irregular(facets, w, i, e) {
-            let key = w[2 * i];
-            w[at + 2 * q] = pair_first(key);
-            w[at + 2 * q + 1] = pair_second(key);
+            let ends = unpack_pair(w[2 * i]);
+            put_record(w, at + 2 * q, ends);
             q += 1;
         }
         i = e;

@@ -3,7 +3,6 @@
 --   run_cut              what `run_end` found by comparing keys is a run
 --   runs_nil, run_at     no records; the run at a place of words that are as they were;   first_key_lem   the key of a run in words
 --   KeysPart, part_start, part_next, run_first   from run to run of ascending keys; the first of a key is where its run begins
---   put_none, put_more   a word by the payload of each record
 --   by_runs              what holds of no records, and with one run more in front of greater keys, holds of every ascending list
 --   runs_distinct        the keys of the runs of an ascending list are its different keys
 use Prim.Native.Nat.{ℕ, zero, suc, ◌+◌, ◌*◌, ◌-◌, ◌≤◌, ◌<◌}

@@ -1,10 +1,7 @@
 -- Laws of `overlay`, and of a loop that writes a list to the front of another, an element a turn. Assumes nothing.
---   length_overlay, take_overlay, drop_overlay   its length, and its two parts
---   overlay_nil, overlay_whole                   nothing written; all written over
+--   overlay_whole                                all written over
 --   sets_overlay                                 stores one after the other from 0 on make it
---   overlay_zeros                                clearing the used front of a list that is zero beyond clears all of it
---   take_zeros, drop_zeros                       parts of a list of zeros
---   cleared_front, cleared_part, part_zeroed     a lent part that came back cleared
+--   cleared_part, part_zeroed                    a lent part that came back cleared
 --   Writing                                      the loop: the first i elements of `new` are written; start, turn, end
 use Prim.Native.Nat.{ℕ, zero, suc, ◌+◌, ◌-◌, ◌≤◌, ◌<◌, zero-le}
 use mathlib.Core.List.{List, [], ◌∷◌, ◌++◌, append-nil}

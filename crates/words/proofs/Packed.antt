@@ -2,7 +2,7 @@
 -- same of pairs, edges and triples. Assumes nothing.
 --   packed_lex, lex_packed      less as a word exactly if less by the first digit, or by the second where the first is the same
 --   packed_injective            equal words have equal digits
---   packed_high, packed_low     the digits come back;   packed_back   a word is the packing of its digits
+--   packed_high, packed_low     the digits come back
 --   pair-.., edge-.., triple-..   these, of two numbers below 2^32, two ends in either order, three numbers below 2^21
 use Prim.Native.Nat.{ℕ, zero, suc, ◌+◌, ◌*◌, ◌/◌, ◌%◌, ◌≤◌, ◌<◌, min, max}
 use mathlib.Core.Path.{◌≡◌, refl, ap, ◌∙◌}

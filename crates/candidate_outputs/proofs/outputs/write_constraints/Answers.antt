@@ -46,13 +46,8 @@ loop-i-preserved c =
           c.loop-i.invariant.1 _ _
           (c.write_three.ensures ∙ (λ t. sets c.loop-i.out
           c.loop-i.o
-          (c.triple_first.ensures t ∷ c.triple_second.ensures t ∷ c.triple_third.ensures t ∷ []))) refl,
+          ((c.unpack_triple-a.ensures t).0 ∷ (c.unpack_triple-a.ensures t).1 ∷ (c.unpack_triple-a.ensures t).2 ∷ []))) refl,
     )
-
-pub shape_of-out : goal.shape_of-out
-shape_of-out c =
-    let a = c.args in
-    blocks_long (key_block a.keys.now) a.out.now c.loop-i.out 0 c.loop-i.i c.loop-i.o c.loop-i.invariant.1
 
 pub returns : goal.returns
 returns c =

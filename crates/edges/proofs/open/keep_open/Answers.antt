@@ -11,7 +11,7 @@ pub loop-i-preserved : goal.loop-i-preserved
 loop-i-preserved c =
     let s = c in
     let l = c.loop-i in
-    keeping_turn s.args.w.now s.args.n l.w l.k l.i l.invariant (omega arith) c.run_end-end.result c.run_end-end.ensures
+    rw c.move_record.ensures (keeping_turn s.args.w.now s.args.n l.w l.k l.i l.invariant (omega arith) c.run_end-end.result c.run_end-end.ensures)
 
 pub returns : goal.returns
 returns c = let s = c in let l = c.loop-i in keeping_end s.args.w.now s.args.n l.w l.k l.i l.invariant (omega arith) s.requires.ascending

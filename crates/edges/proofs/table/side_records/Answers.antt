@@ -6,7 +6,8 @@ pub loop-side-preserved : goal.loop-side-preserved
 loop-side-preserved c =
     let l = c.loop-side in
     let s = c in
-    listing_turn s.args.facets.now s.args.w.now s.requires.0 s.requires.1 l.w l.side l.invariant c.side_key-key.result (omega arith) c.side_key-key.ensures
+    rw c.put_record.ensures
+    (listing_turn s.args.facets.now s.args.w.now s.requires.0 s.requires.1 l.w l.side l.invariant c.side_key-key.result (omega arith) c.side_key-key.ensures)
 
 pub returns : goal.returns
 returns c =
