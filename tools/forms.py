@@ -5,7 +5,7 @@
 
 Without a commit the files as they lie here are read. --list prints each place, --open those with no reason beside them. It reads text: a place is found by its form. A
 place that stays has a comment line `// Stays (C interface): why` (or speed, proof, plainer): over its line, over its function, over the impl that it is part of, or, with
-`, point 6` or another number behind the bracket, at the head of its file. Of a fact or of parameters that several functions share one of them has the line.
+`, point 6` or another number behind the bracket, at the head of its file. Of a fact or of parameters that several functions share one of them has a line that says point 5.
 """
 import collections
 import pathlib
@@ -89,6 +89,11 @@ def comment_over(lines, i):
     return lines[k + 1: i]
 
 
+def joined(own):
+    """One reason of several lines: the first one's name, and the points of all. A line that names no point speaks of its function's form, and of no fact."""
+    return (own[0][0], sorted({p for _, points in own for p in points} if all(points for _, points in own) else set("123467") | {p for _, points in own for p in points})) if own else None
+
+
 def reasons_of(text):
     """The reasons of a file: those at its head, by point, and those over each line."""
     lines = text.split("\n")
@@ -104,15 +109,15 @@ def reasons_of(text):
     within = None
     over_function = None
     for i, line in enumerate(lines):
-        own = [m.group(1) for m in map(REASON.search, comment_over(lines, i)) if m]
+        own = [(m.group(1), re.findall(r"\d", m.group(2))) for m in map(REASON.search, comment_over(lines, i)) if m]
         if re.match(r"(?:pub )?(?:unsafe )?(?:impl|trait|enum|struct)\b", line):
-            within = own[0] if own else None
+            within = joined(own)
         if re.match(r"\}", line):
             within = None
         if FN.match(line):
-            over_function = own[0] if own else None
+            over_function = joined(own)
             indent = FN.match(line).group(1)
-        beside[i + 1] = own[0] if own else over_function or within
+        beside[i + 1] = joined(own) or over_function or within
         if over_function and re.match(r"%s\}" % indent, line):
             over_function = None
     return head, beside
@@ -226,17 +231,26 @@ def named(where):
     return ", as " + ", ".join(sorted(where)[:3])
 
 
-# 5: facts that stand in the contracts of three or more functions, and parameters that travel together through three or more
+# 5: facts that stand in the contracts of three or more functions, and parameters that travel together through three or more. A fact is a part of a `requires`, or a bound in an
+# `ensures`; what a named predicate says of other values is the same fact, within a crate.
+def facts_of(name, clauses):
+    for word, clause in re.findall(r"(requires|ensures)(?: \w+)? \{(.*?)\}\s*(?=requires|ensures|$)", clauses, re.S):
+        for part in re.split(r" × ", re.sub(r"\s+", " ", clause)):
+            part = re.sub(r"\b([\w.]+)\.(old|now|new|entry)\b", r"\1", part.strip(" ()"))
+            predicate = re.match(r"[A-Z]\w*", part)
+            if word == "requires" and predicate:
+                yield f"{predicate.group(0)} of {name.split('/')[1]}"
+            elif word == "requires" or (re.search(r"[<≤]", part) and "→" not in part):
+                yield part
+
+
 def point5(files, found):
     facts = collections.defaultdict(set)
     groups = collections.defaultdict(set)
     for name, text in files:
         for f in functions(name, text):
-            for clause in re.findall(r"(?:requires|ensures)(?: \w+)? \{(.*?)\}\s*(?=requires|ensures|$)", f["clauses"], re.S):
-                for part in re.split(r" × ", re.sub(r"\s+", " ", clause)):
-                    part = part.strip(" ()")
-                    if re.search(r"[<≤]", part) and "→" not in part:
-                        facts[re.sub(r"\b(\w+)\.(old|now)\b", r"\1", part)].add(f["where"] + " " + f["name"])
+            for fact in facts_of(name, f["clauses"]):
+                facts[fact].add(f["where"] + " " + f["name"])
             names = [p for p, t in parameters(f["signature"])]
             for group in (
                 ("n", "nf", "nc"), ("n", "nf"), ("vertices", "facets"), ("extents", "eps", "resolution"), ("extents", "eps"), ("out_vertices", "out_facets"),
@@ -288,7 +302,10 @@ def main():
         if not m:
             return None
         head, beside = reasons[m.group(1)]
-        return beside.get(int(m.group(2))) or head.get(kind[0])
+        over = beside.get(int(m.group(2)))
+        if over and kind[0] in over[1]:
+            return over[0]
+        return head.get(kind[0])
 
     def found(kind, place, members=()):
         why = next((r for r in (reason(kind, w) for w in members or [place]) if r), None)

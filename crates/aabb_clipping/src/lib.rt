@@ -17,7 +17,7 @@ use input_tests::boxes::{box_in_range, is_bad_box};
 use input_tests::{all_in_range, check_lists, eps_in_range, work_need};
 use refusals::refusal::Refusal;
 use refusals::reply::Reply;
-use words::zero_front;
+use words::zero;
 
 // Tests 1, 2, 3, 4, 5 and 7, in that order.
 fn check(mesh: MeshLists<'_>, clip: Clip, ceiling: u64, lent: usize) -> Result<(), Refusal>
@@ -39,8 +39,8 @@ fn check(mesh: MeshLists<'_>, clip: Clip, ceiling: u64, lent: usize) -> Result<(
 
 // Whether the outputs hold whatever the facets could give, so that 12 cannot arise: 28 corners and 26 facets of each facet, or of a mesh
 // wholly inside no more than it has.
-fn is_ample(admitted: Admitted<'_>, clip: Clip, vertex_room: usize, facet_room: usize) -> bool
-    ensures { result ≡ true → Fits (clip_result admitted.entry.mesh.vertices.now admitted.entry.mesh.facets.now clip) vertex_room facet_room }
+fn is_ample(admitted: Admitted<'_>, vertex_room: usize, facet_room: usize) -> bool
+    ensures { result ≡ true → Fits (clip_result admitted.entry.mesh.vertices.now admitted.entry.mesh.facets.now admitted.entry.clip) vertex_room facet_room }
 {
     let n = admitted.mesh.facets.len() / 3;
     if 84 * n <= vertex_room && 78 * n <= facet_room {
@@ -49,23 +49,23 @@ fn is_ample(admitted: Admitted<'_>, clip: Clip, vertex_room: usize, facet_room: 
     if vertex_room < admitted.mesh.vertices.len() || facet_room < admitted.mesh.facets.len() {
         return false;
     }
-    wholly_inside(admitted.mesh.vertices, clip)
+    wholly_inside(admitted.mesh.vertices, admitted.clip)
 }
 
 // Two passes: the first counts, into no room, and the second writes.
+// Stays (plainer), point 5: the outputs are two parameters; a struct of two `&mut` needs a clause more for each in each function, that it is still the caller's.
 fn clip_counted(
     admitted: Admitted<'_>,
-    clip: Clip,
     ids: &mut [u64],
     out_vertices: &mut [f64],
     out_facets: &mut [u32],
 ) -> Reply<2>
     requires { length ids.old ≡ length admitted.mesh.vertices.now / 3 }
     ensures { Answer []
-        (mesh_outputs (clip_result admitted.entry.mesh.vertices.now admitted.entry.mesh.facets.now clip) out_vertices.old out_vertices.new out_facets.old
+        (mesh_outputs (clip_result admitted.entry.mesh.vertices.now admitted.entry.mesh.facets.now admitted.entry.clip) out_vertices.old out_vertices.new out_facets.old
         out_facets.new) (documented_reply result) }
 {
-    let need = admitted.run_pass(clip, ids, &mut out_vertices[..0], &mut out_facets[..0]);
+    let need = admitted.run_pass(ids, &mut out_vertices[..0], &mut out_facets[..0]);
     let need_vertices = 3 * need.vertices;
     let need_facets = need.numbers;
     if out_vertices.len() < need_vertices {
@@ -74,27 +74,26 @@ fn clip_counted(
     if out_facets.len() < need_facets {
         return Err(Refusal::NoRoom(need_facets));
     }
-    admitted.run_pass(clip, ids, out_vertices, out_facets);
+    admitted.run_pass(ids, out_vertices, out_facets);
     Ok([need_vertices, need_facets])
 }
 
 // One pass where the outputs are ample.
 fn clip_checked(
     admitted: Admitted<'_>,
-    clip: Clip,
     ids: &mut [u64],
     out_vertices: &mut [f64],
     out_facets: &mut [u32],
 ) -> Reply<2>
     requires { length ids.old ≡ length admitted.mesh.vertices.now / 3 }
     ensures { Answer []
-        (mesh_outputs (clip_result admitted.entry.mesh.vertices.now admitted.entry.mesh.facets.now clip) out_vertices.old out_vertices.new out_facets.old
+        (mesh_outputs (clip_result admitted.entry.mesh.vertices.now admitted.entry.mesh.facets.now admitted.entry.clip) out_vertices.old out_vertices.new out_facets.old
         out_facets.new) (documented_reply result) }
 {
-    if !is_ample(admitted, clip, out_vertices.len(), out_facets.len()) {
-        return clip_counted(admitted, clip, ids, out_vertices, out_facets);
+    if !is_ample(admitted, out_vertices.len(), out_facets.len()) {
+        return clip_counted(admitted, ids, out_vertices, out_facets);
     }
-    let made = admitted.run_pass(clip, ids, out_vertices, out_facets);
+    let made = admitted.run_pass(ids, out_vertices, out_facets);
     Ok([3 * made.vertices, made.numbers])
 }
 
@@ -113,8 +112,8 @@ fn clip_lent(
 {
     check(mesh, clip, ceiling, work.len())?;
     let n = mesh.vertices.len() / 3;
-    let admitted = Admitted { mesh };
-    clip_checked(admitted, clip, &mut work[..n], out_vertices, out_facets)
+    let admitted = Admitted { mesh, clip };
+    clip_checked(admitted, &mut work[..n], out_vertices, out_facets)
 }
 
 pub fn clip_mesh_to_aabb(
@@ -129,8 +128,7 @@ pub fn clip_mesh_to_aabb(
         (mesh_outputs (clip_result mesh.entry.vertices.now mesh.entry.facets.now clip) out_vertices.old out_vertices.new out_facets.old
         out_facets.new) work.old work.new (documented_reply result) }
 {
-    let lent = work.len();
     let reply = clip_lent(mesh, clip, ceiling, work, out_vertices, out_facets);
-    zero_front(work, lent);
+    zero(work);
     reply
 }

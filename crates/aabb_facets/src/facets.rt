@@ -21,8 +21,7 @@ use geometry::vertices::{corner_at, facet_at, vertex_at};
 use words::put;
 
 // How many vertices and how many facet numbers have been made.
-// Stays (plainer): the lists written beside it are parameters; a struct that holds `&mut` needs a clause more in each function for each list, that it is still the caller's.
-// Stays (plainer): room for what a facet adds is asked of each `at`; as a field here it would have to hold of what comes back too, after any number of facets.
+// Stays (plainer), point 5: the lists written beside it are parameters; a struct that holds `&mut` needs a clause more in each function for each list, that it is still the caller's.
 #[derive(Clone, Copy)]
 pub struct Counts {
     pub vertices: usize,
@@ -70,6 +69,7 @@ fn share_vertex(
 }
 
 // The three corners of the facet i, in a loop: one call, so that it is inlined.
+// Stays (plainer), point 5: room for what a facet adds is asked of `at`; as a field of `Counts` it would have to hold of what comes back too, after any number of facets.
 fn share_facet(
     mesh: MeshLists<'_>,
     i: usize,
@@ -129,6 +129,7 @@ fn put_fanned(
 }
 
 // A facet that is not wholly inside.
+// Stays (plainer), point 5: room for what a facet adds is asked of `at`; as a field of `Counts` it would have to hold of what comes back too, after any number of facets.
 fn cut_facet(
     vertices: &[f64],
     t: MeshTriangle,
@@ -155,6 +156,7 @@ fn cut_facet(
 }
 
 // The facet i.
+// Stays (plainer), point 5: room for what a facet adds is asked of `at`; as a field of `Counts` it would have to hold of what comes back too, after any number of facets.
 pub fn clip_facet(
     mesh: MeshLists<'_>,
     i: usize,

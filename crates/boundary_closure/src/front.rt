@@ -1,5 +1,5 @@
 // The operation candidates: the order of its steps.
-// Stays (C interface), point 6: n and k say where tables stand in the lent room, since C lends one buffer and there is no heap.
+// Stays (C interface), point 6: n says where tables stand in the lent room, since C lends one buffer and there is no heap; k counts its open edges.
 ghost use Rattle.std.specs.Prelude.{◌≡◌, [], ◌/◌, ◌≤◌, length};
 ghost use Rattle.refusals.specs.Refusals.{documented_reply};
 ghost use Rattle.refusals.specs.Answers.{Answer, Answered};
@@ -116,7 +116,7 @@ fn candidates_lent(
 {
     let lent = work.len();
     check_closure(mesh, 0, asked, ceiling, lent)?;
-    if mesh.facets.len() == 0 {
+    if mesh.facets.is_empty() {
         return Ok([0, 0, 0, 0]);
     }
     make_candidates(

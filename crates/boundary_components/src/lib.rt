@@ -1,4 +1,5 @@
 // Open boundaries listed (document 02, E13): open edges by components, rings among these, and edges that no closed surface has.
+// Stays (C interface), point 6: the mesh's vertices are a number and the room is one lent buffer, since C lends them so and there is no heap.
 #![tactic(auto)]
 
 ghost use Rattle.std.specs.Prelude.{◌≡◌, [], ◌+◌, ◌≤◌, length};
@@ -7,8 +8,6 @@ ghost use Rattle.refusals.specs.Refusals.{documented_reply, first_refusal};
 ghost use Rattle.refusals.specs.Answers.{Answer, Answered};
 ghost use Rattle.input_tests.specs.Front.{limits};
 ghost use Rattle.boundary_components.specs.Boundary.{boundary_tests, boundary_outputs};
-ghost use Rattle.words.specs.Overlay.{overlay};
-ghost use Rattle.lists.specs.Regions.{view};
 ghost use Rattle.boundary_components.specs.Steps.{Ready, Listed};
 
 use boundary_groups::group_edges;
@@ -17,7 +16,7 @@ use input_tests::{has_bad_index, is_ragged, is_too_many, most_admitted, work_nee
 use irregular_edges::irregular_edges;
 use refusals::refusal::Refusal;
 use refusals::reply::Reply;
-use words::{copy_front, zero_front, zero_part};
+use words::{copy_front, zero, zero_part};
 
 // Tests 1, 2, 3 and 7, in that order.
 fn check(vertices: u64, facets: &[u32], ceiling: u64, lent: usize) -> Result<(), Refusal>
@@ -70,15 +69,8 @@ fn stage(vertices: usize, facets: &[u32], work: &mut [u64]) -> Found
     }
 }
 
-// The n words of w from `from` on, to the front of an output.
-fn write_list(w: &[u64], from: usize, n: usize, out: &mut [u64])
-    requires { (from + n ≤ length w.now) × (n ≤ length out.old) }
-    ensures { out.new ≡ overlay (view w.now from n) out.old }
-{
-    copy_front(&w[from..from + n], out);
-}
-
 // Every length is known before the first output is written.
+// Stays (C interface), point 5: the three outputs of list_lent and boundary_components too, which C lends one by one.
 fn list_checked(
     vertices: usize,
     facets: &[u32],
@@ -106,9 +98,11 @@ fn list_checked(
         return Err(Refusal::NoRoom(irregular));
     }
     let n = facets.len();
-    write_list(work, 9 * n + 2 * vertices, edges, out_edges);
-    write_list(work, 11 * n + 2 * vertices, components, out_components);
-    write_list(work, 4 * n, irregular, out_irregular);
+    let listed = 9 * n + 2 * vertices;
+    let counted = 11 * n + 2 * vertices;
+    copy_front(&work[listed..listed + edges], out_edges);
+    copy_front(&work[counted..counted + components], out_components);
+    copy_front(&work[4 * n..4 * n + irregular], out_irregular);
     Ok([edges, components, irregular])
 }
 
@@ -160,7 +154,6 @@ pub fn boundary_components(
         out_components,
         out_irregular,
     );
-    let lent = work.len();
-    zero_front(work, lent);
+    zero(work);
     reply
 }

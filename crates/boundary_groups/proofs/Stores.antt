@@ -1,133 +1,76 @@
--- Laws of the loops that store. Assumes nothing.
---   PairsPut, pairs_none, pairs_more     pairs of words, one behind the other
---   Tallying, tally_start, tally_low, tally_turn, tally_end   ends are counted
-use Prim.Native.Nat.{ℕ, ◌+◌, ◌*◌, ◌≤◌, ◌<◌}
-use native.Mathlib.Numerals.{add-one}
+-- Laws of a loop that stores pairs of words, one behind the other. Assumes nothing.
+--   pairs_none, pairs_more     none, and one more
+--   pairs_words                all of a list, as words
+use Prim.Native.Nat.{ℕ, zero, suc, ◌+◌, ◌*◌, ◌≤◌, ◌<◌}
 use native.Mathlib.Omega.{arith}
 use native.Mathlib.Decide.{ℕ_discrete}
 use mathlib.Core.Path.{◌≡◌, refl, sym, ap, ◌∙◌}
-use mathlib.Core.Bool.{cond}
-use mathlib.Core.List.{List, [], ◌∷◌}
-use mathlib.Core.Logic.{◌⊎◌, inl, inr}
-use lib.Dec.{eqb}
+use mathlib.Core.List.{List, [], ◌∷◌, ◌++◌, map, flat_map}
 use lib.ListN.{get_or, set, length, take, length-set}
-use lib.Seq.{get_or-set_same, get_or-set_other, take-suc, take_all, length-take-le}
-use borrow.Author.Tests.{eq-eqb, ne_eqb}
-use Rattle.lists.specs.Lists.{count}
-use Rattle.lists.specs.Regions.{view, Outside}
-use Rattle.lists.proofs.Regions.{at_set, view_length, view_at}
-use Rattle.lists.proofs.Counts.{count_append, count_one, count_nil, count_le}
-use Rattle.boundary_groups.specs.Staged.{TallyRoom, EndsTallied}
+use lib.Seq.{get_or-set_same, get_or-set_other, take-suc, take_all}
+use Rattle.lists.specs.Lists.{up_from, up_to}
+use Rattle.lists.proofs.Sequences.{flat_map_lem, flat_up, map_below}
+use Rattle.edges.specs.Edges.{pair_words}
+use Rattle.records.specs.Buffer.{put_record}
+use Rattle.boundary_groups.specs.Staged.{pair_at, PairsPut}
 
--- ---- pairs of words
+pub pairs_none : (f : ℕ → ℕ × ℕ) (w : List ℕ) → PairsPut f w 0
+pairs_none f w = record { first = λ j h. absurd (omega arith); second = λ j h. absurd (omega arith) }
 
-pub record PairsPut (f g : ℕ → ℕ) (w v : List ℕ) (to i : ℕ) : Type 0 where
-  pub long : length v ≡ length w
-  pub first : (j : ℕ) → j < i → get_or v (to + 2 * j) 0 ≡ f j
-  pub second : (j : ℕ) → j < i → get_or v (to + 2 * j + 1) 0 ≡ g j
-  pub rest : (x : ℕ) → Outside x to (2 * i) → get_or v x 0 ≡ get_or w x 0
-
-pub pairs_none : (f g : ℕ → ℕ) (w : List ℕ) (to : ℕ) → PairsPut f g w w to 0
-pairs_none f g w to = record { long = refl; first = λ j h. absurd (omega arith); second = λ j h. absurd (omega arith); rest = λ x o. refl }
-
-pub pairs_more : (f g : ℕ → ℕ) (w v : List ℕ) (to i p q x y : ℕ) → PairsPut f g w v to i
-    → to + 2 * i + 1 < length v → p ≡ to + 2 * i → q ≡ to + 2 * i + 1 → x ≡ f i → y ≡ g i
-    → PairsPut f g w (set (set v p x) q y) to (i + 1)
-pairs_more f g w v to i p q x y P room a b d e =
-    record {
-      long = length-set (set v p x) q y ∙ length-set v p x ∙ P.long;
-      first = λ j h. at_first j h (ℕ_discrete j i);
-      second = λ j h. at_second j h (ℕ_discrete j i);
-      rest = λ z o.
-          other z (λ u. o (2 * i) (omega arith) (omega arith)) (λ u. o (2 * i + 1) (omega arith) (omega arith)) ∙ P.rest z (λ j l. o j (omega arith));
-    }
+pub pairs_more : (f : ℕ → ℕ × ℕ) (v : List ℕ) (i : ℕ) (r : ℕ × ℕ) → PairsPut f v i → 2 * i + 1 < length v → r.0 ≡ (f i).0 → r.1 ≡ (f i).1
+    → PairsPut f (put_record v (2 * i) r) (i + 1)
+pairs_more f v i r P room d e = record { first = λ j h. at_first j h (ℕ_discrete j i); second = λ j h. at_second j h (ℕ_discrete j i) }
   where
     u : List ℕ
-    u = set (set v p x) q y
+    u = put_record v (2 * i) r
 
-    other : (z : ℕ) → (z ≡ p → ⊥) → (z ≡ q → ⊥) → get_or u z 0 ≡ get_or v z 0
-    other z n l = get_or-set_other (set v p x) q z y 0 l ∙ get_or-set_other v p z x 0 n
+    other : (z : ℕ) → (z ≡ 2 * i → ⊥) → (z ≡ 2 * i + 1 → ⊥) → get_or u z 0 ≡ get_or v z 0
+    other z n l = get_or-set_other (set v (2 * i) r.0) (2 * i + 1) z r.1 0 l ∙ get_or-set_other v (2 * i) z r.0 0 n
 
     before : (j : ℕ) → j < i + 1 → (j ≡ i → ⊥) → j < i
     before j h n = omega arith
 
-    at_first : (j : ℕ) → j < i + 1 → Dec (j ≡ i) → get_or u (to + 2 * j) 0 ≡ f j
-    at_first j h (yes r) =
-        ap (λ (k : ℕ). get_or u k 0) (omega arith)
-        ∙ get_or-set_other (set v p x) q p y 0 (λ z. omega arith) ∙ get_or-set_same v p x 0 (omega arith) ∙ d ∙ ap f (sym r)
-    at_first j h (no n) = other (to + 2 * j) (λ z. n (omega arith)) (λ z. omega arith) ∙ P.first j (before j h n)
+    at_first : (j : ℕ) → j < i + 1 → Dec (j ≡ i) → get_or u (2 * j) 0 ≡ (f j).0
+    at_first j h (yes q) =
+        rw q (get_or-set_other (set v (2 * i) r.0) (2 * i + 1) (2 * i) r.1 0 (λ z. omega arith) ∙ get_or-set_same v (2 * i) r.0 0 (omega arith) ∙ d)
+    at_first j h (no n) = other (2 * j) (λ z. n (omega arith)) (λ z. omega arith) ∙ P.first j (before j h n)
 
-    at_second : (j : ℕ) → j < i + 1 → Dec (j ≡ i) → get_or u (to + 2 * j + 1) 0 ≡ g j
-    at_second j h (yes r) =
-        ap (λ (k : ℕ). get_or u k 0) (omega arith) ∙ get_or-set_same (set v p x) q y 0 (omega (arith, length-set v p x)) ∙ e ∙ ap g (sym r)
-    at_second j h (no n) = other (to + 2 * j + 1) (λ z. omega arith) (λ z. n (omega arith)) ∙ P.second j (before j h n)
+    at_second : (j : ℕ) → j < i + 1 → Dec (j ≡ i) → get_or u (2 * j + 1) 0 ≡ (f j).1
+    at_second j h (yes q) = rw q (get_or-set_same (set v (2 * i) r.0) (2 * i + 1) r.1 0 (omega (arith, length-set v (2 * i) r.0)) ∙ e)
+    at_second j h (no n) = other (2 * j + 1) (λ z. omega arith) (λ z. n (omega arith)) ∙ P.second j (before j h n)
 
--- ---- ends counted
+-- ---- words as pairs
 
-pub record Tallying (w₀ w : List ℕ) (ends t to m i : ℕ) : Type 0 where
-  pub upto : i ≤ t
-  pub long : length w ≡ length w₀
-  pub degrees : (v : ℕ) → v < m → get_or w (to + v) 0 ≡ count (eqb v) (take i (view w₀ ends t))
-  pub rest : (x : ℕ) → Outside x to m → get_or w x 0 ≡ get_or w₀ x 0
+abbrev two : ℕ × ℕ → List ℕ
+two e = e.0 ∷ e.1 ∷ []
 
-pub tally_start : (w : List ℕ) (ends t to m : ℕ) → TallyRoom w ends t to m → Tallying w w ends t to m 0
-tally_start w ends t to m r =
-    record { upto = omega arith; long = refl; degrees = λ v h. r.zero v h ∙ sym (count_nil (eqb v)); rest = λ x h. refl }
+pub front_pairs : (w : List ℕ) (k : ℕ) → 2 * k ≤ length w → take (2 * k) w ≡ pair_words (map (pair_at w) (up_to k))
+unfolding pair_words flat_map up_from
+front_pairs w k h = flat k h ∙ sym (flat_map_lem two (pair_at w) (up_to k))
+  where
+    append_assoc : (a b d : List ℕ) → (a ++ b) ++ d ≡ a ++ (b ++ d)
+    append_assoc [] b d = refl
+    append_assoc (z ∷ a) b d = ap (λ (l : List ℕ). z ∷ l) (append_assoc a b d)
 
-tally_more : (c : List ℕ) (i v : ℕ) → i < length c → count (eqb v) (take (i + 1) c) ≡ count (eqb v) (take i c) + cond (eqb v (get_or c i 0)) 1 0
-tally_more c i v h =
-    rw (add-one, take-suc c i 0 h, count_append (eqb v) (take i c) (get_or c i 0 ∷ []), count_one (eqb v) (get_or c i 0) (eqb v (get_or c i 0)) refl)
+    twice : (k : ℕ) → 2 * suc k ≡ suc (suc (2 * k))
+    twice k = omega arith
 
-module _ (w₀ w : List ℕ) (ends t to m i : ℕ) (r : TallyRoom w₀ ends t to m) (i_in : i < t) (f : Tallying w₀ w ends t to m i) where
-  abbrev c : List ℕ
-  c = view w₀ ends t
+    next : (k : ℕ) → suc (2 * k) ≡ 2 * k + 1
+    next k = omega arith
 
-  pub tally_reads : get_or w (ends + i) 0 ≡ get_or w₀ (ends + i) 0
-  tally_reads = f.rest (ends + i) (λ j h e. omega (arith, r.before))
+    last : (k : ℕ) → k + 1 ≡ suc k
+    last k = omega arith
 
-  pub tally_in : get_or w (ends + i) 0 < m
-  tally_in = omega (arith, tally_reads, r.low i i_in)
+    flat : (k : ℕ) → 2 * k ≤ length w → take (2 * k) w ≡ flat_map (λ i. two (pair_at w i)) (up_to k)
+    flat zero h = refl
+    flat (suc k) h =
+        ap (λ (x : ℕ). take x w) (twice k)
+        ∙ take-suc w (suc (2 * k)) 0 (omega arith)
+        ∙ ap (λ (l : List ℕ). l ++ (get_or w (suc (2 * k)) 0 ∷ [])) (take-suc w (2 * k) 0 (omega arith) ∙ ap (λ (l : List ℕ). l ++ (get_or w (2 * k) 0 ∷ [])) (flat k (omega arith)))
+        ∙ append_assoc (flat_map (λ i. two (pair_at w i)) (up_to k)) (get_or w (2 * k) 0 ∷ []) (get_or w (suc (2 * k)) 0 ∷ [])
+        ∙ ap (λ (x : ℕ). flat_map (λ i. two (pair_at w i)) (up_to k) ++ (get_or w (2 * k) 0 ∷ get_or w x 0 ∷ [])) (next k)
+        ∙ sym (flat_up (λ i. two (pair_at w i)) k)
+        ∙ ap (λ (n : ℕ). flat_map (λ i. two (pair_at w i)) (up_to n)) (last k)
 
-  c_long : length c ≡ t
-  c_long = view_length w₀ ends t (omega (arith, r.before, r.room))
-
-  pub tally_low : (v : ℕ) → v < m → get_or w (to + v) 0 ≤ i
-  tally_low v h =
-      let a = f.degrees v h in
-      let b = count_le (eqb v) (take i c) in
-      let d = length-take-le i c (omega (arith, c_long)) in
-      omega arith
-
-  pub tally_turn : (v : ℕ) → v ≡ get_or w (ends + i) 0 → Tallying w₀ (set w (to + v) (get_or w (to + v) 0 + 1)) ends t to m (i + 1)
-  tally_turn v e = record {
-    upto = omega arith;
-    long = length-set w (to + v) _ ∙ f.long;
-    degrees = λ s l. go s l (at_set w to v (get_or w (to + v) 0 + 1) s (omega (arith, f.long, r.room, v_in)));
-    rest = λ x l. get_or-set_other w (to + v) x _ 0 (l v v_in) ∙ f.rest x l;
-  }
-    where
-      v_in : v < m
-      v_in = omega (arith, tally_in)
-
-      i_long : i < length c
-      i_long = omega (arith, c_long)
-
-      number : get_or c i 0 ≡ v
-      number = view_at w₀ ends t i i_in ∙ sym (e ∙ tally_reads)
-
-      u : List ℕ
-      u = set w (to + v) (get_or w (to + v) 0 + 1)
-
-      go : (s : ℕ) → s < m → ((s ≡ v) × (get_or u (to + s) 0 ≡ get_or w (to + v) 0 + 1)) ⊎ ((s ≡ v → ⊥) × (get_or u (to + s) 0 ≡ get_or w (to + s) 0))
-          → get_or u (to + s) 0 ≡ count (eqb s) (take (i + 1) c)
-      go s l (inl a) =
-          a.1 ∙ ap (λ (x : ℕ). get_or w (to + x) 0 + 1) (sym a.0) ∙ rw (tally_more c i s i_long, number, eq-eqb s v a.0) (ap (λ (x : ℕ). x + 1) (f.degrees s l))
-      go s l (inr a) =
-          a.1 ∙ rw (tally_more c i s i_long, number, ne_eqb s v a.0) (f.degrees s l ∙ omega arith)
-
-pub tally_end : (w₀ w : List ℕ) (ends t to m i : ℕ) → TallyRoom w₀ ends t to m → t ≤ i → Tallying w₀ w ends t to m i → EndsTallied w₀ w ends t to m
-tally_end w₀ w ends t to m i r e f = record {
-  long = f.long;
-  degrees = λ v h. f.degrees v h ∙ ap (count (eqb v)) (take_all i (view w₀ ends t) (omega (arith, view_length w₀ ends t (omega (arith, r.before, r.room)))));
-  rest = f.rest;
-}
+pub pairs_words : (f : ℕ → ℕ × ℕ) (w : List ℕ) (k : ℕ) → 2 * k ≤ length w → PairsPut f w k → take (2 * k) w ≡ pair_words (map f (up_to k))
+pairs_words f w k h P = front_pairs w k h ∙ ap pair_words (map_below (pair_at w) f k (λ i l t. (P.first i l t, P.second i l t)))

@@ -2,13 +2,13 @@
 --   keyed_edges   the k edges whose packed pairs are the keys of k records at the front
 --   GroupRoom    their ends are below m; and there is room
 --   Grouped      the edges by components stand in the words, then of each component its two words; c is how many components there are
---   EndsPut, EndsTallied, RecordsNumbered, EdgesPut, ComponentsPut   the steps
+--   PairsPut, ComponentsPut   the steps
 --   turns_of      the edge whose number a record holds has two ends, each of degree two
 --   run_words     of a run how many records it has, and 1 if all of them pass, else 0
-use Rattle.std.specs.Prelude.{ℕ, ◌+◌, ◌*◌, ◌≤◌, ◌<◌, Bool, cond, not, ◌&&◌, ◌≡◌, eqb, length, get_or}
+use Rattle.std.specs.Prelude.{ℕ, ◌+◌, ◌*◌, ◌/◌, ◌≤◌, ◌<◌, Bool, cond, not, ◌&&◌, ◌≡◌, eqb, length, get_or, take}
 use mathlib.Core.List.{List, [], ◌∷◌, map, flat_map}
-use Rattle.lists.specs.Lists.{every, count, up_to}
-use Rattle.lists.specs.Regions.{view, Outside}
+use Rattle.lists.specs.Lists.{every, up_to}
+use Rattle.lists.specs.Regions.{view}
 use Rattle.words.specs.Packed.{pair_first, pair_second}
 use Rattle.records.specs.Buffer.{records_at}
 use Rattle.records.specs.Runs.{runs}
@@ -41,55 +41,23 @@ pub record Grouped (es : List (ℕ × ℕ)) (w w' : List ℕ) (k n m at c : ℕ)
 
 -- ---- the steps
 
-pub record EndsPut (w w' : List ℕ) (k to : ℕ) : Type 0 where
-  pub long : length w' ≡ length w
-  pub first : (i : ℕ) → i < k → get_or w' (to + 2 * i) 0 ≡ (edge_in w i).0
-  pub second : (i : ℕ) → i < k → get_or w' (to + 2 * i + 1) 0 ≡ (edge_in w i).1
-  pub rest : (x : ℕ) → Outside x to (2 * k) → get_or w' x 0 ≡ get_or w x 0
+abbrev pub pair_at : List ℕ → ℕ → ℕ × ℕ
+pair_at w i = (get_or w (2 * i) 0, get_or w (2 * i + 1) 0)
 
--- t ends from `ends` on are below m, and m words from `to` on are for their counts
-pub record TallyRoom (w : List ℕ) (ends t to m : ℕ) : Type 0 where
-  pub before : ends + t ≤ to
-  pub room : to + m ≤ length w
-  pub low : (i : ℕ) → i < t → get_or w (ends + i) 0 < m
-  pub zero : (v : ℕ) → v < m → get_or w (to + v) 0 ≡ 0
+-- k pairs of words stand one behind the other
+pub record PairsPut (f : ℕ → ℕ × ℕ) (w : List ℕ) (k : ℕ) : Type 0 where
+  pub first : (i : ℕ) → i < k → get_or w (2 * i) 0 ≡ (f i).0
+  pub second : (i : ℕ) → i < k → get_or w (2 * i + 1) 0 ≡ (f i).1
 
-pub record EndsTallied (w w' : List ℕ) (ends t to m : ℕ) : Type 0 where
-  pub long : length w' ≡ length w
-  pub degrees : (v : ℕ) → v < m → get_or w' (to + v) 0 ≡ count (eqb v) (view w ends t)
-  pub rest : (x : ℕ) → Outside x to m → get_or w' x 0 ≡ get_or w x 0
+abbrev pub turns : List ℕ → ℕ × ℕ → Bool
+turns degrees e = not (eqb e.0 e.1) && (eqb (get_or degrees e.0 0) 2 && eqb (get_or degrees e.1 0) 2)
 
-pub record RecordsNumbered (w w' : List ℕ) (k numbers : ℕ) : Type 0 where
-  pub long : length w' ≡ length w
-  pub key : (i : ℕ) → i < k → get_or w' (2 * i) 0 ≡ get_or w (numbers + i) 0
-  pub payload : (i : ℕ) → i < k → get_or w' (2 * i + 1) 0 ≡ i
-  pub rest : (x : ℕ) → 2 * k ≤ x → get_or w' x 0 ≡ get_or w x 0
-
--- k records at the front hold numbers of k edges, whose ends, below m, stand from `ends` on; and m degrees from `degrees` on
-pub record EndsReady (w : List ℕ) (k m ends degrees : ℕ) : Type 0 where
-  pub front : 2 * k ≤ ends
-  pub ends_room : ends + 2 * k ≤ length w
-  pub room : degrees + m ≤ length w
-  pub payload : (j : ℕ) → j < k → get_or w (2 * j + 1) 0 < k
-  pub low : (i : ℕ) → i < 2 * k → get_or w (ends + i) 0 < m
-
-pub record EdgesPut (w w' : List ℕ) (k ends to : ℕ) : Type 0 where
-  pub long : length w' ≡ length w
-  pub first : (j : ℕ) → j < k → get_or w' (to + 2 * j) 0 ≡ get_or w (ends + 2 * get_or w (2 * j + 1) 0) 0
-  pub second : (j : ℕ) → j < k → get_or w' (to + 2 * j + 1) 0 ≡ get_or w (ends + 2 * get_or w (2 * j + 1) 0 + 1) 0
-  pub rest : (x : ℕ) → Outside x to (2 * k) → get_or w' x 0 ≡ get_or w x 0
-
-abbrev pub turns : List ℕ → ℕ → ℕ → ℕ → Bool
-turns w degrees a b = not (eqb a b) && (eqb (get_or w (degrees + a) 0) 2 && eqb (get_or w (degrees + b) 0) 2)
-
-unfoldable pub turns_of : List ℕ → ℕ → ℕ → ℕ × ℕ → Bool
-turns_of w ends degrees r = turns w degrees (get_or w (ends + 2 * r.1) 0) (get_or w (ends + 2 * r.1 + 1) 0)
+unfoldable pub turns_of : List ℕ → List ℕ → ℕ × ℕ → Bool
+turns_of ends degrees r = turns degrees (pair_at ends r.1)
 
 unfoldable pub run_words : (ℕ × ℕ → Bool) → List (ℕ × ℕ) → List ℕ
 run_words test run = length run ∷ cond (every test run) 1 0 ∷ []
 
-pub record ComponentsPut (w w' : List ℕ) (k ends degrees to c : ℕ) : Type 0 where
-  pub long : length w' ≡ length w
-  pub few : c ≤ k
-  pub words : view w' to (2 * c) ≡ flat_map (run_words (turns_of w ends degrees)) (runs (records_at w 0 k))
-  pub below : (x : ℕ) → x < to → get_or w' x 0 ≡ get_or w x 0
+pub record ComponentsPut (ends degrees records w : List ℕ) (c : ℕ) : Type 0 where
+  pub few : c ≤ length records / 2
+  pub words : take (2 * c) w ≡ flat_map (run_words (turns_of ends degrees)) (runs (records_at records 0 (length records / 2)))

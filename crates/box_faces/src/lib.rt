@@ -1,4 +1,4 @@
-// The faces of the box, by number 0 to 5, and what lies on them (document 01, module 5; `BoxFace` of boundary_closure.rs).
+// The faces of the box, and what lies on them (document 01, module 5; `BoxFace` of boundary_closure.rs).
 #![tactic(auto)]
 
 pub mod faces;

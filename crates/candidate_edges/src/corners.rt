@@ -12,7 +12,7 @@ use geometry::numbers::MeshVertexId;
 use geometry::vertices::vertex_at;
 
 // The vertex v, if it is on two faces or more.
-// Stays (plainer): box and eps are handed on to the test of faces as they come; a struct of both would be made in each crate for one call.
+// Stays (plainer), point 5: box and eps go on to `aabb_face_mask` and stand apart in the definitions (`edge_faces extents eps`); `Clip`, the same two, has the methods of another operation.
 fn enter_corner(
     w: &mut [u64],
     vertices: &[f64],
@@ -33,7 +33,6 @@ fn enter_corner(
 }
 
 // All vertices.
-// Stays (plainer): box and eps are handed on to the test of faces as they come; a struct of both would be made in each crate for one call.
 pub fn enter_corners(w: &mut [u64], vertices: &[f64], room: Room, extents: AABB, eps: f64)
     requires holds { Holds eps room.n w.old × (length vertices.now / 3 ≤ room.n) }
     requires vertices_in { VerticesIn vertices.now }

@@ -1,5 +1,5 @@
 // boundary_closure.rs, `detect_boundary_edges` and `inject_mesh_boundary_edges`.
-// Stays (C interface), point 6: n, k and i say where tables stand in the lent room, since C lends one buffer and there is no heap.
+// Stays (C interface), point 6: n says where tables stand in the lent room, since C lends one buffer and there is no heap; k and i count its open edges.
 ghost use Rattle.std.specs.Prelude.{◌≡◌, cond, ℕ, ◌+◌, ◌*◌, ◌/◌, ◌%◌, ◌<◌, eqb, length, get_or, set};
 ghost use Rattle.lists.specs.Found.{found};
 ghost use Rattle.geometry.specs.Triangles.{threes};
@@ -23,7 +23,7 @@ use geometry::vertices::vertex_at;
 use words::write_three;
 
 // The faces that both ends of a side lie on.
-// Stays (plainer): box and eps are handed on to the test of faces as they come; a struct of both would be made in each crate for one call.
+// Stays (plainer), point 5: box and eps go on to `aabb_face_mask` and stand apart in the definitions (`edge_faces extents eps`); `Clip`, the same two, has the methods of another operation.
 fn side_mask(mesh: MeshLists<'_>, side: usize, extents: AABB, eps: f64) -> u64
     requires facets_len { (length mesh.facets.now % 3 ≡ 0) × (side < length mesh.facets.now) }
     requires by_index { (i : ℕ) → i < length mesh.facets.now → get_or mesh.facets.now i 0 < length mesh.vertices.now / 3 }
@@ -41,7 +41,6 @@ fn side_mask(mesh: MeshLists<'_>, side: usize, extents: AABB, eps: f64) -> u64
 }
 
 // The first of the k open edges that lies on no face.
-// Stays (plainer): box and eps are handed on to the test of faces as they come; a struct of both would be made in each crate for one call.
 pub fn stray_edge(
     w: &[u64],
     mesh: MeshLists<'_>,
@@ -85,7 +84,7 @@ pub fn enter_vertex(
 }
 
 // Writes an open edge; how often it is listed. It "keeps two ends if their candidates differ", else it is listed with no face.
-// Stays (plainer): that three words lie in the list from `at` on is what each function that writes three asks of its own place.
+// Stays (plainer), point 5: that three words lie in the list from `at` on is what each function that writes three asks of its own place.
 fn put_edge(
     w: &mut [u64],
     at: usize,
@@ -103,7 +102,6 @@ fn put_edge(
 }
 
 // Inserts the ends of one open edge, the first before the second; how often it is listed.
-// Stays (plainer): box and eps are handed on to the test of faces as they come; a struct of both would be made in each crate for one call.
 fn enter_edge(
     w: &mut [u64],
     mesh: MeshLists<'_>,
@@ -130,7 +128,6 @@ fn enter_edge(
 }
 
 // The ends of all k open edges; how many entries the open-edge list has.
-// Stays (plainer): box and eps are handed on to the test of faces as they come; a struct of both would be made in each crate for one call.
 pub fn enter_edges(
     w: &mut [u64],
     mesh: MeshLists<'_>,

@@ -18,7 +18,7 @@ use candidate_pool::room::Room;
 use geometry::face::{BOX_FACES, BoxFace};
 use refusals::refusal::Refusal;
 use refusals::reply::Reply;
-use words::{copy_front, triple_first, triple_second, triple_third, write_three};
+use words::{copy_front, unpack_triple, write_three};
 
 // These words, to out from `at` on.
 fn write_words(words: &[u64], out: &mut [u64], at: usize)
@@ -62,14 +62,8 @@ fn write_constraints(keys: &[u64], out: &mut [u64])
 {
     let mut o = 0;
     for i in 0..keys.len() {
-        let key = keys[i];
-        write_three(
-            out,
-            o,
-            triple_first(key),
-            triple_second(key),
-            triple_third(key),
-        );
+        let (a, b, c) = unpack_triple(keys[i]);
+        write_three(out, o, a, b, c);
         o += 3;
     }
 }

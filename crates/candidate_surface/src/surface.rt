@@ -1,5 +1,5 @@
 // The candidates in the work room, step by step, as candidates and caps both make them: the open edges' table, their ends, and then corner vertices and grids.
-// Stays (C interface), point 6: n and k say where tables stand in the lent room, since C lends one buffer and there is no heap.
+// Stays (C interface), point 6: n says where tables stand in the lent room, since C lends one buffer and there is no heap; k counts its open edges.
 ghost use Rattle.std.specs.Prelude.{◌≡◌, false, ◌+◌, ◌*◌, ◌/◌, ◌%◌, ◌≤◌, ◌<◌, length};
 ghost use Rattle.geometry.specs.Meshes.{mesh_of};
 ghost use Rattle.input_tests.specs.Front.{grid_too_fine};
@@ -24,10 +24,11 @@ pub fn most_candidates(vertices: &[f64], asked: Asked) -> usize
     requires { (length vertices.now / 3 ≤ 65536) × (grid_too_fine asked.extents asked.eps (one_resolution asked.resolution) ≡ false) }
     ensures { result ≡ most_candidates vertices.now asked }
 {
-    vertices.len() / 3 + asked.grid().size()
+    vertices.len() / 3 + asked.cuts().size()
 }
 
 // How many open edges there are, whose records then stand in the room.
+// Stays (plainer), point 5: that the list is whole is asked where its facets are read; test 1 has shown it for all of them.
 pub fn table_edges(facets: &[u32], w: &mut [u64], n: usize) -> usize
     requires facets_len { length facets.now % 3 ≡ 0 }
     requires n_bound { (n < 268435456) × (length facets.now / 3 < 268435456) }
@@ -40,7 +41,7 @@ pub fn table_edges(facets: &[u32], w: &mut [u64], n: usize) -> usize
 }
 
 // How many faces the k open edges are listed with in all. Their ends are then the candidates.
-// Stays (plainer): box and eps are handed on to the test of faces as they come; a struct of both would be made in each crate for one call.
+// Stays (plainer), point 5: box and eps go on to `aabb_face_mask` and stand apart in the definitions (`edge_faces extents eps`); `Clip`, the same two, has the methods of another operation.
 pub fn enter_surface(
     mesh: MeshLists<'_>,
     extents: AABB,
@@ -56,11 +57,12 @@ pub fn enter_surface(
         (result ≡ length (edge_surface extents eps (by_key eps) (mesh_of mesh.entry.vertices.now mesh.entry.facets.now)).edges) }
 {
     let nf = mesh.facets.len() / 3;
-    clear_pool(w, Room { n, nf }, eps);
+    clear_pool(w, Room { n, nf });
     enter_edges(w, mesh, n, k, extents, eps)
 }
 
 // Corner vertices and grids, once the ends of the k open edges are in.
+// Stays (plainer), point 5: that n is the most candidates is asked by the three steps that come after it is computed; with the mesh and k as one value that value would be made in two crates.
 pub fn complete(mesh: MeshLists<'_>, asked: Asked, w: &mut [u64], n: usize, k: usize)
     requires sound { Sound mesh.vertices.now mesh.facets.now asked }
     requires mesh_fits { MeshFits mesh.vertices.now mesh.facets.now n w.old × (n ≡ most_candidates mesh.vertices.now asked) × (k ≤ length mesh.facets.now) }
@@ -71,5 +73,5 @@ pub fn complete(mesh: MeshLists<'_>, asked: Asked, w: &mut [u64], n: usize, k: u
     let room = Room { n, nf };
     enter_corners(w, mesh.vertices, room, asked.extents, asked.eps);
     let skip = asked.resolution * 1.0e-9;
-    enter_grids(w, room, k, asked.grid(), [skip; 3]);
+    enter_grids(w, room, k, asked.cuts(), [skip; 3]);
 }

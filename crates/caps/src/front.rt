@@ -1,5 +1,5 @@
 // The operation caps: the order of its steps. boundary_closure.rs, `cap_mesh_to_aabb`.
-// Stays (C interface), point 6: n and k say where tables stand in the lent room, since C lends one buffer and there is no heap.
+// Stays (C interface), point 6: n says where tables stand in the lent room, since C lends one buffer and there is no heap; k counts its open edges.
 ghost use Rattle.std.specs.Prelude.{◌≡◌, ◌++◌, ◌+◌, ◌*◌, ◌/◌, ◌%◌, ◌≤◌, length};
 ghost use Rattle.refusals.specs.Refusals.{documented_reply, unless};
 ghost use Rattle.refusals.specs.Answers.{mesh_outputs, Answer};
@@ -23,6 +23,7 @@ use refusals::reply::Reply;
 use words::zero;
 
 // All that follows test 9, for a mesh with k open edges. "if no open edge keeps two ends", the mesh comes back as it is.
+// Stays (plainer), point 5: the outputs are two parameters; a struct of two `&mut` needs a clause more for each in each function, that it is still the caller's.
 fn cap_edges(
     mesh: MeshLists<'_>,
     cap_list: &[u64],

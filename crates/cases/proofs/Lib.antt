@@ -1,5 +1,4 @@
 pub mod Rows
 pub mod Meshes
-pub mod Lists
-pub mod Later
 pub mod Turned
+pub mod Lists

@@ -1,57 +1,32 @@
--- Laws of replies of candidates as the cases test them. Assumes nothing.
---   listing                     what the operation promises, reported
---   facet_listing               the reply to the facet
---   facet_number, facet_value   number and first value of the reply to the facet, by the box and the work room lent
+-- Laws of what candidates answers in the cases. Assumes nothing.
+--   listed_reply, listed_words   reply and words of the listing, by what is asked and the work room lent
+--   listed_done                  a test of the reply, and then one of the words, are the same tests of their definitions
 use Prim.Native.Nat.{ℕ}
-use mathlib.Core.Path.{◌≡◌, ap, ap₂, ◌∙◌, subst}
-use mathlib.Core.List.{List, [], ◌∷◌}
-use lib.ListN.{length, get_or, replicate, length-replicate}
+use mathlib.Core.Path.{◌≡◌, sym, ap, ◌∙◌}
+use mathlib.Core.Bool.{Bool, true, ◌&&◌}
+use mathlib.Core.List.{List}
+use lib.ListN.{length, replicate, length-replicate}
 use lib.Ieee.{Float}
-use Rattle.root.specs.Doubles.{zero_f, one_f}
-use Rattle.geometry.specs.declared.aabb.AABB.{AABB}
-use Rattle.std.specs.Prelude.{Result}
-use Rattle.refusals.specs.declared.refusal.Refusal.{Refusal}
-use Rattle.refusals.specs.Refusals.{documented_reply, settle}
-use Rattle.refusals.specs.Answers.{reply_in, Answered}
-use Rattle.refusals.specs.Reports.{Reported}
-use Rattle.refusals.proofs.Reports.{same_reply}
-use Rattle.input_tests.specs.Front.{mesh_ceiling, limits}
+use Rattle.refusals.specs.Refusals.{settle}
+use Rattle.candidate_outputs.specs.Outputs.{candidate_words}
 use Rattle.candidate_surface.specs.declared.asked.Asked.{Asked}
-use Rattle.candidate_surface.specs.Asked.{asked}
-use Rattle.candidate_outputs.specs.Outputs.{candidate_words, candidate_lengths, candidate_outputs}
-use Rattle.boundary_closure.specs.Operation.{candidates_tests, candidates_result}
-use Rattle.cases.specs.Closing.{list_reply, Listing, facet_reply}
-use Rattle.cases.specs.Cleaning.{values_of}
+use Rattle.boundary_closure.specs.Operation.{candidates_result}
+use Rattle.cases.specs.Closing.{list_reply, Listing, candidates_in}
 
-zeros : length (replicate {A = ℕ} 8192 0) ≡ 8192
-zeros = length-replicate {A = ℕ} 8192 0
+module _ (lent n : ℕ) {vs : List Float} {fs : List ℕ} {q asked : Asked} {reply c' : List ℕ} (e : q ≡ asked)
+    (h : Listing vs fs q (length (replicate {A = ℕ} lent 0)) reply (replicate n 0) c') where
+  same : list_reply vs fs q (length (replicate {A = ℕ} lent 0)) (length (replicate {A = ℕ} n 0)) ≡ list_reply vs fs asked lent n
+  same = (λ t. list_reply vs fs (e t) (length-replicate {A = ℕ} lent 0 t) (length-replicate {A = ℕ} n 0 t))
 
-module _ (vs : List Float) (fs : List ℕ) (q : Asked) (m : Result (List ℕ) Refusal) (w w' c c' l' k' e' : List ℕ) (r : ℕ) (ws : List ℕ) where
-  pub listing : Answered (candidates_tests vs fs q (limits mesh_ceiling (length w))) (candidate_outputs (candidates_result vs fs q) c c'
-      (replicate 8192 0) l' (replicate 8192 0) k' (replicate 8192 0) e') w w' (documented_reply m)
-      → Reported (documented_reply m) r ws → Listing vs fs q (length w) r ws c c'
-  listing d g =
-      let reply = list_reply vs fs q (length w) (length c) in
-      let lengths = candidate_lengths (candidates_result vs fs q) in
-      let same : documented_reply m ≡ reply =
-      d.answer.replied ∙ ap (λ (n : ℕ). reply_in (candidates_tests vs fs q (limits mesh_ceiling (length w))) lengths (length c ∷ n ∷ n ∷ n ∷ [])) zeros in
-      record {
-        reported = same_reply (documented_reply m) reply r ws same g;
-        candidates = d.answer.settled.0 ∙ ap (λ (p : List ℕ). settle p (candidate_words (candidates_result vs fs q).all) c) same;
-      }
+  pub listed_reply : reply ≡ list_reply vs fs asked lent n
+  listed_reply = h.replied ∙ same
 
-pub facet_listing : (q : Asked) (lent r : ℕ) (ws c' : List ℕ)
-    → Listing (zero_f ∷ zero_f ∷ zero_f ∷ one_f ∷ zero_f ∷ zero_f ∷ zero_f ∷ one_f ∷ zero_f ∷ []) (0 ∷ 1 ∷ 2 ∷ []) q lent r ws (replicate 8192 0) c'
-    → Reported (facet_reply q lent) r ws
-unfolding facet_reply
-facet_listing q lent r ws c' h =
-    subst
-    (λ (n : ℕ). Reported (list_reply (zero_f ∷ zero_f ∷ zero_f ∷ one_f ∷ zero_f ∷ zero_f ∷ zero_f ∷ one_f ∷ zero_f ∷ []) (0 ∷ 1 ∷ 2 ∷ []) q lent n) r ws)
-    zeros h.reported
+  pub listed_words : c' ≡ candidates_in vs fs asked lent n
+  unfolding candidates_in
+  listed_words = h.candidates ∙ (λ t. settle (same t) (candidate_words (candidates_result vs fs (e t)).all) (replicate n 0))
 
-module _ (b box : AABB) (eps resolution : Float) (m n r : ℕ) (ws : List ℕ) (e : b ≡ box) (long : m ≡ n) (h : Reported (facet_reply (asked b eps resolution) m) r ws) where
-  pub facet_number : r ≡ get_or (facet_reply (asked box eps resolution) n) 0 0
-  facet_number = h.number ∙ ap₂ (λ (x : AABB) (k : ℕ). get_or (facet_reply (asked x eps resolution) k) 0 0) e long
-
-  pub facet_value : get_or ws 0 0 ≡ get_or (values_of (facet_reply (asked box eps resolution) n)) 0 0
-  facet_value = ap (λ (l : List ℕ). get_or l 0 0) h.words ∙ ap₂ (λ (x : AABB) (k : ℕ). get_or (values_of (facet_reply (asked x eps resolution) k)) 0 0) e long
+  -- a test p of the reply, as the code has it, and then r, a test of the words
+  pub listed_done : (p d : List ℕ → Bool) {a r : Bool} → a ≡ p reply → a ≡ true → r ≡ d c' → r ≡ (p (list_reply vs fs asked lent n) && d (candidates_in vs fs asked lent n))
+  listed_done p d {a} {r} i t j =
+      let first : p (list_reply vs fs asked lent n) ≡ true = ap p (sym listed_reply) ∙ sym i ∙ t in
+      j ∙ ap d listed_words ∙ sym (ap (λ (b : Bool). b && d (candidates_in vs fs asked lent n)) first)

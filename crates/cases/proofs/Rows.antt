@@ -1,37 +1,44 @@
--- Laws of loops over the numbers below n, and of a double beside itself. Assumes nothing.
---   row_stop, row_more, row_end   `every` over the numbers below n: the first that fails, one more that passes, all passed
---   number_itself                 only a NaN is not equal to itself
---   first_none, first_more, first_all   a search: no number below 0, i, or n passes
-use Prim.Native.Nat.{ℕ, ◌+◌, ◌≤◌, ◌<◌}
-use mathlib.Core.Path.{◌≡◌, sym, ap, ◌∙◌, subst}
-use mathlib.Core.Bool.{Bool, true, false}
+-- Laws of tests of a range, and of two lists side by side. Assumes nothing.
+use Prim.Native.Nat.{ℕ, zero, suc, ◌+◌, ◌≤◌, ◌<◌}
+use mathlib.Core.Path.{◌≡◌, refl, ap, ◌∙◌}
+use mathlib.Core.Bool.{Bool, true, false, cond, ◌&&◌}
+use mathlib.Core.List.{List, [], ◌∷◌}
 use native.Mathlib.Omega.{arith}
-use native.Mathlib.Nat.{zero-add}
-use borrow.Author.Count.{below_none, below_more}
-use lib.ListN.{length, drop}
-use Rattle.lists.specs.Lists.{every, up_to}
-use Rattle.lists.proofs.Every.{every_stop, every_more, every_end}
-use Rattle.lists.proofs.Places.{length_up, at_up}
+use lib.ListN.{length}
+use Rattle.std.specs.List.{range_with_len, list_all, zip, starts_with}
+use Rattle.std.specs.Prelude.{Option, None, Some}
+use Rattle.std.specs.Option.{option_map}
+use Rattle.lists.specs.Lists.{up_from, up_to, first}
 
-module _ (p : ℕ → Bool) (n i : ℕ) (e : every p (up_to n) ≡ every p (drop i (up_to n))) where
-  long : i < n → i < length (up_to n)
-  long h = subst (λ (m : ℕ). i < m) (sym (length_up 0 n)) h
+-- the library's range, as the definitions write it
+pub up_range : (k n : ℕ) → range_with_len k n ≡ up_from k n
+unfolding up_from
+up_range k zero = refl
+up_range k (suc n) = let next : k + 1 ≡ suc k = omega arith in ap (λ (l : List ℕ). k ∷ l) (ap (λ (j : ℕ). range_with_len j n) next ∙ up_range (suc k) n)
 
-  pub row_stop : i < n → p i ≡ false → every p (up_to n) ≡ false
-  row_stop h f = every_stop p (up_to n) i e 0 (long h) (ap p (at_up 0 n i h ∙ zero-add i) ∙ f)
+-- a list begins with another exactly if it is as long and each element of the other is beside the same
+pub zip_starts : {A : Type 0} (same : A → A → Bool) (list front : List A) → length front ≤ length list
+    → list_all (λ (p : A × A). same p.0 p.1) (zip front list) ≡ starts_with same list front
+zip_starts same l [] h = refl
+zip_starts same [] (x ∷ f) h = absurd (none h)
+  where
+    none : suc (length f) ≤ 0 → ⊥
+    none h = omega arith
+zip_starts same (y ∷ l) (x ∷ f) h = ap (λ (b : Bool). same x y && b) (zip_starts same l f (omega arith))
 
-  pub row_more : i < n → p i ≡ true → every p (up_to n) ≡ every p (drop (i + 1) (up_to n))
-  row_more h f = every_more p (up_to n) i e 0 (long h) (ap p (at_up 0 n i h ∙ zero-add i) ∙ f)
+pub same_found : {A : Type 0} (r : Option A) → option_map (λ (x : A). x) r ≡ r
+same_found None = refl
+same_found (Some x) = refl
 
-  pub row_end : n ≤ i → every p (up_to n) ≡ true
-  row_end h = every_end p (up_to n) i e (subst (λ (m : ℕ). m ≤ i) (sym (length_up 0 n)) h)
+-- the place of the first of the numbers below n that passes is one of them
+found_from : (p : ℕ → Bool) (k n r : ℕ) → first p (up_from k n) ≡ Some r → r < k + n
+unfolding up_from
+found_from p k zero r e = cc
+found_from p k (suc n) r e = by_test (p k) k n r (found_from p (suc k) n r) e
+  where
+    by_test : {o : Option ℕ} (b : Bool) (k n r : ℕ) → (o ≡ Some r → r < suc k + n) → cond b (Some k) o ≡ Some r → r < k + suc n
+    by_test true k n r f e = let h : k ≡ r = cc in omega arith
+    by_test false k n r f e = omega (arith, f e)
 
-module _ (p : ℕ → Bool) where
-  pub first_none : (k : ℕ) → k < 0 → p k ≡ false
-  first_none = below_none (λ k. p k ≡ false)
-
-  pub first_more : (i : ℕ) → ((k : ℕ) → k < i → p k ≡ false) → p i ≡ false → (k : ℕ) → k < i + 1 → p k ≡ false
-  first_more = below_more (λ k. p k ≡ false)
-
-  pub first_all : (n i : ℕ) → ((k : ℕ) → k < i → p k ≡ false) → n ≤ i → (k : ℕ) → k < n → p k ≡ false
-  first_all n i f h k l = f k (omega arith)
+pub found_below : (p : ℕ → Bool) (n r : ℕ) → first p (up_to n) ≡ Some r → r < n
+found_below p n r e = omega (arith, found_from p 0 n r e)

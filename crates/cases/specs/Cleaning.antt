@@ -1,10 +1,9 @@
 -- C2, C8 and C14 of document 01's worked blocks, as tests of the definition of cleaning. Assumes nothing.
---   values_of     the values of a reply, in four words
 --   is_mesh       a reply is a mesh of the stated lengths, and the outputs begin with it        is_key_range   it is refusal 8
 --   cleans_to     cleaning, with 2,048 words of work room and outputs of 12 and 6, gives the stated mesh       has_far_key   it is refused by 8
 --   c2_holds, c8_holds, c14_holds   the stated results
-use Rattle.std.specs.Prelude.{ℕ, Bool, ◌&&◌, List, [], ◌∷◌, ◌++◌, eqb, length, get_or, take, drop, replicate, Float}
-use Rattle.std.specs.Float.{nan}
+use Rattle.std.specs.Prelude.{ℕ, Bool, ◌&&◌, List, [], ◌∷◌, eqb, length, get_or, replicate, Float}
+use Rattle.std.specs.List.{starts_with}
 use Rattle.root.specs.Doubles.{bits, zero_f, one_f}
 use Rattle.geometry.specs.Triangles.{flat}
 use Rattle.geometry.specs.Meshes.{coordinates, mesh_lengths}
@@ -12,16 +11,11 @@ use Rattle.refusals.specs.Refusals.{settle}
 use Rattle.refusals.specs.Answers.{reply_in}
 use Rattle.input_tests.specs.Front.{mesh_ceiling, limits}
 use Rattle.mesh_cleanup.specs.Clean.{CleanAsked, clean_asked, clean_tests, clean_result}
-use Rattle.cases.specs.Comparing.{begins, same_bits}
-
-abbrev pub values_of : List ℕ → List ℕ
-values_of reply = take 4 (drop 1 reply ++ replicate 4 0)
+use Rattle.cases.specs.Comparing.{has_lengths, same_bits}
 
 unfoldable pub is_mesh : List ℕ → List Float → List ℕ → List Float → List ℕ → Bool
 is_mesh reply vs fs stated_vs stated_fs =
-    eqb (get_or reply 0 0) 0
-    && (eqb (get_or (values_of reply) 0 0) (length stated_vs)
-    && (eqb (get_or (values_of reply) 1 0) (length stated_fs) && (begins same_bits nan vs stated_vs && begins eqb 0 fs stated_fs)))
+    has_lengths reply (length stated_vs ∷ length stated_fs ∷ []) && (starts_with same_bits vs stated_vs && starts_with eqb fs stated_fs)
 
 abbrev pub is_key_range : List ℕ → Bool
 is_key_range reply = eqb (get_or reply 0 0) 8
@@ -67,4 +61,5 @@ c8_holds = cleans_to square two_facets (clean_asked fine) square two_facets
 
 abbrev pub c14_holds : Bool
 c14_holds =
-    cleans_to (near_place ∷ zero_f ∷ zero_f ∷ []) [] (clean_asked zero_f) (near_place ∷ zero_f ∷ zero_f ∷ []) [] && has_far_key (far_place ∷ zero_f ∷ zero_f ∷ []) [] (clean_asked zero_f)
+    cleans_to (near_place ∷ zero_f ∷ zero_f ∷ []) [] (clean_asked zero_f) (near_place ∷ zero_f ∷ zero_f ∷ []) []
+    && has_far_key (far_place ∷ zero_f ∷ zero_f ∷ []) [] (clean_asked zero_f)

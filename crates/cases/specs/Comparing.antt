@@ -1,36 +1,33 @@
 -- Doubles, lists and candidates as the case program looks at them. Assumes nothing.
 --   bits_of      the bits of a double, and one pattern for every NaN, whose bits are left open
---   begins      a list begins with another, by a test of two elements
 --   same_bits    two doubles have the same bits
---   stands_at    candidate i, of five words, has these bits as its point
---   free        candidate i is the one at `at`, or comes neither from mesh vertex 0 nor from 1 and is not at the point (x, x, x)
---   FirstWhere       the first number below n that passes a test, and n where none does
---   place_of     the first candidate at a point, and how many candidates there are where none is there
-use Rattle.std.specs.Prelude.{ℕ, ◌+◌, ◌*◌, ◌/◌, ◌≤◌, ◌<◌, ◌≡◌, Bool, true, false, cond, not, ◌&&◌, ◌||◌, List, eqb, leb, length, get_or, Float}
+--   stands_at    candidate i, of five words, has this point, as three words
+--   free         candidate i is the one at `at`, or comes neither from mesh vertex 0 nor from 1 and is not at the point p
+--   place_of     the first candidate at a point, if there is one
+--   has_lengths  a reply says that it is done, and that these are the first lengths
+use Rattle.std.specs.Prelude.{ℕ, ◌+◌, ◌*◌, ◌/◌, Bool, cond, not, ◌&&◌, ◌||◌, List, ◌∷◌, eqb, length, get_or, Option, Float}
 use Rattle.std.specs.Float.{binary64}
 use Rattle.std.specs.Float.Ieee.{eq, to_bits}
-use Rattle.lists.specs.Lists.{every, place, up_to}
+use Rattle.std.specs.List.{starts_with}
+use Rattle.lists.specs.Lists.{first, up_to}
 
 abbrev pub bits_of : Float → ℕ
 bits_of x = cond (eq x x) (to_bits binary64 x) 9221120237041090560
 
-abbrev pub begins : {A : Type 0} → (A → A → Bool) → A → List A → List A → Bool
-begins same d list front = leb (length front) (length list) && every (λ i. same (get_or list i d) (get_or front i d)) (up_to (length front))
-
 abbrev pub same_bits : Float → Float → Bool
 same_bits x y = eqb (bits_of x) (bits_of y)
 
-abbrev pub stands_at : List ℕ → ℕ → ℕ → ℕ → ℕ → Bool
-stands_at words x y z i = eqb (get_or words (5 * i) 0) x && (eqb (get_or words (5 * i + 1) 0) y && eqb (get_or words (5 * i + 2) 0) z)
+abbrev pub stands_at : List ℕ → List ℕ → ℕ → Bool
+stands_at words p i =
+    eqb (get_or words (5 * i) 0) (get_or p 0 0) && (eqb (get_or words (5 * i + 1) 0) (get_or p 1 0) && eqb (get_or words (5 * i + 2) 0) (get_or p 2 0))
 
-abbrev pub free : List ℕ → ℕ → ℕ → ℕ → Bool
-free words x at i =
-    eqb i at || (not (eqb (get_or words (5 * i + 3) 0) 1) && (not (eqb (get_or words (5 * i + 3) 0) 2) && not (stands_at words x x x i)))
+abbrev pub free : List ℕ → List ℕ → ℕ → ℕ → Bool
+free words p at i =
+    eqb i at || (not (eqb (get_or words (5 * i + 3) 0) 1) && (not (eqb (get_or words (5 * i + 3) 0) 2) && not (stands_at words p i)))
 
-pub record FirstWhere (p : ℕ → Bool) (n r : ℕ) : Type 0 where
-  pub within : r ≤ n
-  pub before : (k : ℕ) → k < r → p k ≡ false
-  pub there : r < n → p r ≡ true
+abbrev pub place_of : List ℕ → List ℕ → Option ℕ
+place_of words p = first (stands_at words p) (up_to (length words / 5))
 
-abbrev pub place_of : List ℕ → ℕ → ℕ → ℕ → ℕ
-place_of words x y z = place (stands_at words x y z) (up_to (length words / 5))
+-- the numbers of a reply: 0, for done, and behind it these lengths
+abbrev pub has_lengths : List ℕ → List ℕ → Bool
+has_lengths reply lengths = starts_with eqb reply (0 ∷ lengths)

@@ -1,16 +1,18 @@
 -- C15 of document 01's worked blocks, as a test of the definitions of candidates and caps. Assumes nothing.
 --   half_point       the twelve points: (0,0), (1,0), (1,1) and (0,1) at heights 0, 0.5 and 1, numbered from 0 to 11
---   candidate_of_point   the number of the candidate at a point      triangles, cap_list_of   the cap list: a face and three points each, and as candidates
+--   candidate_at   the number of the first candidate at a point      triangles, cap_list_of   the cap list: a face and three points each, and as candidates
 --   is_point, has_facets   a vertex stands at a point; each corner of each facet is the stated point
 --   is_half        a reply is eight vertices and twelve facets, the stated ones
 --   capped        the reply of caps, with 8,192 words of work room and outputs of 24 and 36
 --   closes_to      caps answers so
 --   lower_half, upper_half   the stated facets, the square first        closes_both   both halves come out as stated
 --   c15_holds      the stated result
-use Rattle.std.specs.Prelude.{ℕ, ◌*◌, ◌/◌, ◌%◌, Bool, cond, ◌&&◌, List, [], ◌∷◌, map, eqb, ltb, length, get_or, drop, replicate, Float}
+use Rattle.std.specs.Prelude.{ℕ, ◌*◌, ◌/◌, ◌%◌, Bool, cond, ◌&&◌, List, [], ◌∷◌, map, eqb, ltb, length, get_or, drop, replicate, Option, Float}
 use Rattle.std.specs.Float.{nan}
 use Rattle.root.specs.Doubles.{bits, zero_f, one_f, 1e-10}
-use Rattle.lists.specs.Lists.{every, up_to}
+use Rattle.std.specs.List.{list_all, zip, starts_with}
+use Rattle.std.specs.Option.{unwrap_or}
+use Rattle.lists.specs.Lists.{up_to}
 use Rattle.geometry.specs.Triangles.{flat}
 use Rattle.geometry.specs.Meshes.{Mesh, coordinates, mesh_lengths}
 use Rattle.refusals.specs.Refusals.{settle}
@@ -20,8 +22,8 @@ use Rattle.refusals.specs.Answers.{reply_in}
 use Rattle.input_tests.specs.Front.{mesh_ceiling, limits}
 use Rattle.candidate_surface.specs.Asked.{asked}
 use Rattle.caps.specs.Operation.{caps_tests, caps_result}
-use Rattle.cases.specs.Comparing.{bits_of, begins, same_bits, place_of}
-use Rattle.cases.specs.Cleaning.{values_of, two_facets}
+use Rattle.cases.specs.Comparing.{bits_of, same_bits, place_of, has_lengths}
+use Rattle.cases.specs.Cleaning.{two_facets}
 use Rattle.cases.specs.Closing.{box_to, list_reply, candidates_in}
 
 abbrev pub half : Float
@@ -40,8 +42,8 @@ half_points =
 unfoldable pub half_point : ℕ → List Float
 half_point p = get_or half_points p (corner zero_f one_f one_f)
 
-unfoldable pub candidate_of_point : List ℕ → ℕ → ℕ
-candidate_of_point words p = let q = half_point p in place_of words (bits_of (get_or q 0 nan)) (bits_of (get_or q 1 nan)) (bits_of (get_or q 2 nan))
+unfoldable pub candidate_at : List ℕ → List Float → Option ℕ
+candidate_at words q = place_of words (bits_of (get_or q 0 nan) ∷ bits_of (get_or q 1 nan) ∷ bits_of (get_or q 2 nan) ∷ [])
 
 -- turned outward; side faces have two below and two above, bottom and top two each
 abbrev pub triangles : List ℕ
@@ -53,20 +55,19 @@ triangles =
     ∷ 4 ∷ 0 ∷ 3 ∷ 2 ∷ 4 ∷ 0 ∷ 2 ∷ 1 ∷ 5 ∷ 8 ∷ 9 ∷ 10 ∷ 5 ∷ 8 ∷ 10 ∷ 11 ∷ []
 
 abbrev pub cap_word : List ℕ → ℕ → ℕ
-cap_word words i = let t = get_or triangles i 0 in cond (eqb (i % 4) 0) t (candidate_of_point words t)
+cap_word words i = let t = get_or triangles i 0 in cond (eqb (i % 4) 0) t (unwrap_or (candidate_at words (half_point t)) (length words / 5))
 
 unfoldable pub cap_list_of : List ℕ → List ℕ
 cap_list_of words = map (cap_word words) (up_to 80)
 
-unfoldable pub is_point : List Float → ℕ → ℕ → Bool
-is_point vs v p = ltb v (length vs / 3) && begins same_bits nan (drop (3 * v) vs) (half_point p)
+unfoldable pub is_point : List Float → ℕ → List Float → Bool
+is_point vs v q = ltb v (length vs / 3) && starts_with same_bits (drop (3 * v) vs) q
 
 unfoldable pub has_facets : List Float → List ℕ → List ℕ → Bool
-has_facets vs fs stated = every (λ i. is_point vs (get_or fs i 0) (get_or stated i 0)) (up_to 36)
+has_facets vs fs stated = list_all (λ c. is_point vs c.0 (half_point c.1)) (zip fs stated)
 
 unfoldable pub is_half : List ℕ → List Float → List ℕ → List ℕ → Bool
-is_half reply vs fs stated =
-    eqb (get_or reply 0 0) 0 && (eqb (get_or (values_of reply) 0 0) 24 && (eqb (get_or (values_of reply) 1 0) 36 && has_facets vs fs stated))
+is_half reply vs fs stated = has_lengths reply (24 ∷ 36 ∷ []) && has_facets vs fs stated
 
 abbrev pub square_at_half : List Float
 square_at_half = zero_f ∷ zero_f ∷ half ∷ one_f ∷ zero_f ∷ half ∷ one_f ∷ one_f ∷ half ∷ zero_f ∷ one_f ∷ half ∷ []
@@ -108,7 +109,4 @@ abbrev pub twelve : List ℕ
 twelve = list_reply square_at_half two_facets (asked (box_to one_f one_f one_f) 1e-10 one_f) 8192 60
 
 abbrev pub c15_holds : Bool
-c15_holds =
-    eqb (get_or twelve 0 0) 0
-    && (eqb (get_or (values_of twelve) 0 0) 60
-    && closes_both (candidates_in square_at_half two_facets (asked (box_to one_f one_f one_f) 1e-10 one_f) 8192 60))
+c15_holds = has_lengths twelve (60 ∷ []) && closes_both (candidates_in square_at_half two_facets (asked (box_to one_f one_f one_f) 1e-10 one_f) 8192 60)

@@ -1,20 +1,20 @@
 // C15: the unit cube cut by a square at height 0.5, closed below and above it.
 ghost use Rattle.std.specs.Prelude.{◌≡◌, ◌<◌};
-ghost use Rattle.root.specs.Doubles.{one_f};
+ghost use Rattle.root.specs.Doubles.{one_f, 1e-10};
 ghost use Rattle.refusals.specs.Refusals.{documented_reply};
+ghost use Rattle.candidate_surface.specs.Asked.{asked};
 ghost use Rattle.cases.specs.Closing.{box_to};
-ghost use Rattle.cases.specs.Halves.{half_point, candidate_of_point, cap_word, cap_list_of, is_point, has_facets, is_half, closes_to, closes_both, c15_holds};
+ghost use Rattle.cases.specs.Halves.{half_point, candidate_at, cap_word, cap_list_of, is_point, has_facets, is_half, closes_to, closes_both, c15_holds};
 
 use crate::bits::{begins_with, bits};
-use crate::closing::list_candidates;
+use crate::closing::{box_to, list_candidates};
 use crate::listed::place_of;
+use crate::replies::has_lengths;
 use candidate_surface::asked::Asked;
 use caps::cap_mesh_to_aabb;
 use caps::mode::BoundaryClosure;
-use geometry::aabb::AABB;
 use geometry::mesh::MeshLists;
 use refusals::reply::Reply;
-use refusals::report::report_reply;
 
 const EPS: f64 = 0.0000000001;
 
@@ -37,44 +37,44 @@ const UPPER: [usize; 36] = [
     6, 8, 9, 10, 8, 10, 11,
 ];
 
-fn cube() -> AABB
-    ensures { result ≡ box_to one_f one_f one_f }
-{
-    AABB {
-        min_corner: [0.0, 0.0, 0.0],
-        max_corner: [1.0, 1.0, 1.0],
-    }
-}
-
 // The twelve points: (0,0), (1,0), (1,1) and (0,1) at heights 0, 0.5 and 1, numbered here from 0 to 11.
+const POINTS: [[f64; 3]; 12] = [
+    [0.0, 0.0, 0.0],
+    [1.0, 0.0, 0.0],
+    [1.0, 1.0, 0.0],
+    [0.0, 1.0, 0.0],
+    [0.0, 0.0, 0.5],
+    [1.0, 0.0, 0.5],
+    [1.0, 1.0, 0.5],
+    [0.0, 1.0, 0.5],
+    [0.0, 0.0, 1.0],
+    [1.0, 0.0, 1.0],
+    [1.0, 1.0, 1.0],
+    [0.0, 1.0, 1.0],
+];
+
+// The square at height 0.5, as a mesh.
+const SQUARE: [f64; 12] = [0.0, 0.0, 0.5, 1.0, 0.0, 0.5, 1.0, 1.0, 0.5, 0.0, 1.0, 0.5];
+
+const FACETS: [u32; 6] = [0, 1, 2, 0, 2, 3];
+
+#[tactic(auto, unfolding(crate::specs::Halves::half_point))]
 fn point(p: usize) -> [f64; 3]
     ensures { result ≡ half_point p }
 {
-    match p {
-        0 => [0.0, 0.0, 0.0],
-        1 => [1.0, 0.0, 0.0],
-        2 => [1.0, 1.0, 0.0],
-        3 => [0.0, 1.0, 0.0],
-        4 => [0.0, 0.0, 0.5],
-        5 => [1.0, 0.0, 0.5],
-        6 => [1.0, 1.0, 0.5],
-        7 => [0.0, 1.0, 0.5],
-        8 => [0.0, 0.0, 1.0],
-        9 => [1.0, 0.0, 1.0],
-        10 => [1.0, 1.0, 1.0],
-        _ => [0.0, 1.0, 1.0],
-    }
+    POINTS[p.min(11)]
 }
 
-// The number of the candidate at point p.
-fn candidate_at(candidates: &[u64], p: usize) -> u64
-    ensures { result ≡ candidate_of_point candidates.now p }
+// The number of the candidate at a point.
+#[tactic(auto, unfolding(crate::specs::Halves::candidate_at))]
+fn candidate_at(candidates: &[u64], point: [f64; 3]) -> Option<usize>
+    ensures { result ≡ candidate_at candidates.now point }
 {
-    let q = point(p);
-    place_of(candidates, bits(q[0]), bits(q[1]), bits(q[2])) as u64
+    let [x, y, z] = point;
+    place_of(candidates, [bits(x), bits(y), bits(z)])
 }
 
-// Word i of the cap list: a face, or a point's candidate.
+// Word i of the cap list: a face, or a point's candidate. Where none is at the point, no candidate has the number that is written.
 fn cap_word(candidates: &[u64], i: usize) -> u64
     requires { i < 80 }
     ensures { result ≡ cap_word candidates.now i }
@@ -82,7 +82,7 @@ fn cap_word(candidates: &[u64], i: usize) -> u64
     if i % 4 == 0 {
         return TRIANGLES[i] as u64;
     }
-    candidate_at(candidates, TRIANGLES[i])
+    candidate_at(candidates, point(TRIANGLES[i])).unwrap_or(candidates.len() / 5) as u64
 }
 
 // The triangles as a cap list.
@@ -96,68 +96,58 @@ fn list_triangles(candidates: &[u64]) -> [u64; 80]
     list
 }
 
-// Vertex v is there, and stands at point p.
-fn is_point(vertices: &[f64], v: u32, p: usize) -> bool
-    ensures { result ≡ is_point vertices.now v p }
+// Vertex v is there, and stands at this point.
+#[tactic(auto, unfolding(crate::specs::Halves::is_point))]
+fn is_point(vertices: &[f64], v: u32, point: [f64; 3]) -> bool
+    ensures { result ≡ is_point vertices.now v point }
 {
-    let n = v as usize;
-    if vertices.len() / 3 <= n {
-        return false;
-    }
-    let q = point(p);
-    begins_with(&vertices[3 * n..], &q)
+    let v = v as usize;
+    v < vertices.len() / 3 && begins_with(&vertices[3 * v..], &point)
 }
 
 // Each corner of each facet is the stated point.
+#[tactic(auto, unfolding(crate::specs::Halves::has_facets))]
 fn has_facets(vertices: &[f64], facets: &[u32; 36], stated: &[usize; 36]) -> bool
     ensures { result ≡ has_facets vertices.now facets.now stated.now }
 {
-    for i in 0..36 {
-        if !is_point(vertices, facets[i], stated[i]) {
-            return false;
-        }
-    }
-    true
+    facets
+        .iter()
+        .zip(stated)
+        .all(|(v, p)| is_point(vertices, *v, point(*p)))
 }
 
 // The reply is eight vertices and twelve facets, the stated ones.
+#[tactic(auto, unfolding(crate::specs::Halves::is_half))]
 fn is_half(reply: Reply<2>, vertices: &[f64], facets: &[u32; 36], stated: &[usize; 36]) -> bool
     ensures { result ≡ is_half (documented_reply reply) vertices.now facets.now stated.now }
 {
-    let mut values = [0u64; 4];
-    if report_reply(&mut values, reply) != 0 {
-        return false;
+    has_lengths(reply, &[24, 36]) && has_facets(vertices, facets, stated)
+}
+
+fn asked_of_cube() -> Asked
+    ensures { result ≡ asked (box_to one_f one_f one_f) 1e-10 one_f }
+{
+    Asked {
+        extents: box_to(1.0, 1.0, 1.0),
+        eps: EPS,
+        resolution: 1.0,
     }
-    if values[0] != 24 {
-        return false;
-    }
-    if values[1] != 36 {
-        return false;
-    }
-    has_facets(vertices, facets, stated)
 }
 
 fn closes_to(mode: BoundaryClosure, list: &[u64; 80], stated: &[usize; 36]) -> bool
     ensures { result ≡ closes_to mode list.now stated.now }
 {
-    let square = [0.0, 0.0, 0.5, 1.0, 0.0, 0.5, 1.0, 1.0, 0.5, 0.0, 1.0, 0.5];
-    let facets = [0, 1, 2, 0, 2, 3];
     let mut work = [0u64; 8192];
     let mut out_vertices = [0.0; 24];
     let mut out_facets = [0u32; 36];
     let mesh = MeshLists {
-        vertices: &square,
-        facets: &facets,
-    };
-    let asked = Asked {
-        extents: cube(),
-        eps: EPS,
-        resolution: 1.0,
+        vertices: &SQUARE,
+        facets: &FACETS,
     };
     let reply = cap_mesh_to_aabb(
         mesh,
         list,
-        asked,
+        asked_of_cube(),
         mode,
         65536,
         &mut work,
@@ -167,39 +157,24 @@ fn closes_to(mode: BoundaryClosure, list: &[u64; 80], stated: &[usize; 36]) -> b
     is_half(reply, &out_vertices, &out_facets, stated)
 }
 
+#[tactic(auto, unfolding(crate::specs::Halves::closes_both))]
 fn closes_both(candidates: &[u64]) -> bool
     ensures { result ≡ closes_both candidates.now }
 {
     let list = list_triangles(candidates);
-    if !closes_to(BoundaryClosure::ClosePositive, &list, &LOWER) {
-        return false;
-    }
-    closes_to(BoundaryClosure::CloseNegative, &list, &UPPER)
+    closes_to(BoundaryClosure::ClosePositive, &list, &LOWER)
+        && closes_to(BoundaryClosure::CloseNegative, &list, &UPPER)
 }
 
 pub fn c15() -> bool
     ensures { result ≡ c15_holds }
 {
-    let square = [0.0, 0.0, 0.5, 1.0, 0.0, 0.5, 1.0, 1.0, 0.5, 0.0, 1.0, 0.5];
-    let facets = [0, 1, 2, 0, 2, 3];
     let mut work = [0u64; 8192];
     let mut candidates = [0u64; 60];
-    let mut values = [0u64; 4];
     let mesh = MeshLists {
-        vertices: &square,
-        facets: &facets,
+        vertices: &SQUARE,
+        facets: &FACETS,
     };
-    let asked = Asked {
-        extents: cube(),
-        eps: EPS,
-        resolution: 1.0,
-    };
-    let number = list_candidates(mesh, asked, &mut work, &mut candidates, &mut values);
-    if number != 0 {
-        return false;
-    }
-    if values[0] != 60 {
-        return false;
-    }
-    closes_both(&candidates)
+    let reply = list_candidates(mesh, asked_of_cube(), &mut work, &mut candidates);
+    has_lengths(reply, &[60]) && closes_both(&candidates)
 }

@@ -1,5 +1,5 @@
 // The tests of candidates before 12, which are those of caps too.
-// Stays (C interface), point 6: n and k say where the open edges stand in the lent room, since C lends one buffer and there is no heap.
+// Stays (C interface), point 6: n says where the open edges stand in the lent room, since C lends one buffer and there is no heap; k counts them.
 ghost use Rattle.std.specs.Prelude.{◌≡◌, ◌&&◌};
 ghost use Rattle.lists.specs.Lists.{every};
 ghost use Rattle.refusals.specs.Refusals.{first_refusal};
@@ -16,7 +16,7 @@ use input_tests::boxes::{box_in_range, is_bad_box};
 use input_tests::grid::{box_has_far_key, has_far_key};
 use input_tests::{all_in_range, check_lists, eps_in_range, resolution_in_range, work_need};
 use refusals::refusal::Refusal;
-use words::{pair_first, pair_second};
+use words::unpack_pair;
 
 // 4
 fn numbers_in_range(vertices: &[f64], asked: Asked) -> bool
@@ -83,8 +83,7 @@ pub fn check_edges(
             nf: mesh.facets.len() / 3,
         };
         let key = w[room.edge_table_at() + 2 * stray];
-        let smaller = pair_first(key);
-        let greater = pair_second(key);
+        let (smaller, greater) = unpack_pair(key);
         return Err(Refusal::OpenEdge(smaller as usize, greater as usize));
     }
     Ok(())

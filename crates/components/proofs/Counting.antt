@@ -19,9 +19,9 @@ use Rattle.components.proofs.Forest.{stored_at}
 pub record Counting (c w₀ w : List ℕ) (i : ℕ) : Type 0 where
   pub upto : i ≤ length c
   pub long : length w ≡ length w₀
-  pub sizes : (r : ℕ) → r < length c → get_or w r 0 ≡ size (take i c) r
+  pub sizes : (r : ℕ) → r < length w₀ → get_or w r 0 ≡ size (take i c) r
 
-pub counting_start : (c w : List ℕ) → ((r : ℕ) → r < length c → get_or w r 0 ≡ 0) → Counting c w w 0
+pub counting_start : (c w : List ℕ) → ((r : ℕ) → r < length w → get_or w r 0 ≡ 0) → Counting c w w 0
 counting_start c w z = record { upto = omega arith; long = refl; sizes = λ r h. z r h ∙ sym (count_nil (eqb r)) }
 
 -- one number more
@@ -31,7 +31,7 @@ size_more c i r h =
 
 module _ (c w₀ w : List ℕ) (i : ℕ) (i_in : i < length c) (f : Counting c w₀ w i) where
   -- a count is no more than what was counted
-  pub counting_low : (r : ℕ) → r < length c → get_or w r 0 ≤ i
+  pub counting_low : (r : ℕ) → r < length w₀ → get_or w r 0 ≤ i
   counting_low r h =
       let a = f.sizes r h in
       let b = count_le (eqb r) (take i c) in
@@ -48,10 +48,10 @@ module _ (c w₀ w : List ℕ) (i : ℕ) (i_in : i < length c) (f : Counting c w
       v : List ℕ
       v = set w r (get_or w r 0 + 1)
 
-      go : (s : ℕ) → s < length c → ((s ≡ r) × (get_or v s 0 ≡ get_or w r 0 + 1)) ⊎ ((s ≡ r → ⊥) × (get_or v s 0 ≡ get_or w s 0)) → get_or v s 0 ≡ size (take (i + 1) c) s
+      go : (s : ℕ) → s < length w₀ → ((s ≡ r) × (get_or v s 0 ≡ get_or w r 0 + 1)) ⊎ ((s ≡ r → ⊥) × (get_or v s 0 ≡ get_or w s 0)) → get_or v s 0 ≡ size (take (i + 1) c) s
       go s l (inl a) =
           a.1 ∙ ap (λ (x : ℕ). get_or w x 0 + 1) (sym a.0) ∙ rw (size_more c i s i_in, ← e, eq-eqb s r a.0) (ap (λ (x : ℕ). x + 1) (f.sizes s l))
       go s l (inr a) = a.1 ∙ rw (size_more c i s i_in, ← e, ne_eqb s r a.0) (f.sizes s l ∙ omega arith)
 
-pub counting_end : (c w₀ w : List ℕ) (i : ℕ) → length c ≤ i → Counting c w₀ w i → SizesTallied c w₀ w (length c)
+pub counting_end : (c w₀ w : List ℕ) (i : ℕ) → length c ≤ i → Counting c w₀ w i → SizesTallied c w₀ w (length w₀)
 counting_end c w₀ w i e f = record { long = f.long; sizes = λ r h. f.sizes r h ∙ ap (λ (l : List ℕ). size l r) (take_all i c e) }

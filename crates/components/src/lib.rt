@@ -2,6 +2,7 @@
 //
 // The table of n items and m labels: n words for the items' links, which end as the numbers of their components; n words for the components' sizes; m words for the labels, each
 // the first item seen with that label, plus one, or 0 while there is none.
+// Stays (plainer), point 6: table and labels are slices; the numbers beside them are an item, a root, and how many labels an item and the table have.
 #![tactic(auto)]
 
 ghost use Rattle.std.specs.Prelude.{◌≡◌, ℕ, ◌+◌, ◌*◌, ◌/◌, ◌≤◌, ◌<◌, length, get_or};
@@ -10,6 +11,8 @@ ghost use Rattle.components.specs.Table.{ItemLabels, ComponentTable};
 ghost use Rattle.components.specs.Forest.{Forest, RootFound, RootOf, Flattened, LabelEntered, Swept, SizesTallied};
 
 // The root of x's tree, with the path to it halved.
+// Stays (plainer), point 5: `Forest links (length links)` of enter and flatten, ItemLabels of join_item, join and components too: a struct of the links lent for writing would be made
+// anew for each call, and says no more than the slice.
 fn find(links: &mut [u64], x: usize) -> usize
     requires x_in { x < length links.old }
     requires forest { Forest links.old (length links.old) }
@@ -27,6 +30,7 @@ fn find(links: &mut [u64], x: usize) -> usize
     r
 }
 
+// Stays (C interface): `first` is a word of the lent table, 0 while there is no first item, since C lends one buffer and there is no heap.
 // A label of item i: i is the first, or its tree and the first's are made one. r is the root of i's tree, before and after.
 // The larger root is linked to the smaller, so that a root is its tree's least item.
 fn enter(links: &mut [u64], first: &mut u64, i: usize, r: usize) -> usize
@@ -54,8 +58,8 @@ fn enter(links: &mut [u64], first: &mut u64, i: usize, r: usize) -> usize
 fn own(links: &mut [u64])
     ensures { links.new ≡ up_to (length links.old) }
 {
-    for i in 0..links.len() {
-        links[i] = i as u64;
+    for (i, link) in links.iter_mut().enumerate() {
+        *link = i as u64;
     }
 }
 
@@ -66,20 +70,20 @@ fn flatten(links: &mut [u64])
 {
     for i in 0..links.len() {
         let p = links[i] as usize;
+        // Stays (plainer), point 4: one element, from the place that another element says.
         links[i] = links[p];
     }
 }
 
-// Counts the items of each number.
-fn tally(numbers: &[u64], sizes: &mut [u64])
-    requires long { length sizes.old ≡ length numbers.now }
-    requires forest { Forest numbers.now (length numbers.now) }
-    requires zero { (r : ℕ) → r < length numbers.now → get_or sizes.old r 0 ≡ 0 }
-    ensures { SizesTallied numbers.now sizes.old sizes.new (length numbers.now) }
+// Counts how often each number stands in a list, in words that are 0 before.
+pub fn tally(numbers: &[u64], sizes: &mut [u64])
+    requires low { (i : ℕ) → i < length numbers.now → get_or numbers.now i 0 < length sizes.old }
+    requires zero { (r : ℕ) → r < length sizes.old → get_or sizes.old r 0 ≡ 0 }
+    ensures { SizesTallied numbers.now sizes.old sizes.new (length sizes.old) }
 {
     for number in numbers {
         let r = *number as usize;
-        sizes[r] = sizes[r] + 1;
+        sizes[r] += 1;
     }
 }
 

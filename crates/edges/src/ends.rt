@@ -1,4 +1,5 @@
 // A side by its number.
+// Stays (plainer), point 6: a side's number is no place beside the slice, but what the functions are of.
 ghost use Rattle.std.specs.Prelude.{◌≡◌, ◌<◌, ◌%◌, length, get_or};
 ghost use Rattle.geometry.specs.Triangles.{threes};
 ghost use Rattle.edges.specs.Edges.{sides};

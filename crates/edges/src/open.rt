@@ -1,4 +1,5 @@
 // boundary_closure.rs, `detect_boundary_edges`: the edges that exactly one side bears.
+// Stays (C interface), point 6: n records at the front of the lent room, since C lends one buffer and there is no heap.
 ghost use Rattle.std.specs.Prelude.{◌≡◌, ◌*◌, ◌%◌, ◌≤◌, ◌<◌, length, take};
 ghost use Rattle.lists.specs.Order.{Ascending};
 ghost use Rattle.records.specs.Records.{records, record_before};
@@ -15,13 +16,10 @@ pub fn keep_open(w: &mut [u64], n: usize) -> usize
 {
     let mut k = 0;
     let mut i = 0;
-    // from run to run: a `for` would count single records
+    // Stays (plainer): from run to run; a `for` would count single records.
     while i < n {
         let end = records::run_end(w, 0, n, i);
-        let key = w[2 * i];
-        let side = w[2 * i + 1];
-        w[2 * k] = key;
-        w[2 * k + 1] = side;
+        records::move_record(w, 2 * i, 2 * k);
         k += (end == i + 1) as usize;
         i = end;
     }

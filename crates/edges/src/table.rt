@@ -11,8 +11,7 @@ pub fn side_records(facets: &[u32], w: &mut [u64])
 {
     for side in 0..facets.len() {
         let key = side_key(facets, side);
-        w[2 * side] = key;
-        w[2 * side + 1] = side as u64;
+        records::put_record(w, 2 * side, (key, side as u64));
     }
 }
 

@@ -1,16 +1,14 @@
 -- Laws of the numbers of faces and of axes. Assumes nothing.
 --   face_in, axis_in   they are below 6, below 3
---   faces_are, axes_are      `BOX_FACES` and `AXES` are the faces and the axes in their order
+--   faces_are         `BOX_FACES` are the faces in their order
 --   face_at            the i-th of `BOX_FACES` has the number i
---   face_back          of `BOX_FACES` a face's number picks the face
 --   kept_faces, count_kept   the faces whose numbers pass a test, as numbers; how many
---   same_face          faces of one number are one
-use Rattle.std.proofs.Common.{ℕ, zero, suc, ◌+◌, ◌<◌, ◌≡◌, refl, sym, ap, ◌∙◌, Bool, true, false, cond, List, [], ◌∷◌, map, length, get_or}
+use Rattle.std.proofs.Common.{ℕ, zero, suc, ◌<◌, ◌≡◌, refl, sym, ap, ◌∙◌, Bool, true, false, cond, List, [], ◌∷◌, map, length, get_or}
 use Rattle.std.proofs.lemmas.List.{length-map}
 use Rattle.lists.specs.Lists.{keep}
 use native.Mathlib.Omega.{arith}
-use Rattle.geometry.specs.Boxes.{axes, faces, axis_of, face_of}
-use Rattle.geometry.specs.declared.face.TheConstants.{AXES, BOX_FACES}
+use Rattle.geometry.specs.Boxes.{faces, axis_of, face_of}
+use Rattle.geometry.specs.declared.face.TheConstants.{BOX_FACES}
 use Rattle.geometry.specs.declared.face.Axis.{Axis}
 use Rattle.geometry.specs.declared.face.Axis.TheVariants.{X, Y, Z}
 use Rattle.geometry.specs.declared.face.BoxFace.{BoxFace}
@@ -29,9 +27,6 @@ face_in YMax = omega arith
 face_in ZMin = omega arith
 face_in ZMax = omega arith
 
-pub axes_are : map axis_of AXES ≡ axes
-axes_are = refl
-
 pub faces_are : map face_of BOX_FACES ≡ faces
 faces_are = refl
 
@@ -43,17 +38,6 @@ face_at (suc (suc (suc zero))) d h = refl
 face_at (suc (suc (suc (suc zero)))) d h = refl
 face_at (suc (suc (suc (suc (suc zero))))) d h = refl
 face_at (suc (suc (suc (suc (suc (suc i)))))) d h = absurd (omega arith)
-
-pub face_back : (f d : BoxFace) → get_or BOX_FACES (face_of f) d ≡ f
-face_back XMin d = refl
-face_back XMax d = refl
-face_back YMin d = refl
-face_back YMax d = refl
-face_back ZMin d = refl
-face_back ZMax d = refl
-
-pub same_face : (f g : BoxFace) → face_of f ≡ face_of g → f ≡ g
-same_face f g h = sym (face_back f f) ∙ ap (λ i. get_or BOX_FACES i f) h ∙ face_back g f
 
 module _ {A B : Type 0} (f : A → B) (p : B → Bool) where
   one_more : (b : Bool) (x : A) (l : List A) → map f (cond b (x ∷ l) l) ≡ cond b (f x ∷ map f l) (map f l)

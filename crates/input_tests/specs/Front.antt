@@ -4,10 +4,10 @@
 --   admitted, Admits    how many vertices, and how many facets, a ceiling admits; that it admits those of a mesh
 --   list_tests           1, 2 and 3, of vertices, facets and cap list        ListsPass, CapListPass   what they give of a mesh and of a cap list, once they have passed
 --   inRange, eps_in_range, resolution_in_range, box_in_range   the ranges of test 4
---   bad_box              5           grid_too_fine   6
+--   bad_box              5           grid_too_fine   6           CutsOf   how many segments each axis has, none more than 256
 --   work_need, work_test  7           far_keys, box_far_keys   8
 --   by_axis              a resolution for each axis, from a list of three
-use Rattle.std.specs.Prelude.{ℕ, ◌+◌, ◌*◌, ◌/◌, ◌%◌, ◌≤◌, min, ◌≡◌, Bool, false, not, ◌&&◌, ◌||◌, List, [], ◌∷◌, eqb, ltb, length, get_or, Float}
+use Rattle.std.specs.Prelude.{ℕ, ◌+◌, ◌*◌, ◌/◌, ◌%◌, ◌<◌, ◌≤◌, min, ◌≡◌, Bool, false, not, ◌&&◌, ◌||◌, List, [], ◌∷◌, eqb, ltb, length, get_or, Float}
 use Rattle.std.specs.Float.{nan}
 use Rattle.std.specs.Float.Ieee.{neg, lt, le}
 use Rattle.lists.specs.Lists.{every, some}
@@ -105,6 +105,10 @@ by_axis resolutions k = get_or resolutions k nan
 -- "an axis needs over 256 segments"
 unfoldable pub grid_too_fine : AABB → Float → (ℕ → Float) → Bool
 grid_too_fine b eps resolution = some (λ k. ltb 256 (segments b eps resolution k)) axes
+
+pub record CutsOf (b : AABB) (eps : Float) (resolution : ℕ → Float) (l : List ℕ) : Type 0 where
+  pub counts : (k : ℕ) → k < 3 → get_or l k 0 ≡ segments b eps resolution k
+  pub few : (k : ℕ) → k < 3 → get_or l k 0 ≤ 256
 
 -- ---- 7
 

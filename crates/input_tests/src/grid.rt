@@ -1,12 +1,14 @@
-// Tests 6 and 8, and the G of test 7. The resolution is one for each axis here; the operations of document 01 give all three the same.
-ghost use Rattle.std.specs.Prelude.{◌≡◌, false, ◌||◌, min, ltb};
+// Tests 6 and 8. The resolution is one for each axis here; the operations of document 01 give all three the same.
+ghost use Rattle.std.specs.Prelude.{◌≡◌, ◌||◌};
 ghost use Rattle.geometry.specs.Boxes.{axis_of};
-ghost use Rattle.geometry.specs.Axes.{segments, grid_size};
-ghost use Rattle.rounding.specs.Rounding.{far_key};
-ghost use Rattle.input_tests.specs.Front.{by_axis, grid_too_fine, far_keys, box_far_keys};
+ghost use Rattle.geometry.specs.Axes.{segments};
+ghost use Rattle.rounding.specs.Rounding.{far_key, at_most_256};
+ghost use Rattle.input_tests.specs.Front.{by_axis, far_keys, box_far_keys};
+ghost use Rattle.input_tests.specs.Cutting.{IsCut};
 
+use crate::cuts::Cuts;
 use geometry::aabb::AABB;
-use geometry::face::{AXES, Axis};
+use geometry::face::Axis;
 use rounding::{axis_segments, key_beyond, max, quantized_key};
 
 // The grid of the box, with a resolution for each axis.
@@ -18,41 +20,27 @@ pub struct Grid {
 }
 
 impl Grid {
-    // The segments of an axis, and 257 where it needs more than 256.
-    // Stays (plainer): the count cut at 257 is compared with 256 and goes into a sum as it is; as an Option each of its readers would take it apart and put 257 back.
-    #[tactic(auto, unfolding(geometry::specs::Axes::segments))]
-    pub fn segments_of(self, axis: Axis) -> usize
-        ensures { result ≡ min (segments self.extents self.eps (by_axis self.resolution) (axis_of axis)) 257 }
+    #[tactic(auto, unfolding(geometry::specs::Axes::segments, rounding::specs::Rounding::few_segments))]
+    fn axis_cut(self, axis: Axis) -> Option<usize>
+        ensures { result ≡ at_most_256 (segments self.extents self.eps (by_axis self.resolution) (axis_of axis)) }
     {
         let k = axis.index();
         let length = self.extents.max_corner[k] - self.extents.min_corner[k];
-        axis_segments(length, max(self.resolution[k], self.eps)) as usize
+        let count = axis_segments(length, max(self.resolution[k], self.eps))?;
+        Some(count as usize)
     }
 
-    // 6, of one axis
-    #[tactic(auto, using(crate::proofs::Grids::cut_over))]
-    fn is_axis_too_fine(self, axis: Axis) -> bool
-        ensures { result ≡ ltb 256 (segments self.extents self.eps (by_axis self.resolution) (axis_of axis)) }
+    // 6: none where an axis needs more than 256 segments
+    pub fn cut(self) -> Option<Cuts>
+        ensures { IsCut self result }
     {
-        256 < self.segments_of(axis)
-    }
-
-    // 6
-    pub fn is_too_fine(self) -> bool
-        ensures { result ≡ grid_too_fine self.extents self.eps (by_axis self.resolution) }
-    {
-        AXES.iter().any(|axis| self.is_axis_too_fine(*axis))
-    }
-
-    // G, of a grid that is not too fine
-    pub fn size(self) -> usize
-        requires { grid_too_fine self.extents self.eps (by_axis self.resolution) ≡ false }
-        ensures { result ≡ grid_size self.extents self.eps (by_axis self.resolution) }
-    {
-        let x = self.segments_of(Axis::X) + 1;
-        let y = self.segments_of(Axis::Y) + 1;
-        let z = self.segments_of(Axis::Z) + 1;
-        2 * (x * y + x * z + y * z)
+        let x = self.axis_cut(Axis::X)?;
+        let y = self.axis_cut(Axis::Y)?;
+        let z = self.axis_cut(Axis::Z)?;
+        Some(Cuts {
+            grid: self,
+            segments: [x, y, z],
+        })
     }
 }
 

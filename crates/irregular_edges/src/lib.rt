@@ -1,5 +1,6 @@
 // Edges that no closed surface has (document 02, E13): borne by three or more sides, or by two that run the same way. They are found in the edge
 // table, whose runs are the edges.
+// Stays (C interface), point 6: the edge table and the list stand in the lent room, since C lends one buffer and there is no heap.
 #![tactic(auto)]
 
 ghost use Rattle.std.specs.Prelude.{◌≡◌, ◌+◌, ◌*◌, ◌-◌, ◌%◌, ◌≤◌, ◌<◌, length, take};
@@ -11,8 +12,8 @@ ghost use Rattle.edges.specs.Table.{edge_table};
 ghost use Rattle.irregular_edges.specs.Listed.{irregular_run, IrregularListed};
 
 use edges::edge_from;
-use records::run_end;
-use words::{pair_first, pair_second};
+use records::{put_record, run_end};
+use words::unpack_pair;
 
 // Whether the sides of the records from i up to e, which are all that bear a pair, make it irregular. Of two that bear one pair it is enough to ask
 // where they begin.
@@ -38,13 +39,12 @@ pub fn irregular_edges(facets: &[u32], w: &mut [u64], at: usize) -> usize
     let n = facets.len();
     let mut q = 0;
     let mut i = 0;
-    // from run to run: a `for` would count single records
+    // Stays (plainer): from run to run; a `for` would count single records.
     while i < n {
         let e = run_end(w, 0, n, i);
         if is_irregular(facets, w, i, e) {
-            let key = w[2 * i];
-            w[at + 2 * q] = pair_first(key);
-            w[at + 2 * q + 1] = pair_second(key);
+            let ends = unpack_pair(w[2 * i]);
+            put_record(w, at + 2 * q, ends);
             q += 1;
         }
         i = e;

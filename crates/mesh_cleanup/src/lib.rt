@@ -89,6 +89,7 @@ impl Cleaning<'_> {
     }
 
     // Every length is known before the first output is written.
+    // Stays (plainer), point 5: the outputs are two parameters; a struct of two `&mut` needs a clause more for each in each function, that it is still the caller's.
     fn clean_checked(
         &self,
         work: &mut [u64],
@@ -143,7 +144,7 @@ fn write_vertices(order: &[u64], vertices: &[f64], out: &mut [f64])
     }
 }
 
-// Beside `write_vertices`: one function for both would be passed the closure that is its whole body.
+// Stays (plainer): beside `write_vertices`; one function for both would be passed the closure that is its whole body.
 fn write_numbers(numbers: &[u64], out: &mut [u32])
     requires room { length numbers.now ≤ length out.old }
     requires small { (j : ℕ) → j < length numbers.now → get_or numbers.now j 0 < 196609 }

@@ -16,7 +16,7 @@ pub struct Staged {
 
 // Drops the components of fewer than `least` facets: of the k that passed, whose corners stand from `facets` on, among the n kept vertices from `kept` on. Behind `at` it has a
 // table of components, 2 words a facet and 1 a vertex, and one of numbers, 6 a facet and 1 a vertex.
-// Stays (plainer): the numbers are handed on by one caller, so that a struct of them would be made for this call alone.
+// Stays (plainer): a part of the room is handed in by its facets, where `Staged` counts corners; as one its number would be divided by 3 again, under a clause that it can be.
 pub fn remove_small_disconnected_components(
     m: &mut [u64],
     kept: usize,

@@ -54,7 +54,8 @@ impl Renumbering {
     }
 
     // The corners of facet i, which is kept.
-    // Stays (plainer): that i is one of the k facets is asked where it is read; as a type it would be made and taken apart at each call.
+    // Stays (plainer), point 5: that i is one of the k facets is asked where it is read; as a type it would be made and taken apart at each call.
+    // Stays (plainer), point 5: `RenumberRoom` holds of a room that these functions write; a field for it would be lost at the first word written.
     fn number_facet(&self, m: &mut [u64], mut w: Numbered, i: usize) -> Numbered
         requires i_lt_k { i < self.now.k }
         requires room { RenumberRoom self.now.kept self.now.facets self.now.parts self.now.k self.now.at self.now.n m.old }

@@ -58,6 +58,7 @@ impl Filter<'_> {
     }
 
     // Facet f after the `count` that passed before it; how many have passed then.
+    // Stays (plainer), point 5: `CornersNumbered` holds of a room that the filter writes between two facets; for those that only read it a struct would be made anew at each facet.
     fn filter_facet(&self, m: &mut [u64], f: usize, count: usize) -> usize
         requires f_lt_n { f < self.now.n }
         requires numbered { CornersNumbered self.now.welded self.now.mesh.vertices.now self.now.mesh.facets.now self.now.at self.now.n m.old }

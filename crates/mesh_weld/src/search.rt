@@ -49,8 +49,8 @@ impl Kept<'_> {
             },
         };
         let b = table.bucket_at(s);
-        // Stays (plainer): each item of a chain is found from the one before; a `for` would need an iterator type of its own for this walk.
         let mut here = table.chains.first(self.room, b);
+        // Stays (plainer): each item of a chain is found from the one before; a `for` would need an iterator type of its own for this walk.
         while let Some(i) = here {
             if self.holds(i, c, p) {
                 return Some(i);

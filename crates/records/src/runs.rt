@@ -1,9 +1,11 @@
 // Runs of records with one key.
+// Stays (C interface), point 6: records stand in the lent room from a place on, often with what they point to behind them, since C lends one buffer and there is no heap.
 ghost use Rattle.std.specs.Prelude.{ℕ, ◌+◌, ◌*◌, ◌≤◌, ◌<◌, length};
 ghost use Rattle.records.specs.Buffer.{payload_in};
 ghost use Rattle.records.specs.Runs.{Run, PayloadsPut};
 
-// The place behind that of record i where the next record with another key stands; n if there is none.
+// The end of the run that record i begins: the next record with another key, or the end of all n.
+// Stays (plainer), point 5: `at + 2 * n ≤ length m` of count, ascends and greatest too: each is handed n records from `at` on, and each asks that they are there.
 pub fn run_end(m: &[u64], at: usize, n: usize, i: usize) -> usize
     requires { (i < n) × (at + 2 * n ≤ length m.now) }
     ensures { Run m.now at n i result }

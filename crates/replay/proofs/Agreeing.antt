@@ -1,5 +1,5 @@
 -- Laws that lead from a call, compared with a record, to the definitions: one for every operation that writes a mesh, and tolerance. Assumes nothing.
---   fresh_vertices, fresh_facets    the lengths of fresh outputs;   outputs_within   where they lie
+--   fresh_vertices, fresh_facets    the lengths of fresh outputs;   fresh_room   what makes them so;   outputs_within   where they lie
 --   same_box                        a box from the doubles of a record
 --   tolerance_decides               a reported tolerance
 --   MeshReported, mesh_called       what a call promises
@@ -7,7 +7,7 @@
 --   clip_reply_lem, clip_result_lem, clean_reply_lem, clean_result_lem, caps_reply_lem, caps_result_lem   from the values of a call to those of the record
 --   lent_caps, lists_decides        the cap list as lent, and a request of the lists as read
 --   as_reported, zero_each, length_table   a reply as reported, work room that ends zero, the length of a table
---   as_clip, as_clean, as_caps, no_operation, as_listing_4, as_listing_6, as_mesh, as_tolerance, as_lists, short   by a record's operation
+--   nameless                        a record of no operation
 use Prim.Native.Nat.{ℕ, ◌+◌, ◌-◌, ◌≤◌, ◌<◌}
 use mathlib.Core.Path.{◌≡◌, sym, ap, ap₂, ◌∙◌, subst}
 use mathlib.Core.Bool.{Bool}
@@ -34,49 +34,15 @@ use Rattle.yongpham.specs.Calls.{box_of}
 use Rattle.replay.specs.Words.{Everywhere}
 use Rattle.replay.specs.Layout.{stored_reply, outputs_from, Laid}
 use Rattle.replay.specs.Contents.{table, old_doubles, old_words, old_double, doubles_in, numbers_in}
-use Rattle.replay.specs.Agreement.{
-  SameDoubles,
-  SameWords,
-  AgreesWith,
-  Fresh,
-  ResultStored,
-  ClipStored,
-  CleanStored,
-  CapsStored,
-  MeshStored,
-  clip,
-  clean,
-  caps,
-  ListingStored,
-  candidates,
-  boundary,
-  AnswerStored,
-  mesh,
-  listing,
-  ListsStored,
-  PlainDoubles,
-  ToleranceAgrees,
-  ListsAgree,
-  Agrees,
-  tolerance,
-  lists,
-  double_at,
-  box_in,
-  eps_in,
-  resolution_in,
-  clip_asked_in,
-  clean_asked_in,
-  limits_in,
-  asked_in,
-  mode_in,
-  caps_in,
-  outputs_in,
-  reported,
-  clip_reply,
-  clean_reply,
-  caps_reply,
-}
+use Rattle.replay.specs.Agreement.{SameDoubles, SameWords, AgreesWith, Fresh, ResultStored, clip, clean, caps, candidates, boundary, AnswerStored, mesh}
+use Rattle.replay.specs.Agreement.{listing, ListsStored, PlainDoubles, ToleranceAgrees, Agrees, tolerance, lists, double_at, box_in, eps_in, resolution_in}
+use Rattle.replay.specs.Agreement.{clip_asked_in, clean_asked_in, limits_in, asked_in, mode_in, caps_in, outputs_in, reported, clip_reply, clean_reply}
+use Rattle.replay.specs.Agreement.{caps_reply}
+use Rattle.replay.specs.Operations.{number_of}
+use Rattle.replay.specs.declared.operation.Operation.{Operation}
+use Rattle.replay.specs.declared.operation.Operation.TheVariants.{Tolerance, Clip, Clean, Candidates, Caps, BoundaryComponents}
 use Rattle.replay.proofs.Deciding.{ends}
+use Rattle.replay.proofs.Filling.{counted}
 
 pub length_table : {A : Type 0} (f : ℕ → A) (n : ℕ) → length (table f n) ≡ n
 length_table f n = length-map (up_to n) f ∙ length_up 0 n
@@ -87,6 +53,11 @@ module _ (stored w : List ℕ) (v : List Float) (f : List ℕ) (h : Fresh stored
 
   pub fresh_facets : length f ≡ get_or stored 16 0
   fresh_facets = ap length h.numbers ∙ length_table (λ k. 3000000000 + k) (get_or stored 16 0)
+
+-- work room and outputs as they are before a call, each as long as the record says
+pub fresh_room : {stored w : List ℕ} {v : List Float} {f : List ℕ} {n : ℕ} → length w ≡ get_or stored 14 0 → v ≡ old_doubles n → n ≡ get_or stored 15 0
+    → length f ≡ get_or stored 16 0 → ((k x : ℕ) → k < length f → get_or f k x ≡ 3000000000 + k) → Fresh stored w v f
+fresh_room {f = f} lent doubles n long each = record { lent = lent; coordinates = doubles ∙ ap old_doubles n; numbers = counted f _ long each }
 
 -- the outputs after a call, which are as long as before, lie within the record
 pub outputs_within : (stored w : List ℕ) (v v' : List Float) (f f' : List ℕ) → Laid stored → Fresh stored w v f → length v' ≡ length v → length f' ≡ length f
@@ -199,7 +170,8 @@ pub clip_result_lem : (stored : List ℕ) (vs : List Float) (fs : List ℕ) {box
     → clip_result vs fs (clip_asked box eps) ≡ clip_result vs fs (clip_asked_in stored)
 clip_result_lem stored vs fs b e = λ t. clip_result vs fs (clip_asked (b t) (e t))
 
-pub clean_result_lem : (stored : List ℕ) (vs : List Float) (fs : List ℕ) {eps : Float} → eps ≡ eps_in stored → clean_result vs fs (clean_asked eps) ≡ clean_result vs fs (clean_asked_in stored)
+pub clean_result_lem : (stored : List ℕ) (vs : List Float) (fs : List ℕ) {eps : Float} → eps ≡ eps_in stored
+    → clean_result vs fs (clean_asked eps) ≡ clean_result vs fs (clean_asked_in stored)
 clean_result_lem stored vs fs e = λ t. clean_result vs fs (clean_asked (e t))
 
 pub caps_result_lem : (stored : List ℕ) (vs : List Float) (fs : List ℕ) {cap_list : List ℕ} {box : AABB} {eps resolution : Float} {mode : ℕ}
@@ -225,62 +197,13 @@ lists_decides stored v f n k m r a b c p q d =
 
 -- ---- by operation
 
-module _ (stored : List ℕ) (vs : List Float) (fs : List ℕ) where
-  pub as_clip : get_or stored 1 0 ≡ 2 → MeshStored stored vs fs → ClipStored stored vs fs
-  as_clip e (clip k s) = s
-  as_clip e (clean k s) = absurd (omega arith)
-  as_clip e (caps k s) = absurd (omega arith)
-
-  pub as_clean : get_or stored 1 0 ≡ 3 → MeshStored stored vs fs → CleanStored stored vs fs
-  as_clean e (clip k s) = absurd (omega arith)
-  as_clean e (clean k s) = s
-  as_clean e (caps k s) = absurd (omega arith)
-
-  pub as_caps : get_or stored 1 0 ≡ 5 → MeshStored stored vs fs → CapsStored stored vs fs
-  as_caps e (clip k s) = absurd (omega arith)
-  as_caps e (clean k s) = absurd (omega arith)
-  as_caps e (caps k s) = s
-
-  pub no_operation : (get_or stored 1 0 ≡ 2 → ⊥) → (get_or stored 1 0 ≡ 3 → ⊥) → (get_or stored 1 0 ≡ 5 → ⊥) → MeshStored stored vs fs → ⊥
-  no_operation no-clip no-clean no-caps (clip k s) = no-clip k
-  no_operation no-clip no-clean no-caps (clean k s) = no-clean k
-  no_operation no-clip no-clean no-caps (caps k s) = no-caps k
-
--- the operations that write a mesh are 2, 3 and 5, those that write lists of words 4 and 6
-mesh_number : (stored : List ℕ) (vs : List Float) (fs : List ℕ) → MeshStored stored vs fs
-    → (2 ≤ get_or stored 1 0) × ((get_or stored 1 0 ≡ 4 → ⊥) × (get_or stored 1 0 ≡ 6 → ⊥))
-mesh_number stored vs fs (clip k s) = (omega arith, (λ e. omega arith, λ e. omega arith))
-mesh_number stored vs fs (clean k s) = (omega arith, (λ e. omega arith, λ e. omega arith))
-mesh_number stored vs fs (caps k s) = (omega arith, (λ e. omega arith, λ e. omega arith))
-
-lists_number : (stored : List ℕ) (vs : List Float) (fs : List ℕ) → AnswerStored stored vs fs → 2 ≤ get_or stored 1 0
-lists_number stored vs fs (mesh m) = (mesh_number stored vs fs m).0
-lists_number stored vs fs (listing (candidates k s)) = omega arith
-lists_number stored vs fs (listing (boundary k s)) = omega arith
-
-module _ (stored : List ℕ) (vs : List Float) (fs : List ℕ) where
-  pub as_listing_4 : get_or stored 1 0 ≡ 4 → AnswerStored stored vs fs → ListingStored stored vs fs
-  as_listing_4 e (mesh m) = absurd ((mesh_number stored vs fs m).1.0 e)
-  as_listing_4 e (listing l) = l
-
-  pub as_listing_6 : get_or stored 1 0 ≡ 6 → AnswerStored stored vs fs → ListingStored stored vs fs
-  as_listing_6 e (mesh m) = absurd ((mesh_number stored vs fs m).1.1 e)
-  as_listing_6 e (listing l) = l
-
-  pub as_mesh : (get_or stored 1 0 ≡ 4 → ⊥) → (get_or stored 1 0 ≡ 6 → ⊥) → AnswerStored stored vs fs → MeshStored stored vs fs
-  as_mesh no-candidates no-boundary (mesh m) = m
-  as_mesh no-candidates no-boundary (listing (candidates k s)) = absurd (no-candidates k)
-  as_mesh no-candidates no-boundary (listing (boundary k s)) = absurd (no-boundary k)
-
-module _ (stored : List ℕ) where
-  pub as_tolerance : get_or stored 1 0 ≡ 1 → Agrees stored → ToleranceAgrees stored
-  as_tolerance e (tolerance k t) = t
-  as_tolerance e (lists l) = absurd (omega (arith, lists_number stored _ _ l.answer))
-
-  pub as_lists : (get_or stored 1 0 ≡ 1 → ⊥) → Agrees stored → ListsAgree stored
-  as_lists never (tolerance k t) = absurd (never k)
-  as_lists never (lists l) = l
-
-  pub short : length stored < 32 → Agrees stored → ⊥
-  short h (tolerance k t) = omega (arith, t.whole)
-  short h (lists l) = omega (arith, l.laid.head)
+-- the record's number is no operation's
+pub nameless : (stored : List ℕ) → ((o : Operation) → number_of o ≡ get_or stored 1 0 → ⊥) → Agrees stored → ⊥
+nameless stored never (tolerance k t) = never Tolerance (sym k)
+nameless stored never (lists l) = elim l.answer [
+  | mesh (clip k s) ↦ never Clip (sym k)
+  | mesh (clean k s) ↦ never Clean (sym k)
+  | mesh (caps k s) ↦ never Caps (sym k)
+  | listing (candidates k s) ↦ never Candidates (sym k)
+  | listing (boundary k s) ↦ never BoundaryComponents (sym k)
+]

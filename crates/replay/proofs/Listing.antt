@@ -1,12 +1,10 @@
 -- Laws of the operations that write lists of words: from a call, compared with a record, to the definitions. Assumes nothing.
 --   boundary_decides      a call of boundary components as reported
 --   candidates_decides    a call of candidates as reported
---   as_candidates, as_boundary, no_listing   by a record's operation
 use Prim.Native.Nat.{ℕ}
 use mathlib.Core.Path.{◌≡◌, sym, ◌∙◌, transport}
 use mathlib.Core.Bool.{Bool}
 use mathlib.Core.List.{List, ◌∷◌}
-use native.Mathlib.Omega.{arith}
 use lib.ListN.{length, get_or}
 use lib.Ieee.{Float}
 use Rattle.geometry.specs.declared.aabb.AABB.{AABB}
@@ -19,7 +17,7 @@ use Rattle.boundary_closure.specs.Operation.{candidates_tests, candidates_result
 use Rattle.boundary_components.specs.Boundary.{boundary_tests, boundary_outputs}
 use Rattle.lists.specs.Lists.{Decides}
 use Rattle.replay.specs.Contents.{old_words}
-use Rattle.replay.specs.Agreement.{FreshThree, FreshWords, ThreeListed, FourListed, CandidatesStored, BoundaryStored, ListingStored, candidates, boundary}
+use Rattle.replay.specs.Agreement.{FreshThree, FreshWords, ThreeListed, FourListed, CandidatesStored, BoundaryStored}
 use Rattle.replay.specs.Agreement.{box_in, eps_in, resolution_in, asked_in, limits_in, vertex_count_in, reported}
 use Rattle.replay.proofs.Deciding.{ends}
 use Rattle.replay.proofs.Agreeing.{as_reported, zero_each}
@@ -109,18 +107,3 @@ module _ (stored w w' c c' l l' k k' e e' : List ℕ) (vs : List Float) (fs : Li
           };
           fourth = there_four.settled.1.1.1.0 ∙ sym s.outputs.1.1.1.0;
         })
-
--- ---- by operation
-
-module _ (stored : List ℕ) (vs : List Float) (fs : List ℕ) where
-  pub as_candidates : get_or stored 1 0 ≡ 4 → ListingStored stored vs fs → CandidatesStored stored vs fs
-  as_candidates h (candidates k s) = s
-  as_candidates h (boundary k s) = absurd (omega arith)
-
-  pub as_boundary : get_or stored 1 0 ≡ 6 → ListingStored stored vs fs → BoundaryStored stored fs
-  as_boundary h (candidates k s) = absurd (omega arith)
-  as_boundary h (boundary k s) = s
-
-  pub no_listing : (get_or stored 1 0 ≡ 4 → ⊥) → (get_or stored 1 0 ≡ 6 → ⊥) → ListingStored stored vs fs → ⊥
-  no_listing no-candidates no-boundary (candidates k s) = no-candidates k
-  no_listing no-candidates no-boundary (boundary k s) = no-boundary k

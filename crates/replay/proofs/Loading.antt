@@ -1,40 +1,53 @@
--- Laws of the loop that takes a file's words, eight bytes a turn. Assumes nothing.
---   Loading   the loop: the first i words are written, and the rest is left; start, turn, and its three ends
-use Prim.Native.Nat.{ℕ, ◌+◌, ◌*◌, ◌≤◌, ◌<◌}
-use mathlib.Core.Path.{◌≡◌, sym, ap, ◌∙◌}
+-- Laws of a file's words, eight bytes each. Assumes nothing.
+--   loading_turn   one more word, of the next eight bytes
+use Prim.Native.Nat.{ℕ, zero, suc, ◌+◌, ◌*◌, ◌≤◌, ◌<◌}
+use mathlib.Core.Path.{◌≡◌, refl, sym, ap, ◌∙◌}
 use mathlib.Core.List.{List}
 use mathlib.Core.Logic.{inl, inr}
 use native.Mathlib.Omega.{arith}
-use lib.ListN.{length, get_or, set, drop, length-set}
+use lib.ListN.{length, get_or, set, take, drop, length-take}
 use lib.Seq.{get_or-set_same, get_or-set_other}
-use Rattle.std.proofs.lemmas.List.{drop-drop, length-drop}
 use Rattle.root.proofs.Grid.{lt_or_ge}
+use Rattle.std.proofs.lemmas.List.{drop-drop, get_or-take}
+use Rattle.std.specs.Int.{from_le_bytes, w64}
+use Rattle.std.specs.Simd.{first_chunks}
 use Rattle.replay.specs.Words.{word_of}
 
-pub record Loading (file left words : List ℕ) (i : ℕ) : Type 0 where
-  pub within : i ≤ length words
-  pub taken : 8 * i ≤ length file
-  pub rest : left ≡ drop (8 * i) file
-  pub count : length left + 8 * i ≡ length file
-  pub word : (k : ℕ) → k < i → get_or words k 0 ≡ word_of (drop (8 * k) file)
+same_word : (bs cs : List ℕ) → ((i : ℕ) → i < 8 → get_or bs i 0 ≡ get_or cs i 0) → word_of bs ≡ word_of cs
+same_word bs cs e = omega (arith, e 0 (omega arith), e 1 (omega arith), e 2 (omega arith), e 3 (omega arith), e 4 (omega arith), e 5 (omega arith), e 6 (omega arith), e 7 (omega arith))
 
-pub loading_turn : {file left words next : List ℕ} {i w : ℕ} → Loading file left words i → i < length words → w ≡ word_of left → 8 ≤ length left → next ≡ drop 8 left
-    → Loading file next (set words i w) (i + 1)
-loading_turn {file} {left} {words} {next} {i} {w} s more is long e = record {
-  within = simp length-set (omega arith);
-  taken = omega (arith, s.count);
-  rest = e ∙ ap (drop 8) s.rest ∙ drop-drop 8 (8 * i) file ∙ ap (λ (n : ℕ). drop n file) (omega arith);
-  count = ap (λ (n : ℕ). n + 8 * (i + 1)) (ap length e ∙ length-drop 8 left) ∙ omega (arith, s.count);
-  word = λ k h. elim (lt_or_ge k i) [
-    | inl l ↦ get_or-set_other words i k w 0 (λ f. absurd (apart k i l f)) ∙ s.word k l
-    | inr g ↦ at k (omega arith)
-  ];
-}
+le_word : (bs : List ℕ) → from_le_bytes w64 bs ≡ word_of bs
+le_word bs = omega arith
+
+chunk_word : (bs : List ℕ) → from_le_bytes w64 (take 8 bs) ≡ word_of bs
+chunk_word bs = le_word (take 8 bs) ∙ same_word (take 8 bs) bs (λ i h. get_or-take 8 bs i 0 h)
+
+at_chunk : (m k : ℕ) (file d : List ℕ) → k < m → from_le_bytes w64 (get_or (first_chunks 8 m file) k d) ≡ word_of (drop (8 * k) file)
+at_chunk zero k file d h = absurd (omega arith)
+at_chunk (suc m) zero file d h = chunk_word file
+at_chunk (suc m) (suc k) file d h = at_chunk m k (drop 8 file) d (omega arith) ∙ ap word_of (drop-drop (8 * k) 8 file ∙ ap (λ (n : ℕ). drop n file) (omega arith))
+
+chunk_count : (m : ℕ) (file : List ℕ) → length (first_chunks 8 m file) ≡ m
+chunk_count zero file = refl
+chunk_count (suc m) file = ap suc (chunk_count m (drop 8 file))
+
+module _ (file words : List ℕ) (chunks : List (List ℕ)) (m n i x : ℕ) (d : List ℕ)
+    (all : chunks ≡ first_chunks 8 m file)
+    (room : n ≤ length words)
+    (before : (k : ℕ) → k < i → get_or words k 0 ≡ word_of (drop (8 * k) file))
+    (more : i < length (take n chunks))
+    (next : x ≡ from_le_bytes w64 (get_or (take n chunks) i d))
   where
-    apart : (k i : ℕ) → k < i → k ≡ i → ⊥
-    apart k i l f = omega arith
+    few : (i < n) × (i < m)
+    few = let e = ap length all ∙ chunk_count m file in let l = length-take n chunks in (omega arith, omega arith)
 
-    at : (k : ℕ) → k ≡ i → get_or (set words i w) k 0 ≡ word_of (drop (8 * k) file)
-    at k f =
-        ap (λ (x : ℕ). get_or (set words i w) x 0) f ∙ get_or-set_same words i w 0 more ∙ is ∙ ap word_of s.rest ∙
-        ap (λ (x : ℕ). word_of (drop (8 * x) file)) (sym f)
+    here : get_or (set words i x) i 0 ≡ word_of (drop (8 * i) file)
+    here =
+        get_or-set_same words i x 0 (omega (arith, few.0)) ∙ next ∙ ap (from_le_bytes w64) (get_or-take n chunks i d few.0) ∙
+        ap (λ (l : List (List ℕ)). from_le_bytes w64 (get_or l i d)) all ∙ at_chunk m i file d few.1
+
+    pub loading_turn : (k : ℕ) → k < i + 1 → get_or (set words i x) k 0 ≡ word_of (drop (8 * k) file)
+    loading_turn k h = elim (lt_or_ge k i) [
+      | inl l ↦ get_or-set_other words i k x 0 (λ e. omega arith) ∙ before k l
+      | inr g ↦ let e : k ≡ i = omega arith in ap (λ (j : ℕ). get_or (set words i x) j 0) e ∙ here ∙ ap (λ (j : ℕ). word_of (drop (8 * j) file)) (sym e)
+    ]

@@ -1,114 +1,66 @@
--- Laws of the two loops over the records of a file. Assumes nothing.
---   rest_is, part_is    what is lent of a file: all from `at` on, and n words from there
---   Walking             the loop of `are_records`: start, more, end, and the two ways to fail
---   one, none_of        1 of what holds, and 0 of what does not
---   Tallying            the loop of `count`: start, more, end, and where no record is whole
+-- Laws of the two walks over the records of a file. Assumes nothing.
+--   Walking             the walk of `are_records`: more, end, and where no record is whole
+--   one_if              1 of what holds, and 0 of what does not
+--   Tallying            the walk of `count`: more, end
 use Prim.Native.Nat.{ℕ, suc, ◌+◌, ◌-◌, ◌≤◌, ◌<◌}
 use mathlib.Core.Path.{◌≡◌, refl, sym, ap, ◌∙◌, subst}
-use mathlib.Core.Bool.{false}
-use mathlib.Core.List.{List, []}
+use mathlib.Core.Bool.{Bool, true, false}
+use mathlib.Core.List.{List, [], ◌∷◌}
 use native.Mathlib.Omega.{arith}
-use native.Mathlib.Nat.{le_of_eq}
 use borrow.Author.Tests.{eqb-true, eq-eqb}
+use mir.Val.{bool_byte}
 use lib.Dec.{eqb}
-use lib.ListN.{length, take, drop, length-drop, drop_of_length-le}
-use lib.Seq.{take_all, drop-drop}
+use lib.ListN.{length, drop, length-drop, length-take}
 use Rattle.lists.specs.Lists.{Decides}
 use Rattle.lists.proofs.Bools.{is_true, yes}
-use Rattle.replay.specs.Words.{record_length}
+use Rattle.replay.specs.Words.{record_length, FirstRecord}
 use Rattle.replay.specs.Counting.{Records, none, more, Requested, Agreeing, OneIf, Tallied, stop, onto}
 use Rattle.replay.proofs.Deciding.{refuted}
 
--- ---- parts of a file, from `at` on
-
-module _ (file : List ℕ) (at : ℕ) where
-  rest_is : take (length file - at) (drop at file) ≡ drop at file
-  rest_is = take_all (length file - at) (drop at file) (le_of_eq (length-drop at file))
-
-  -- n is the length of the record there
-  record_is : (n : ℕ) → n ≡ record_length (take (length file - at) (drop at file)) → n ≡ record_length (drop at file)
-  record_is n e = e ∙ ap record_length rest_is
-
-  part_is : (n : ℕ) → n ≡ record_length (drop at file) → take (at + n - at) (drop at file) ≡ take (record_length (drop at file)) (drop at file)
-  part_is n e = let k : at + n - at ≡ n = omega arith in ap (λ (m : ℕ). take m (drop at file)) (k ∙ e)
-
-  behind_is : (n : ℕ) → n ≡ record_length (drop at file) → drop (at + n) file ≡ drop (record_length (drop at file)) (drop at file)
-  behind_is n e = sym (drop-drop n at file) ∙ ap (λ (m : ℕ). drop m (drop at file)) e
-
-  at_end : length file ≤ at → drop at file ≡ []
-  at_end h = drop_of_length-le file {i = at} h
-
-  left_over : at < length file → 0 < length (drop at file)
-  left_over h = omega (arith, length-drop at file)
-
 -- ---- the records of a file
 
-without_first : (l : List ℕ) (k : ℕ) → 0 < record_length l → Records l k → Records (drop (record_length l) l) (k - 1)
-without_first l k p none = absurd (omega arith)
-without_first l k p (more {n = n} q r) = let e : n ≡ suc n - 1 = omega arith in subst (λ (m : ℕ). Records (drop (record_length l) l) m) e r
+without_first : (l : List ℕ) (k : ℕ) → 0 < record_length l → Records l (suc k) → Records (drop (record_length l) l) k
+without_first l k p (more q r) = r
 
-no_record : (l : List ℕ) (k : ℕ) → record_length l ≡ 0 → 0 < length l → Records l k → ⊥
-no_record l k e h none = omega arith
-no_record l k e h (more q r) = omega arith
+no_record : (l : List ℕ) (k : ℕ) → record_length l ≡ 0 → Records l (suc k) → ⊥
+no_record l k e (more q r) = omega arith
 
-one_more : (l : List ℕ) (k : ℕ) → k ≡ 0 → 0 < length l → Records l k → ⊥
-one_more l k e h none = omega arith
-one_more l k e h (more {n = n} q r) = omega arith
+all_found : (l : List ℕ) → Records l 0 → l ≡ []
+all_found l none = refl
 
-all_found : (k : ℕ) → Records [] k → k ≡ 0
-all_found k none = refl
-all_found k (more q r) = absurd (omega arith)
+empty : (l : List ℕ) → length l ≡ 0 → l ≡ []
+empty [] e = refl
+empty (x ∷ xs) e = absurd (omega arith)
 
-pub record Walking (count : ℕ) (file : List ℕ) (left at : ℕ) : Type 0 where
-  pub onward : Records (drop at file) left → Records (drop 4 file) count
-  pub back : Records (drop 4 file) count → Records (drop at file) left
+-- `done` of `count` records are passed, and `left` is what is behind them
+pub record Walking (records : List ℕ) (count : ℕ) (left : List ℕ) (done : ℕ) : Type 0 where
+  pub onward : (k : ℕ) → k + done ≡ count → Records left k → Records records count
+  pub back : Records records count → (k : ℕ) → k + done ≡ count → Records left k
 
-module _ (count : ℕ) (file : List ℕ) where
-  pub walking_start : Walking count file count 4
-  walking_start = record { onward = λ r. r; back = λ r. r }
+module _ (records : List ℕ) (count : ℕ) where
+  module _ (left : List ℕ) (done : ℕ) (w : Walking records count left done) where
+    pub walking_more : (front behind : List ℕ) → FirstRecord left front behind → Walking records count behind (done + 1)
+    walking_more front behind f = record {
+      onward = λ k e r. w.onward (suc k) (omega arith) (more {rest = left} {n = k} f.whole (subst (λ (l : List ℕ). Records l k) f.rest_is r));
+      back = λ r k e. subst (λ (l : List ℕ). Records l k) (sym f.rest_is) (without_first left k f.whole (w.back r (suc k) (omega arith)));
+    }
 
-  module _ (left at n : ℕ) (w : Walking count file left at) (e : n ≡ record_length (take (length file - at) (drop at file))) where
-    pub walking_more : (n ≡ 0 → ⊥) → (left ≡ 0 → ⊥) → Walking count file (left - 1) (at + n)
-    walking_more f g =
-        let k = record_is file at n e in
-        let p : 0 < record_length (drop at file) = omega arith in
-        let d = behind_is file at n k in
-        let q : suc (left - 1) ≡ left = omega arith in
-        record {
-          onward =
-              λ r.
-              w.onward
-              (subst (λ (m : ℕ). Records (drop at file) m) q (more {rest = drop at file} {n = left - 1} p (subst (λ (l : List ℕ). Records l (left - 1)) d r)));
-          back = λ r. subst (λ (l : List ℕ). Records l (left - 1)) (sym d) (without_first (drop at file) left p (w.back r));
-        }
+    pub walking_stuck : done < count → record_length left ≡ 0 → Decides (Records records count) false
+    walking_stuck h z = refuted (λ r. no_record left (count - done - 1) z (w.back r (suc (count - done - 1)) (omega arith)))
 
-    pub walking_stuck : at < length file → n ≡ 0 → Decides (Records (drop 4 file) count) false
-    walking_stuck h z =
-        let k = record_is file at n e in
-        refuted (λ r. no_record (drop at file) left (omega arith) (left_over file at h) (w.back r))
-
-  module _ (left at : ℕ) (w : Walking count file left at) where
-    pub walking_over : at < length file → left ≡ 0 → Decides (Records (drop 4 file) count) false
-    walking_over h z = refuted (λ r. one_more (drop at file) left z (left_over file at h) (w.back r))
-
-    pub walking_end : length file ≤ at → Decides (Records (drop 4 file) count) (eqb left 0)
-    walking_end h =
-        let d = at_end file at h in
-        record {
-          sound =
-              λ t.
-              w.onward
-              (subst (λ (l : List ℕ). Records l left) (sym d) (subst (λ (m : ℕ). Records [] m) (sym (eqb-true left 0 (is_true (eqb left 0) t))) none));
-          complete = λ r. yes (eq-eqb left 0 (all_found left (subst (λ (l : List ℕ). Records l left) d (w.back r))));
-        }
+    pub walking_end : (r : Bool) → count ≡ done → r ≡ eqb (length left) 0 → Decides (Records records count) r
+    walking_end r h e = record {
+      sound = λ t.
+          let l : left ≡ [] = empty left (eqb-true (length left) 0 (sym e ∙ is_true r t)) in
+          w.onward 0 (omega arith) (subst (λ (m : List ℕ). Records m 0) (sym l) none);
+      complete = λ p. yes (e ∙ eq-eqb (length left) 0 (ap length (all_found left (w.back p 0 (omega arith)))));
+    }
 
 -- ---- 1 and 0
 
-pub one : {P : Type 0} → P → OneIf P 1
-one p = record { few = omega arith; sound = λ _. p; complete = λ _. refl }
-
-pub none_of : {P : Type 0} → (P → ⊥) → OneIf P 0
-none_of never = record { few = omega arith; sound = λ e. absurd (omega arith); complete = λ p. absurd (never p) }
+pub one_if : {P : Type 0} {b : Bool} → Decides P b → OneIf P (bool_byte b)
+one_if {b = true} d = record { few = omega arith; sound = λ _. d.sound tt; complete = λ _. refl }
+one_if {b = false} d = record { few = omega arith; sound = λ e. absurd (omega arith); complete = λ p. absurd (d.complete p) }
 
 -- ---- a tally
 
@@ -116,57 +68,39 @@ same_counts : (operation : ℕ) (l : List ℕ) {r s a b : ℕ} → r ≡ s → a
 same_counts operation l {r} {s} {a} {b} p q t =
     subst (λ (m : ℕ). Tallied operation l s m) q (subst (λ (m : ℕ). Tallied operation l m a) p t)
 
-pub record Tallying (operation : ℕ) (file : List ℕ) (requests agreeing at : ℕ) : Type 0 where
-  pub few : requests ≤ at
-  pub fewer : agreeing ≤ at
-  pub onward : (r a : ℕ) → Tallied operation (drop at file) r a → Tallied operation (drop 4 file) (requests + r) (agreeing + a)
+pub record Tallying (operation : ℕ) (records left : List ℕ) (requests agreeing : ℕ) : Type 0 where
+  pub few : requests + length left ≤ length records
+  pub fewer : agreeing + length left ≤ length records
+  pub onward : (r a : ℕ) → Tallied operation left r a → Tallied operation records (requests + r) (agreeing + a)
 
-module _ (operation : ℕ) (file : List ℕ) where
-  pub tally_start : Tallying operation file 0 0 4
-  tally_start =
-      record {
-        few = omega arith;
-        fewer = omega arith;
-        onward =
-            λ r a t.
-            let p : r ≡ 0 + r = omega arith in
-            let q : a ≡ 0 + a = omega arith in
-            same_counts operation (drop 4 file) p q t;
-      }
-
-  module _ (requests agreeing at n : ℕ) (w : Tallying operation file requests agreeing at) where
-    stopped : record_length (drop at file) ≡ 0 → Tallied operation (drop 4 file) requests agreeing
-    stopped e =
+module _ (operation : ℕ) (records : List ℕ) where
+  module _ (left : List ℕ) (requests agreeing : ℕ) (w : Tallying operation records left requests agreeing) where
+    pub tally_end : record_length left ≡ 0 → Tallied operation records requests agreeing
+    tally_end e =
         let p : requests + 0 ≡ requests = omega arith in
         let q : agreeing + 0 ≡ agreeing = omega arith in
-        same_counts operation (drop 4 file) p q (w.onward 0 0 (stop e))
+        same_counts operation records p q (w.onward 0 0 (stop e))
 
-    pub tally_end : length file ≤ at → Tallied operation (drop 4 file) requests agreeing
-    tally_end h = stopped (ap record_length (at_end file at h))
+    shorter : (front behind : List ℕ) → FirstRecord left front behind → 0 < length front → length behind < length left
+    shorter front behind f h =
+        let n = record_length left in
+        let a : length behind ≡ length left - n = ap length f.rest_is ∙ length-drop n left in
+        let b : length front ≤ length left = subst (λ (l : List ℕ). length l ≤ length left) (sym f.first) (simp length-take (omega arith)) in
+        let p = f.whole in
+        omega arith
 
-    pub tally_stop : n ≡ record_length (take (length file - at) (drop at file)) → n ≡ 0 → Tallied operation (drop 4 file) requests agreeing
-    tally_stop e z = stopped (sym (record_is file at n e) ∙ z)
-
-    pub tally_more : (k j : ℕ) → n ≡ record_length (take (length file - at) (drop at file)) → (n ≡ 0 → ⊥)
-        → OneIf (Requested operation (take (at + n - at) (drop at file))) k
-        → OneIf (Agreeing operation (take (at + n - at) (drop at file))) j
-        → Tallying operation file (requests + k) (agreeing + j) (at + n)
-    tally_more k j e f x y =
-        let m = record_is file at n e in
-        let p : 0 < record_length (drop at file) = omega arith in
-        let d = behind_is file at n m in
-        let s = part_is file at n m in
-        record {
-          few = omega (arith, w.few, x.few);
-          fewer = omega (arith, w.fewer, y.few);
-          onward =
-              λ r a t.
-              let u : requests + (k + r) ≡ requests + k + r = omega arith in
-              let v : agreeing + (j + a) ≡ agreeing + j + a = omega arith in
-              same_counts operation (drop 4 file) u v
-              (w.onward (k + r) (j + a)
-              (onto {rest = drop at file} p
-              (subst (λ (l : List ℕ). OneIf (Requested operation l) k) s x)
-              (subst (λ (l : List ℕ). OneIf (Agreeing operation l) j) s y)
-              (subst (λ (l : List ℕ). Tallied operation l r a) d t)));
-        }
+    pub tally_more : (k j : ℕ) (front behind : List ℕ) → FirstRecord left front behind → OneIf (Requested operation front) k → OneIf (Agreeing operation front) j
+        → 0 < length front → Tallying operation records behind (requests + k) (agreeing + j)
+    tally_more k j front behind f x y h = let b = shorter front behind f h in record {
+      few = omega (arith, w.few, x.few);
+      fewer = omega (arith, w.fewer, y.few);
+      onward = λ r a t.
+          let u : requests + (k + r) ≡ requests + k + r = omega arith in
+          let v : agreeing + (j + a) ≡ agreeing + j + a = omega arith in
+          same_counts operation records u v
+          (w.onward (k + r) (j + a)
+          (onto {rest = left} f.whole
+          (subst (λ (l : List ℕ). OneIf (Requested operation l) k) f.first x)
+          (subst (λ (l : List ℕ). OneIf (Agreeing operation l) j) f.first y)
+          (subst (λ (l : List ℕ). Tallied operation l r a) f.rest_is t)));
+    }

@@ -36,6 +36,26 @@ size_of stored = outputs_from stored + outputs_length stored
 abbrev pub Few : List ℕ → ℕ → ℕ → ℕ → Type 0
 Few stored from n most = Everywhere (λ k. get_or stored (from + k) 0 ≤ most) n
 
+-- the numbers that stand in front of a record's lists, by name
+abbrev pub operation_in : List ℕ → ℕ
+operation_in stored = get_or stored 1 0
+
+abbrev pub work_in : List ℕ → ℕ
+work_in stored = get_or stored 14 0
+
+abbrev pub ceiling_in : List ℕ → ℕ
+ceiling_in stored = get_or stored 24 0
+
+-- its lists: coordinates, facet numbers, cap words
+abbrev pub list_one : List ℕ → List ℕ
+list_one stored = view stored 32 (get_or stored 2 0)
+
+abbrev pub list_two : List ℕ → List ℕ
+list_two stored = view stored (32 + get_or stored 2 0) (get_or stored 3 0)
+
+abbrev pub list_three : List ℕ → List ℕ
+list_three stored = view stored (32 + get_or stored 2 0 + get_or stored 3 0) (get_or stored 4 0)
+
 pub record Laid (stored : List ℕ) : Type 0 where
   pub head : 32 ≤ length stored
   pub lists : Few stored 2 3 1024

@@ -3,3 +3,4 @@ pub mod Layout
 pub mod Contents
 pub mod Agreement
 pub mod Counting
+pub mod Operations

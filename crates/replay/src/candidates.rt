@@ -1,16 +1,18 @@
 // The operation candidates, which writes four lists of words.
 ghost use Rattle.std.specs.Prelude.{◌∷◌};
 ghost use Rattle.lists.specs.Lists.{Decides};
-ghost use Rattle.replay.specs.Layout.{Laid};
 ghost use Rattle.replay.specs.Agreement.{FourListed, FreshWords, CandidatesStored};
 
-use crate::compare::{same_list, same_listing};
+use crate::compare::{same_listing, same_words};
 use crate::contents::double;
-use crate::layout::outputs_from;
+use crate::record::{
+    CEILING, EPS, FIRST, FOURTH, MAX_X, MAX_Y, MAX_Z, MIN_X, MIN_Y, MIN_Z, RESOLUTION, Request,
+    SECOND, THIRD,
+};
 use yongpham::yongpham_candidates;
 
 fn same_candidates(
-    stored: &[u64],
+    request: Request,
     number: u32,
     values: &[u64; 4],
     candidates: &[u64],
@@ -19,31 +21,29 @@ fn same_candidates(
     open_edges: &[u64],
     work: &[u64],
 ) -> bool
-    requires { Laid stored.now }
     ensures { Decides
-        (FourListed stored.now (number ∷ values.now) candidates.now face_lists.now constraints.now
+        (FourListed request.entry.words.now (number ∷ values.now) candidates.now face_lists.now constraints.now
         open_edges.now work.now) result }
 {
-    if !same_listing(
-        stored,
+    let words = request.words;
+    let from = request.outputs()
+        + words[FIRST] as usize
+        + words[SECOND] as usize
+        + words[THIRD] as usize;
+    let end = from + words[FOURTH] as usize;
+    same_listing(
+        request,
         number,
         values,
         candidates,
         face_lists,
         constraints,
         work,
-    ) {
-        return false;
-    }
-    let from = outputs_from(stored)
-        + stored[15] as usize
-        + stored[16] as usize
-        + stored[17] as usize;
-    same_list(stored, from, stored[18] as usize, open_edges)
+    ) & same_words(open_edges, &words[from..end])
 }
 
 pub fn candidates_agree(
-    stored: &[u64],
+    request: Request,
     vertices: &[f64],
     facets: &[u32],
     work: &mut [u64],
@@ -52,23 +52,22 @@ pub fn candidates_agree(
     constraints: &mut [u64],
     open_edges: &mut [u64],
 ) -> bool
-    requires laid { Laid stored.now }
-    requires fresh_words { FreshWords stored.now work.old candidates.old face_lists.old constraints.old open_edges.old }
-    ensures { Decides (CandidatesStored stored.now vertices.now facets.now) result }
+    requires { FreshWords request.words.now work.old candidates.old face_lists.old constraints.old open_edges.old }
+    ensures { Decides (CandidatesStored request.entry.words.now vertices.now facets.now) result }
 {
     let mut values = [0u64; 4];
     let number = yongpham_candidates(
         vertices,
         facets,
-        double(stored[6]),
-        double(stored[7]),
-        double(stored[8]),
-        double(stored[9]),
-        double(stored[10]),
-        double(stored[11]),
-        double(stored[12]),
-        double(stored[13]),
-        stored[24],
+        double(request.words[MIN_X]),
+        double(request.words[MIN_Y]),
+        double(request.words[MIN_Z]),
+        double(request.words[MAX_X]),
+        double(request.words[MAX_Y]),
+        double(request.words[MAX_Z]),
+        double(request.words[EPS]),
+        double(request.words[RESOLUTION]),
+        request.words[CEILING],
         work,
         candidates,
         face_lists,
@@ -77,7 +76,7 @@ pub fn candidates_agree(
         &mut values,
     );
     same_candidates(
-        stored,
+        request,
         number,
         &values,
         candidates,

@@ -2,120 +2,75 @@
 ghost use Rattle.std.specs.Prelude.{◌≡◌, ◌∷◌, ◌+◌, ◌≤◌, length, get_or};
 ghost use Rattle.std.specs.Float.{nan};
 ghost use Rattle.lists.specs.Lists.{Decides};
-ghost use Rattle.lists.specs.Regions.{view};
 ghost use Rattle.replay.specs.Words.{Everywhere};
-ghost use Rattle.replay.specs.Layout.{stored_reply, outputs_from, Laid};
-ghost use Rattle.replay.specs.Agreement.{SameDouble, SameDoubles, SameWords, AgreesWith, ThreeListed};
+ghost use Rattle.replay.specs.Layout.{outputs_from};
+ghost use Rattle.replay.specs.Agreement.{SameDouble, AgreesWith, ThreeListed};
 
-use crate::layout::outputs_from;
-
-pub fn same_words(a: &[u64], b: &[u64]) -> bool
-    ensures { Decides (a.now ≡ b.now) result }
-{
-    if a.len() != b.len() {
-        return false;
-    }
-    for i in 0..a.len() {
-        if a[i] != b[i] {
-            return false;
-        }
-    }
-    true
-}
-
-// The reply of a record is its number and four values, from word 19 on.
-pub fn same_reply(stored: &[u64], number: u32, values: &[u64; 4]) -> bool
-    requires { 32 ≤ length stored.now }
-    ensures { Decides (number ∷ values.now ≡ stored_reply stored.now) result }
-{
-    if stored[19] != number as u64 {
-        return false;
-    }
-    same_words(values, &stored[20..24])
-}
+use crate::record::{FIRST, Request, SECOND, THIRD};
 
 fn same_double(x: f64, word: u64) -> bool
     ensures { Decides (SameDouble x word) result }
 {
-    if x == x {
-        f64::to_bits(x) == word
-    } else {
-        false
-    }
+    !x.is_nan() && x.to_bits() == word
 }
 
-pub fn same_doubles(stored: &[u64], from: usize, output: &[f64]) -> bool
-    requires { from + length output.now ≤ length stored.now }
-    ensures { Decides (SameDoubles stored.now from output.now) result }
+// The words are the bits of the doubles.
+pub fn same_doubles(output: &[f64], words: &[u64]) -> bool
+    requires { length output.now ≤ length words.now }
+    ensures { Decides (Everywhere (λ k. SameDouble (get_or output.now k nan) (get_or words.now k 0)) (length output.now)) result }
 {
-    for i in 0..output.len() {
-        if !same_double(output[i], stored[from + i]) {
-            return false;
-        }
-    }
-    true
+    output
+        .iter()
+        .zip(words)
+        .all(|(x, word)| same_double(*x, *word))
 }
 
-pub fn same_numbers(stored: &[u64], from: usize, output: &[u32]) -> bool
-    requires { from + length output.now ≤ length stored.now }
-    ensures { Decides (SameWords stored.now from output.now) result }
+// The words are the numbers.
+pub fn same_numbers(output: &[u32], words: &[u64]) -> bool
+    requires { length output.now ≤ length words.now }
+    ensures { Decides (Everywhere (λ k. get_or output.now k 0 ≡ get_or words.now k 0) (length output.now)) result }
 {
-    for i in 0..output.len() {
-        if output[i] as u64 != stored[from + i] {
-            return false;
-        }
-    }
-    true
+    output
+        .iter()
+        .zip(words)
+        .all(|(x, word)| u64::from(*x) == *word)
 }
 
-// The n words of a record from `from` on are an output, no more and no less.
-pub fn same_list(stored: &[u64], from: usize, n: usize, output: &[u64]) -> bool
-    requires { from + n ≤ length stored.now }
-    ensures { Decides (output.now ≡ view stored.now from n) result }
+pub fn same_words(output: &[u64], words: &[u64]) -> bool
+    ensures { Decides (output.now ≡ words.now) result }
 {
-    same_words(output, &stored[from..from + n])
+    output == words
 }
 
 pub fn is_zero(room: &[u64]) -> bool
     ensures { Decides (Everywhere (λ k. get_or room.now k 0 ≡ 0) (length room.now)) result }
 {
-    for i in 0..room.len() {
-        if room[i] != 0 {
-            return false;
-        }
-    }
-    true
+    room.iter().all(|word| *word == 0)
 }
 
 // The whole answer of an operation that writes a mesh.
 pub fn same_answer(
-    stored: &[u64],
+    request: Request,
     number: u32,
     values: &[u64; 4],
     out_vertices: &[f64],
     out_facets: &[u32],
     work: &[u64],
 ) -> bool
-    requires in_bounds { 32 ≤ length stored.now }
-    requires out_facets_in_bounds { outputs_from stored.now + length out_vertices.now + length out_facets.now ≤ length stored.now }
-    ensures { Decides (AgreesWith stored.now (number ∷ values.now) out_vertices.now out_facets.now work.now) result }
+    requires { outputs_from request.words.now + length out_vertices.now + length out_facets.now ≤ length request.words.now }
+    ensures { Decides (AgreesWith request.entry.words.now (number ∷ values.now) out_vertices.now out_facets.now work.now) result }
 {
-    if !same_reply(stored, number, values) {
-        return false;
-    }
-    let from = outputs_from(stored);
-    if !same_doubles(stored, from, out_vertices) {
-        return false;
-    }
-    if !same_numbers(stored, from + out_vertices.len(), out_facets) {
-        return false;
-    }
-    is_zero(work)
+    let from = request.outputs();
+    request.record().has_reply(number, values)
+        & same_doubles(out_vertices, &request.words[from..])
+        & same_numbers(out_facets, &request.words[from + out_vertices.len()..])
+        & is_zero(work)
 }
 
 // The answer of an operation that writes lists of words, up to its third list.
+#[tactic(auto, using(crate::proofs::Comparing::listing_alike))]
 pub fn same_listing(
-    stored: &[u64],
+    request: Request,
     number: u32,
     values: &[u64; 4],
     first: &[u64],
@@ -123,24 +78,16 @@ pub fn same_listing(
     third: &[u64],
     work: &[u64],
 ) -> bool
-    requires { Laid stored.now }
     ensures { Decides
-        (ThreeListed stored.now (number ∷ values.now) first.now second.now third.now work.now) result }
+        (ThreeListed request.entry.words.now (number ∷ values.now) first.now second.now third.now work.now) result }
 {
-    if !same_reply(stored, number, values) {
-        return false;
-    }
-    if !is_zero(work) {
-        return false;
-    }
-    let from = outputs_from(stored);
-    let f = stored[15] as usize;
-    let s = stored[16] as usize;
-    if !same_list(stored, from, f, first) {
-        return false;
-    }
-    if !same_list(stored, from + f, s, second) {
-        return false;
-    }
-    same_list(stored, from + f + s, stored[17] as usize, third)
+    let from = request.outputs();
+    let from_second = from + request.words[FIRST] as usize;
+    let from_third = from_second + request.words[SECOND] as usize;
+    let end = from_third + request.words[THIRD] as usize;
+    request.record().has_reply(number, values)
+        & is_zero(work)
+        & same_words(first, &request.words[from..from_second])
+        & same_words(second, &request.words[from_second..from_third])
+        & same_words(third, &request.words[from_third..end])
 }

@@ -1,97 +1,62 @@
 // Lists of a stored request, and what outputs and work room hold before a call.
-ghost use Rattle.std.specs.Prelude.{◌≡◌, ◌+◌, ◌%◌, ◌≤◌, length};
-ghost use Rattle.replay.specs.Contents.{double_of, doubles_in, numbers_in, old_doubles, old_words};
+ghost use Rattle.std.specs.Prelude.{◌≡◌, ℕ, ◌+◌, ◌%◌, ◌≤◌, ◌<◌, length, slice_index_or};
+ghost use Rattle.replay.specs.Contents.{double_of, old_doubles};
 
 use crate::layout::is_nan;
 
-// Room for a list, an output and the work room of a request. The `ensures` gives the length, which lending an array as a slice needs.
-pub fn room_for_doubles() -> [f64; 1024]
-    ensures { 1024 ≡ length result }
-{
-    [0.0; 1024]
-}
-
-pub fn room_for_numbers() -> [u32; 1024]
-    ensures { 1024 ≡ length result }
-{
-    [0; 1024]
-}
-
-pub fn room_for_words() -> [u64; 1024]
-    ensures { 1024 ≡ length result }
-{
-    [0; 1024]
-}
-
-pub fn room_for_work() -> [u64; 20480]
-    ensures { 20480 ≡ length result }
-{
-    [0; 20480]
-}
-
 // A stored double; 0 for the bits of a NaN, which a caller has ruled out.
+// Stays (plainer): `f64::from_bits` wants to know that they are no NaN's, and with the test here no caller need hand that on.
 pub fn double(word: u64) -> f64
     ensures { result ≡ double_of word }
 {
     if is_nan(word) {
-        return 0.0;
-    }
-    f64::from_bits(word)
-}
-
-pub fn read_doubles(stored: &[u64], from: usize, list: &mut [f64])
-    requires { from + length list.old ≤ length stored.now }
-    ensures { list.new ≡ doubles_in stored.now from (length list.old) }
-{
-    for i in 0..list.len() {
-        list[i] = double(stored[from + i]);
+        0.0
+    } else {
+        f64::from_bits(word)
     }
 }
 
 // The low half of a word; a caller has ruled out that the high half is not 0.
+// Stays (plainer): `u32::try_from` answers an error too, which each caller would have to take apart.
 pub fn low_half(word: u64) -> u32
     ensures { result ≡ word % 4294967296 }
 {
     (word % 4294967296) as u32
 }
 
-pub fn read_numbers(stored: &[u64], from: usize, list: &mut [u32])
-    requires { from + length list.old ≤ length stored.now }
-    ensures { list.new ≡ numbers_in stored.now from (length list.old) }
+// Writes what `f` makes of each word of a list.
+pub fn read<T: Copy, F: Fn(u64) -> T>(list: &mut [T], words: &[u64], f: F)
+    requires long { length list.old ≡ length words.now }
+    requires callable { F.IsAlwaysCallable f }
+    ensures long { length list.new ≡ length words.now }
+    ensures read { (k : ℕ) (x : T) → k < length list.new → F.post f (slice_index_or words.now k 0) (slice_index_or list.new k x) }
 {
-    for i in 0..list.len() {
-        list[i] = low_half(stored[from + i]);
+    for (i, x) in list.iter_mut().enumerate() {
+        *x = f(words[i]);
     }
 }
 
+// As an output of doubles is before a call.
+#[tactic(auto, using(crate::proofs::Filling::next_double))]
 pub fn old_doubles(output: &mut [f64])
     ensures { output.new ≡ old_doubles (length output.old) }
 {
-    let mut x = 1.5;
-    for i in 0..output.len() {
-        output[i] = x;
-        x = x + 1.0;
+    let mut next = 1.5;
+    for x in output.iter_mut() {
+        *x = next;
+        next += 1.0;
     }
 }
 
-pub fn old_numbers(output: &mut [u32])
-    requires { length output.old ≤ 1024 }
-    ensures { output.new ≡ old_words (length output.old) }
+// As an output of numbers or of words is before a call, and the work room.
+pub fn old_numbers<T: Copy + From<u32>>(output: &mut [T])
+    requires { length output.old ≤ 20480 }
+    ensures long { length output.new ≡ length output.old }
+    ensures counted { (k : ℕ) (x : T) → k < length output.new → T.from_gives (3000000000 + k) (slice_index_or output.new k x) }
 {
-    let mut x: u32 = 3000000000;
-    for i in 0..output.len() {
-        output[i] = x;
-        x += 1;
-    }
-}
-
-pub fn old_words(room: &mut [u64])
-    requires { length room.old ≤ 20480 }
-    ensures { room.new ≡ old_words (length room.old) }
-{
-    let mut x: u64 = 3000000000;
-    for i in 0..room.len() {
-        room[i] = x;
-        x += 1;
+    let mut next = 3_000_000_000u32;
+    for x in output.iter_mut() {
+        *x = T::from(next);
+        next += 1;
     }
 }

@@ -1,16 +1,17 @@
 // The operations that write lists of words: candidates, which writes four, and boundary components, which writes three.
 ghost use Rattle.std.specs.Prelude.{◌≡◌, length, get_or};
 ghost use Rattle.lists.specs.Lists.{Decides};
-ghost use Rattle.replay.specs.Layout.{Laid};
 ghost use Rattle.replay.specs.Agreement.{OutputsLent, FreshWords, ListingStored};
 
 use crate::boundary::boundary_agrees;
 use crate::candidates::candidates_agree;
-use crate::contents::{old_words, room_for_words, room_for_work};
+use crate::contents::old_numbers;
+use crate::operation::Operation;
+use crate::record::{FIRST, FOURTH, LARGEST, LONGEST, Request, SECOND, THIRD, WORK};
 
-// A number that is no operation's here agrees with nothing. The fourth output is of candidates alone.
+// An operation that writes no such lists agrees with nothing here. The fourth output is of candidates alone.
 fn listing_agrees(
-    stored: &[u64],
+    request: Request,
     vertices: &[f64],
     facets: &[u32],
     work: &mut [u64],
@@ -19,22 +20,25 @@ fn listing_agrees(
     third: &mut [u64],
     fourth: &mut [u64],
 ) -> bool
-    requires laid { Laid stored.now }
-    requires fresh_words { FreshWords stored.now work.old first.old second.old third.old fourth.old }
-    ensures { Decides (ListingStored stored.now vertices.now facets.now) result }
+    requires { FreshWords request.words.now work.old first.old second.old third.old fourth.old }
+    ensures { Decides (ListingStored request.entry.words.now vertices.now facets.now) result }
 {
-    if stored[1] == 4 {
-        return candidates_agree(stored, vertices, facets, work, first, second, third, fourth);
+    match request.operation {
+        Operation::Candidates => {
+            candidates_agree(
+                request, vertices, facets, work, first, second, third, fourth,
+            )
+        }
+        Operation::BoundaryComponents => {
+            boundary_agrees(request, facets, work, first, second, third)
+        }
+        _ => false,
     }
-    if stored[1] == 6 {
-        return boundary_agrees(stored, facets, work, first, second, third);
-    }
-    false
 }
 
 // Runs the request with these lists in this room.
 fn run_listing(
-    stored: &[u64],
+    request: Request,
     vertices: &[f64],
     facets: &[u32],
     work: &mut [u64],
@@ -43,41 +47,42 @@ fn run_listing(
     third: &mut [u64],
     fourth: &mut [u64],
 ) -> bool
-    requires laid { Laid stored.now }
-    requires work_len { length work.old ≡ get_or stored.now 14 0 }
-    requires outputs_lent { OutputsLent stored.now first.old second.old third.old fourth.old }
-    ensures { Decides (ListingStored stored.now vertices.now facets.now) result }
+    requires work_len { length work.old ≡ get_or request.words.now 14 0 }
+    requires outputs_lent { OutputsLent request.words.now first.old second.old third.old fourth.old }
+    ensures { Decides (ListingStored request.entry.words.now vertices.now facets.now) result }
 {
-    old_words(work);
-    old_words(first);
-    old_words(second);
-    old_words(third);
-    old_words(fourth);
-    listing_agrees(stored, vertices, facets, work, first, second, third, fourth)
+    old_numbers(work);
+    old_numbers(first);
+    old_numbers(second);
+    old_numbers(third);
+    old_numbers(fourth);
+    listing_agrees(
+        request, vertices, facets, work, first, second, third, fourth,
+    )
 }
 
-pub fn listing_answer_agrees(stored: &[u64], vertices: &[f64], facets: &[u32]) -> bool
-    requires { Laid stored.now }
-    ensures { Decides (ListingStored stored.now vertices.now facets.now) result }
+pub fn listing_answer_agrees(request: Request, vertices: &[f64], facets: &[u32]) -> bool
+    ensures { Decides (ListingStored request.entry.words.now vertices.now facets.now) result }
 {
-    let mut work = room_for_work();
-    let mut first = room_for_words();
-    let mut second = room_for_words();
-    let mut third = room_for_words();
-    let mut fourth = room_for_words();
-    let lent = stored[14] as usize;
-    let f = stored[15] as usize;
-    let s = stored[16] as usize;
-    let t = stored[17] as usize;
-    let l = stored[18] as usize;
+    let words = request.words;
+    let lent = words[WORK] as usize;
+    let a = words[FIRST] as usize;
+    let b = words[SECOND] as usize;
+    let c = words[THIRD] as usize;
+    let d = words[FOURTH] as usize;
+    let mut work = [0u64; LARGEST];
+    let mut first = [0u64; LONGEST];
+    let mut second = [0u64; LONGEST];
+    let mut third = [0u64; LONGEST];
+    let mut fourth = [0u64; LONGEST];
     run_listing(
-        stored,
+        request,
         vertices,
         facets,
         &mut work[..lent],
-        &mut first[..f],
-        &mut second[..s],
-        &mut third[..t],
-        &mut fourth[..l],
+        &mut first[..a],
+        &mut second[..b],
+        &mut third[..c],
+        &mut fourth[..d],
     )
 }

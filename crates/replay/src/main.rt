@@ -12,38 +12,34 @@ mod file;
 mod layout;
 mod listings;
 mod meshes;
+mod operation;
+mod record;
 mod requests;
 
 use counting::{Tally, count};
-use file::{load, room};
-use layout::are_answers;
+use file::load;
+use layout::records_of;
+use operation::OPERATIONS;
 use page::Page;
 use std::io::Write;
 use std::{fs, io};
 
-fn print_line<W: Write>(page: &mut Page<W>, name: &str, tally: Tally) {
-    let Tally { requests, agreeing } = tally;
-    writeln!(page, "{name}\t{requests}\t{agreeing}");
-}
-
-fn replay<W: Write>(page: &mut Page<W>, file: &[u64]) {
-    if !are_answers(file) {
-        writeln!(page, "malformed");
-        return;
-    }
-    print_line(page, "tolerance", count(file, 1));
-    print_line(page, "clip", count(file, 2));
-    print_line(page, "clean", count(file, 3));
-    print_line(page, "candidates", count(file, 4));
-    print_line(page, "caps", count(file, 5));
-    print_line(page, "boundary_components", count(file, 6));
-}
+// The words of a file of 1 MB.
+const ROOM: usize = 131072;
 
 fn main(rt: HostRuntime) -> io::Result<()> {
     let bytes = fs::read(&rt, "answers.bin")?;
-    let mut words = room();
+    let mut words = [0; ROOM];
     let n = load(bytes.as_slice(), &mut words);
     let mut page = Page::new(io::writer(&rt));
-    replay(&mut page, &words[..n]);
+    match records_of(&words[..n]) {
+        Some(records) => {
+            for operation in OPERATIONS {
+                let Tally { requests, agreeing } = count(records, operation);
+                writeln!(page, "{operation}\t{requests}\t{agreeing}");
+            }
+        }
+        None => writeln!(page, "malformed"),
+    }
     page.finish()
 }

@@ -5,16 +5,36 @@ use mathlib.Core.Bool.{Bool, true, false, not, cond, ◌&&◌, ◌||◌}
 use Prim.Native.Nat.{ℕ, zero, suc, ◌+◌, ◌-◌, ◌%◌, ◌^◌, ◌≤◌, ◌<◌}
 use native.Mathlib.Nat.{mod-lt, mod-eq_of_lt}
 use native.Mathlib.Omega.{arith}
-use lib.Dec.{T, ltb, ltb→lt, lt→ltb, not_T}
+use lib.Dec.{T, leb, ltb, ltb→lt, lt→ltb, le→leb, not_T}
+use lib.Arith.{lt→nleb}
 use lib.Pow.{pow_pos}
-use lib.Ieee.{Float, binary64, below, level, fits, eq, of_bits, to_bits, is_nan}
+use lib.Ieee.{Float, nan, inf, fin, binary64, below, level, fits, eq, of_bits, to_bits, is_nan}
 use lib.Ieee.Bits.{of_bits-to_bits, to_bits-lt, is_true, is_false}
 use Rattle.root.specs.Doubles.{negative, before}
 use Rattle.root.proofs.Grid.{lt_or_ge}
+use Rattle.root.proofs.Patterns.{pattern_of, sign_is}
 use Rattle.root.proofs.Doubles.{same_test}
 use Rattle.root.proofs.Order.{unsigned, lt_patterns, eq_patterns}
 use Rattle.rounding.specs.Ordering.{order_key}
-use Rattle.rounding.proofs.Rounding.{plus, minus}
+
+-- ---- the sign is the pattern's highest bit
+
+inf_sign : (s : Bool) → leb (2 ^ 63) (to_bits binary64 (inf s)) ≡ s
+unfolding to_bits
+inf_sign true = refl
+inf_sign false = refl
+
+bit_is : (x : Float) → T (fits binary64 x) → T (not (is_nan x)) → negative x ≡ leb (2 ^ 63) (to_bits binary64 x)
+unfolding is_nan
+bit_is nan F n = absurd n
+bit_is (inf s) F n = sym (inf_sign s)
+bit_is (fin s m e) F n = sign_is (fin s m e) _ _ (pattern_of (fin s m e) F tt).value
+
+plus : (x : Float) → T (fits binary64 x) → T (not (is_nan x)) → to_bits binary64 x < 2 ^ 63 → negative x ≡ false
+plus x F n h = bit_is x F n ∙ is_false (leb (2 ^ 63) (to_bits binary64 x)) (lt→nleb (2 ^ 63) (to_bits binary64 x) h)
+
+minus : (x : Float) → T (fits binary64 x) → T (not (is_nan x)) → 2 ^ 63 ≤ to_bits binary64 x → negative x ≡ true
+minus x F n h = bit_is x F n ∙ is_true (leb (2 ^ 63) (to_bits binary64 x)) (le→leb (2 ^ 63) (to_bits binary64 x) h)
 
 -- ---- the key, by the pattern
 

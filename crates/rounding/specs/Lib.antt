@@ -1,3 +1,2 @@
 pub mod Rounding
 pub mod Ordering
-pub mod Whole

@@ -8,7 +8,8 @@
 --   ceil            n / d up to a whole number
 --   whole_up         `ceil() as usize`
 --   segments_over        how many segments of at most `spacing` an axis of a given length needs
-use Rattle.std.specs.Prelude.{ℕ, ◌+◌, ◌*◌, ◌-◌, ◌/◌, ◌^◌, min, max, ◌≡◌, Bool, cond, T, ltb, ℤ, pos, negsuc, neg_ℤ, nat_abs, Float}
+--   at_most_256, few_segments   a count, or none where it is more than 256; so many segments of an axis
+use Rattle.std.specs.Prelude.{ℕ, ◌+◌, ◌*◌, ◌-◌, ◌/◌, ◌^◌, min, max, ◌≡◌, Bool, cond, T, ltb, ℤ, pos, negsuc, neg_ℤ, nat_abs, Option, None, Some, Float}
 use Rattle.std.specs.Float.{nan, inf, fin, binary64}
 use Rattle.std.specs.Float.Ieee.{up, down, round}
 use Rattle.root.specs.Doubles.{◌⊘◌, 1e-12, larger, finite, negative, one, units_of}
@@ -62,3 +63,10 @@ whole_up (fin s m e) = cond s 0 (min (2 ^ 64 - 1) (ceil (m * up e) (down e)))
 -- at least one
 unfoldable pub segments_over : Float → Float → ℕ
 segments_over length spacing = max 1 (whole_up (length ⊘ spacing))
+
+-- "an axis needs over 256 segments"
+abbrev pub at_most_256 : ℕ → Option ℕ
+at_most_256 n = cond (ltb 256 n) None (Some n)
+
+unfoldable pub few_segments : Float → Float → Option ℕ
+few_segments length spacing = at_most_256 (segments_over length spacing)

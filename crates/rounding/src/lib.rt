@@ -3,89 +3,29 @@
 #![tactic(auto)]
 
 ghost use Rattle.std.specs.Prelude.{◌≡◌, not, ◌*◌, ◌^◌, ◌<◌, ◌≤◌, T};
-ghost use Prim.Native.Nat as Nat;
 ghost use Rattle.std.specs.Float.Ieee.{is_nan};
 ghost use Rattle.root.specs.Doubles as doubles;
-ghost use Rattle.root.specs.Patterns.{pattern_units};
 ghost use Rattle.rounding.specs.Rounding as defined;
 ghost use Rattle.rounding.specs.Ordering.{order_key};
-ghost use Rattle.rounding.specs.Whole.{WholeOf};
 
-use root::{LEAD, SIGN};
-
-// the pattern of 2^52, from which on every double is whole
-const WHOLE: u64 = 4841369599423283200;
-
-// the pattern of 2^63, from which on no double is an `i64`
-const WIDE: u64 = 4890909195324358656;
-
-// The whole number nearest to the double with the pattern b, a half going up, for a double with no sign and below 2^63.
-// Stays (plainer): no conversion; it rounds the number that a pattern stands for, in whole numbers alone.
-#[tactic(auto, using(crate::proofs::Whole::none, crate::proofs::Whole::some, crate::proofs::Whole::all))]
-fn whole_of_bits(b: u64) -> u64
-    requires { b < 1086 * 2 ^ 52 }
-    ensures { WholeOf b result }
-{
-    let e: u64 = b / LEAD;
-    let q: u64 = LEAD + b % LEAD;
-    if e < 1022 {
-        // below a half
-        0
-    } else if e < 1075 {
-        // the double is q / w
-        let w: u64 = 1 << (1075 - e);
-        (2 * q + w) >> (1076 - e)
-    } else {
-        q << (e - 1075)
-    }
-}
-
-// The double with the pattern b up to a whole number, for a double from 1 to 256.
-// Stays (plainer): no conversion; it rounds the number that a pattern stands for, in whole numbers alone.
-#[tactic(auto, using(crate::proofs::Segments::bits_ceil))]
-fn ceil_of_bits(b: u64) -> u64
-    requires { (1023 * 2 ^ 52 ≤ b) × (b ≤ 1031 * 2 ^ 52) }
-    ensures { result ≡ defined.ceil (pattern_units b) doubles.one }
-{
-    let e: u64 = b / LEAD;
-    let q: u64 = LEAD + b % LEAD;
-    // the double is q / w
-    let w: u64 = 1 << (1075 - e);
-    (q + (w - 1)) >> (1075 - e)
-}
+use root::SIGN;
+use std::num::{saturating_f64_to_i64, saturating_f64_to_u64};
 
 // x to a whole number, a half going away from zero: Rust's `round`.
-#[tactic(auto, using(crate::proofs::Rounding::round_laws))]
+// Stays (plainer): one call of the library, under the name of its definition.
+#[tactic(auto, using(crate::proofs::Rounding::away_is))]
 pub fn round(x: f64) -> f64
     ensures { result ≡ defined.half_away x }
 {
-    if x != x {
-        return x;
-    }
-    let b: u64 = f64::to_bits(x);
-    let c: u64 = b % SIGN;
-    if WHOLE <= c {
-        return x;
-    }
-    let n: u64 = whole_of_bits(c);
-    if b < SIGN { n as f64 } else { -(n as f64) }
+    x.round()
 }
 
 // Rust's `round() as i64`: beyond the range the nearest end of it, and 0 of a NaN.
-#[tactic(auto, using(crate::proofs::Rounding::rounded_laws))]
+#[tactic(auto, using(crate::proofs::Rounding::rounded_is))]
 pub fn rounded(x: f64) -> i64
     ensures { result ≡ defined.rounded x }
 {
-    if x != x {
-        return 0;
-    }
-    let b: u64 = f64::to_bits(x);
-    let c: u64 = b % SIGN;
-    if WIDE <= c {
-        return if b < SIGN { i64::MAX } else { i64::MIN };
-    }
-    let n: u64 = whole_of_bits(c);
-    if b < SIGN { n as i64 } else { 0 - (n as i64) }
+    saturating_f64_to_i64(x.round())
 }
 
 // The cell of a coordinate: `q` in the Rust's `quantized_point_key` (mesh_cleanup.rs, boundary_closure.rs). The quotient may be infinite.
@@ -132,14 +72,12 @@ pub fn min(x: f64, y: f64) -> f64
 }
 
 // Rust's `abs`: the sign bit cleared.
-#[tactic(auto, using(crate::proofs::Rounding::abs_laws))]
+// Stays (plainer): one call of the library, under the name of its definition, which many contracts cite.
+#[tactic(auto, using(crate::proofs::Rounding::abs_is))]
 pub fn abs(x: f64) -> f64
     ensures { result ≡ doubles.magnitude x }
 {
-    if x != x {
-        return x;
-    }
-    f64::from_bits(f64::to_bits(x) % SIGN)
+    x.abs()
 }
 
 // Rust's `abs() <= eps`, without the branch on a sign that is as good as random.
@@ -155,13 +93,7 @@ pub fn within(d: f64, eps: f64) -> bool
 pub fn clamp01(t: f64) -> f64
     ensures { result ≡ doubles.clamped t }
 {
-    if t < 0.0 {
-        0.0
-    } else if 1.0 < t {
-        1.0
-    } else {
-        t
-    }
+    t.clamp(0.0, 1.0)
 }
 
 // A whole number in the order of `total_cmp`.
@@ -174,19 +106,18 @@ pub fn order_key(x: f64) -> u64
     if b < SIGN { SIGN + b } else { !b }
 }
 
-// How many segments an axis needs, or 257 where it needs more than 256: `axis_grid_coordinates` of boundary_closure.rs, for a spacing of
-// max(resolution, eps). The quotient may be infinite, so it is compared before it is converted.
-// Stays (plainer): one caller asks whether 256 is passed, and the others have tested that it is not; with `None` for more each would have to prove that away.
-#[tactic(auto, unfolding(crate::specs::Rounding::segments_over), using(crate::proofs::Segments::segments_laws))]
-pub fn axis_segments(length: f64, spacing: f64) -> u64
-    ensures { result ≡ Nat.min (defined.segments_over length spacing) 257 }
+// How many segments an axis needs, or none where it needs more than 256: `axis_grid_coordinates` of boundary_closure.rs, for a spacing of
+// max(resolution, eps). The quotient may be infinite.
+#[tactic(auto, unfolding(crate::specs::Rounding::segments_over, crate::specs::Rounding::few_segments), using(crate::proofs::Segments::segments_laws))]
+pub fn axis_segments(length: f64, spacing: f64) -> Option<u64>
+    ensures { result ≡ defined.few_segments length spacing }
 {
     let q: f64 = length / spacing;
     if 256.0 < q {
-        return 257;
+        None
+    } else if 1.0 < q {
+        Some(saturating_f64_to_u64(q.ceil()))
+    } else {
+        Some(1)
     }
-    if 1.0 < q {
-        return ceil_of_bits(f64::to_bits(q));
-    }
-    1
 }

@@ -6,10 +6,9 @@ mod copying;
 mod packing;
 mod parts;
 
-pub use clearing::{zero, zero_front};
+pub use clearing::zero;
 pub use copying::{copy_front, put, write_three};
 pub use packing::{
-    pack_edge, pack_pair, pack_triple, pair_first, pair_second, triple_first, triple_second,
-    triple_third,
+    pack_edge, pack_pair, pack_triple, pair_first, pair_second, unpack_pair, unpack_triple,
 };
 pub use parts::zero_part;

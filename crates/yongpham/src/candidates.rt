@@ -13,7 +13,7 @@ use geometry::mesh::MeshLists;
 use refusals::report::report_reply;
 
 // `cap_candidates`: the four values get the lengths written.
-// Stays (C interface): lists, box, eps and resolution stand apart, as C hands them in.
+// Stays (C interface), point 5: the parameters are those of include/yongpham.h; replay calls this crate, since no crate can use a static library (yongpham_c).
 pub fn yongpham_candidates(
     vertices: &[f64],
     facets: &[u32],

@@ -27,7 +27,7 @@ fn refuse_mode(mesh: MeshLists<'_>, caps: usize, ceiling: u64, values: &mut [u64
 }
 
 // `cap_mesh_to_aabb`: values[0] and values[1] get the lengths written. Only numbers come from C, so that a mode is tested here.
-// Stays (C interface): a mode is a number, and lists, box, eps and resolution stand apart, as C hands them in.
+// Stays (C interface): parameters, the mode as a number too, are those of include/yongpham.h; replay calls this crate, since no crate can use a static library (yongpham_c).
 pub fn yongpham_caps(
     vertices: &[f64],
     facets: &[u32],

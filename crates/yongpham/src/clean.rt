@@ -8,7 +8,7 @@ use mesh_cleanup::clean_mesh;
 use refusals::report::report_reply;
 
 // `clean_mesh`: values[0] and values[1] get the lengths written.
-// Stays (C interface): lists and outputs stand apart, as C hands them in.
+// Stays (C interface), point 5: the parameters are those of include/yongpham.h; replay calls this crate, since no crate can use a static library (yongpham_c).
 pub fn yongpham_clean(
     vertices: &[f64],
     facets: &[u32],

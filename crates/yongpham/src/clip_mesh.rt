@@ -11,7 +11,7 @@ use geometry::mesh::MeshLists;
 use refusals::report::report_reply;
 
 // `clip_mesh_to_aabb`: values[0] and values[1] get the lengths written.
-// Stays (C interface): lists, box and eps stand apart, as C hands them in.
+// Stays (C interface), point 5: the parameters are those of include/yongpham.h; replay calls this crate, since no crate can use a static library (yongpham_c).
 pub fn yongpham_clip(
     vertices: &[f64],
     facets: &[u32],

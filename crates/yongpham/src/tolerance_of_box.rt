@@ -7,6 +7,7 @@ use refusals::report::{report_done, report_refusal};
 use tolerance::bbox_eps;
 
 // `bbox_eps` of the box with these two corners: values[0] gets the bits of the tolerance.
+// Stays (C interface), point 5: the parameters are those of include/yongpham.h; replay calls this crate, since no crate can use a static library (yongpham_c).
 pub fn yongpham_tolerance(
     min_x: f64,
     min_y: f64,

@@ -13,7 +13,7 @@ returns c =
     let a = s.args in
     let p = run-pass in
     let fits = is-ample.ensures if1.false in
-    let m = clip_result a.admitted.mesh.vertices.now a.admitted.mesh.facets.now a.clip in
+    let m = clip_result a.admitted.mesh.vertices.now a.admitted.mesh.facets.now a.admitted.clip in
     done m a.out_vertices.now _ a.out_facets.now _ p.result.vertices p.result.numbers p.ensures.ran.count p.ensures.ran.numbers (omega (
       arith,
       p.ensures.ran.count,

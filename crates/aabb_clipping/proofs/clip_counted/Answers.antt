@@ -20,7 +20,7 @@ returns-then-out_vertices-need_vertices c =
     let p = run-pass in
     let nv = none_front p.new.out_vertices a.out_vertices.now p.auto.out_vertices in
     let nf = none_front p.new.out_facets a.out_facets.now p.auto.out_facets in
-    let m = clip_result a.admitted.mesh.vertices.now a.admitted.mesh.facets.now a.clip in
+    let m = clip_result a.admitted.mesh.vertices.now a.admitted.mesh.facets.now a.admitted.clip in
     short_vertices m a.out_vertices.now _ a.out_facets.now _ p.result.vertices p.result.numbers p.ensures.ran.count p.ensures.ran.numbers (omega
     (arith, c.if-out_vertices-need_vertices.true, ap length nv)) nv nf
 
@@ -32,7 +32,7 @@ returns-then-out_facets-need_facets c =
     let p = c.run_pass-need in
     let nv = none_front p.new.out_vertices a.out_vertices.now p.auto.out_vertices in
     let nf = none_front p.new.out_facets a.out_facets.now p.auto.out_facets in
-    let m = clip_result a.admitted.mesh.vertices.now a.admitted.mesh.facets.now a.clip in
+    let m = clip_result a.admitted.mesh.vertices.now a.admitted.mesh.facets.now a.admitted.clip in
     short_facets m a.out_vertices.now _ a.out_facets.now _ p.result.vertices p.result.numbers p.ensures.ran.count p.ensures.ran.numbers
     (omega (arith, c.if-out_vertices-need_vertices.false, ap length nv)) (omega (arith, c.if-out_facets-need_facets.true, ap length nf)) nv nf
 
@@ -51,7 +51,7 @@ returns c =
     let p = run-pass in
     let nv = none_front p.new.out_vertices a.out_vertices.now p.auto.out_vertices in
     let nf = none_front p.new.out_facets a.out_facets.now p.auto.out_facets in
-    let m = clip_result a.admitted.mesh.vertices.now a.admitted.mesh.facets.now a.clip in
+    let m = clip_result a.admitted.mesh.vertices.now a.admitted.mesh.facets.now a.admitted.clip in
     let w = run-pass2 in
     done m a.out_vertices.now _ a.out_facets.now _ p.result.vertices p.result.numbers p.ensures.ran.count p.ensures.ran.numbers (omega (
       arith,

@@ -1,4 +1,4 @@
-use Rattle.boundary_components.proofs.Delivery.{short_edges, short_components, short_irregular, written}
+use Rattle.boundary_components.proofs.Delivery.{part_written, short_edges, short_components, short_irregular, written}
 use Rattle.boundary_components.proofs.list_checked.Goals as goal
 
 pub returns-then-out_edges-edges : goal.returns-then-out_edges-edges
@@ -27,9 +27,9 @@ returns-then-out_irregular-irregular c =
 
 pub returns : goal.returns
 returns c =
-    let one = c.write_list in
-    let two = c.write_list-2 in
-    let three = c.write_list-3 in
+    let one = c.copy_front in
+    let two = c.copy_front-2 in
+    let three = c.copy_front-3 in
     let third = c in
     let second = third in
     let first = second in
@@ -39,4 +39,5 @@ returns c =
     let a = s.args in
     written a.vertices a.facets.now a.work.now st.new.work st.result.edges st.result.components st.result.irregular s.requires st.ensures
     a.out_edges.now a.out_components.now a.out_irregular.now first.if-out_edges-edges.false second.if-out_components-components.false
-    one.new.out two.new.out three.new.out third.if-out_irregular-irregular.false one.ensures two.ensures three.ensures
+    one.new.to two.new.to three.new.to third.if-out_irregular-irregular.false (part_written st.new.work a.out_edges.now one.new.to _ _ one.ensures)
+    (part_written st.new.work a.out_components.now two.new.to _ _ two.ensures) (part_written st.new.work a.out_irregular.now three.new.to _ _ three.ensures)

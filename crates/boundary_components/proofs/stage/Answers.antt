@@ -3,8 +3,8 @@ use Rattle.edges.proofs.Steps.{ascends}
 use native.Mathlib.Omega.{arith}
 use Rattle.boundary_components.proofs.stage.Goals as goal
 
-pub keep_open-edges-requires : goal.keep_open-edges-requires
-keep_open-edges-requires c =
+pub keep_open-edges-requires-clause-ascending : goal.keep_open-edges-requires-clause-ascending
+keep_open-edges-requires-clause-ascending c =
     let table = c.sort_sides in
     let found = c.irregular_edges-irregular in
     let s = c in
@@ -13,7 +13,8 @@ keep_open-edges-requires c =
     let again = table_again s.args.vertices fs w table.new.w found.new.w found.result s.requires (λ i. omega (
       arith,
       c.type_inv.facets i,
-    )) table.ensures found.ensures in record { n_in_bounds = omega (arith, again.same); ascending = ascends fs found.new.w found.new.w again }
+    )) table.ensures found.ensures in
+    ascends fs found.new.w found.new.w again
 
 pub group_edges-components-requires : goal.group_edges-components-requires
 group_edges-components-requires c =

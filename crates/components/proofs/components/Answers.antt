@@ -46,7 +46,7 @@ returns c =
     let J = subst₂ (λ (x y : ℕ). Swept s.labels.now x s.k y c.join.new.links c.join.new.firsts (x * s.k)) (links-long p) (firsts-long p) c.join.ensures in
     let F = subst (λ (x : ℕ). Flattened c.join.new.links c.flatten.new.links x) J.links c.flatten.ensures in
     let flat = F.kept.long ∙ J.links in
-    let T = subst (λ (x : ℕ). SizesTallied c.flatten.new.links c.zero.new.w c.tally.new.sizes x) flat c.tally.ensures in
+    let T = subst (λ (x : ℕ). SizesTallied c.flatten.new.links c.zero.new.w c.tally.new.sizes x) (c.zero.auto.w ∙ c.split_at_mut-sizes.ensures.front_len) c.tally.ensures in
     let beyond = ap (drop s.m) (c.split_at_mut-sizes.ensures.back ∙ ap (drop n) c.split_at_mut-links.ensures.back ∙ drop-drop n n s.table.now) ∙ drop-drop s.m (n + n) s.table.now in
     table_made s.labels.now n s.k s.m c.flatten.new.links c.tally.new.sizes c.join.new.firsts _ s.table.now flat
     (T.long ∙ c.zero.auto.w ∙ c.split_at_mut-sizes.ensures.front_len) J.labelled c.requires.room beyond

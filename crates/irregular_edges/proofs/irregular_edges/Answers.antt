@@ -1,4 +1,6 @@
 use Rattle.irregular_edges.proofs.Walking.{walk_start, walk_room, walk_yes, walk_no, walk_end, table_kept}
+use Prim.Native.Nat.{ℕ}
+use mathlib.Core.Path.{ap}
 use lib.ListN.{length-set}
 use native.Mathlib.Omega.{arith}
 use Rattle.irregular_edges.proofs.irregular_edges.Goals as goal
@@ -16,9 +18,9 @@ loop-i-preserved-then-is_irregular c =
     let l = c.loop-i in
     let run = c.run_end-e in
     let asked = c.is_irregular in
-    walk_yes s.args.facets.now s.args.w.now s.args.at s.requires.facets_len.1 s.requires.facets_len.2 l.w l.q l.i l.invariant run.result run.ensures
+    rw c.put_record.ensures (walk_yes s.args.facets.now s.args.w.now s.args.at s.requires.facets_len.1 s.requires.facets_len.2 l.w l.q l.i l.invariant run.result run.ensures
     asked.result asked.ensures c.if-is_irregular.true
-    c.pair_first.result c.pair_second.result c.pair_first.ensures c.pair_second.ensures
+    c.unpack_pair-ends.result.0 c.unpack_pair-ends.result.1 (ap (λ (r : ℕ × ℕ). r.0) c.unpack_pair-ends.ensures) (ap (λ (r : ℕ × ℕ). r.1) c.unpack_pair-ends.ensures))
 
 pub loop-i-preserved : goal.loop-i-preserved
 loop-i-preserved c =
@@ -50,8 +52,8 @@ is_irregular-requires c =
       w_value = table_kept s.args.facets.now s.args.w.now l.w s.args.at s.requires.facets_len.1 (omega arith) l.invariant.above s.requires.w_value;
     }
 
-pub bounds-w-at-then-is_irregular : goal.bounds-w-at-then-is_irregular
-bounds-w-at-then-is_irregular c =
+pub put_record-requires : goal.put_record-requires
+put_record-requires c =
     let s = c in
     let l = c.loop-i in
     let run = c.run_end-e in
@@ -59,7 +61,7 @@ bounds-w-at-then-is_irregular c =
     let room =
     walk_room s.args.facets.now s.args.w.now s.args.at s.requires.facets_len.1 s.requires.facets_len.2 l.w l.q l.i l.invariant run.result run.ensures
     asked.result asked.ensures c.if-is_irregular.true in
-    simp length-set (omega (arith, room, run.ensures.within, l.invariant.above.long))
+    omega (arith, room, run.ensures.within, l.invariant.above.long)
 
 pub loop-i-smaller-then-is_irregular : goal.loop-i-smaller-then-is_irregular
 loop-i-smaller-then-is_irregular c = let run = c.run_end-e in omega (arith, run.ensures.more, run.ensures.within)

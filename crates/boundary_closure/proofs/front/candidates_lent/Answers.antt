@@ -1,5 +1,4 @@
 use mathlib.Core.Path.{sym, ◌∙◌}
-use borrow.Author.Tests.{eq-eqb, ne_eqb}
 use lib.ListN.{length}
 use Rattle.std.proofs.lemmas.Result.{err_from_is_err_and}
 use Rattle.closure_tests.specs.Tests.{closure_tests}
@@ -9,12 +8,12 @@ use Rattle.candidate_surface.proofs.Fitting.{room_for}
 use Rattle.closure_tests.proofs.Checking.{sound, room_passed}
 use Rattle.boundary_closure.proofs.front.candidates_lent.Goals as goal
 
-pub returns-then-facets-eq0 : goal.returns-then-facets-eq0
-returns-then-facets-eq0 c =
+pub returns-then-is_empty : goal.returns-then-is_empty
+returns-then-is_empty c =
     let a = c.args in
     no_facet_lem a.mesh.vertices.now a.mesh.facets.now a.asked a.candidates.now a.face_lists.now a.constraints.now a.open_edges.now
     (closure_tests a.mesh.vertices.now a.mesh.facets.now a.asked 0 (limits a.ceiling (length a.work.now)))
-    (sym c.check_closure.ensures ∙ c.in_ok-check_closure.was) (eq-eqb _ 0 c.if-facets-eq0.true)
+    (sym c.check_closure.ensures ∙ c.in_ok-check_closure.was) (sym c.is_empty.ensures ∙ c.if-is_empty.true)
 
 pub make_candidates-requires : goal.make_candidates-requires
 make_candidates-requires c =
@@ -33,7 +32,7 @@ returns c =
     some_facet a.mesh.vertices.now a.mesh.facets.now a.asked a.candidates.now _ a.face_lists.now _ a.constraints.now _
     a.open_edges.now _ (closure_tests a.mesh.vertices.now a.mesh.facets.now a.asked 0 (limits a.ceiling (length a.work.now)))
     (sym c.check_closure.ensures ∙ c.in_ok-check_closure.was)
-    (ne_eqb _ 0 c.if-facets-eq0.false) _
+    (sym c.is_empty.ensures ∙ c.if-is_empty.false) _
     c.make_candidates.ensures
 
 pub returns-in_err-check_closure : goal.returns-in_err-check_closure

@@ -1,16 +1,17 @@
-use mathlib.Core.Path.{sym, ◌∙◌}
-use native.Mathlib.Omega.{arith}
-use Rattle.boundary_groups.proofs.Walks.{every_records_stop, every_records_more, every_records_end}
+use Rattle.std.proofs.Common.{rules, tests, ◌+◌, ◌*◌, ◌-◌}
+use Prim.Native.Nat.{ℕ}
+use mathlib.Core.Path.{refl, ◌∙◌}
+use Rattle.std.proofs.lemmas.Iterator.{YieldsList-from_range}
+use Rattle.std.proofs.lemmas.Iterator.Search.{all_from_yields_List}
+use Rattle.records.specs.Buffer.{record_of}
+use Rattle.boundary_groups.specs.Staged.{turns_of}
+use Rattle.boundary_groups.proofs.Walks.{records_by_places}
 use Rattle.boundary_groups.proofs.EndTables.is_ring.Goals as goal
 
-pub turns_once-requires : goal.turns_once-requires
-turns_once-requires c = record { ends_ready = c.requires.ends_ready; j_lt_k = omega arith }
-
-pub returns-then-not-turns_once : goal.returns-then-not-turns_once
-returns-then-not-turns_once c = sym (every_records_stop _ _ _ _ _ (omega arith) c.loop-j.invariant (sym c.turns_once.ensures ∙ c.if-not-turns_once.true))
-
-pub loop-j-preserved : goal.loop-j-preserved
-loop-j-preserved c = every_records_more _ _ _ _ _ (omega arith) c.loop-j.invariant (sym c.turns_once.ensures ∙ c.if-not-turns_once.false)
-
 pub returns : goal.returns
-returns c = sym (c.loop-j.invariant ∙ every_records_end _ _ _ _ (omega arith))
+returns c =
+    let a = c.args in
+    let t = a.self.now in
+    all_from_yields_List (λ (j : ℕ). turns_of t.ends.now t.degrees.now (record_of a.records.now (2 * j))) _ _ c.all.result c.all.ensures.ran
+    (YieldsList-from_range a.i a.e (a.e - a.i) refl refl) (λ x b q k. search (rules, tests))
+    ∙ records_by_places (turns_of t.ends.now t.degrees.now) a.records.now (a.e - a.i) a.i

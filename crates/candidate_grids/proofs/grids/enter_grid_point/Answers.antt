@@ -11,9 +11,6 @@ returns-then-is_skipped c =
     (sym (ap (skips_near c.args.w.now c.args.near)
     c.project.ensures) ∙ sym c.is_skipped.ensures ∙ c.if-is_skipped.true)) c.requires.holds
 
-pub insert_grid_point-requires : goal.insert_grid_point-requires
-insert_grid_point-requires c = record { holds = c.requires.holds; point_in = c.requires.point_in; room_for = (λ _. c.requires.room) }
-
 pub returns : goal.returns
 returns c =
     cell_in _ _ _ _ _ _ _ (elim c.else-inner.branch [

@@ -10,13 +10,6 @@ first-in c = end_in _ _ _ _ _ c.requires.from c.point_of.ensures c.project-a.ens
 second-in : (c : After-project-b) → UvIn c.project-b.result
 second-in c = end_in _ _ _ _ _ c.requires.to c.point_of-2.ensures c.project-b.ensures
 
--- ---- the needs
-pub point_of-requires : goal.point_of-requires
-point_of-requires c = (c.requires.from, c.requires.from_in)
-
-pub point_of-requires-2 : goal.point_of-requires-2
-point_of-requires-2 c = (c.requires.to, c.requires.to_in)
-
 -- which of the two bounds is meant is looked for, so that this does not say which end goes where
 pub segment_bound-bound-requires : goal.segment_bound-bound-requires
 segment_bound-bound-requires c =

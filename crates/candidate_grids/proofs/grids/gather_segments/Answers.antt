@@ -1,32 +1,15 @@
 use Prim.Native.Nat.{ℕ, ◌+◌, ◌*◌}
-use native.Mathlib.Omega.{arith}
 use mathlib.Core.Path.{◌≡◌, ap, ◌∙◌}
 use lib.ListN.{get_or}
 use Rattle.geometry.specs.Boxes.{face_of}
 use Rattle.box_faces.specs.Faces.{has_bit}
-use Rattle.candidate_grids.proofs.Gathering.{gather_start, gather_pass, gather_one, gather_end, edge_ready}
+use Rattle.candidate_grids.proofs.Gathering.{gather_start, gather_pass, gather_one}
 use Rattle.candidate_pool.specs.Offsets.{open_edges_at}
 use Rattle.candidate_grids.proofs.grids.gather_segments.Goals.{then-has_face, else-has_face}
 use Rattle.candidate_grids.proofs.grids.gather_segments.Goals as goal
 
 pub loop-i-init : goal.loop-i-init
 loop-i-init c = gather_start _ _ _ _ _ _
-
-pub offset_bounds-w-edges : goal.offset_bounds-w-edges
-offset_bounds-w-edges c = omega arith
-
-pub bounds-w-edges : goal.bounds-w-edges
-bounds-w-edges c = omega arith
-
-pub gather_segment-requires : goal.gather_segment-requires
-gather_segment-requires c =
-    let bit : c.has_face.result
-    ≡ has_bit (get_or c.loop-i.w (open_edges_at c.args.room.n c.args.room.nf + 3 * c.loop-i.i + 2) 0) (face_of c.args.face) = let l = c.loop-i in
-    c.has_face.ensures ∙ ap (λ (x : ℕ). has_bit (get_or l.w (x + 3 * l.i + 2) 0) (face_of c.args.face)) c.open_edges_at-edges.ensures in
-    let t = c in
-    let l = t.loop-i in
-    rw (t.segments_at-segments.ensures, t.open_edges_at-edges.ensures)
-    (edge_ready _ _ _ _ _ _ c.requires l.w l.count l.i l.invariant t.loop-i-test.true _ bit c.if-has_face.true)
 
 pub loop-i-preserved : goal.loop-i-preserved
 loop-i-preserved c =
@@ -42,9 +25,3 @@ loop-i-preserved c =
       | else-has_face w ↦ rw (w.w-is, w.count-is)
           (gather_pass _ _ _ _ _ _ c.requires l.w l.count l.i l.invariant t.loop-i-test.true _ bit w.if-has_face.false)
     ]
-
-pub shape_of-w : goal.shape_of-w
-shape_of-w c = c.loop-i.invariant.long
-
-pub returns : goal.returns
-returns c = gather_end _ _ _ _ _ _ _ _ _ c.loop-i.invariant c.loop-i-test.false

@@ -1,7 +1,5 @@
-use native.Mathlib.Omega.{arith}
 use mathlib.Core.Path.{sym, subst}
 use lib.Dec.{T}
-use lib.ListN.{length-set}
 use Rattle.root.proofs.Patterns.{no_nan}
 use Rattle.candidate_grids.proofs.Segmenting.{segment_put}
 use Rattle.candidate_grids.proofs.grids.put_segment.Goals as goal
@@ -12,26 +10,14 @@ float_to_bits-w c = no_nan _ c.requires.1.au
 pub float_to_bits-w-2 : goal.float_to_bits-w-2
 float_to_bits-w-2 c = no_nan _ c.requires.1.av
 
-pub bounds-w-at-2 : goal.bounds-w-at-2
-bounds-w-at-2 c = simp length-set (omega arith)
-
 pub float_to_bits-w-3 : goal.float_to_bits-w-3
 float_to_bits-w-3 c = no_nan _ c.requires.1.bu
-
-pub bounds-w-at-3 : goal.bounds-w-at-3
-bounds-w-at-3 c = simp length-set (omega arith)
 
 pub float_to_bits-w-4 : goal.float_to_bits-w-4
 float_to_bits-w-4 c = no_nan _ c.requires.1.bv
 
-pub bounds-w-at-4 : goal.bounds-w-at-4
-bounds-w-at-4 c = simp length-set (omega arith)
-
 pub float_to_bits-w-5 : goal.float_to_bits-w-5
 float_to_bits-w-5 c = no_nan _ c.requires.1.bound_in
-
-pub bounds-w-at-5 : goal.bounds-w-at-5
-bounds-w-at-5 c = simp length-set (omega arith)
 
 pub returns : goal.returns
 returns c =

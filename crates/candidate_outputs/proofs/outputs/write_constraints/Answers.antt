@@ -46,7 +46,7 @@ loop-i-preserved c =
           c.loop-i.invariant.1 _ _
           (c.write_three.ensures ∙ (λ t. sets c.loop-i.out
           c.loop-i.o
-          (c.triple_first.ensures t ∷ c.triple_second.ensures t ∷ c.triple_third.ensures t ∷ []))) refl,
+          ((c.unpack_triple-a.ensures t).0 ∷ (c.unpack_triple-a.ensures t).1 ∷ (c.unpack_triple-a.ensures t).2 ∷ []))) refl,
     )
 
 pub returns : goal.returns

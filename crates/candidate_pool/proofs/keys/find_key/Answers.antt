@@ -13,9 +13,6 @@ low c =
     let a = c.args in
     walk_low a.w.now (chain_at a.room.n) a.room.n a.count a.b (key_is a.w.now a.room.n a.key) c.loop-here.here c.loop-here.invariant c.in-Some.i c.in-Some.is
 
-pub first-here-requires : goal.first-here-requires
-first-here-requires c = omega (arith, c.requires.key_table.room, c.requires.b_value.1)
-
 pub loop-here-init : goal.loop-here-init
 loop-here-init c =
     let a = c.args in

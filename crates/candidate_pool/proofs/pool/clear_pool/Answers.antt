@@ -3,7 +3,7 @@ use Rattle.candidate_pool.proofs.pool.clear_pool.Goals as goal
 
 pub returns : goal.returns
 returns c =
-    cleared c.args.eps
+    λ eps. cleared eps
     c.args.room.n
     c.args.w.now
     c.zero_part.new.w

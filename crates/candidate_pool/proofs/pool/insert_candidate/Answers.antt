@@ -1,20 +1,15 @@
 use Prim.Native.Nat.{◌+◌}
 use mathlib.Core.Path.{refl, ◌∙◌}
-use lib.ListN.{length-set}
 use native.Mathlib.Omega.{arith}
 use Rattle.candidate_pool.specs.Pool.{by_key}
 use Rattle.candidate_pool.specs.Standing.{faces_in, candidate, pool_at}
 use Rattle.candidate_pool.proofs.Adding.{number_in, same_number, inserted_faces, vertex_inserted}
 use Rattle.candidate_pool.proofs.pool.insert_candidate.Goals as goal
 
-pub push_faces-requires : goal.push_faces-requires
-push_faces-requires c =
-    let place-candidate' = c.place_candidate-id in
-    let s = c in record {
-      holds = place-candidate'.ensures.0.holds;
-      id_bound = number_in s.args.eps s.args.room.n s.args.w.now place-candidate'.new.w _ place-candidate'.result.0 place-candidate'.ensures.0
-          place-candidate'.ensures.1;
-    }
+pub push_faces-requires-clause-id_bound : goal.push_faces-requires-clause-id_bound
+push_faces-requires-clause-id_bound c =
+    let place = c.place_candidate-id in
+    number_in c.args.eps c.args.room.n c.args.w.now place.new.w _ place.result.0 place.ensures.0 place.ensures.1
 
 pub overflow_add-w : goal.overflow_add-w
 overflow_add-w c =
@@ -27,10 +22,6 @@ overflow_add-w c =
       place-candidate'.ensures.0.holds.table.few,
       place-candidate'.ensures.0.holds.table.small,
     )
-
-pub shape_of-w : goal.shape_of-w
-shape_of-w c =
-    simp length-set (c.push_faces.ensures.long ∙ c.place_candidate-id.ensures.0.long)
 
 pub returns : goal.returns
 returns c =

@@ -3,14 +3,10 @@ use Rattle.geometry.proofs.Faces.{face_in}
 use Rattle.candidate_pool.proofs.Adding.{number_in, inserted_face}
 use Rattle.candidate_pool.proofs.pool.insert_grid_point.Goals as goal
 
-pub push_face-requires : goal.push_face-requires
-push_face-requires c =
-    let place-candidate' = c.place_candidate-id in
-    let s = c in record {
-      holds = place-candidate'.ensures.0.holds;
-      id_bound = number_in s.args.eps s.args.room.n s.args.w.now place-candidate'.new.w _ place-candidate'.result.0 place-candidate'.ensures.0
-          place-candidate'.ensures.1;
-    }
+pub push_face-requires-clause-id_bound : goal.push_face-requires-clause-id_bound
+push_face-requires-clause-id_bound c =
+    let place = c.place_candidate-id in
+    number_in c.args.eps c.args.room.n c.args.w.now place.new.w _ place.result.0 place.ensures.0 place.ensures.1
 
 pub returns : goal.returns
 returns c =

@@ -2,13 +2,12 @@ use Prim.Native.Nat.{ℕ, ◌+◌, ◌*◌, ◌^◌, ◌%◌, ◌<◌}
 use mathlib.Core.Path.{◌≡◌, sym, ap, ◌∙◌}
 use mathlib.Core.Bool.{Bool, false}
 use mathlib.Core.List.{List}
-use lib.ListN.{get_or, length-set}
-use native.Mathlib.Omega.{arith}
+use lib.ListN.{get_or}
 use Rattle.geometry.specs.Boxes.{face_of}
 use Rattle.geometry.proofs.Faces.{face_in}
 use Rattle.box_faces.specs.Faces.{has_bit}
 use Rattle.candidate_pool.specs.Offsets.{entry_at, joined_at}
-use Rattle.candidate_pool.proofs.Masking.{shifted, mask_low}
+use Rattle.candidate_pool.proofs.Masking.{shifted}
 use Rattle.candidate_pool.proofs.Facing.{face_there, list_end, face_added}
 use Rattle.candidate_pool.proofs.pool.push_face.Goals.{After-has_face, After-list_at}
 use Rattle.candidate_pool.proofs.pool.push_face.Goals as goal
@@ -33,41 +32,9 @@ returns-then-has_face c =
     face_there c.args.eps c.args.room.n c.args.w.now c.requires.holds c.args.id.0 (face_of c.args.face) c.requires.id_bound (face_in c.args.face)
     (bit_is (goal.at.returns-then-has_face c).After-has_face _ c.if-has_face.true)
 
-pub overflow_add-w : goal.overflow_add-w
-overflow_add-w c =
-    rw (c.entry_at-at.ensures, c.index-f.ensures.value)
-    (omega (
-      arith,
-      shifted (face_of c.args.face) (face_in c.args.face),
-      mask_low (faces c.args.w.now c.args.id.0) (face_of c.args.face) (c.requires.holds.masks c.args.id.0 c.requires.id_bound) (face_in c.args.face)
-          (bit_is (goal.at.overflow_add-w c).After-has_face _ c.if-has_face.false),
-    ))
-
-pub overflow_add-w-2 : goal.overflow_add-w-2
-overflow_add-w-2 c =
-    let p = goal.at.overflow_add-w-2 c in
-    omega (arith, end_in p.After-list_at (bit_is p.After-has_face _ c.if-has_face.false), c.requires.holds.table.small)
-
-pub offset_bounds-w-list_at : goal.offset_bounds-w-list_at
-offset_bounds-w-list_at c =
-    let p = goal.at.offset_bounds-w-list_at c in
-    omega (arith, end_in p.After-list_at (bit_is p.After-has_face _ c.if-has_face.false), c.requires.holds.table.small)
-
-pub bounds-w-list_at : goal.bounds-w-list_at
-bounds-w-list_at c =
-    let p = goal.at.bounds-w-list_at c in
-    simp length-set (omega (arith, end_in p.After-list_at (bit_is p.After-has_face _ c.if-has_face.false), c.requires.holds.size))
-
-pub overflow_add-w-3 : goal.overflow_add-w-3
-overflow_add-w-3 c =
-    let p = goal.at.overflow_add-w-3 c in
-    omega (arith, end_in p.After-list_at (bit_is p.After-has_face _ c.if-has_face.false), c.requires.holds.table.small)
-
-pub bounds-w-f-2 : goal.bounds-w-f-2
-bounds-w-f-2 c = simp length-set (omega (arith, c.requires.holds.size))
-
 pub returns : goal.returns
 returns c =
     rw (c.entry_at-at.ensures, c.index-f.ensures.value)
     (face_added c.args.eps c.args.room.n c.args.w.now c.requires.holds c.args.id.0 (face_of c.args.face) c.requires.id_bound (face_in c.args.face)
-    (bit_is (goal.at.returns c).After-has_face _ c.if-has_face.false) (1 * 2 ^ (face_of c.args.face) % 18446744073709551616) c.list_at.result (shifted (face_of c.args.face) (face_in c.args.face)) c.list_at.ensures)
+    (bit_is (goal.at.returns c).After-has_face _ c.if-has_face.false) (1 * 2 ^ (face_of c.args.face) % 18446744073709551616) c.list_at.result
+    (shifted (face_of c.args.face) (face_in c.args.face)) c.list_at.ensures)

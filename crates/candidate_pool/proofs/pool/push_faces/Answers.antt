@@ -12,11 +12,9 @@ use Rattle.candidate_pool.proofs.pool.push_faces.Goals as goal
 pub loop-face-init : goal.loop-face-init
 loop-face-init c = adding_start c.args.eps c.args.room.n c.args.id.0 c.args.mask c.args.w.now c.requires.id_bound c.requires.holds
 
-pub push_face-requires : goal.push_face-requires
-push_face-requires c = record {
-  holds = c.loop-face.invariant.holds;
-  id_bound = adding_low c.args.eps c.args.room.n c.args.id.0 c.args.mask c.args.w.now c.requires.id_bound c.loop-face.face-index c.loop-face.w c.loop-face.invariant;
-}
+pub push_face-requires-clause-id_bound : goal.push_face-requires-clause-id_bound
+push_face-requires-clause-id_bound c =
+    adding_low c.args.eps c.args.room.n c.args.id.0 c.args.mask c.args.w.now c.requires.id_bound c.loop-face.face-index c.loop-face.w c.loop-face.invariant
 
 pub loop-face-preserved : goal.loop-face-preserved
 loop-face-preserved c =
@@ -31,9 +29,6 @@ loop-face-preserved c =
           (adding_skip a.eps a.room.n a.id.0 a.mask a.w.now c.requires.id_bound c.loop-face.face-index c.loop-face.w c.loop-face.invariant
           (said ∙ w.if-has_face.false))
     ]
-
-pub shape_of-w : goal.shape_of-w
-shape_of-w c = c.loop-face.invariant.long
 
 pub returns : goal.returns
 returns c =

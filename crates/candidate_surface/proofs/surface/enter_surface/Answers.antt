@@ -11,9 +11,9 @@ enter_edges-requires c =
       mesh_fits = fits_same a.mesh.vertices.now a.mesh.facets.now a.n a.w.now c.clear_pool.new.w c.clear_pool.auto.w
           c.requires.mesh_fits;
       table_at = table_left a.mesh.vertices.now a.mesh.facets.now a.extents a.eps a.n a.k a.w.now c.clear_pool.new.w
-          c.clear_pool.ensures c.requires.tabled;
+          (c.clear_pool.ensures a.eps) c.requires.tabled;
       vertices_in = c.requires.vertices_in;
-      holds = (c.clear_pool.ensures.holds, c.clear_pool.ensures.pool, c.clear_pool.ensures.joined);
+      holds = let clear = c.clear_pool.ensures a.eps in (clear.holds, clear.pool, clear.joined);
     }
 
 pub returns : goal.returns

@@ -1,20 +1,15 @@
 use Prim.Native.Nat.{ℕ}
-use mathlib.Core.Path.{refl, sym, ap, ◌∙◌}
-use borrow.Author.Tests.{eq-eqb, ne_eqb}
-use lib.ListN.{length-replicate}
-use Rattle.lists.proofs.Bools.{and_next, and_stop}
+use mathlib.Core.List.{List, []}
+use mathlib.Core.Path.{ap}
+use Rattle.root.specs.Doubles.{bits, one_f}
+use Rattle.geometry.specs.declared.aabb.AABB.{AABB}
+use Rattle.candidate_surface.specs.Asked.{asked}
+use Rattle.cases.specs.Comparing.{has_lengths}
 use Rattle.cases.specs.Closing.{is_later}
-use Rattle.cases.proofs.Later.{listed_number, listed_words}
+use Rattle.cases.proofs.Lists.{listed_done}
 use Rattle.cases.proofs.closing.c3b.Goals as goal
 
-pub returns-then-number-ne0 : goal.returns-then-number-ne0
-returns-then-number-ne0 c =
-    sym (and_stop _ _ (ne_eqb _ _ (λ e. c.if-number-ne0.true (listed_number _ _ _ _ 8192 8192 _ _ _ _ _ _ c.box_to.ensures
-    (length-replicate {A = ℕ} 8192 0) c.list_candidates-number.ensures ∙ e))))
-
-pub returns : goal.returns
-returns c =
-    c.is_later_point.ensures ∙ ap is_later (listed_words _ _ _ _ 8192 8192 _ _ _ _ _ _ c.box_to.ensures
-    (length-replicate {A = ℕ} 8192 0) c.list_candidates-number.ensures) ∙ sym
-    (and_next _ _ _ (eq-eqb _ _ (sym (listed_number _ _ _ _ 8192 8192 _ _ _ _ _ _ c.box_to.ensures
-    (length-replicate {A = ℕ} 8192 0) c.list_candidates-number.ensures) ∙ c.if-number-ne0.false)) refl)
+pub returns-then-has_lengths : goal.returns-then-has_lengths
+returns-then-has_lengths c =
+    listed_done 8192 8192 (ap (λ (b : AABB). asked b (bits 4562146422526312448) one_f) c.box_to.ensures) c.list_candidates-reply.ensures (λ (r : List ℕ). has_lengths r []) is_later
+    c.has_lengths.ensures c.if-has_lengths.true c.is_later_point.ensures

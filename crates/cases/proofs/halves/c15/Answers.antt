@@ -1,30 +1,11 @@
 use Prim.Native.Nat.{ℕ}
-use mathlib.Core.Path.{refl, sym, ap, ◌∙◌}
-use borrow.Author.Tests.{eq-eqb, ne_eqb}
-use lib.ListN.{length-replicate}
-use Rattle.lists.proofs.Bools.{and_next, and_stop}
+use mathlib.Core.List.{List, [], ◌∷◌}
+use Rattle.cases.specs.Comparing.{has_lengths}
 use Rattle.cases.specs.Halves.{closes_both}
-use Rattle.cases.proofs.Later.{listed_number, listed_value, listed_words}
+use Rattle.cases.proofs.Lists.{listed_done}
 use Rattle.cases.proofs.halves.c15.Goals as goal
 
-pub returns-then-number-ne0 : goal.returns-then-number-ne0
-returns-then-number-ne0 c =
-    sym (and_stop _ _ (ne_eqb _ _ (λ e. c.if-number-ne0.true (listed_number _ _ _ _ 8192 60 _ _ _ _ _ _ c.cube.ensures
-    (length-replicate {A = ℕ} 8192 0) c.list_candidates-number.ensures ∙ e))))
-
-pub returns-then-values-ne60 : goal.returns-then-values-ne60
-returns-then-values-ne60 c =
-    sym (and_next _ _ _ (eq-eqb _ _ (sym (listed_number _ _ _ _ 8192 60 _ _ _ _ _ _ c.cube.ensures
-    (length-replicate {A = ℕ} 8192 0) c.list_candidates-number.ensures) ∙ c.if-number-ne0.false))
-    (and_stop _ _ (ne_eqb _ _ (λ e. c.if-values-ne60.true (listed_value _ _ _ _ 8192 60 _ _ _ _ _ _ c.cube.ensures
-    (length-replicate {A = ℕ} 8192 0) c.list_candidates-number.ensures ∙ e)))))
-
-pub returns : goal.returns
-returns c =
-    c.closes_both.ensures ∙ ap closes_both (listed_words _ _ _ _ 8192 60 _ _ _ _ _ _
-    c.cube.ensures (length-replicate {A = ℕ} 8192 0)
-    c.list_candidates-number.ensures) ∙ sym
-    (and_next _ _ _ (eq-eqb _ _ (sym (listed_number _ _ _ _ 8192 60 _ _ _ _ _ _ c.cube.ensures
-    (length-replicate {A = ℕ} 8192 0) c.list_candidates-number.ensures) ∙ c.if-number-ne0.false))
-    (and_next _ _ _ (eq-eqb _ _ (sym (listed_value _ _ _ _ 8192 60 _ _ _ _ _ _ c.cube.ensures
-    (length-replicate {A = ℕ} 8192 0) c.list_candidates-number.ensures) ∙ c.if-values-ne60.false)) refl))
+pub returns-then-has_lengths : goal.returns-then-has_lengths
+returns-then-has_lengths c =
+    listed_done 8192 60 c.asked_of_cube.ensures c.list_candidates-reply.ensures (λ (r : List ℕ). has_lengths r (60 ∷ [])) closes_both
+    c.has_lengths.ensures c.if-has_lengths.true c.closes_both.ensures

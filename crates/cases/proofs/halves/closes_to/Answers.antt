@@ -6,5 +6,5 @@ use Rattle.cases.proofs.halves.closes_to.Goals as goal
 
 pub returns : goal.returns
 returns c =
-    c.is_half.ensures ∙ capped_to _ _ _ _ _ _ _ _ c.cube.ensures
-    (length-replicate {A = ℕ} 8192 0) c.cap_mesh_to_aabb-reply.ensures _
+    c.is_half.ensures
+    ∙ capped_to _ _ _ _ _ _ _ _ c.asked_of_cube.ensures (length-replicate {A = ℕ} 8192 0) c.cap_mesh_to_aabb-reply.ensures _

@@ -1,20 +1,19 @@
-use Rattle.cases.proofs.Rows.{first_none, first_more, first_all}
-use mathlib.Core.Path.{sym, ◌∙◌}
-use native.Mathlib.Omega.{arith}
-use borrow.Author.Rules.{rules}
+use Rattle.std.proofs.Common.{rules, tests, arith, ◌/◌}
+use Prim.Native.Nat.{ℕ}
+use mathlib.Core.Path.{refl, sym, ap, ◌∙◌}
+use mathlib.Core.List.{List}
+use lib.ListN.{length}
+use Rattle.std.proofs.lemmas.Iterator.{YieldsList-from_range}
+use Rattle.std.proofs.lemmas.Iterator.Search.{find_from_yields_List}
+use Rattle.lists.specs.Lists.{first}
+use Rattle.cases.specs.Comparing.{stands_at}
+use Rattle.cases.proofs.Rows.{up_range, same_found}
 use Rattle.cases.proofs.listed.place_of.Goals as goal
 
-pub loop-i-init : goal.loop-i-init
-loop-i-init c = (search rules, first_none _)
-
-pub is_at-requires : goal.is_at-requires
-is_at-requires c = omega arith
-
-pub returns-then-is_at : goal.returns-then-is_at
-returns-then-is_at c = record { within = search rules; before = c.loop-i.invariant.1; there = λ _. sym c.is_at.ensures ∙ c.if-is_at.true }
-
-pub loop-i-preserved : goal.loop-i-preserved
-loop-i-preserved c = (search rules, first_more _ _ c.loop-i.invariant.1 (sym c.is_at.ensures ∙ c.if-is_at.false))
-
 pub returns : goal.returns
-returns c = record { within = search rules; before = first_all _ _ _ c.loop-i.invariant.1 c.loop-i-test.false; there = λ h. absurd (omega arith) }
+returns c =
+    let n = length c.args.candidates.now / 5 in
+    let test = stands_at c.args.candidates.now c.args.point in
+    sym (same_found c.find.result)
+    ∙ find_from_yields_List test _ _ c.find.result c.find.ensures.ran (YieldsList-from_range 0 n n refl (omega arith)) (λ x b q k. search (rules, tests))
+    ∙ ap (λ (l : List ℕ). first test l) (up_range 0 n)

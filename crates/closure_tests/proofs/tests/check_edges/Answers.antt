@@ -46,7 +46,8 @@ returns-in-Some c =
     (ap (λ (x : ℕ). get_or a.w.now (x + 2 * c.in-Some.stray) 0) c.edge_table_at.ensures) in
     edge_refused a.mesh.vertices.now a.mesh.facets.now a.asked
     (or_next _ _ _ (sym c.has_far_key.ensures ∙ c.if-has_far_key.false) (sym c.box_has_far_key.ensures ∙ c.if-box_has_far_key.false)) _ (sym f.0) a.k
-    c.requires.tabled.table.count _ _ (c.pair_first-smaller.ensures ∙ q.smaller) (c.pair_second-greater.ensures ∙ q.greater) l
+    c.requires.tabled.table.count _ _ (ap (λ (r : ℕ × ℕ). r.0) c.unpack_pair-smaller.ensures ∙ q.smaller)
+    (ap (λ (r : ℕ × ℕ). r.1) c.unpack_pair-smaller.ensures ∙ q.greater) l
 
 pub returns : goal.returns
 returns c =

@@ -5,24 +5,6 @@ use lib.ListN.{length, get_or}
 use Rattle.edges.proofs.Sides.{next_in, side_at_lem}
 use Rattle.edges.proofs.ends.edge_to.Goals as goal
 
-pub offset_bounds-facets-next : goal.offset_bounds-facets-next
-offset_bounds-facets-next c =
-    omega (
-      arith,
-      c.next_side-next.ensures,
-      next_in (length c.args.facets.now) c.args.side c.requires.0
-          c.requires.1,
-    )
-
-pub bounds-facets-next : goal.bounds-facets-next
-bounds-facets-next c =
-    omega (
-      arith,
-      c.next_side-next.ensures,
-      next_in (length c.args.facets.now) c.args.side
-          c.requires.0 c.requires.1,
-    )
-
 pub returns : goal.returns
 returns c =
     let s = c in

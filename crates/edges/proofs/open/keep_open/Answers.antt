@@ -7,20 +7,11 @@ use Rattle.edges.proofs.open.keep_open.Goals as goal
 pub loop-i-init : goal.loop-i-init
 loop-i-init c = let s = c in keeping_start s.args.w.now s.args.n s.requires.n_in_bounds
 
-pub run_end-end-requires : goal.run_end-end-requires
-run_end-end-requires c = let s = c in let l = c.loop-i in (omega arith, omega (arith, l.invariant.room, l.invariant.same))
-
-pub overflow_add-k-in-loop-i : goal.overflow_add-k-in-loop-i
-overflow_add-k-in-loop-i c = let l = c.loop-i in omega (arith, flag_small (eqb c.run_end-end.result (l.i + 1)), l.invariant.low, l.invariant.room)
-
 pub loop-i-preserved : goal.loop-i-preserved
 loop-i-preserved c =
     let s = c in
     let l = c.loop-i in
-    keeping_turn s.args.w.now s.args.n l.w l.k l.i l.invariant (omega arith) c.run_end-end.result c.run_end-end.ensures
-
-pub shape_of-w : goal.shape_of-w
-shape_of-w c = let l = c.loop-i in l.invariant.same
+    rw c.move_record.ensures (keeping_turn s.args.w.now s.args.n l.w l.k l.i l.invariant (omega arith) c.run_end-end.result c.run_end-end.ensures)
 
 pub returns : goal.returns
 returns c = let s = c in let l = c.loop-i in keeping_end s.args.w.now s.args.n l.w l.k l.i l.invariant (omega arith) s.requires.ascending

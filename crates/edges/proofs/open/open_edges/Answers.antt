@@ -2,10 +2,11 @@ use native.Mathlib.Omega.{arith}
 use Rattle.edges.proofs.Steps.{ascends, opens}
 use Rattle.edges.proofs.open.open_edges.Goals as goal
 
-pub keep_open-k-requires : goal.keep_open-k-requires
-keep_open-k-requires c =
+pub keep_open-k-requires-clause-ascending : goal.keep_open-k-requires-clause-ascending
+keep_open-k-requires-clause-ascending c =
     let s = c in
-    let table = c.sort_sides in record { n_in_bounds = omega arith; ascending = ascends s.args.facets.now s.args.w.now table.new.w table.ensures }
+    let table = c.sort_sides in
+    ascends s.args.facets.now s.args.w.now table.new.w table.ensures
 
 pub returns : goal.returns
 returns c =

@@ -5,14 +5,8 @@ use Rattle.records.proofs.ByRuns.{same_start, same_more, run_cut}
 use native.Mathlib.Omega.{arith}
 use Rattle.records.proofs.runs.run_end.Goals as goal
 
-pub loop-e-init : goal.loop-e-init
-loop-e-init c = same_start c.args.m.now c.args.at c.args.n c.args.i c.requires.0
-
 pub returns-then-m-at : goal.returns-then-m-at
 returns-then-m-at c = run_cut c.args.m.now c.args.at c.args.n c.args.i c.loop-e.e c.loop-e.invariant (λ h. c.if-m-at.true)
-
-pub loop-e-preserved : goal.loop-e-preserved
-loop-e-preserved c = same_more c.args.m.now c.args.at c.args.n c.args.i c.loop-e.e c.loop-e.invariant (omega arith) c.if-m-at.false
 
 pub returns : goal.returns
 returns c =

@@ -3,7 +3,6 @@ use Rattle.replay.proofs.boundary.boundary_agrees.Goals as goal
 
 pub returns : goal.returns
 returns c =
-    let s = c in
-    boundary_decides s.args.stored.now s.args.work.now _ s.args.edges.now _ s.args.components.now _ s.args.irregular.now _ s.args.facets.now
-    _ _ s.requires.fresh_three c.yongpham_boundary_components-number.ensures _
-    c.same_listing.ensures
+    let a = c.args in
+    boundary_decides a.request.words.now a.work.now _ a.edges.now _ a.components.now _ a.irregular.now _ a.facets.now _ _ c.requires
+    c.yongpham_boundary_components-number.ensures _ c.same_listing.ensures

@@ -2,22 +2,10 @@ use Rattle.replay.proofs.Listing.{candidates_decides}
 use Rattle.replay.proofs.Agreeing.{same_box}
 use Rattle.replay.proofs.candidates.candidates_agree.Goals as goal
 
-pub same_candidates-requires : goal.same_candidates-requires
-same_candidates-requires c =
-    let s = c in
-    s.requires.laid
-
 pub returns : goal.returns
 returns c =
-    let s = c in
-    let double = c.double in
-    let double2 = c.double-2 in
-    let double3 = c.double-3 in
-    let double4 = c.double-4 in
-    let double5 = c.double-5 in
-    let double6 = c.double-6 in
-    let double7 = c.double-7 in
-    let double8 = c.double-8 in
-    candidates_decides s.args.stored.now s.args.work.now _ s.args.candidates.now _ s.args.face_lists.now _ s.args.constraints.now _ s.args.open_edges.now _
-    s.args.vertices.now s.args.facets.now _ _ s.requires.fresh_words (same_box s.args.stored.now double.ensures double2.ensures double3.ensures
-    double4.ensures double5.ensures double6.ensures) double7.ensures double8.ensures c.yongpham_candidates-number.ensures _ c.same_candidates.ensures
+    let a = c.args in
+    let w = a.request.words.now in
+    let box = same_box w c.double.ensures c.double-2.ensures c.double-3.ensures c.double-4.ensures c.double-5.ensures c.double-6.ensures in
+    candidates_decides w a.work.now _ a.candidates.now _ a.face_lists.now _ a.constraints.now _ a.open_edges.now _ a.vertices.now a.facets.now _ _ c.requires box
+    c.double-7.ensures c.double-8.ensures c.yongpham_candidates-number.ensures _ c.same_candidates.ensures

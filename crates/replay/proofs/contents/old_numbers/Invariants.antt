@@ -1,8 +1,6 @@
-use mathlib.Core.Path.{◌≡◌}
-use lib.ListN.{length}
-use Prim.Native.Nat.{◌+◌, ◌-◌}
-use Rattle.replay.proofs.Filling.{Filling}
+use Rattle.std.proofs.Common.{◌≡◌, ℕ, ◌+◌, ◌<◌, slice_index_or}
 use Rattle.replay.proofs.contents.old_numbers.Given as goal
 
-abbrev pub invariant-loop-i : goal.invariant-loop-i
-invariant-loop-i l = Filling (λ k. 3000000000 + k) l.initial.output l.output l.i × (l.x ≡ 3000000000 + l.i)
+abbrev pub invariant-loop-x : goal.invariant-loop-x
+invariant-loop-x g l =
+    (l.next ≡ 3000000000 + l.x-index) × ((k : ℕ) (x : _) → k < l.x-index → g.T.From.from_gives (3000000000 + k) (slice_index_or l.output k x))

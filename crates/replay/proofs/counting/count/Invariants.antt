@@ -1,10 +1,10 @@
-use Rattle.replay.proofs.Tallying.{Tallying}
 use lib.ListN.{length}
-use Prim.Native.Nat.{◌-◌}
+use Rattle.replay.specs.Operations.{number_of}
+use Rattle.replay.proofs.Tallying.{Tallying}
 use Rattle.replay.proofs.counting.count.Given as goal
 
-abbrev pub invariant-loop-at : goal.invariant-loop-at
-invariant-loop-at l = Tallying l.operation l.file l.requests l.agreeing l.at
+abbrev pub invariant-loop-record : goal.invariant-loop-record
+invariant-loop-record l = Tallying (number_of l.operation) l.records l.left l.tally.requests l.tally.agreeing
 
-abbrev pub decreases-loop-at : goal.decreases-loop-at
-decreases-loop-at l = length l.file - l.at
+abbrev pub decreases-loop-record : goal.decreases-loop-record
+decreases-loop-record l = length l.left

@@ -3,28 +3,17 @@ use Rattle.replay.proofs.meshes.caps_agrees.Goals as goal
 
 pub same_answer-requires : goal.same_answer-requires
 same_answer-requires c =
-    let s = c in
-    let yongpham-caps = c.yongpham_caps-number in let asked = outputs_within s.args.stored.now s.args.work.now s.args.out_vertices.now
-    yongpham-caps.new.out_vertices s.args.out_facets.now yongpham-caps.new.out_facets s.requires.laid s.requires.fresh yongpham-caps.auto.out_vertices
-    yongpham-caps.auto.out_facets in record { in_bounds = asked.0; out_facets_in_bounds = asked.1 }
+    let a = c.args in
+    let call = c.yongpham_caps-number in
+    (outputs_within a.request.words.now a.work.now a.out_vertices.now call.new.out_vertices a.out_facets.now call.new.out_facets a.request.laid c.requires
+    call.auto.out_vertices call.auto.out_facets).1
 
 pub returns : goal.returns
 returns c =
-    let s = c in
-    let double = c.double in
-    let double2 = c.double-2 in
-    let double3 = c.double-3 in
-    let double4 = c.double-4 in
-    let double5 = c.double-5 in
-    let double6 = c.double-6 in
-    let double7 = c.double-7 in
-    let double8 = c.double-8 in
-    let low_half_lem = c.low_half in
-    let yongpham-caps = c.yongpham_caps-number in
-    answer_decides s.args.stored.now _ _ _ _ _ _ s.args.work.now _ s.args.out_vertices.now _ s.args.out_facets.now _ s.requires.fresh (mesh_called _ _ _ _ _ _ _
-    _ _ _ yongpham-caps.ensures.answered) (caps_reply_lem s.args.stored.now s.args.work.now s.args.out_vertices.now s.args.out_facets.now s.requires.fresh
-    s.args.vertices.now s.args.facets.now (lent_caps s.args.stored.now) (same_box s.args.stored.now double.ensures double2.ensures double3.ensures
-    double4.ensures double5.ensures double6.ensures) double7.ensures double8.ensures low_half_lem.ensures) (caps_result_lem s.args.stored.now s.args.vertices.now
-    s.args.facets.now (lent_caps s.args.stored.now) (same_box s.args.stored.now double.ensures double2.ensures double3.ensures double4.ensures double5.ensures
-    double6.ensures) double7.ensures double8.ensures low_half_lem.ensures) yongpham-caps.auto.out_vertices _
-    c.same_answer.ensures
+    let a = c.args in
+    let w = a.request.words.now in
+    let call = c.yongpham_caps-number in
+    let box = same_box w c.double.ensures c.double-2.ensures c.double-3.ensures c.double-4.ensures c.double-5.ensures c.double-6.ensures in
+    answer_decides w _ _ _ _ _ _ a.work.now _ a.out_vertices.now _ a.out_facets.now _ c.requires (mesh_called _ _ _ _ _ _ _ _ _ _ call.ensures.answered)
+    (caps_reply_lem w a.work.now a.out_vertices.now a.out_facets.now c.requires a.vertices.now a.facets.now (lent_caps w) box c.double-7.ensures c.double-8.ensures c.low_half.ensures)
+    (caps_result_lem w a.vertices.now a.facets.now (lent_caps w) box c.double-7.ensures c.double-8.ensures c.low_half.ensures) call.auto.out_vertices _ c.same_answer.ensures

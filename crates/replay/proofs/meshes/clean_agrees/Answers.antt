@@ -3,17 +3,16 @@ use Rattle.replay.proofs.meshes.clean_agrees.Goals as goal
 
 pub same_answer-requires : goal.same_answer-requires
 same_answer-requires c =
-    let s = c in
-    let yongpham-clean = c.yongpham_clean-number in let asked = outputs_within s.args.stored.now s.args.work.now s.args.out_vertices.now
-    yongpham-clean.new.out_vertices s.args.out_facets.now yongpham-clean.new.out_facets s.requires.laid s.requires.fresh yongpham-clean.auto.out_vertices
-    yongpham-clean.auto.out_facets in record { in_bounds = asked.0; out_facets_in_bounds = asked.1 }
+    let a = c.args in
+    let call = c.yongpham_clean-number in
+    (outputs_within a.request.words.now a.work.now a.out_vertices.now call.new.out_vertices a.out_facets.now call.new.out_facets a.request.laid c.requires
+    call.auto.out_vertices call.auto.out_facets).1
 
 pub returns : goal.returns
 returns c =
-    let s = c in
-    let double = c.double in
-    let yongpham-clean = c.yongpham_clean-number in
-    answer_decides s.args.stored.now _ _ _ _ _ _ s.args.work.now _ s.args.out_vertices.now _ s.args.out_facets.now _ s.requires.fresh (mesh_called _ _ _ _ _ _ _
-    _ _ _ yongpham-clean.ensures.answered) (clean_reply_lem s.args.stored.now s.args.work.now s.args.out_vertices.now s.args.out_facets.now s.requires.fresh
-    s.args.vertices.now s.args.facets.now double.ensures) (clean_result_lem s.args.stored.now s.args.vertices.now s.args.facets.now double.ensures)
-    yongpham-clean.auto.out_vertices _ c.same_answer.ensures
+    let a = c.args in
+    let w = a.request.words.now in
+    let call = c.yongpham_clean-number in
+    answer_decides w _ _ _ _ _ _ a.work.now _ a.out_vertices.now _ a.out_facets.now _ c.requires (mesh_called _ _ _ _ _ _ _ _ _ _ call.ensures.answered)
+    (clean_reply_lem w a.work.now a.out_vertices.now a.out_facets.now c.requires a.vertices.now a.facets.now c.double.ensures)
+    (clean_result_lem w a.vertices.now a.facets.now c.double.ensures) call.auto.out_vertices _ c.same_answer.ensures

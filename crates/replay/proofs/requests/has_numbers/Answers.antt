@@ -1,22 +1,23 @@
-use Rattle.replay.proofs.Deciding.{stops, passes, ends}
+use native.Mathlib.Omega.{arith}
+use lib.ListN.{get_or}
+use mathlib.Core.Bool.{false}
+use mathlib.Core.Path.{◌≡◌, refl}
+use Prim.Native.Nat.{◌+◌, ◌≤◌}
+use Rattle.std.specs.Float.{binary64}
+use Rattle.std.specs.Float.Ieee.{nan_bits}
+use Rattle.replay.proofs.Deciding.{part_each, both, ends}
 use Rattle.replay.proofs.requests.has_numbers.Goals as goal
-
-pub returns-then-not-are_few : goal.returns-then-not-are_few
-returns-then-not-are_few c = stops _ c.are_few.ensures c.if-not-are_few.true-raw (λ a. a.mode)
-
-pub returns-then-not-are_numbers : goal.returns-then-not-are_numbers
-returns-then-not-are_numbers c = stops _ c.are_numbers.ensures c.if-not-are_numbers.true-raw (λ a. a.plain)
-
-pub returns-then-not-are_numbers-2 : goal.returns-then-not-are_numbers-2
-returns-then-not-are_numbers-2 c = stops _ c.are_numbers-2.ensures c.if-not-are_numbers-2.true-raw (λ a. a.coordinates)
 
 pub returns : goal.returns
 returns c =
-    ends _ c.are_few-2.ensures (λ z. record {
-      mode = passes c.are_few.ensures
-          c.if-not-are_few.false-raw;
-      plain = passes c.are_numbers.ensures
-          c.if-not-are_numbers.false-raw;
-      coordinates = passes c.are_numbers-2.ensures c.if-not-are_numbers-2.false-raw;
-      narrow = z;
-    }) (λ a. a.narrow)
+    let w = c.args.request.words.now in
+    let laid = c.args.request.laid in
+    let v = get_or w 2 0 in
+    let f = get_or w 3 0 in
+    let mode = part_each (λ x. x ≤ 4294967295) w 5 6 1 refl (omega (arith, laid.head)) c.are_few.ensures in
+    let plain = part_each (λ x. nan_bits binary64 x ≡ false) w 6 14 8 refl (omega (arith, laid.head)) c.are_numbers.ensures in
+    let coordinates = part_each (λ x. nan_bits binary64 x ≡ false) w 32 (32 + v) v (omega arith) (omega (arith, laid.whole)) c.are_numbers-2.ensures in
+    let narrow = part_each (λ x. x ≤ 4294967295) w (32 + v) (32 + v + f) f (omega arith) (omega (arith, laid.whole)) c.are_few-2.ensures in
+    ends _ (both (both (both mode plain) coordinates) narrow)
+    (λ x. record { mode = x.0.0.0; plain = x.0.0.1; coordinates = x.0.1; narrow = x.1 })
+    (λ y. (((y.mode, y.plain), y.coordinates), y.narrow))

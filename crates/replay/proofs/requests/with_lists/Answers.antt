@@ -1,32 +1,17 @@
-use mathlib.Core.Path.{sym}
-use Rattle.replay.proofs.Filling.{front_length}
-use lib.Dec.{lit<}
 use native.Mathlib.Omega.{arith}
+use mathlib.Core.Path.{refl}
+use lib.ListN.{get_or}
+use Prim.Native.Nat.{◌+◌}
+use Rattle.replay.proofs.Agreeing.{lists_decides}
+use Rattle.replay.proofs.Filling.{doubles_read, numbers_read}
 use Rattle.replay.proofs.requests.with_lists.Goals as goal
 
-pub slice_bounds-vertices-end : goal.slice_bounds-vertices-end
-slice_bounds-vertices-end c = omega (arith, c.room_for_doubles-vertices.ensures, c.requires.lists 0 (lit< tt))
-
-pub slice_bounds-read_lists-end : goal.slice_bounds-read_lists-end
-slice_bounds-read_lists-end c =
-    sym (front_length _ _ c.room_for_doubles-vertices.result c.room_for_doubles-vertices.ensures
-    (c.requires.lists 0 (lit< tt)))
-
-pub slice_bounds-facets-end : goal.slice_bounds-facets-end
-slice_bounds-facets-end c = omega (arith, c.room_for_numbers-facets.ensures, c.requires.lists 1 (lit< tt))
-
-pub slice_bounds-read_lists-end-2 : goal.slice_bounds-read_lists-end-2
-slice_bounds-read_lists-end-2 c =
-    sym (front_length _ _ c.room_for_numbers-facets.result c.room_for_numbers-facets.ensures
-    (c.requires.lists 1 (lit< tt)))
-
-pub read_lists-requires : goal.read_lists-requires
-read_lists-requires c = record {
-  laid = c.requires;
-  vertices_len = (
-    front_length _ _ c.room_for_doubles-vertices.result c.room_for_doubles-vertices.ensures
-        (c.requires.lists 0 (lit< tt)),
-    front_length _ _ c.room_for_numbers-facets.result
-        c.room_for_numbers-facets.ensures (c.requires.lists 1 (lit< tt)),
-  );
-}
+pub returns : goal.returns
+returns c =
+    let w = c.args.request.words.now in
+    let v = get_or w 2 0 in
+    let f = get_or w 3 0 in
+    let laid = c.args.request.laid in
+    lists_decides w _ _ v v f _ refl refl refl
+    (doubles_read w 32 (32 + v) v (omega arith) (omega (arith, laid.whole)) _ c.read.ensures.long c.read.ensures.read)
+    (numbers_read w (32 + v) (32 + v + f) f (omega arith) (omega (arith, laid.whole)) _ c.read-2.ensures.long c.read-2.ensures.read) c.answer_agrees.ensures

@@ -8,7 +8,7 @@ use Rattle.aabb_facets.proofs.passes.Admitted.run_pass.Goals as goal
 pub clip_pass-requires : goal.clip_pass-requires
 clip_pass-requires c =
     let a = c.args in
-    c.mark_all.ensures ∙ ap (λ (k : ℕ). mark_words a.self.mesh.vertices.now a.clip.extents a.clip.eps k []) c.requires
+    c.mark_all.ensures ∙ ap (λ (k : ℕ). mark_words a.self.mesh.vertices.now a.self.clip.extents a.self.clip.eps k []) c.requires
 
 pub returns : goal.returns
 unfolding clipped

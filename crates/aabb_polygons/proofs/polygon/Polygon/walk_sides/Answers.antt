@@ -16,13 +16,10 @@ loop-curr-init c =
       known = c.point_inside_plane-prev_inside.ensures;
     }
 
-pub add_side-prev_inside-requires : goal.add_side-prev_inside-requires
-add_side-prev_inside-requires c =
+pub add_side-prev_inside-requires-clause-room : goal.add_side-prev_inside-requires-clause-room
+add_side-prev_inside-requires-clause-room c =
     let few = c.requires in
-    record {
-      room = walked_room _ _ _ _ _ _ _ c.loop-curr.invariant.walked _ _ refl c.loop-curr-test.true (omega (arith, ap length c.corners-corners.ensures.all));
-      prev = c.loop-curr.invariant.known;
-    }
+    walked_room _ _ _ _ _ _ _ c.loop-curr.invariant.walked _ _ refl c.loop-curr-test.true (omega (arith, ap length c.corners-corners.ensures.all))
 
 pub loop-curr-preserved : goal.loop-curr-preserved
 loop-curr-preserved c =

@@ -6,9 +6,6 @@ use Rattle.chains.proofs.Walking.{walk_start, walk_low, walk_room, walk_found, w
 use Rattle.chains.proofs.Words.{sought, word_filed, word_answer}
 use Rattle.chains.proofs.hash.Hashed.find_word.Goals as goal
 
-pub first-here-requires : goal.first-here-requires
-first-here-requires c = let r = c.requires.room in let h = c.bucket-b.ensures.low in omega arith
-
 pub loop-here-init : goal.loop-here-init
 loop-here-init c =
     let s = c.args in

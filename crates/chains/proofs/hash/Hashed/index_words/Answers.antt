@@ -7,15 +7,12 @@ loop-i-init c =
     let s = c.args in
     words_start s.keys.now s.self.chains.at s.self.chains.nb _ _ (omega arith) c.zero_part.ensures
 
-pub enter-requires : goal.enter-requires
-enter-requires c =
+pub enter-requires-clause-b_bound : goal.enter-requires-clause-b_bound
+enter-requires-clause-b_bound c =
     let l = c.loop-i in
-    let s = c.args in record {
-      b_lt_nb = c.bucket-b.ensures.low;
-      id_in_bounds = omega arith;
-      b_bound = words_tail s.keys.now s.self.chains.at s.self.chains.nb _ l.m l.i (omega arith) l.invariant (omega arith) _
-          c.bucket-b.ensures.low;
-    }
+    let s = c.args in
+    words_tail s.keys.now s.self.chains.at s.self.chains.nb _ l.m l.i (omega arith) l.invariant (omega arith) _
+          c.bucket-b.ensures.low
 
 pub loop-i-preserved : goal.loop-i-preserved
 loop-i-preserved c =

@@ -1,9 +1,0 @@
-use Rattle.replay.proofs.Deciding.{Passed}
-use Rattle.replay.specs.Agreement.{SameDouble}
-use lib.Ieee.{nan}
-use lib.ListN.{length, get_or}
-use Prim.Native.Nat.{◌+◌, ◌-◌}
-use Rattle.replay.proofs.compare.same_doubles.Given as goal
-
-abbrev pub invariant-loop-i : goal.invariant-loop-i
-invariant-loop-i l = Passed (λ k. SameDouble (get_or l.output k nan) (get_or l.stored (l.from + k) 0)) (length l.output) l.i
