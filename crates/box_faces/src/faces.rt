@@ -48,36 +48,42 @@ fn both_on(face: BoxFace, a: Point, b: Point, clip: Clip) -> bool
     point_on(face, a, clip) && point_on(face, b, clip)
 }
 
-// `aabb_face_mask`: bit f for each face f that both points lie on.
-pub fn aabb_face_mask(a: Point, b: Point, clip: Clip) -> u64
-    ensures { result ≡ face_bits (faces_of clip.extents clip.eps a b) }
-{
-    let mut mask = 0;
-    for face in BOX_FACES {
-        if both_on(face, a, b, clip) {
-            mask += 1 << face.index();
+// `FaceMask`: a set of faces as one word, bit f for face f.
+#[derive(Clone, Copy, PartialEq, Eq)]
+pub struct FaceMask(pub u64);
+
+impl FaceMask {
+    // `aabb_face_mask`: the faces that both points lie on.
+    pub fn between(a: Point, b: Point, clip: Clip) -> FaceMask
+        ensures { result.0 ≡ face_bits (faces_of clip.extents clip.eps a b) }
+    {
+        let mut mask = 0;
+        for face in BOX_FACES {
+            if both_on(face, a, b, clip) {
+                mask += 1 << face.index();
+            }
         }
+        FaceMask(mask)
     }
-    mask
-}
 
-// `FaceMask::contains`
-#[tactic(auto, unfolding(crate::specs::Faces::has_bit))]
-pub fn has_face(mask: u64, face: BoxFace) -> bool
-    ensures { result ≡ has_bit mask (face_of face) }
-{
-    (mask >> face.index()) % 2 == 1
-}
+    // `FaceMask::contains`
+    #[tactic(auto, unfolding(crate::specs::Faces::has_bit))]
+    pub fn contains(self, face: BoxFace) -> bool
+        ensures { result ≡ has_bit self.0 (face_of face) }
+    {
+        (self.0 >> face.index()) % 2 == 1
+    }
 
-// `FaceMask::len`
-#[tactic(auto, unfolding(crate::specs::Faces::bit_count))]
-pub fn count_faces(mask: u64) -> usize
-    ensures { result ≡ bit_count mask }
-{
-    BOX_FACES
-        .iter()
-        .filter(|face| has_face(mask, **face))
-        .count()
+    // `FaceMask::len`
+    #[tactic(auto, unfolding(crate::specs::Faces::bit_count))]
+    pub fn len(self) -> usize
+        ensures { result ≡ bit_count self.0 }
+    {
+        BOX_FACES
+            .iter()
+            .filter(|face| self.contains(**face))
+            .count()
+    }
 }
 
 // `ccw_is_outward`

@@ -8,7 +8,7 @@ ghost use Rattle.candidate_pool.specs.Standing.{pool_at, edge_at, edges_at, Edge
 ghost use Rattle.candidate_constraints.specs.Steps.{Shown, Roomy, Placed, pair_key, pair_record, edge_pairs, Pushed};
 
 use crate::places::place_of_candidate;
-use box_faces::faces::has_face;
+use box_faces::faces::FaceMask;
 use candidate_pool::room::Room;
 use geometry::face::BoxFace;
 use geometry::numbers::{CandidateVertexId, FacePlace};
@@ -54,8 +54,8 @@ fn push_open_edge(w: &mut [u64], room: Room, i: usize, face: BoxFace, c: usize) 
         (edge_pairs (pool_at room.n w.old) (face_of face) (edge_at w.old (open_edges_at room.n room.nf + 3 * i))) c result w.old w.new }
 {
     let at = room.open_edges_at() + 3 * i;
-    let mask = w[at + 2];
-    if has_face(mask, face) {
+    let mask = FaceMask(w[at + 2]);
+    if mask.contains(face) {
         let a = place_of_candidate(w, room, CandidateVertexId(w[at] as usize));
         let b = place_of_candidate(w, room, CandidateVertexId(w[at + 1] as usize));
         put_pair(w, room.pairs_at() + 2 * c, face, a, b);

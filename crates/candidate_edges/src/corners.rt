@@ -6,7 +6,7 @@ ghost use Rattle.candidate_edges.specs.Steps.{VerticesIn, Sourced, SourcesReady,
 
 use crate::open::enter_vertex;
 use aabb_planes::clip::Clip;
-use box_faces::faces::{aabb_face_mask, count_faces};
+use box_faces::faces::FaceMask;
 use candidate_pool::room::Room;
 use geometry::numbers::MeshVertexId;
 use geometry::vertices::vertex_at;
@@ -18,8 +18,8 @@ fn enter_corner(w: &mut [u64], vertices: &[f64], room: Room, v: MeshVertexId, cl
     ensures { CornerEntered vertices.now clip.extents clip.eps room.n v.0 w.old w.new }
 {
     let p = vertex_at(vertices, v);
-    let mask = aabb_face_mask(p, p, clip);
-    if count_faces(mask) >= 2 {
+    let mask = FaceMask::between(p, p, clip);
+    if mask.len() >= 2 {
         enter_vertex(w, vertices, room, v, mask, clip.eps);
     }
 }

@@ -13,7 +13,7 @@ ghost use Rattle.candidate_edges.specs.Surface.{edge_faces};
 ghost use Rattle.candidate_edges.specs.Steps.{TableAt, VerticesIn, MeshFits, SourcesReady, VertexEntered, EdgesEntering, EdgeEntered, EdgesEntered};
 
 use aabb_planes::clip::Clip;
-use box_faces::faces::{aabb_face_mask, count_faces};
+use box_faces::faces::FaceMask;
 use candidate_pool::pool::insert_candidate;
 use candidate_pool::room::Room;
 use edges::{edge_from, edge_to};
@@ -23,10 +23,10 @@ use geometry::vertices::vertex_at;
 use words::write_three;
 
 // The faces that both ends of a side lie on.
-fn side_mask(mesh: MeshLists<'_>, side: usize, clip: Clip) -> u64
+fn side_mask(mesh: MeshLists<'_>, side: usize, clip: Clip) -> FaceMask
     requires facets_len { (length mesh.facets.now % 3 ≡ 0) × (side < length mesh.facets.now) }
     requires by_index { (i : ℕ) → i < length mesh.facets.now → get_or mesh.facets.now i 0 < length mesh.vertices.now / 3 }
-    ensures { result ≡ face_bits (edge_faces clip.extents clip.eps (mesh_of mesh.entry.vertices.now mesh.entry.facets.now) (get_or (sides (threes mesh.entry.facets.now)) side (0, 0))) }
+    ensures { result.0 ≡ face_bits (edge_faces clip.extents clip.eps (mesh_of mesh.entry.vertices.now mesh.entry.facets.now) (get_or (sides (threes mesh.entry.facets.now)) side (0, 0))) }
 {
     let a = vertex_at(
         mesh.vertices,
@@ -36,7 +36,7 @@ fn side_mask(mesh: MeshLists<'_>, side: usize, clip: Clip) -> u64
         mesh.vertices,
         MeshVertexId(edge_to(mesh.facets, side) as usize),
     );
-    aabb_face_mask(a, b, clip)
+    FaceMask::between(a, b, clip)
 }
 
 // The first of the k open edges that lies on no face.
@@ -52,7 +52,7 @@ pub fn stray_edge(w: &[u64], mesh: MeshLists<'_>, n: usize, k: usize, clip: Clip
     let table = room.edge_table_at();
     for i in 0..k {
         let side = w[table + 2 * i + 1] as usize;
-        if side_mask(mesh, side, clip) == 0 {
+        if side_mask(mesh, side, clip) == FaceMask(0) {
             return Some(i);
         }
     }
@@ -65,12 +65,12 @@ pub fn enter_vertex(
     vertices: &[f64],
     room: Room,
     v: MeshVertexId,
-    mask: u64,
+    mask: FaceMask,
     eps: f64,
 ) -> CandidateVertexId
     requires sources_ready { SourcesReady vertices.now eps room.n w.old }
-    requires v_in_bounds { (v.0 < length vertices.now / 3) × (mask < 64) }
-    ensures { VertexEntered vertices.now eps room.n v.0 mask result.0 w.old w.new }
+    requires v_in_bounds { (v.0 < length vertices.now / 3) × (mask.0 < 64) }
+    ensures { VertexEntered vertices.now eps room.n v.0 mask.0 result.0 w.old w.new }
 {
     insert_candidate(w, room, vertex_at(vertices, v), v, mask, eps)
 }
@@ -82,15 +82,15 @@ fn put_edge(
     at: usize,
     a: CandidateVertexId,
     b: CandidateVertexId,
-    mask: u64,
+    mask: FaceMask,
 ) -> usize
     requires { at + 2 < length w.old }
-    ensures { (w.new ≡ set (set (set w.old at a.0) (at + 1) b.0) (at + 2) (cond (eqb a.0 b.0) 0 mask))
-        × (result ≡ cond (eqb a.0 b.0) 0 (bit_count mask)) }
+    ensures { (w.new ≡ set (set (set w.old at a.0) (at + 1) b.0) (at + 2) (cond (eqb a.0 b.0) 0 mask.0))
+        × (result ≡ cond (eqb a.0 b.0) 0 (bit_count mask.0)) }
 {
-    let faces = if a == b { 0 } else { mask };
-    write_three(w, at, a.0 as u64, b.0 as u64, faces);
-    count_faces(faces)
+    let faces = if a == b { FaceMask(0) } else { mask };
+    write_three(w, at, a.0 as u64, b.0 as u64, faces.0);
+    faces.len()
 }
 
 // Inserts the ends of one open edge, the first before the second; how often it is listed.

@@ -29,7 +29,7 @@ ghost use Rattle.candidate_grids.specs.Steps.{
   FaceEntered,
 };
 
-use box_faces::faces::{has_face, project, uv_axes};
+use box_faces::faces::{FaceMask, project, uv_axes};
 use box_faces::lines::{axis_grid_coordinate, point_on_face};
 use box_faces::segments::{point_on_segment2, segment_bound};
 use box_faces::uv::Uv;
@@ -87,7 +87,7 @@ fn gather_segments(w: &mut [u64], room: Room, k: usize, face: BoxFace, tolerance
     let segments = room.segments_at();
     let mut count = 0;
     for i in 0..k {
-        if has_face(w[edges + 3 * i + 2], face) {
+        if FaceMask(w[edges + 3 * i + 2]).contains(face) {
             gather_segment(w, segments + 5 * count, edges + 3 * i, face, tolerance);
             count += 1;
         }

@@ -13,7 +13,7 @@ ghost use Rattle.refusals.specs.Refusals.{documented_reply};
 ghost use Rattle.refusals.specs.Answers.{Answer};
 ghost use Rattle.candidate_outputs.specs.Written.{face_words, candidates_standing, Readable};
 
-use box_faces::faces::has_face;
+use box_faces::faces::FaceMask;
 use candidate_pool::room::Room;
 use geometry::face::{BOX_FACES, BoxFace};
 use refusals::refusal::Refusal;
@@ -69,11 +69,11 @@ fn write_constraints(keys: &[u64], out: &mut [u64])
 }
 
 // "face and two candidates", if the face is one of those in the mask; where the next goes.
-fn write_face(out: &mut [u64], at: usize, mask: u64, face: BoxFace, a: u64, b: u64) -> usize
-    requires { at + length (face_words mask a b (face_of face)) ≤ length out.old }
-    ensures { (result ≡ at + length (face_words mask a b (face_of face))) × (out.new ≡ sets out.old at (face_words mask a b (face_of face))) }
+fn write_face(out: &mut [u64], at: usize, mask: FaceMask, face: BoxFace, a: u64, b: u64) -> usize
+    requires { at + length (face_words mask.0 a b (face_of face)) ≤ length out.old }
+    ensures { (result ≡ at + length (face_words mask.0 a b (face_of face))) × (out.new ≡ sets out.old at (face_words mask.0 a b (face_of face))) }
 {
-    if has_face(mask, face) {
+    if mask.contains(face) {
         write_three(out, at, face.index() as u64, a, b);
         at + 3
     } else {
@@ -87,7 +87,7 @@ fn write_edge(w: &[u64], edge: usize, out: &mut [u64], at: usize) -> usize
     requires edge_in_bounds_2 { at + length (open_edge_words (edge_at w.now edge)) ≤ length out.old }
     ensures { (result ≡ at + length (open_edge_words (edge_at w.now edge))) × (out.new ≡ sets out.old at (open_edge_words (edge_at w.now edge))) }
 {
-    let mask = w[edge + 2];
+    let mask = FaceMask(w[edge + 2]);
     let mut o = at;
     for face in BOX_FACES {
         o = write_face(out, o, mask, face, w[edge], w[edge + 1]);

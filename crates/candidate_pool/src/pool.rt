@@ -11,7 +11,7 @@ ghost use Rattle.candidate_pool.specs.Steps.{BitsOf, point_put, candidate_put, F
 
 use crate::keys::find_key;
 use crate::room::{Room, entry_at};
-use box_faces::faces::has_face;
+use box_faces::faces::FaceMask;
 use chains::{Chains, Hashed};
 use geometry::face::{BOX_FACES, BoxFace};
 use geometry::numbers::{CandidateVertexId, MeshVertexId};
@@ -122,7 +122,7 @@ fn push_face(w: &mut [u64], room: Room, id: CandidateVertexId, face: BoxFace, ep
 {
     let at = entry_at(id) + 4;
     let faces = w[at];
-    if has_face(faces, face) {
+    if FaceMask(faces).contains(face) {
         return;
     }
     let f = face.index();
@@ -133,13 +133,13 @@ fn push_face(w: &mut [u64], room: Room, id: CandidateVertexId, face: BoxFace, ep
 }
 
 // A loop, since a closure called for each face would borrow the room, and a proof would not know what it wrote.
-fn push_faces(w: &mut [u64], room: Room, id: CandidateVertexId, mask: u64, eps: f64)
+fn push_faces(w: &mut [u64], room: Room, id: CandidateVertexId, mask: FaceMask, eps: f64)
     requires holds { Holds eps room.n w.old }
     requires id_bound { id.0 < count_at w.old }
-    ensures { FacesAdded eps room.n id.0 mask w.old w.new }
+    ensures { FacesAdded eps room.n id.0 mask.0 w.old w.new }
 {
     for face in BOX_FACES {
-        if has_face(mask, face) {
+        if mask.contains(face) {
             push_face(w, room, id, face, eps);
         }
     }
@@ -151,14 +151,14 @@ pub fn insert_candidate(
     room: Room,
     p: Point,
     v: MeshVertexId,
-    mask: u64,
+    mask: FaceMask,
     eps: f64,
 ) -> CandidateVertexId
     requires holds { Holds eps room.n w.old }
-    requires point_in { PointIn p × (mask < 64) × (v.0 < room.n) }
-    requires room_for { RoomFor eps room.n w.old (candidate p (v.0 + 1) (faces_in mask)) }
-    ensures { VertexInserted eps room.n v.0 (candidate p (v.0 + 1) (faces_in mask)) w.old w.new ×
-        (result.0 ≡ number_for (by_key eps) (pool_at room.n w.old) (candidate p (v.0 + 1) (faces_in mask))) }
+    requires point_in { PointIn p × (mask.0 < 64) × (v.0 < room.n) }
+    requires room_for { RoomFor eps room.n w.old (candidate p (v.0 + 1) (faces_in mask.0)) }
+    ensures { VertexInserted eps room.n v.0 (candidate p (v.0 + 1) (faces_in mask.0)) w.old w.new ×
+        (result.0 ≡ number_for (by_key eps) (pool_at room.n w.old) (candidate p (v.0 + 1) (faces_in mask.0))) }
 {
     let entry = Entry { p, mesh: Some(v) };
     let id = place_candidate(w, room, entry, eps);

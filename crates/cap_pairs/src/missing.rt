@@ -11,27 +11,27 @@ ghost use Rattle.cap_triangles.specs.Room.{CapReady};
 ghost use Rattle.cap_pairs.specs.Pairs.{PairsKnown};
 ghost use Rattle.cap_pairs.specs.Steps.{missing_face};
 
-use box_faces::faces::{count_faces, has_face};
+use box_faces::faces::FaceMask;
 use cap_triangles::room::{CapRoom, SuppliedCaps};
 use geometry::face::{BOX_FACES, BoxFace};
 
 // Stays (plainer): that the counts of six faces are there is all that is asked of the room.
 // A face that has three or more candidates and is not among those that hold the edge.
-fn is_missing(w: &[u64], held: u64, face: BoxFace) -> bool
+fn is_missing(w: &[u64], held: FaceMask, face: BoxFace) -> bool
     requires { 6 ≤ length w.now }
-    ensures { result ≡ missing_face w.now held (face_of face) }
+    ensures { result ≡ missing_face w.now held.0 (face_of face) }
 {
-    3 <= w[face.index()] && !has_face(held, face)
+    3 <= w[face.index()] && !held.contains(face)
 }
 
 // Of the mask's faces the place of the first such, if there is one.
-fn first_missing(w: &[u64], mask: u64, held: u64) -> Option<usize>
+fn first_missing(w: &[u64], mask: FaceMask, held: FaceMask) -> Option<usize>
     requires { 6 ≤ length w.now }
-    ensures { FirstPlace (place (missing_face w.now held) (faces_in mask)) (bit_count mask) result }
+    ensures { FirstPlace (place (missing_face w.now held.0) (faces_in mask.0)) (bit_count mask.0) result }
 {
     BOX_FACES
         .iter()
-        .filter(|face| has_face(mask, **face))
+        .filter(|face| mask.contains(**face))
         .position(|face| is_missing(w, held, *face))
 }
 
@@ -54,12 +54,12 @@ pub fn missing_place(w: &[u64], caps: SuppliedCaps<'_>) -> Option<usize>
     let held = room.held_at();
     let mut place = 0;
     for i in 0..caps.k {
-        let mask = w[edges + 3 * i + 2];
+        let mask = FaceMask(w[edges + 3 * i + 2]);
         let pair = w[numbers + i] as usize;
-        if let Some(before) = first_missing(w, mask, w[held + pair]) {
+        if let Some(before) = first_missing(w, mask, FaceMask(w[held + pair])) {
             return Some(place + before);
         }
-        place += count_faces(mask);
+        place += mask.len();
     }
     None
 }

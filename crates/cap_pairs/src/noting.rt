@@ -8,7 +8,7 @@ ghost use Rattle.cap_triangles.specs.Room.{CapReady, numbers_at, up_at, down_at,
 ghost use Rattle.cap_pairs.specs.Pairs.{PairNumbers, PairsKnown};
 ghost use Rattle.cap_pairs.specs.Steps.{Added, Noted, edge_mask, edge_target, side_target, side_face, TablesFor};
 
-use box_faces::faces::has_face;
+use box_faces::faces::FaceMask;
 use cap_triangles::listed::supplied_face;
 use cap_triangles::room::{CapRoom, SuppliedCaps};
 use geometry::face::{BOX_FACES, BoxFace};
@@ -19,18 +19,18 @@ fn add_face(w: &mut [u64], at: usize, face: BoxFace)
     ensures { Added w.old w.new at (eqb (face_of face)) }
 {
     let faces = w[at];
-    if has_face(faces, face) {
+    if FaceMask(faces).contains(face) {
         return;
     }
     w[at] = faces + (1 << face.index());
 }
 
-fn add_faces(w: &mut [u64], at: usize, mask: u64)
+fn add_faces(w: &mut [u64], at: usize, mask: FaceMask)
     requires { (at < length w.old) × (get_or w.old at 0 < 64) }
-    ensures { Added w.old w.new at (has_bit mask) }
+    ensures { Added w.old w.new at (has_bit mask.0) }
 {
     for face in BOX_FACES {
-        if has_face(mask, face) {
+        if mask.contains(face) {
             add_face(w, at, face);
         }
     }
@@ -45,11 +45,12 @@ fn way_at(w: &[u64], at: usize, up: usize, down: usize) -> usize
 }
 
 // The faces of an open edge that runs from one candidate to another; one that begins where it ends runs neither way.
-fn edge_faces(w: &[u64], at: usize) -> u64
+fn edge_faces(w: &[u64], at: usize) -> FaceMask
     requires { at + 2 < length w.now }
-    ensures { result ≡ cond (eqb (get_or w.now at 0) (get_or w.now (at + 1) 0)) 0 (get_or w.now (at + 2) 0) }
+    ensures { result.0 ≡ cond (eqb (get_or w.now at 0) (get_or w.now (at + 1) 0)) 0 (get_or w.now (at + 2) 0) }
 {
-    if w[at] == w[at + 1] { 0 } else { w[at + 2] }
+    let mask = if w[at] == w[at + 1] { 0 } else { w[at + 2] };
+    FaceMask(mask)
 }
 
 // Stays (plainer): `note_edges` and `note_sides` have nothing in common but the loop: one takes faces from a word of the room, one from the caller's list.

@@ -8,7 +8,7 @@ ghost use Rattle.cap_selection.specs.Chosen.{Chosen};
 ghost use Rattle.cap_selection.specs.Steps.{against_in, seed_in, marked_seed, SidesNumbered, Markable, SeedsMarked};
 
 use crate::labels::join_caps;
-use box_faces::faces::has_face;
+use box_faces::faces::FaceMask;
 use cap_triangles::listed::supplied_face;
 use cap_triangles::room::{CapRoom, SuppliedCaps};
 use edges::next_side;
@@ -23,9 +23,9 @@ fn is_against(w: &[u64], room: CapRoom, s: usize, face: BoxFace) -> bool
     let turned = room.turned_at();
     let pair = w[room.numbers_at() + room.k + s] as usize;
     if w[turned + s] < w[turned + next_side(s)] {
-        has_face(w[room.down_at() + pair], face)
+        FaceMask(w[room.down_at() + pair]).contains(face)
     } else {
-        has_face(w[room.up_at() + pair], face)
+        FaceMask(w[room.up_at() + pair]).contains(face)
     }
 }
 

@@ -11,7 +11,7 @@ ghost use Rattle.cap_triangles.specs.Room.{Pooled};
 ghost use Rattle.cap_triangles.specs.Steps.{listed_in, bad_words};
 
 use crate::room::SuppliedCaps;
-use box_faces::faces::has_face;
+use box_faces::faces::FaceMask;
 use candidate_pool::room::entry_at;
 use geometry::face::{BOX_FACES, BoxFace};
 use geometry::numbers::CandidateVertexId;
@@ -56,7 +56,7 @@ impl Candidates<'_> {
     fn is_listed(self, face: BoxFace, id: CandidateVertexId) -> bool
         ensures { result ≡ listed_in self.entry.w.now (face_of face) id.0 }
     {
-        id.0 < self.w[6] as usize && has_face(self.w[entry_at(id) + 4], face)
+        id.0 < self.w[6] as usize && FaceMask(self.w[entry_at(id) + 4]).contains(face)
     }
 
     fn all_listed(self, face: BoxFace, t: CandidateTriangle) -> bool

@@ -28,7 +28,7 @@ named c =
 -- both ends are vertices of the mesh, and the mask is a word of faces
 entering : (c : After-edge_to) → side c.args.w.now c.edge_table_at.result c.args.i < length c.args.mesh.facets.now
     → (c.edge_from.result < length c.args.mesh.vertices.now / 3) × (c.edge_to.result < length c.args.mesh.vertices.now / 3)
-    × (c.side_mask-mask.result < 64)
+    × (c.side_mask-mask.result.0 < 64)
 entering c low =
     let a = c.args in
     let f = c.requires.edges_entering.fits in
@@ -112,7 +112,7 @@ returns c =
     let e = c.open_edges_at in
     let p = c.put_edge in
     edge_done a.mesh.vertices.now a.mesh.facets.now a.clip.extents a.clip.eps a.n a.i (side a.w.now t.result a.i) e.result from.result to.result
-    m.result v.result.0 u.result.0 p.result
+    m.result.0 v.result.0 u.result.0 p.result
     a.w.now v.new.w u.new.w p.new.w s.requires.edges_entering s.requires.i_in_bounds
     (side_is a.mesh.facets.now a.w.now (edge_table_at a.n (length a.mesh.facets.now / 3)) t.result (length (open_edges (threes a.mesh.facets.now))) a.i s.requires.edges_entering.table
     t.ensures s.requires.i_in_bounds)

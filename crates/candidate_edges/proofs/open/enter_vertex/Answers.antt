@@ -13,7 +13,7 @@ insert_candidate-requires c =
       holds = s.requires.sources_ready.holds;
       point_in = (vertex_in a.vertices.now a.eps a.room.n a.w.now a.v.0 v.result s.requires.sources_ready s.requires.v_in_bounds.0 v.ensures, s.requires.v_in_bounds.1, small);
       room_for = vertex_room
-          a.vertices.now a.eps a.room.n a.w.now a.v.0 v.result s.requires.sources_ready s.requires.v_in_bounds.0 v.ensures (faces_in a.mask);
+          a.vertices.now a.eps a.room.n a.w.now a.v.0 v.result s.requires.sources_ready s.requires.v_in_bounds.0 v.ensures (faces_in a.mask.0);
     }
 
 pub returns : goal.returns
@@ -22,5 +22,5 @@ returns c =
     let a = s.args in
     let v = c.vertex_at in
     let i = c.insert_candidate in
-    vertex_entered a.vertices.now a.eps a.room.n a.w.now a.v.0 v.result s.requires.sources_ready s.requires.v_in_bounds.0 v.ensures a.mask i.result.0 i.new.w
+    vertex_entered a.vertices.now a.eps a.room.n a.w.now a.v.0 v.result s.requires.sources_ready s.requires.v_in_bounds.0 v.ensures a.mask.0 i.result.0 i.new.w
     i.ensures.0 i.ensures.1

@@ -6,6 +6,7 @@ use mathlib.Core.List.{List, [], ◌∷◌}
 use lib.Dec.{eqb}
 use lib.ListN.{set}
 use lib.Seq.{sets}
+use Rattle.box_faces.specs.declared.faces.FaceMask.{FaceMask}
 use Rattle.box_faces.specs.Faces.{has_bit, bit_count}
 use Rattle.candidate_edges.proofs.open.put_edge.Goals.{then-eq, else-eq}
 use Rattle.candidate_edges.proofs.open.put_edge.Goals as goal
@@ -24,10 +25,10 @@ three_put w at a b c =
 pub returns : goal.returns
 returns c =
     let a = c.args in
-    let faces : c.if-eq.faces ≡ cond (eqb a.a.0 a.b.0) 0 a.mask = elim c.if-eq.branch [
-      | then-eq w ↦ w.faces-is ∙ sym (ap (λ (t : Bool). cond t 0 a.mask) (sym c.eq.ensures ∙ w.if-eq.true))
-      | else-eq w ↦ w.faces-is ∙ sym (ap (λ (t : Bool). cond t 0 a.mask) (sym c.eq.ensures ∙ w.if-eq.false))
+    let faces : c.if-eq.faces.0 ≡ cond (eqb a.a.0 a.b.0) 0 a.mask.0 = elim c.if-eq.branch [
+      | then-eq w ↦ ap (λ (f : FaceMask). f.0) w.faces-is ∙ sym (ap (λ (t : Bool). cond t 0 a.mask.0) (sym c.eq.ensures ∙ w.if-eq.true))
+      | else-eq w ↦ ap (λ (f : FaceMask). f.0) w.faces-is ∙ sym (ap (λ (t : Bool). cond t 0 a.mask.0) (sym c.eq.ensures ∙ w.if-eq.false))
     ] in (
-      c.write_three.ensures ∙ three_put a.w.now a.at a.a.0 a.b.0 c.if-eq.faces ∙ ap (λ (x : ℕ). set (set (set a.w.now a.at a.a.0) (a.at + 1) a.b.0) (a.at + 2) x) faces,
-      c.count_faces.ensures ∙ ap bit_count faces ∙ none_counted (eqb a.a.0 a.b.0) a.mask,
+      c.write_three.ensures ∙ three_put a.w.now a.at a.a.0 a.b.0 c.if-eq.faces.0 ∙ ap (λ (x : ℕ). set (set (set a.w.now a.at a.a.0) (a.at + 1) a.b.0) (a.at + 2) x) faces,
+      c.len.ensures ∙ ap bit_count faces ∙ none_counted (eqb a.a.0 a.b.0) a.mask.0,
     )

@@ -1,7 +1,6 @@
 use Prim.Native.Nat.{◌+◌, ◌*◌, ◌/◌, ◌<◌}
 use mathlib.Core.Path.{◌≡◌, sym, ◌∙◌}
 use native.Mathlib.Omega.{arith}
-use borrow.Author.Tests.{eq-eqb, ne_eqb}
 use lib.Dec.{eqb}
 use lib.ListN.{length, get_or}
 use Rattle.geometry.specs.Triangles.{threes}
@@ -20,13 +19,13 @@ turn_in c = omega (arith, c.requires.mesh_fits.size, c.requires.mesh_fits.threes
 
 -- the mask answers whether the open edge is on no face
 tested : (c : After-side_mask) → let a = c.args in
-    stray a.mesh.vertices.now a.mesh.facets.now a.clip.extents a.clip.eps (get_or (open_edges (threes a.mesh.facets.now)) c.loop-i.i (0, 0)) ≡ eqb c.side_mask.result 0
+    stray a.mesh.vertices.now a.mesh.facets.now a.clip.extents a.clip.eps (get_or (open_edges (threes a.mesh.facets.now)) c.loop-i.i (0, 0)) ≡ eqb c.side_mask.result.0 0
 tested c =
     let a = c.args in
     let t = c.edge_table_at-table in
     let l = c.loop-i in
     let side = get_or (sides (threes a.mesh.facets.now)) (get_or a.w.now (t.result + 2 * l.i + 1) 0) (0, 0) in
-    stray_test a.mesh.vertices.now a.mesh.facets.now a.clip.extents a.clip.eps c.side_mask.result (get_or (open_edges (threes a.mesh.facets.now)) l.i (0, 0)) side
+    stray_test a.mesh.vertices.now a.mesh.facets.now a.clip.extents a.clip.eps c.side_mask.result.0 (get_or (open_edges (threes a.mesh.facets.now)) l.i (0, 0)) side
     (side_is a.mesh.facets.now a.w.now (edge_table_at a.n (length a.mesh.facets.now / 3)) t.result a.k l.i c.requires.table_at t.ensures
     c.loop-i-test.true)
     c.side_mask.ensures
@@ -66,15 +65,15 @@ side_mask-requires c =
       by_index = s.requires.mesh_fits.numbers;
     }
 
-pub returns-then-side_mask-eq0 : goal.returns-then-side_mask-eq0
-returns-then-side_mask-eq0 c =
-    let t = tested (goal.at.returns-then-side_mask-eq0 c).After-side_mask in
+pub returns-then-eq : goal.returns-then-eq
+returns-then-eq c =
+    let t = tested (goal.at.returns-then-eq c).After-side_mask in
     let a = c.args in
     let l = c.loop-i in
     let low : l.i < length (open_edges (threes a.mesh.facets.now)) = omega (arith, c.requires.table_at.count, c.loop-i-test.true) in
     sym (found_some (stray a.mesh.vertices.now a.mesh.facets.now a.clip.extents a.clip.eps) (open_edges (threes a.mesh.facets.now)) l.i
     (sym (place_stop (stray a.mesh.vertices.now a.mesh.facets.now a.clip.extents a.clip.eps) (open_edges (threes a.mesh.facets.now)) l.i l.invariant.1 (0, 0) low
-    (t ∙ eq-eqb c.side_mask.result 0 c.if-side_mask-eq0.true)))
+    (t ∙ sym c.eq.ensures ∙ c.if-eq.true)))
     low)
 
 pub loop-i-preserved : goal.loop-i-preserved
@@ -86,7 +85,7 @@ loop-i-preserved c =
       omega (arith, loop-test'.true),
       place_more (stray s.args.mesh.vertices.now s.args.mesh.facets.now s.args.clip.extents s.args.clip.eps) (open_edges (threes s.args.mesh.facets.now)) loop'.i
           loop'.invariant.1 (0, 0)
-          (omega (arith, s.requires.table_at.count, loop-test'.true)) (t ∙ ne_eqb c.side_mask.result 0 c.if-side_mask-eq0.false),
+          (omega (arith, s.requires.table_at.count, loop-test'.true)) (t ∙ sym c.eq.ensures ∙ c.if-eq.false),
     )
 
 pub returns : goal.returns

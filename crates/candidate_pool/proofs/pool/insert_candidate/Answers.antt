@@ -28,10 +28,10 @@ returns c =
     let a = c.args in
     let place = c.place_candidate-id in
     let push = c.push_faces in
-    let on = faces_in a.mask in
+    let on = faces_in a.mask.0 in
     let number = place.ensures.1 ∙ same_number (by_key a.eps) (pool_at a.room.n a.w.now) a.p (a.v.0 + 1) (a.v.0 + 1) on in
     let inserted = inserted_faces a.eps a.room.n a.w.now place.new.w push.new.w a.p (a.v.0 + 1) place.result.0 c.requires.holds place.ensures.0 place.ensures.1
-    a.mask push.ensures in (
+    a.mask.0 push.ensures in (
       vertex_inserted a.eps a.room.n a.v.0 place.result.0 (candidate a.p (a.v.0 + 1) on) a.w.now push.new.w inserted c.requires.point_in.2 number _
           c.joined_at.result c.joined_at.ensures refl,
       number,

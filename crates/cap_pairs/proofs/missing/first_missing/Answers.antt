@@ -22,10 +22,10 @@ pub returns : goal.returns
 unfolding bit_count
 returns c =
     let a = c.args in
-    let missing = missing_face a.w.now a.held in
-    subst (λ (l : List ℕ). FirstPlace (place missing l) (length l) c.position.result) (kept_faces (has_bit a.mask))
-    (first_place face_of missing (keep (λ (f : BoxFace). has_bit a.mask (face_of f)) BOX_FACES) c.position.result
+    let missing = missing_face a.w.now a.held.0 in
+    subst (λ (l : List ℕ). FirstPlace (place missing l) (length l) c.position.result) (kept_faces (has_bit a.mask.0))
+    (first_place face_of missing (keep (λ (f : BoxFace). has_bit a.mask.0 (face_of f)) BOX_FACES) c.position.result
     (position_from_yields_List (λ (f : BoxFace). missing (face_of f)) _ _ c.position.result c.position.ensures.ran
-    (YieldsList-from_filter _ (λ (f : BoxFace). has_bit a.mask (face_of f)) (YieldsList-at c.filter.ensures.source (YieldsList-from_slice BOX_FACES cc))
+    (YieldsList-from_filter _ (λ (f : BoxFace). has_bit a.mask.0 (face_of f)) (YieldsList-at c.filter.ensures.source (YieldsList-from_slice BOX_FACES cc))
     c.filter.ensures.closure (λ x r q k. search (rules, tests)))
     (λ x b q k. search (rules, tests))))

@@ -44,7 +44,7 @@ overflow_add-place c =
     let e = c.open_edges_at-edges in
     let m = c.numbers_at-numbers in
     let h = c.held_at-held in
-    let n = c.count_faces-place in
+    let n = c.len-place in
     omega (
       arith,
       row_fits a.caps.n a.caps.nf a.caps.k a.caps.list.now a.w.now c.requires.cap_ready c.requires.pairs_known l.place l.i l.invariant c.loop-i-test.true e.result m.result h.result
@@ -58,7 +58,7 @@ loop-i-preserved c =
     let e = c.open_edges_at-edges in
     let m = c.numbers_at-numbers in
     let h = c.held_at-held in
-    let n = c.count_faces-place in
+    let n = c.len-place in
     row_more a.caps.n a.caps.nf a.caps.k a.caps.list.now a.w.now c.requires.cap_ready c.requires.pairs_known l.place l.i l.invariant c.loop-i-test.true e.result m.result h.result
     e.ensures m.ensures h.ensures n.result n.result (n.ensures ∙ sym c.in_default.ensures) n.ensures refl
 

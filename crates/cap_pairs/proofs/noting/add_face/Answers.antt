@@ -10,7 +10,7 @@ pub returns : goal.returns
 returns c =
     let s = c in
     let a = s.args in
-    let has-face' = c.has_face in
-    let branch = c.if-has_face in
+    let has-face' = c.contains in
+    let branch = c.if-contains in
     added_new a.w.now a.at (face_of a.face) s.requires.0 s.requires.1 (face_in a.face) _
     (ap (λ (f : ℕ). get_or a.w.now a.at 0 + 1 * 2 ^ f % 18446744073709551616) c.index.ensures.value) (sym has-face'.ensures ∙ branch.false)

@@ -41,6 +41,6 @@ loop-i-preserved c =
     let add-faces' = c.add_faces in (
       note_edge_turn a.room.n a.room.nf a.room.nc a.room.k a.w.now s.requires.tables_for s.requires.by_index s.requires.by_index_2 l.w l.i l.invariant.0 open-edges-at'.result numbers-at'.result
           up-at'.result down-at'.result open-edges-at'.ensures numbers-at'.ensures up-at'.ensures down-at'.ensures (omega arith) way-at'.result
-          (get_or l.w (numbers-at'.result + l.i) 0) way-at'.ensures refl edge-faces'.result add-faces'.new.w edge-faces'.ensures add-faces'.ensures,
+          (get_or l.w (numbers-at'.result + l.i) 0) way-at'.ensures refl edge-faces'.result.0 add-faces'.new.w edge-faces'.ensures add-faces'.ensures,
       omega arith,
     )

@@ -9,7 +9,7 @@ returns-then-w-turned c =
     let t = c.turned_at-turned in
     let x = c.next_side in
     let d = c.down_at in
-    let h = c.has_face in
+    let h = c.contains in
     against_down s.room.n s.room.nf s.room.nc s.w.now s.room.k s.s n.result n.ensures (face_of s.face) t.result x.result t.ensures x.ensures d.result h.result
     d.ensures c.if-w-turned.true h.ensures
 
@@ -20,6 +20,6 @@ returns-else-w-turned c =
     let t = c.turned_at-turned in
     let x = c.next_side in
     let u = c.up_at in
-    let h = c.has_face-else-w-turned in
+    let h = c.contains-else-w-turned in
     against_up s.room.n s.room.nf s.room.nc s.w.now s.room.k s.s n.result n.ensures (face_of s.face) t.result x.result t.ensures x.ensures u.result h.result
     u.ensures c.if-w-turned.false h.ensures

@@ -7,8 +7,8 @@ use Rattle.lists.specs.Lists.{keep, up_to, up_from}
 use Rattle.geometry.proofs.Faces.{face_at}
 use Rattle.box_faces.specs.Faces.{on_face, faces_of, face_bits}
 use Rattle.box_faces.proofs.Masks.{SoFar, none_so_far, passes_too, passes_not}
-use Rattle.box_faces.proofs.faces.aabb_face_mask.Goals as goal
-use Rattle.box_faces.proofs.faces.aabb_face_mask.Goals.{then-both_on, else-both_on}
+use Rattle.box_faces.proofs.faces.FaceMask.between.Goals as goal
+use Rattle.box_faces.proofs.faces.FaceMask.between.Goals.{then-both_on, else-both_on}
 
 pub loop-face-init : goal.loop-face-init
 loop-face-init c = none_so_far _

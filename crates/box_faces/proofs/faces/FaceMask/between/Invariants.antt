@@ -1,7 +1,7 @@
 use mathlib.Core.Bool.{◌&&◌}
 use Rattle.box_faces.specs.Faces.{on_face}
 use Rattle.box_faces.proofs.Masks.{SoFar}
-use Rattle.box_faces.proofs.faces.aabb_face_mask.Given as goal
+use Rattle.box_faces.proofs.faces.FaceMask.between.Given as goal
 
 -- the word of those among the faces so far that both points lie on
 abbrev pub invariant-loop-face : goal.invariant-loop-face
