@@ -7,7 +7,7 @@ use geometry::face::{Axis, BoxFace};
 use geometry::point::Point;
 
 // The last line is the end itself.
-// Stays (plainer): that there are few parts is known where an axis is cut, and goes through three calls, one inside the other, that say it once each.
+// Stays (plainer), point 5: a type for at most 256 parts would be made where an axis is cut and opened again in the one line that divides by their number.
 #[tactic(auto, using(rounding::proofs::Rounding::can_cast), unfolding(crate::specs::Lines::line_at))]
 pub fn axis_grid_coordinate(low: f64, high: f64, parts: usize, i: usize) -> f64
     requires { (i ≤ 256) × (parts ≤ 256) }

@@ -1,9 +1,8 @@
 // boundary_closure.rs: the sides of a face, and where a candidate stands along one.
-ghost use Rattle.std.specs.Prelude.{◌≡◌, ◌<◌, get_or};
-ghost use Rattle.root.specs.Doubles.{◌⊘◌, zero_f};
+ghost use Rattle.std.specs.Prelude.{◌≡◌};
+ghost use Rattle.root.specs.Doubles.{◌⊘◌};
 ghost use Rattle.geometry.specs.Boxes.{face_of};
-ghost use Rattle.box_faces.specs.Faces.{uv};
-ghost use Rattle.box_faces.specs.Sides.{side_from, face_sides, between_ends, along_side, on_side};
+ghost use Rattle.box_faces.specs.Sides.{face_sides, between_ends, along_side, on_side};
 
 use crate::faces::uv_axes;
 use crate::uv::{Side, Uv};
@@ -11,10 +10,10 @@ use geometry::aabb::AABB;
 use geometry::face::BoxFace;
 use rounding::{abs, clamp01, max, within};
 
-// `face_boundary_sides`, the k-th
-pub fn face_boundary_side(face: BoxFace, k: usize, extents: AABB) -> Side
-    requires { k < 4 }
-    ensures { result ≡ get_or (face_sides extents (face_of face)) k (side_from (uv zero_f zero_f) (uv zero_f zero_f)) }
+// `face_boundary_sides`, round the face.
+#[tactic(auto, unfolding(crate::specs::Sides::face_sides))]
+pub fn face_boundary_sides(face: BoxFace, extents: AABB) -> [Side; 4]
+    ensures { result ≡ face_sides extents (face_of face) }
 {
     let axes = uv_axes(face);
     let u = axes.0.index();
@@ -27,22 +26,32 @@ pub fn face_boundary_side(face: BoxFace, k: usize, extents: AABB) -> Side
         u: extents.max_corner[u],
         v: extents.max_corner[v],
     };
-    let corners = [
-        low,
-        Uv {
-            u: high.u,
-            v: low.v,
+    let right = Uv {
+        u: high.u,
+        v: low.v,
+    };
+    let left = Uv {
+        u: low.u,
+        v: high.v,
+    };
+    [
+        Side {
+            start: low,
+            end: right,
         },
-        high,
-        Uv {
-            u: low.u,
-            v: high.v,
+        Side {
+            start: right,
+            end: high,
         },
-    ];
-    Side {
-        start: corners[k],
-        end: corners[(k + 1) % 4],
-    }
+        Side {
+            start: high,
+            end: left,
+        },
+        Side {
+            start: left,
+            end: low,
+        },
+    ]
 }
 
 // The fraction t where it is no further than `slack` beyond the ends, 0 and 1.

@@ -14,7 +14,7 @@ ghost use Rattle.candidate_constraints.specs.Steps.{Shown, side_places, side_pai
 use crate::pairs::put_pair;
 use crate::places::candidate_of_place;
 use box_faces::faces::project;
-use box_faces::sides::{candidate_on_face_side, face_boundary_side};
+use box_faces::sides::{candidate_on_face_side, face_boundary_sides};
 use box_faces::uv::Side;
 use candidate_pool::pool::point_of;
 use candidate_pool::room::Room;
@@ -91,8 +91,7 @@ pub fn push_sides(w: &mut [u64], room: Room, face: BoxFace, extents: AABB, eps: 
     ensures { Pushed room.n (face_of face) (side_at room.n) (4 * room.n) (side_pairs extents eps (pool_at room.n w.old) (face_of face)) 0 result w.old w.new }
 {
     let mut c = 0;
-    for k in 0..4 {
-        let side = face_boundary_side(face, k, extents);
+    for side in face_boundary_sides(face, extents) {
         c = push_side(w, room, face, side, eps, c);
     }
     c

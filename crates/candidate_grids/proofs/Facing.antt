@@ -1,7 +1,7 @@
 -- A face's grid: its rows as the code walks them are the definition's. Assumes nothing.
 --   point_is          a point of a row is the grid's point
 --   u_low, v_low      a face's axes
---   parts_some, parts_few, parts_is, parts_in     an axis has 1 to 256 segments
+--   parts_some, parts_few     an axis has 1 to 256 segments
 --   face_room         there is room for a face's grid
 --   face_is           the rows of a face, one after another, are its grid
 --   near_ready        the gathered segments stand in the room
@@ -11,7 +11,7 @@
 --   turn_size         one row more
 --   face_line_in      a face's own line is bounded
 --   face_end          the grid of a face was entered
-use Prim.Native.Nat.{ℕ, zero, suc, ◌+◌, ◌*◌, ◌^◌, ◌≤◌, ◌<◌, min}
+use Prim.Native.Nat.{ℕ, zero, suc, ◌+◌, ◌*◌, ◌^◌, ◌≤◌, ◌<◌}
 use native.Mathlib.Omega.{arith}
 use native.Mathlib.Nat.{add-mul, one-mul, mul-le-mul_right}
 use mathlib.Core.Path.{◌≡◌, refl, sym, ap, ◌∙◌}
@@ -28,8 +28,7 @@ use Rattle.geometry.specs.declared.point.Point.{Point}
 use Rattle.geometry.specs.declared.aabb.AABB.{AABB}
 use Rattle.geometry.specs.Boxes.{lowest, highest, axis, is_min}
 use Rattle.geometry.specs.Axes.{segments, grid_line}
-use Rattle.input_tests.specs.Front.{box_in_range, by_axis, grid_too_fine}
-use Rattle.input_tests.proofs.Grids.{not_too_fine, cut_is}
+use Rattle.input_tests.specs.Front.{box_in_range, by_axis, CutsOf}
 use Rattle.box_faces.specs.declared.uv.Uv.{Uv}
 use Rattle.box_faces.specs.Faces.{u_axis, v_axis, project}
 use Rattle.box_faces.specs.Lines.{line_at, point_on_face}
@@ -95,21 +94,11 @@ module _ (box : AABB) (eps : Float) (resolution : List Float) where
   unfolding segments
   parts_some k = segments_some (highest box k ⊖ lowest box k) (larger (by_axis resolution k) eps)
 
-  pub parts_few : (k : ℕ) → k < 3 → grid_too_fine box eps (by_axis resolution) ≡ false → segs k ≤ 256
-  parts_few zero h e = (not_too_fine box eps (by_axis resolution) e).x
-  parts_few (suc zero) h e = (not_too_fine box eps (by_axis resolution) e).y
-  parts_few (suc (suc zero)) h e = (not_too_fine box eps (by_axis resolution) e).z
-  parts_few (suc (suc (suc k))) h e = absurd (omega arith)
-
-  pub parts_is : (k n : ℕ) → k < 3 → grid_too_fine box eps (by_axis resolution) ≡ false → n ≡ min (segs k) 257 → n ≡ segs k
-  parts_is k n h e q = cut_is n (segs k) q (parts_few k h e)
-
-  pub parts_in : (k n : ℕ) → k < 3 → grid_too_fine box eps (by_axis resolution) ≡ false → n ≡ min (segs k) 257 → (1 ≤ n) × (n ≤ 256)
-  parts_in k n h e q =
-      let a = parts_some k in
-      let b = parts_few k h e in
-      let c = parts_is k n h e q in
-      (omega arith, omega arith)
+  pub parts_few : (l : List ℕ) → CutsOf box eps (by_axis resolution) l → (k : ℕ) → k < 3 → segs k ≤ 256
+  parts_few l c k h =
+      let e = c.counts k h in
+      let m = c.few k h in
+      omega arith
 
   pub face_room : (n f last last-v : ℕ) (w v : List ℕ) → last ≡ segs (u_axis f) → last-v ≡ segs (v_axis f) → count_at v ≡ count_at w
       → count_at w + face_size box eps resolution f ≤ n

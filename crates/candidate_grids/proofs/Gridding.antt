@@ -100,7 +100,6 @@ module _ (box : AABB) (eps : Float) (resolution skip : List Float) (n nf k : ℕ
           small = R.small;
           edges = R.edges;
           box_in = R.box_in;
-          coarse = R.coarse;
           skips = R.skips;
         }
 

@@ -1,7 +1,7 @@
 -- What the functions of face grids keep in the work room, of which the outer contract does not speak. For n candidates and nf facets: the open edges from open_edges_at on, and
 -- segments of the face worked on from segments_at on, five words each: the ends' coordinates, and the bound. Assumes nothing.
 --   by_axes        what the functions are handed stands for
---   GridReady     what they ask: room for every grid point, a box and axes that passed the tests, skip tolerances of no NaN
+--   GridReady     what they ask: room for every grid point, a box that passed the tests, skip tolerances of no NaN
 --   Gridded       what `enter_grids` leaves
 --   double        a word as a double                    SegmentIn, SegmentAt   a segment of finite numbers; five words are one's bits
 --   start_at, end_at   its ends                           hit_at   a point lies on the segment at a place
@@ -12,13 +12,14 @@
 --   EdgesReady, Gathered          the open edges of a face were
 --   NearReady     the segments of the face worked on stand in the room
 --   is_inner        an index is neither the first nor the last
---   grid_cell, row_cell, row_at      what a grid point inserts, by the segments; a row's j-th; a face's row i
+--   grid_cell, row_cell, row_at, row_cells      what a grid point inserts, by the segments; a row's j-th; a face's row i; what a row inserts
+--   parts_of, line_of   an axis of a cut grid: how many segments it has, and its i-th line
 --   face_line      a face's own line               face_size      how many points its grid has
 --   Grown         candidates keep their points, and stay in their lists
 --   PointsEntered       some points were entered, at most so many of them new
 --   PointReady, RowReady, FaceReady, FaceEntered   what entering a point, a row, a face's grid asks, and what the last leaves
 use Rattle.std.specs.Prelude.{ℕ, ◌+◌, ◌*◌, ◌≤◌, ◌<◌, ◌^◌, ◌≡◌, Bool, true, false, cond, not, ◌&&◌, T, eqb, length, get_or, Float}
-use mathlib.Core.List.{List, [], ◌∷◌, foldl}
+use mathlib.Core.List.{List, [], ◌∷◌, flat_map, foldl}
 use Rattle.std.specs.Float.{binary64}
 use Rattle.std.specs.Float.Ieee.{of_bits}
 use Rattle.lists.specs.Lists.{some, has, up_to}
@@ -29,7 +30,8 @@ use Rattle.geometry.specs.declared.point.Point.{Point}
 use Rattle.geometry.specs.declared.aabb.AABB.{AABB}
 use Rattle.geometry.specs.Boxes.{lowest, highest, axis, is_min}
 use Rattle.geometry.specs.Axes.{segments, grid_size}
-use Rattle.input_tests.specs.Front.{box_in_range, bad_box, by_axis, grid_too_fine}
+use Rattle.input_tests.specs.declared.cuts.Cuts.{Cuts}
+use Rattle.input_tests.specs.Front.{box_in_range, bad_box, by_axis}
 use Rattle.box_faces.specs.declared.uv.Uv.{Uv}
 use Rattle.box_faces.specs.Faces.{uv, u_axis, v_axis, project, has_bit}
 use Rattle.box_faces.specs.Lines.{line_at, point_on_face}
@@ -55,7 +57,6 @@ pub record GridReady (box : AABB) (eps : Float) (resolution skip : List Float) (
   pub edges : k ≤ 3 * nf
   pub box_in : box_in_range box ≡ true
   pub box_good : bad_box box ≡ false
-  pub coarse : grid_too_fine box eps (by_axis resolution) ≡ false
   pub skips : (a : ℕ) → a < 3 → Within (2 ^ 48) (by_axis skip a)
 
 pub record Gridded (box : AABB) (eps : Float) (resolution skip : List Float) (n nf k : ℕ) (w w' : List ℕ) : Type 0 where
@@ -161,6 +162,15 @@ unfoldable pub row_cell : (Uv → Bool) → AABB → ℕ → Row → ℕ → ℕ
 row_cell skips box f row last j =
     grid_cell skips (row.inner && is_inner j last) f (point_on_face f row.at row.u (line_at (lowest box (v_axis f)) (highest box (v_axis f)) last j))
 
+abbrev pub parts_of : Cuts → ℕ → ℕ
+parts_of cuts k = segments cuts.grid.extents cuts.grid.eps (by_axis cuts.grid.resolution) k
+
+abbrev pub line_of : Cuts → ℕ → ℕ → Float
+line_of cuts k i = line_at (lowest cuts.grid.extents k) (highest cuts.grid.extents k) (parts_of cuts k) i
+
+abbrev pub row_cells : (Uv → Bool) → Cuts → ℕ → Row → List Candidate
+row_cells skips cuts f row = flat_map (row_cell skips cuts.grid.extents f row (parts_of cuts (v_axis f))) (up_to (parts_of cuts (v_axis f) + 1))
+
 abbrev pub face_line : AABB → ℕ → ℕ → Float
 face_line box f parts = line_at (lowest box (axis f)) (highest box (axis f)) parts (cond (is_min f) 0 parts)
 
@@ -209,7 +219,6 @@ pub record FaceReady (box : AABB) (eps : Float) (resolution skip : List Float) (
   pub small : nf < 268435456
   pub edges : k ≤ 3 * nf
   pub box_in : box_in_range box ≡ true
-  pub coarse : grid_too_fine box eps (by_axis resolution) ≡ false
   pub skips : (a : ℕ) → a < 3 → Within (2 ^ 48) (by_axis skip a)
 
 pub record FaceEntered (box : AABB) (eps : Float) (resolution skip : List Float) (n nf k face : ℕ) (w w' : List ℕ) : Type 0 where

@@ -1,10 +1,8 @@
 // boundary_closure.rs, `add_face_grid_points`: "the face grids, u outside v". `grid_to_candidate` is left out: the same point has the same key.
 // Stays (C interface), point 6: open edges and segments stand at places of the lent room, since C lends one buffer and there is no heap; `last` counts a row's segments.
 ghost use Rattle.std.specs.Prelude.{◌≡◌, ◌&&◌, ◌+◌, ◌*◌, ◌<◌, ◌≤◌, length};
-ghost use mathlib.Core.List.{flat_map};
-ghost use Rattle.lists.specs.Lists.{up_to};
-ghost use Rattle.geometry.specs.Boxes.{lowest, highest, axis_of, face_of};
-ghost use Rattle.box_faces.specs.Lines.{line_at};
+ghost use Rattle.geometry.specs.Boxes.{axis, axis_of, face_of};
+ghost use Rattle.box_faces.specs.Faces.{v_axis};
 ghost use Rattle.candidate_grids.specs.Steps.{
   GridReady,
   Gridded,
@@ -20,7 +18,9 @@ ghost use Rattle.candidate_grids.specs.Steps.{
   NearReady,
   is_inner,
   grid_cell,
-  row_cell,
+  row_cells,
+  parts_of,
+  line_of,
   face_line,
   PointReady,
   PointsEntered,
@@ -35,11 +35,10 @@ use box_faces::segments::{point_on_segment2, segment_bound};
 use box_faces::uv::Uv;
 use candidate_pool::pool::{insert_grid_point, point_of};
 use candidate_pool::room::Room;
-use geometry::aabb::AABB;
 use geometry::face::{Axis, BOX_FACES, BoxFace};
 use geometry::numbers::CandidateVertexId;
 use geometry::point::Point;
-use input_tests::grid::Grid;
+use input_tests::cuts::Cuts;
 
 // The open edges of the face worked on, as `count` segments from `at` on, and how near to one a point lies on it.
 #[derive(Clone, Copy)]
@@ -119,24 +118,31 @@ fn is_skipped(w: &[u64], room: Room, near: Near, p: Uv) -> bool
     (0..near.count).any(|i| is_on_segment(w, near.at + 5 * i, p, near.tolerance))
 }
 
-fn grid_line(extents: AABB, axis: Axis, parts: usize, i: usize) -> f64
-    requires { (i ≤ 256) × (parts ≤ 256) }
-    ensures { result ≡ line_at (lowest extents (axis_of axis)) (highest extents (axis_of axis)) parts i }
+// The i-th line across an axis.
+fn grid_line(cuts: Cuts, axis: Axis, i: usize) -> f64
+    requires { i ≤ 256 }
+    ensures { result ≡ line_of cuts (axis_of axis) i }
 {
     let k = axis.index();
-    axis_grid_coordinate(extents.min_corner[k], extents.max_corner[k], parts, i)
+    let extents = cuts.grid.extents;
+    axis_grid_coordinate(
+        extents.min_corner[k],
+        extents.max_corner[k],
+        cuts.along(axis),
+        i,
+    )
 }
 
 // The first or the last line of the face's own axis.
-fn face_line(extents: AABB, face: BoxFace, parts: usize) -> f64
-    requires { parts ≤ 256 }
-    ensures { result ≡ face_line extents (face_of face) parts }
+fn face_line(cuts: Cuts, face: BoxFace) -> f64
+    ensures { result ≡ face_line cuts.grid.extents (face_of face) (parts_of cuts (axis (face_of face))) }
 {
     let axis = face.axis();
+    let last = cuts.along(axis);
     if face.is_min() {
-        grid_line(extents, axis, parts, 0)
+        grid_line(cuts, axis, 0)
     } else {
-        grid_line(extents, axis, parts, parts)
+        grid_line(cuts, axis, last)
     }
 }
 
@@ -167,45 +173,29 @@ fn enter_grid_point(
 }
 
 // The grid points of a row, along v.
-fn enter_grid_row(
-    w: &mut [u64],
-    room: Room,
-    near: Near,
-    face: BoxFace,
-    row: Row,
-    extents: AABB,
-    last: usize,
-    eps: f64,
-)
-    requires { RowReady eps room.n near row extents last w.old }
-    ensures { PointsEntered eps room.n (flat_map (row_cell (skips_near w.old near) extents (face_of face) row last) (up_to (last + 1))) (last + 1) w.old w.new }
+fn enter_grid_row(w: &mut [u64], room: Room, near: Near, face: BoxFace, row: Row, cuts: Cuts)
+    requires { RowReady cuts.grid.eps room.n near row cuts.grid.extents (parts_of cuts (v_axis (face_of face))) w.old }
+    ensures { PointsEntered cuts.grid.eps room.n (row_cells (skips_near w.old near) cuts (face_of face) row) (parts_of cuts (v_axis (face_of face)) + 1) w.old w.new }
 {
     let axis = uv_axes(face).1;
-    for j in 0..last + 1 {
-        let v = grid_line(extents, axis, last, j);
+    let last = cuts.along(axis);
+    for j in 0..=last {
+        let v = grid_line(cuts, axis, j);
         let p = point_on_face(face, row.at, row.u, v);
-        enter_grid_point(
-            w,
-            room,
-            near,
-            face,
-            p,
-            row.inner & is_interior(j, last),
-            eps,
-        );
+        let inner = row.inner && is_interior(j, last);
+        enter_grid_point(w, room, near, face, p, inner, cuts.grid.eps);
     }
 }
 
 // A face's rows, along u. The skip tolerance goes by the axis that the face is across.
-fn enter_face_grid(w: &mut [u64], room: Room, k: usize, face: BoxFace, grid: Grid, skip: [f64; 3])
-    requires { FaceReady grid.extents grid.eps grid.resolution skip room.n room.nf k (face_of face) w.old }
-    ensures { FaceEntered grid.extents grid.eps grid.resolution skip room.n room.nf k (face_of face) w.old w.new }
+fn enter_face_grid(w: &mut [u64], room: Room, k: usize, face: BoxFace, cuts: Cuts, skip: [f64; 3])
+    requires { FaceReady cuts.grid.extents cuts.grid.eps cuts.grid.resolution skip room.n room.nf k (face_of face) w.old }
+    ensures { FaceEntered cuts.grid.extents cuts.grid.eps cuts.grid.resolution skip room.n room.nf k (face_of face) w.old w.new }
 {
     let axes = uv_axes(face);
-    let last = grid.segments_of(axes.0);
-    let last_v = grid.segments_of(axes.1);
+    let last = cuts.along(axes.0);
+    let at = face_line(cuts, face);
     let across = face.axis();
-    let at = face_line(grid.extents, face, grid.segments_of(across));
     let tolerance = skip[across.index()];
     let count = gather_segments(w, room, k, face, tolerance);
     let near = Near {
@@ -213,21 +203,21 @@ fn enter_face_grid(w: &mut [u64], room: Room, k: usize, face: BoxFace, grid: Gri
         count,
         tolerance,
     };
-    for i in 0..last + 1 {
+    for i in 0..=last {
         let row = Row {
             at,
-            u: grid_line(grid.extents, axes.0, last, i),
+            u: grid_line(cuts, axes.0, i),
             inner: is_interior(i, last),
         };
-        enter_grid_row(w, room, near, face, row, grid.extents, last_v, grid.eps);
+        enter_grid_row(w, room, near, face, row, cuts);
     }
 }
 
-pub fn enter_grids(w: &mut [u64], room: Room, k: usize, grid: Grid, skip: [f64; 3])
-    requires { GridReady grid.extents grid.eps grid.resolution skip room.n room.nf k w.old }
-    ensures { Gridded grid.extents grid.eps grid.resolution skip room.n room.nf k w.old w.new }
+pub fn enter_grids(w: &mut [u64], room: Room, k: usize, cuts: Cuts, skip: [f64; 3])
+    requires { GridReady cuts.grid.extents cuts.grid.eps cuts.grid.resolution skip room.n room.nf k w.old }
+    ensures { Gridded cuts.grid.extents cuts.grid.eps cuts.grid.resolution skip room.n room.nf k w.old w.new }
 {
     for face in BOX_FACES {
-        enter_face_grid(w, room, k, face, grid, skip);
+        enter_face_grid(w, room, k, face, cuts, skip);
     }
 }

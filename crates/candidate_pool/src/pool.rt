@@ -32,7 +32,7 @@ fn mesh_word(mesh: Option<MeshVertexId>) -> u64
 }
 
 // The room of no candidate.
-// Stays (plainer): how much room the pool needs stands beside the room's name, since most functions of a pool ask for more than that.
+// Stays (plainer), point 5: where the tables end is asked of a room that is cleared or listed; the functions between know it from `Holds`.
 pub fn clear_pool(w: &mut [u64], room: Room)
     requires { pool_end room.n ≤ length w.old }
     ensures { (eps : Float) → Cleared eps room.n w.old w.new }
@@ -42,35 +42,35 @@ pub fn clear_pool(w: &mut [u64], room: Room)
     zero_part(w, room.joined_at(), room.n);
 }
 
-fn put_point(w: &mut [u64], id: CandidateVertexId, p: Point, mesh: Option<MeshVertexId>)
-    requires point_in { PointIn p × (entry_at id.0 + 3 < length w.old) }
-    requires mesh_in { mesh_word mesh ≤ 268435456 }
-    ensures { (w.new ≡ point_put w.old id.0 p (mesh_word mesh)) × BitsOf p }
+// What is inserted: a point, and the mesh vertex that stands there, if one does.
+#[derive(Clone, Copy)]
+struct Entry {
+    p: Point,
+    mesh: Option<MeshVertexId>,
+    ghost fits: { PointIn p × (mesh_word mesh ≤ 268435456) },
+}
+
+fn put_point(w: &mut [u64], id: CandidateVertexId, entry: Entry)
+    requires { entry_at id.0 + 3 < length w.old }
+    ensures { (w.new ≡ point_put w.old id.0 entry.p (mesh_word entry.mesh)) × BitsOf entry.p }
 {
     let at = entry_at(id);
+    let p = entry.p;
     w[at] = f64::to_bits(p.x);
     w[at + 1] = f64::to_bits(p.y);
     w[at + 2] = f64::to_bits(p.z);
-    w[at + 3] = mesh_word(mesh);
+    w[at + 3] = mesh_word(entry.mesh);
 }
 
 // A new candidate, on no face yet.
-fn push_candidate(
-    w: &mut [u64],
-    room: Room,
-    p: Point,
-    mesh: Option<MeshVertexId>,
-    key: Cell,
-    b: usize,
-) -> CandidateVertexId
-    requires point_in { PointIn p × (count_at w.old < room.n) × (b < room.n) }
+fn push_candidate(w: &mut [u64], room: Room, entry: Entry, key: Cell, b: usize) -> CandidateVertexId
+    requires bounds { (count_at w.old < room.n) × (b < room.n) }
     requires key_table { KeyTable w.old room.n (count_at w.old) × (pool_end room.n ≤ length w.old) }
-    requires mesh_in { mesh_word mesh ≤ 268435456 }
-    ensures { (result.0 ≡ count_at w.old) × (w.new ≡ candidate_put w.old room.n (count_at w.old) p (mesh_word mesh) key b) × BitsOf p }
+    ensures { (result.0 ≡ count_at w.old) × (w.new ≡ candidate_put w.old room.n (count_at w.old) entry.p (mesh_word entry.mesh) key b) × BitsOf entry.p }
 {
     let id = CandidateVertexId(w[6] as usize);
     w[6] = id.0 as u64 + 1;
-    put_point(w, id, p, mesh);
+    put_point(w, id, entry);
     w[entry_at(id) + 4] = 0;
     let at = room.keys_at() + 3 * id.0;
     w[at] = key.x;
@@ -85,20 +85,14 @@ fn push_candidate(
 }
 
 // The candidate at p: found by its key, or new. "a later mesh vertex replaces number and point".
-fn place_candidate(
-    w: &mut [u64],
-    room: Room,
-    p: Point,
-    mesh: Option<MeshVertexId>,
-    eps: f64,
-) -> CandidateVertexId
+// Stays (plainer), point 5: that there is room for a candidate depends on the pool, which each insertion changes, and is no fact of an entry.
+fn place_candidate(w: &mut [u64], room: Room, entry: Entry, eps: f64) -> CandidateVertexId
     requires holds { Holds eps room.n w.old }
-    requires point_in { PointIn p × (mesh_word mesh ≤ 268435456) }
-    requires room_for { RoomFor eps room.n w.old (candidate p (mesh_word mesh) []) }
-    ensures { Inserted eps room.n (candidate p (mesh_word mesh) []) w.old w.new ×
-        (result.0 ≡ number_for (by_key eps) (pool_at room.n w.old) (candidate p (mesh_word mesh) [])) }
+    requires room_for { RoomFor eps room.n w.old (candidate entry.p (mesh_word entry.mesh) []) }
+    ensures { Inserted eps room.n (candidate entry.p (mesh_word entry.mesh) []) w.old w.new ×
+        (result.0 ≡ number_for (by_key eps) (pool_at room.n w.old) (candidate entry.p (mesh_word entry.mesh) [])) }
 {
-    let key = cell_of(p, eps);
+    let key = cell_of(entry.p, eps);
     let table = Hashed {
         chains: Chains {
             at: room.chain_at(),
@@ -107,11 +101,11 @@ fn place_candidate(
     };
     let b = table.bucket(key.x, key.y, key.z);
     match find_key(w, room, w[6] as usize, key, b) {
-        None => push_candidate(w, room, p, mesh, key, b),
+        None => push_candidate(w, room, entry, key, b),
         Some(i) => {
             let id = CandidateVertexId(i);
-            if mesh.is_some() {
-                put_point(w, id, p, mesh);
+            if entry.mesh.is_some() {
+                put_point(w, id, entry);
             }
             id
         }
@@ -166,7 +160,8 @@ pub fn insert_candidate(
     ensures { VertexInserted eps room.n v.0 (candidate p (v.0 + 1) (faces_in mask)) w.old w.new ×
         (result.0 ≡ number_for (by_key eps) (pool_at room.n w.old) (candidate p (v.0 + 1) (faces_in mask))) }
 {
-    let id = place_candidate(w, room, p, Some(v), eps);
+    let entry = Entry { p, mesh: Some(v) };
+    let id = place_candidate(w, room, entry, eps);
     push_faces(w, room, id, mask, eps);
     w[room.joined_at() + v.0] = id.0 as u64 + 1;
     id
@@ -179,7 +174,8 @@ pub fn insert_grid_point(w: &mut [u64], room: Room, p: Point, face: BoxFace, eps
     requires room_for { RoomFor eps room.n w.old (candidate p 0 (face_of face ∷ [])) }
     ensures { Inserted eps room.n (candidate p 0 (face_of face ∷ [])) w.old w.new }
 {
-    let id = place_candidate(w, room, p, None, eps);
+    let entry = Entry { p, mesh: None };
+    let id = place_candidate(w, room, entry, eps);
     push_face(w, room, id, face, eps);
 }
 

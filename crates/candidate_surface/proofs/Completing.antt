@@ -85,7 +85,6 @@ module _ (vs : List Float) (fs : List ℕ) (box : AABB) (eps : Float) (n k : ℕ
           edges = edges_here;
           box_in = S.box_in;
           box_good = S.box_good;
-          coarse = S.coarse;
           skips = each_within skip skip-in;
         })
 

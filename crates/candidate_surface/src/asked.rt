@@ -1,8 +1,10 @@
 // What is asked of candidates and of caps beside the mesh: the box, how near to a face is on it, and how far apart grid points stand.
-ghost use Rattle.std.specs.Prelude.{◌≡◌};
-ghost use Rattle.candidate_surface.specs.Asked.{grid_of};
+ghost use Rattle.std.specs.Prelude.{◌≡◌, false};
+ghost use Rattle.input_tests.specs.Front.{grid_too_fine};
+ghost use Rattle.candidate_surface.specs.Asked.{one_resolution, grid_of};
 
 use geometry::aabb::AABB;
+use input_tests::cuts::Cuts;
 use input_tests::grid::Grid;
 
 #[derive(Clone, Copy)]
@@ -22,5 +24,12 @@ impl Asked {
             eps: self.eps,
             resolution: [self.resolution; 3],
         }
+    }
+    // The cut grid, once test 6 has passed.
+    pub fn cuts(self) -> Cuts
+        requires { grid_too_fine self.extents self.eps (one_resolution self.resolution) ≡ false }
+        ensures { result.grid ≡ grid_of self }
+    {
+        self.grid().cut().unwrap()
     }
 }

@@ -24,7 +24,7 @@ pub fn most_candidates(vertices: &[f64], asked: Asked) -> usize
     requires { (length vertices.now / 3 ≤ 65536) × (grid_too_fine asked.extents asked.eps (one_resolution asked.resolution) ≡ false) }
     ensures { result ≡ most_candidates vertices.now asked }
 {
-    vertices.len() / 3 + asked.grid().size()
+    vertices.len() / 3 + asked.cuts().size()
 }
 
 // How many open edges there are, whose records then stand in the room.
@@ -73,5 +73,5 @@ pub fn complete(mesh: MeshLists<'_>, asked: Asked, w: &mut [u64], n: usize, k: u
     let room = Room { n, nf };
     enter_corners(w, mesh.vertices, room, asked.extents, asked.eps);
     let skip = asked.resolution * 1.0e-9;
-    enter_grids(w, room, k, asked.grid(), [skip; 3]);
+    enter_grids(w, room, k, asked.cuts(), [skip; 3]);
 }

@@ -91,17 +91,19 @@ fn write_cap(w: &[u64], facet: usize, first: usize, out: &mut [u32], at: usize) 
     requires first_in_bounds { at + length (cap_words w.now facet first) ≤ length out.old }
     ensures { (result ≡ at + length (cap_words w.now facet first)) × (out.new ≡ sets out.old at (cap_words w.now facet first)) }
 {
-    if w[first] != 1 {
-        return at;
+    let is_first = w[first] == 1;
+    if is_first {
+        write_three(
+            out,
+            at,
+            w[facet] as u32,
+            w[facet + 1] as u32,
+            w[facet + 2] as u32,
+        );
+        at + 3
+    } else {
+        at
     }
-    write_three(
-        out,
-        at,
-        w[facet] as u32,
-        w[facet + 1] as u32,
-        w[facet + 2] as u32,
-    );
-    at + 3
 }
 
 // Those of the facets left that are the first of their three corners, from `at` on.

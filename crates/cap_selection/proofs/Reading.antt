@@ -1,7 +1,6 @@
 -- What the tests answer, from the words that they read at places computed on the way. Assumes nothing.
 --   label_open, label_shared   the label of a side on an open edge, and of one that is on none
 --   against_down, against_up   of a side that runs up, and of one that does not
---   seed_skipped, seed_marked  the store for a triangle that is no seed, and for one that is
 use Prim.Native.Nat.{ℕ, ◌+◌, ◌*◌, ◌≤◌, ◌<◌}
 use mathlib.Core.Path.{◌≡◌, refl, sym, ap, ◌∙◌}
 use mathlib.Core.Bool.{Bool, true, false}
@@ -13,7 +12,7 @@ use Rattle.lists.proofs.Bools.{cond_true, cond_false}
 use Rattle.box_faces.specs.Faces.{has_bit}
 use Rattle.edges.specs.Table.{next_side}
 use Rattle.cap_triangles.specs.Room.{turned_at, numbers_at, up_at, down_at, components_at, seeded_at}
-use Rattle.cap_selection.specs.Steps.{open_in, side_number, label_in, against_in, seed_in, marked_seed}
+use Rattle.cap_selection.specs.Steps.{open_in, side_number, label_in, against_in, seed_in}
 
 module _ (n nf nc : ℕ) (w : List ℕ) where
   module _ (k s numbers : ℕ) (at : numbers ≡ numbers_at n nf nc) where
@@ -61,11 +60,3 @@ module _ (n nf nc : ℕ) (w : List ℕ) where
 module _ (n nf nc k : ℕ) (w : List ℕ) (i f : ℕ) (r : Bool) (is : r ≡ seed_in n nf nc k w i f) where
   abbrev stored : List ℕ
   stored = set w (seeded_at n nf nc + get_or w (components_at n nf nc + i) 0) 1
-
-  pub seed_skipped : r ≡ false → w ≡ marked_seed n nf nc k w i f
-  seed_skipped off = sym (cond_false (seed_in n nf nc k w i f) stored w w (sym is ∙ off) refl)
-
-  pub seed_marked : (components seeded : ℕ) → components ≡ components_at n nf nc → seeded ≡ seeded_at n nf nc → r ≡ true
-      → set w (seeded + get_or w (components + i) 0) 1 ≡ marked_seed n nf nc k w i f
-  seed_marked components seeded c s on =
-      (λ t. set w (s t + get_or w (c t + i) 0) 1) ∙ sym (cond_true (seed_in n nf nc k w i f) stored w stored (sym is ∙ on) refl)

@@ -1,10 +1,10 @@
 -- Laws of tests of a range, and of two lists side by side. Assumes nothing.
 use Prim.Native.Nat.{ℕ, zero, suc, ◌+◌, ◌≤◌, ◌<◌}
-use mathlib.Core.Path.{◌≡◌, refl, sym, ap, ◌∙◌}
+use mathlib.Core.Path.{◌≡◌, refl, ap, ◌∙◌}
 use mathlib.Core.Bool.{Bool, true, false, cond, ◌&&◌}
 use mathlib.Core.List.{List, [], ◌∷◌}
 use native.Mathlib.Omega.{arith}
-use lib.ListN.{length, take}
+use lib.ListN.{length}
 use Rattle.std.specs.List.{range_with_len, list_all, zip, starts_with}
 use Rattle.std.specs.Prelude.{Option, None, Some}
 use Rattle.std.specs.Option.{option_map}
@@ -17,7 +17,8 @@ up_range k zero = refl
 up_range k (suc n) = let next : k + 1 ≡ suc k = omega arith in ap (λ (l : List ℕ). k ∷ l) (ap (λ (j : ℕ). range_with_len j n) next ∙ up_range (suc k) n)
 
 -- a list begins with another exactly if it is as long and each element of the other is beside the same
-pub zip_starts : {A : Type 0} (same : A → A → Bool) (list front : List A) → length front ≤ length list → list_all (λ (p : A × A). same p.0 p.1) (zip front list) ≡ starts_with same list front
+pub zip_starts : {A : Type 0} (same : A → A → Bool) (list front : List A) → length front ≤ length list
+    → list_all (λ (p : A × A). same p.0 p.1) (zip front list) ≡ starts_with same list front
 zip_starts same l [] h = refl
 zip_starts same [] (x ∷ f) h = absurd (none h)
   where

@@ -2,8 +2,7 @@
 --   turned_more, turned_all   a list filled place by place, one more, and to its end
 --   capped_to                 a test of what caps answers is the same test of its definition
 use Prim.Native.Nat.{ℕ, ◌+◌, ◌≤◌, ◌<◌}
-use mathlib.Core.Path.{◌≡◌, refl, sym, ap, ap₂, ◌∙◌, subst}
-use mathlib.Core.Bool.{Bool}
+use mathlib.Core.Path.{◌≡◌, sym, ap, ap₂, ◌∙◌, subst}
 use mathlib.Core.List.{List, [], ◌∷◌, map}
 use native.Mathlib.Omega.{arith}
 use native.Mathlib.Nat.{zero-add}
@@ -44,8 +43,8 @@ module _ (ws l : List ℕ) (i : ℕ) (long : length l ≡ 80) (f : (k : ℕ) →
       let c : k < 80 = subst (λ (n : ℕ). k < n) long b in
       f k (omega arith) ∙ sym (at_map_up (cap_word ws) 0 0 80 k c ∙ ap (cap_word ws) (zero-add k)))
 
-module _ (mode : BoundaryClosure) (l : List ℕ) (q : Asked) (reply : Result (List ℕ) Refusal) (w w' : List ℕ) (v' : List Float) (f' : List ℕ) (e : q ≡ asked (box_to one_f one_f one_f) 1e-10 one_f)
-    (long : length w ≡ 8192) where
+module _ (mode : BoundaryClosure) (l : List ℕ) (q : Asked) (reply : Result (List ℕ) Refusal) (w w' : List ℕ) (v' : List Float) (f' : List ℕ)
+    (e : q ≡ asked (box_to one_f one_f one_f) 1e-10 one_f) (long : length w ≡ 8192) where
   answer : Capped square_at_half two_facets l q mode mesh_ceiling reply w w' (replicate 24 zero_f) v' (replicate 36 0) f' → documented_reply reply ≡ capped mode l
   answer h =
       h.answered.answer.replied

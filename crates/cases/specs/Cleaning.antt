@@ -2,7 +2,7 @@
 --   is_mesh       a reply is a mesh of the stated lengths, and the outputs begin with it        is_key_range   it is refusal 8
 --   cleans_to     cleaning, with 2,048 words of work room and outputs of 12 and 6, gives the stated mesh       has_far_key   it is refused by 8
 --   c2_holds, c8_holds, c14_holds   the stated results
-use Rattle.std.specs.Prelude.{ℕ, Bool, ◌&&◌, List, [], ◌∷◌, ◌++◌, eqb, length, get_or, take, drop, replicate, Float}
+use Rattle.std.specs.Prelude.{ℕ, Bool, ◌&&◌, List, [], ◌∷◌, eqb, length, get_or, replicate, Float}
 use Rattle.std.specs.List.{starts_with}
 use Rattle.root.specs.Doubles.{bits, zero_f, one_f}
 use Rattle.geometry.specs.Triangles.{flat}
@@ -61,4 +61,5 @@ c8_holds = cleans_to square two_facets (clean_asked fine) square two_facets
 
 abbrev pub c14_holds : Bool
 c14_holds =
-    cleans_to (near_place ∷ zero_f ∷ zero_f ∷ []) [] (clean_asked zero_f) (near_place ∷ zero_f ∷ zero_f ∷ []) [] && has_far_key (far_place ∷ zero_f ∷ zero_f ∷ []) [] (clean_asked zero_f)
+    cleans_to (near_place ∷ zero_f ∷ zero_f ∷ []) [] (clean_asked zero_f) (near_place ∷ zero_f ∷ zero_f ∷ []) []
+    && has_far_key (far_place ∷ zero_f ∷ zero_f ∷ []) [] (clean_asked zero_f)

@@ -5,11 +5,11 @@
 --   free         candidate i is the one at `at`, or comes neither from mesh vertex 0 nor from 1 and is not at the point p
 --   place_of     the first candidate at a point, if there is one
 --   has_lengths  a reply says that it is done, and that these are the first lengths
-use Rattle.std.specs.Prelude.{ℕ, ◌+◌, ◌*◌, ◌/◌, Bool, true, false, cond, not, ◌&&◌, ◌||◌, List, [], ◌∷◌, eqb, leb, length, get_or, Option, Float}
+use Rattle.std.specs.Prelude.{ℕ, ◌+◌, ◌*◌, ◌/◌, Bool, cond, not, ◌&&◌, ◌||◌, List, ◌∷◌, eqb, length, get_or, Option, Float}
 use Rattle.std.specs.Float.{binary64}
 use Rattle.std.specs.Float.Ieee.{eq, to_bits}
 use Rattle.std.specs.List.{starts_with}
-use Rattle.lists.specs.Lists.{every, first, up_to}
+use Rattle.lists.specs.Lists.{first, up_to}
 
 abbrev pub bits_of : Float → ℕ
 bits_of x = cond (eq x x) (to_bits binary64 x) 9221120237041090560

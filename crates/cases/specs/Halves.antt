@@ -1,13 +1,13 @@
 -- C15 of document 01's worked blocks, as a test of the definitions of candidates and caps. Assumes nothing.
 --   half_point       the twelve points: (0,0), (1,0), (1,1) and (0,1) at heights 0, 0.5 and 1, numbered from 0 to 11
---   candidate_at   the number of the candidate at a point, or how many candidates there are      triangles, cap_list_of   the cap list: a face and three points each, and as candidates
+--   candidate_at   the number of the first candidate at a point      triangles, cap_list_of   the cap list: a face and three points each, and as candidates
 --   is_point, has_facets   a vertex stands at a point; each corner of each facet is the stated point
 --   is_half        a reply is eight vertices and twelve facets, the stated ones
 --   capped        the reply of caps, with 8,192 words of work room and outputs of 24 and 36
 --   closes_to      caps answers so
 --   lower_half, upper_half   the stated facets, the square first        closes_both   both halves come out as stated
 --   c15_holds      the stated result
-use Rattle.std.specs.Prelude.{ℕ, ◌*◌, ◌/◌, ◌%◌, Bool, cond, ◌&&◌, List, [], ◌∷◌, map, eqb, ltb, length, get_or, drop, replicate, Float}
+use Rattle.std.specs.Prelude.{ℕ, ◌*◌, ◌/◌, ◌%◌, Bool, cond, ◌&&◌, List, [], ◌∷◌, map, eqb, ltb, length, get_or, drop, replicate, Option, Float}
 use Rattle.std.specs.Float.{nan}
 use Rattle.root.specs.Doubles.{bits, zero_f, one_f, 1e-10}
 use Rattle.std.specs.List.{list_all, zip, starts_with}
@@ -42,8 +42,8 @@ half_points =
 unfoldable pub half_point : ℕ → List Float
 half_point p = get_or half_points p (corner zero_f one_f one_f)
 
-unfoldable pub candidate_at : List ℕ → List Float → ℕ
-candidate_at words q = unwrap_or (place_of words (bits_of (get_or q 0 nan) ∷ bits_of (get_or q 1 nan) ∷ bits_of (get_or q 2 nan) ∷ [])) (length words / 5)
+unfoldable pub candidate_at : List ℕ → List Float → Option ℕ
+candidate_at words q = place_of words (bits_of (get_or q 0 nan) ∷ bits_of (get_or q 1 nan) ∷ bits_of (get_or q 2 nan) ∷ [])
 
 -- turned outward; side faces have two below and two above, bottom and top two each
 abbrev pub triangles : List ℕ
@@ -55,7 +55,7 @@ triangles =
     ∷ 4 ∷ 0 ∷ 3 ∷ 2 ∷ 4 ∷ 0 ∷ 2 ∷ 1 ∷ 5 ∷ 8 ∷ 9 ∷ 10 ∷ 5 ∷ 8 ∷ 10 ∷ 11 ∷ []
 
 abbrev pub cap_word : List ℕ → ℕ → ℕ
-cap_word words i = let t = get_or triangles i 0 in cond (eqb (i % 4) 0) t (candidate_at words (half_point t))
+cap_word words i = let t = get_or triangles i 0 in cond (eqb (i % 4) 0) t (unwrap_or (candidate_at words (half_point t)) (length words / 5))
 
 unfoldable pub cap_list_of : List ℕ → List ℕ
 cap_list_of words = map (cap_word words) (up_to 80)

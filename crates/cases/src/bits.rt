@@ -6,6 +6,7 @@ ghost use Rattle.cases.specs.Comparing.{bits_of, same_bits};
 // What stands for every NaN, whose bits are left open.
 const QUIET: u64 = 9221120237041090560;
 
+// Stays (plainer): a NaN's bits are left open, so that it needs a pattern of its own, which no conversion of the library gives.
 pub fn bits(x: f64) -> u64
     ensures { result ≡ bits_of x }
 {

@@ -28,6 +28,7 @@ fn is_mesh(reply: Reply<2>, made: MeshLists<'_>, stated: MeshLists<'_>) -> bool
 }
 
 // 8
+// Stays (plainer): the refusal is a pattern here and in `is_too_fine`, and a pattern cannot be handed over.
 #[tactic(auto, unfolding(refusals::specs::Refusals::documented_reply, refusals::specs::Refusals::documented))]
 fn is_key_range(reply: Reply<2>) -> bool
     ensures { result ≡ is_key_range (documented_reply reply) }

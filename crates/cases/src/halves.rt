@@ -65,16 +65,16 @@ fn point(p: usize) -> [f64; 3]
     POINTS[p.min(11)]
 }
 
-// The number of the candidate at a point, or how many candidates there are.
+// The number of the candidate at a point.
 #[tactic(auto, unfolding(crate::specs::Halves::candidate_at))]
-fn candidate_at(candidates: &[u64], point: [f64; 3]) -> u64
+fn candidate_at(candidates: &[u64], point: [f64; 3]) -> Option<usize>
     ensures { result ≡ candidate_at candidates.now point }
 {
     let [x, y, z] = point;
-    place_of(candidates, [bits(x), bits(y), bits(z)]).unwrap_or(candidates.len() / 5) as u64
+    place_of(candidates, [bits(x), bits(y), bits(z)])
 }
 
-// Word i of the cap list: a face, or a point's candidate.
+// Word i of the cap list: a face, or a point's candidate. Where none is at the point, no candidate has the number that is written.
 fn cap_word(candidates: &[u64], i: usize) -> u64
     requires { i < 80 }
     ensures { result ≡ cap_word candidates.now i }
@@ -82,7 +82,7 @@ fn cap_word(candidates: &[u64], i: usize) -> u64
     if i % 4 == 0 {
         return TRIANGLES[i] as u64;
     }
-    candidate_at(candidates, point(TRIANGLES[i]))
+    candidate_at(candidates, point(TRIANGLES[i])).unwrap_or(candidates.len() / 5) as u64
 }
 
 // The triangles as a cap list.

@@ -1,4 +1,5 @@
 // Candidates as words: five a candidate, the point's bits, mesh vertex + 1 or 0, and faces.
+// Stays (C interface), point 6: a candidate is a number in the list of words that the operation writes, and is asked for by it.
 ghost use Rattle.std.specs.Prelude.{◌≡◌, ◌+◌, ◌*◌, ◌/◌, ◌<◌, length};
 ghost use Rattle.lists.specs.Lists.{every, up_to};
 ghost use Rattle.cases.specs.Comparing.{stands_at, free, place_of};

@@ -26,6 +26,7 @@ struct Parted {
 }
 
 // 4^d
+// Stays (plainer), point 5: d is how far two exponents are apart, a number that is handed on; as a type with its bound it would be made once and read in each of the four.
 #[tactic(auto, using(crate::proofs::Products::shifted))]
 fn power(d: u64) -> u64
     requires { d < 27 }

@@ -1,11 +1,12 @@
-// Tests 6 and 8, and the G of test 7. The resolution is one for each axis here; the operations of document 01 give all three the same.
-ghost use Rattle.std.specs.Prelude.{◌≡◌, ◌≤◌, ◌||◌};
+// Tests 6 and 8. The resolution is one for each axis here; the operations of document 01 give all three the same.
+ghost use Rattle.std.specs.Prelude.{◌≡◌, ◌||◌};
 ghost use Rattle.geometry.specs.Boxes.{axis_of};
-ghost use Rattle.geometry.specs.Axes.{segments, grid_size};
+ghost use Rattle.geometry.specs.Axes.{segments};
 ghost use Rattle.rounding.specs.Rounding.{far_key, at_most_256};
-ghost use Rattle.input_tests.specs.Front.{by_axis, CutsOf, far_keys, box_far_keys};
+ghost use Rattle.input_tests.specs.Front.{by_axis, far_keys, box_far_keys};
 ghost use Rattle.input_tests.specs.Cutting.{IsCut};
 
+use crate::cuts::Cuts;
 use geometry::aabb::AABB;
 use geometry::face::Axis;
 use rounding::{axis_segments, key_beyond, max, quantized_key};
@@ -16,14 +17,6 @@ pub struct Grid {
     pub extents: AABB,
     pub eps: f64,
     pub resolution: [f64; 3],
-}
-
-// A grid that is not too fine, and how many segments each of its axes has.
-#[derive(Clone, Copy)]
-pub struct Cuts {
-    pub grid: Grid,
-    pub segments: [usize; 3],
-    pub ghost cut: { CutsOf grid.extents grid.eps (by_axis grid.resolution) segments },
 }
 
 impl Grid {
@@ -48,25 +41,6 @@ impl Grid {
             grid: self,
             segments: [x, y, z],
         })
-    }
-}
-
-impl Cuts {
-    pub fn along(self, axis: Axis) -> usize
-        ensures value { result ≡ segments self.grid.extents self.grid.eps (by_axis self.grid.resolution) (axis_of axis) }
-        ensures bound { result ≤ 256 }
-    {
-        self.segments[axis.index()]
-    }
-
-    // G
-    pub fn size(self) -> usize
-        ensures { result ≡ grid_size self.grid.extents self.grid.eps (by_axis self.grid.resolution) }
-    {
-        let x = self.along(Axis::X) + 1;
-        let y = self.along(Axis::Y) + 1;
-        let z = self.along(Axis::Z) + 1;
-        2 * (x * y + x * z + y * z)
     }
 }
 

@@ -11,6 +11,7 @@ use geometry::mesh::MeshLists;
 use refusals::refusal::Refusal;
 
 pub mod boxes;
+pub mod cuts;
 pub mod grid;
 
 // 1, for a list of `of` numbers an item

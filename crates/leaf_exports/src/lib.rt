@@ -1,5 +1,6 @@
 // For tests only, and no part of the product: leaves of the library under C names of their own, so that a program outside can compare and time them:
 // root, length, rounding and cell key on any bit pattern, the root of a whole number; clearing and sorting; components and chains. None has a `requires`: what a table asks is tested first.
+// Stays (C interface), point 6: C lends a table's words with its numbers beside them, and there is no heap.
 #![tactic(auto)]
 
 ghost use Rattle.std.specs.Prelude.{false, true, ◌≡◌, ℕ, ◌*◌, ◌+◌, ◌/◌, ◌<◌, ◌≤◌, eqb, get_or, length, replicate, IfSome, ◌^◌};

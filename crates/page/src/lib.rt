@@ -39,6 +39,7 @@ impl<W: Write> Page<W> {
     }
 
     // A number alone, in decimal.
+    // Stays (plainer): one `write!` under a name, whose clause says the digits, for callers that write number after number.
     pub fn number(&mut self, n: u64)
         ensures before { OnOk self.new.written (IsOk self.old.written) }
         ensures appends { OnOk self.new.written (Appends (W.contents self.old.writer) (W.contents self.new.writer) (decimal n)) }

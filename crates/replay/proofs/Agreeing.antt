@@ -34,7 +34,10 @@ use Rattle.yongpham.specs.Calls.{box_of}
 use Rattle.replay.specs.Words.{Everywhere}
 use Rattle.replay.specs.Layout.{stored_reply, outputs_from, Laid}
 use Rattle.replay.specs.Contents.{table, old_doubles, old_words, old_double, doubles_in, numbers_in}
-use Rattle.replay.specs.Agreement.{SameDoubles, SameWords, AgreesWith, Fresh, ResultStored, clip, clean, caps, candidates, boundary, AnswerStored, mesh, listing, ListsStored, PlainDoubles, ToleranceAgrees, Agrees, tolerance, lists, double_at, box_in, eps_in, resolution_in, clip_asked_in, clean_asked_in, limits_in, asked_in, mode_in, caps_in, outputs_in, reported, clip_reply, clean_reply, caps_reply}
+use Rattle.replay.specs.Agreement.{SameDoubles, SameWords, AgreesWith, Fresh, ResultStored, clip, clean, caps, candidates, boundary, AnswerStored, mesh}
+use Rattle.replay.specs.Agreement.{listing, ListsStored, PlainDoubles, ToleranceAgrees, Agrees, tolerance, lists, double_at, box_in, eps_in, resolution_in}
+use Rattle.replay.specs.Agreement.{clip_asked_in, clean_asked_in, limits_in, asked_in, mode_in, caps_in, outputs_in, reported, clip_reply, clean_reply}
+use Rattle.replay.specs.Agreement.{caps_reply}
 use Rattle.replay.specs.Operations.{number_of}
 use Rattle.replay.specs.declared.operation.Operation.{Operation}
 use Rattle.replay.specs.declared.operation.Operation.TheVariants.{Tolerance, Clip, Clean, Candidates, Caps, BoundaryComponents}

@@ -2,7 +2,6 @@
 --   refuted               a fact that does not hold
 --   clash                 no Bool is both true and false
 --   ends, both            a test of a fact of the same truth; two tests
---   decides               what the library says of a chain that tests each element
 --   each_of, each_in, part_each   a fact of each word of a part, said of the part and of the list
 use Prim.Native.Nat.{ℕ, ◌+◌, ◌-◌, ◌≤◌, ◌<◌}
 use mathlib.Core.Path.{◌≡◌, sym, subst, ◌∙◌}
@@ -11,9 +10,7 @@ use lib.ListN.{length, get_or, take, drop}
 use Rattle.lists.proofs.Regions.{view_length, view_at}
 use mathlib.Core.Bool.{Bool, true, false, ◌&&◌}
 use native.Mathlib.Omega.{arith}
-use Rattle.std.specs.Prelude.{IsTrue, ◌↔◌}
 use Rattle.lists.specs.Lists.{Decides}
-use Rattle.lists.proofs.Bools.{is_true, yes}
 use Rattle.replay.specs.Words.{Everywhere}
 
 pub refuted : {P : Type 0} → (P → ⊥) → Decides P false
@@ -24,10 +21,6 @@ clash t f = absurd (let z : ◌≡◌ {A = ℕ} 0 1 = cc in omega arith)
 
 pub ends : {P : Type 0} (Q : Type 0) {b : Bool} → Decides P b → (P → Q) → (Q → P) → Decides Q b
 ends Q d f g = record { sound = λ t. f (d.sound t); complete = λ q. d.complete (g q) }
-
--- from what the library says of a chain that tests each element
-pub decides : {P : Type 0} {b : Bool} → IsTrue b ↔ P → Decides P b
-decides {b = b} f = record { sound = λ t. f.0 (is_true b t); complete = λ p. yes (f.1 p) }
 
 -- each word of a part of a list, lent from `from` to `to`: said of the part, and of the list
 module _ (P : ℕ → Type 0) (s : List ℕ) (from to n : ℕ) (e : to - from ≡ n) (fits : from + n ≤ length s) where

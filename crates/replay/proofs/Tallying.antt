@@ -1,7 +1,7 @@
 -- Laws of the two walks over the records of a file. Assumes nothing.
---   Walking             the walk of `are_records`: start, more, end, and where no record is whole
+--   Walking             the walk of `are_records`: more, end, and where no record is whole
 --   one_if              1 of what holds, and 0 of what does not
---   Tallying            the walk of `count`: start, more, end
+--   Tallying            the walk of `count`: more, end
 use Prim.Native.Nat.{ℕ, suc, ◌+◌, ◌-◌, ◌≤◌, ◌<◌}
 use mathlib.Core.Path.{◌≡◌, refl, sym, ap, ◌∙◌, subst}
 use mathlib.Core.Bool.{Bool, true, false}
@@ -38,12 +38,6 @@ pub record Walking (records : List ℕ) (count : ℕ) (left : List ℕ) (done : 
   pub back : Records records count → (k : ℕ) → k + done ≡ count → Records left k
 
 module _ (records : List ℕ) (count : ℕ) where
-  pub walking_start : Walking records count records 0
-  walking_start = record {
-    onward = λ k e r. let f : k ≡ count = omega arith in subst (λ (n : ℕ). Records records n) f r;
-    back = λ r k e. let f : count ≡ k = omega arith in subst (λ (n : ℕ). Records records n) f r;
-  }
-
   module _ (left : List ℕ) (done : ℕ) (w : Walking records count left done) where
     pub walking_more : (front behind : List ℕ) → FirstRecord left front behind → Walking records count behind (done + 1)
     walking_more front behind f = record {
@@ -80,16 +74,6 @@ pub record Tallying (operation : ℕ) (records left : List ℕ) (requests agreei
   pub onward : (r a : ℕ) → Tallied operation left r a → Tallied operation records (requests + r) (agreeing + a)
 
 module _ (operation : ℕ) (records : List ℕ) where
-  pub tally_start : Tallying operation records records 0 0
-  tally_start = record {
-    few = omega arith;
-    fewer = omega arith;
-    onward = λ r a t.
-        let p : r ≡ 0 + r = omega arith in
-        let q : a ≡ 0 + a = omega arith in
-        same_counts operation records p q t;
-  }
-
   module _ (left : List ℕ) (requests agreeing : ℕ) (w : Tallying operation records left requests agreeing) where
     pub tally_end : record_length left ≡ 0 → Tallied operation records requests agreeing
     tally_end e =
@@ -97,7 +81,7 @@ module _ (operation : ℕ) (records : List ℕ) where
         let q : agreeing + 0 ≡ agreeing = omega arith in
         same_counts operation records p q (w.onward 0 0 (stop e))
 
-    pub shorter : (front behind : List ℕ) → FirstRecord left front behind → 0 < length front → length behind < length left
+    shorter : (front behind : List ℕ) → FirstRecord left front behind → 0 < length front → length behind < length left
     shorter front behind f h =
         let n = record_length left in
         let a : length behind ≡ length left - n = ap length f.rest_is ∙ length-drop n left in

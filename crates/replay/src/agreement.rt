@@ -31,6 +31,7 @@ fn tolerance_agrees(stored: Record) -> bool
 }
 
 // A record that is not laid out as its operation's are does not agree.
+#[tactic(auto, using(crate::proofs::Agreeing::nameless, crate::proofs::Deciding::refuted))]
 pub fn agrees(stored: Record) -> bool
     ensures { Decides (Agrees stored.entry.words.now) result }
 {

@@ -68,6 +68,7 @@ pub fn same_answer(
 }
 
 // The answer of an operation that writes lists of words, up to its third list.
+#[tactic(auto, using(crate::proofs::Comparing::listing_alike))]
 pub fn same_listing(
     request: Request,
     number: u32,

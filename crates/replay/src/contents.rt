@@ -37,6 +37,7 @@ pub fn read<T: Copy, F: Fn(u64) -> T>(list: &mut [T], words: &[u64], f: F)
 }
 
 // As an output of doubles is before a call.
+#[tactic(auto, using(crate::proofs::Filling::next_double))]
 pub fn old_doubles(output: &mut [f64])
     ensures { output.new ≡ old_doubles (length output.old) }
 {

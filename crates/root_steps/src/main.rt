@@ -12,16 +12,14 @@ ghost use Rattle.root.specs.Drawn.{Drawn};
 ghost use Rattle.root.specs.Root.{root};
 
 use page::Page;
-use root::Drawing;
+use root::{Drawing, LEAD};
 use spelling::print_row;
 use std::io;
 use std::io::Write;
 use steps::print_steps;
 
-// 2^52: the weight of a pattern's exponent field, and of the leading digit of a significand
-const LEAD: u64 = 4503599627370496;
-
 // The root of a whole number of four pairs of digits.
+// Stays (plainer): no conversion to text; it writes by `write!`, as a step of the program.
 fn print_whole<W: Write>(page: &mut Page<W>, n: u64)
     requires { n < 2 ^ 8 }
 {
@@ -37,6 +35,7 @@ fn root_of_two() -> u64
 }
 
 // The root of 2 with 106 zeros behind it. In pairs 2 is 10, and behind the point come as many pairs 00 as are asked for.
+// Stays (plainer): no conversion to text; it writes by `write!`, as a step of the program.
 fn print_digits_of_two<W: Write>(page: &mut Page<W>) -> Drawing
     ensures { Drawn (2 ^ 107) result.root result.rest × (result.root < 2 ^ 54) }
 {
@@ -45,6 +44,7 @@ fn print_digits_of_two<W: Write>(page: &mut Page<W>) -> Drawing
 }
 
 // The root of 2 to the last digit of a double: 54 digits are drawn, one more than a double has, which rounds.
+// Stays (plainer): no conversion to text; it writes by `write!`, as a step of the program.
 fn print_two<W: Write>(page: &mut Page<W>) {
     let end = print_digits_of_two(page);
     if end.root & 1 == 1 {

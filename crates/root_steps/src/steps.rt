@@ -8,6 +8,7 @@ use root::Drawing;
 use std::io::Write;
 
 // Four lines: the rest with the pair behind it, what is tried, what is left, the root so far.
+// Stays (plainer): no conversion to text; it writes by `write!`, as a step of the program.
 fn print_step<W: Write>(
     page: &mut Page<W>,
     step: u64,
@@ -56,6 +57,7 @@ fn print_step<W: Write>(
 }
 
 // As root's `bring_down`, with each step written: the steps are numbered behind `done`.
+// Stays (plainer): no conversion to text; it writes by `write!`, as a step of the program.
 pub fn print_steps<W: Write>(
     page: &mut Page<W>,
     s: Drawing,

@@ -1,5 +1,4 @@
-use mathlib.Core.Path.{ap}
-use lib.Ieee.{binary64, to_bits, of_bits}
+use lib.Ieee.{of_bits}
 use Rattle.root.proofs.Patterns.{no_nan}
 use Rattle.root_steps.proofs.root_of_two.Goals as goal
 
@@ -9,6 +8,3 @@ sqrt-requires c = tt
 
 pub float_to_bits-result : goal.float_to_bits-result
 float_to_bits-result c = no_nan c.sqrt.result c.sqrt.ensures.nearest.is_finite
-
-pub returns : goal.returns
-returns c = ap (to_bits binary64) c.sqrt.ensures.computed

@@ -1,4 +1,4 @@
-use Rattle.candidate_constraints.proofs.Listing.{face_none, sorted_roomy, face_listed}
+use Rattle.candidate_constraints.proofs.Listing.{face_none, face_listed}
 use Rattle.sorting.proofs.Sorting.{sorted_part}
 use borrow.Rule.Slice.PartMut.{put_mid}
 use native.Mathlib.Omega.{arith}

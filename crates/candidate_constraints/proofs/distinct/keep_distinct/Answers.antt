@@ -1,5 +1,4 @@
-use Rattle.candidate_constraints.proofs.Once.{keeping_start, keeping_turn, keeping_end}
-use native.Mathlib.Omega.{arith}
+use Rattle.candidate_constraints.proofs.Once.{keeping_turn, keeping_end}
 use Rattle.candidate_constraints.proofs.distinct.keep_distinct.Goals as goal
 
 pub loop-i-preserved : goal.loop-i-preserved

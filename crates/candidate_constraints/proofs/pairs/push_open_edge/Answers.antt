@@ -8,7 +8,7 @@ use Rattle.lists.specs.Lists.{has}
 use Rattle.candidate_pool.specs.Pool.{face_list}
 use Rattle.candidate_pool.specs.Standing.{pool_at}
 use Rattle.candidate_constraints.proofs.Noting.{member_low, noted_place}
-use Rattle.candidate_constraints.proofs.Pairing.{edge_ends, edge_pushed, edge_skipped}
+use Rattle.candidate_constraints.proofs.Pairing.{edge_ends, edge_pushed}
 use Rattle.candidate_constraints.proofs.pairs.push_open_edge.Goals.{Then-has_face}
 use Rattle.geometry.specs.Boxes.{face_of}
 use Rattle.geometry.proofs.Faces.{face_in}

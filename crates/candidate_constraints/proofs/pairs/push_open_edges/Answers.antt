@@ -1,4 +1,4 @@
-use Rattle.candidate_constraints.proofs.Pairing.{edging_start, edging_shown, edging_roomy, edging_placed, edging_held, edging_next, edging_end}
+use Rattle.candidate_constraints.proofs.Pairing.{edging_start, edging_shown, edging_roomy, edging_placed, edging_held, edging_next}
 use native.Mathlib.Omega.{arith}
 use Rattle.candidate_pool.specs.Offsets.{open_edges_at}
 use Rattle.geometry.specs.Boxes.{face_of}

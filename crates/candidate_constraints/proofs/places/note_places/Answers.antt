@@ -1,9 +1,8 @@
 use Prim.Native.Nat.{ℕ, ◌+◌, ◌<◌}
-use mathlib.Core.Path.{refl, ap}
+use mathlib.Core.Path.{ap}
 use lib.ListN.{get_or, length}
 use native.Mathlib.Omega.{arith}
-use Rattle.candidate_constraints.proofs.Showing.{in_list}
-use Rattle.candidate_constraints.proofs.Noting.{noted_low, noting_start, noting_named, noting_end}
+use Rattle.candidate_constraints.proofs.Noting.{noted_low, noting_named, noting_end}
 use Rattle.candidate_constraints.proofs.places.note_places.Goals.{In-loop-i}
 use Rattle.geometry.specs.Boxes.{face_of}
 use Rattle.geometry.proofs.Faces.{face_in}

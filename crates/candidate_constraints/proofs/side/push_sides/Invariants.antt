@@ -3,5 +3,5 @@ use Rattle.geometry.specs.Boxes.{face_of}
 use Rattle.candidate_constraints.proofs.side.push_sides.Given as goal
 
 -- `push_sides` meets its contract: after k turns the pairs are those of the first k sides. Assumes nothing.
-abbrev pub invariant-loop-k : goal.invariant-loop-k
-invariant-loop-k l = Siding l.extents l.eps l.room.n (face_of l.face) l.initial.w l.w l.c l.k
+abbrev pub invariant-loop-side : goal.invariant-loop-side
+invariant-loop-side l = Siding l.fn.extents l.eps l.room.n (face_of l.face) l.initial.w l.w l.c l.side-index

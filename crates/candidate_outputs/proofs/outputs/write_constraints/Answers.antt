@@ -49,11 +49,6 @@ loop-i-preserved c =
           ((c.unpack_triple-a.ensures t).0 ∷ (c.unpack_triple-a.ensures t).1 ∷ (c.unpack_triple-a.ensures t).2 ∷ []))) refl,
     )
 
-pub shape_of-out : goal.shape_of-out
-shape_of-out c =
-    let a = c.args in
-    blocks_long (key_block a.keys.now) a.out.now c.loop-i.out 0 c.loop-i.i c.loop-i.o c.loop-i.invariant.1
-
 pub returns : goal.returns
 returns c =
     let a = c.args in

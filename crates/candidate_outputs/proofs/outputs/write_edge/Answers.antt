@@ -6,37 +6,13 @@ use Rattle.geometry.proofs.Faces.{face_at}
 use native.Mathlib.Omega.{arith}
 use Rattle.candidate_outputs.specs.Written.{face_words}
 use Rattle.candidate_outputs.proofs.Blocks.{faces_are, faces_long}
-use Rattle.lists.proofs.Blocks.{blocks_start, blocks_turn, blocks_room, blocks_long, blocks_end, blocks_place}
+use Rattle.lists.proofs.Blocks.{blocks_start, blocks_turn, blocks_room, blocks_end, blocks_place}
 use Rattle.candidate_outputs.proofs.outputs.write_edge.Goals as goal
-
-pub overflow_add-mask : goal.overflow_add-mask
-overflow_add-mask c = omega arith
-
-pub offset_bounds-w-edge : goal.offset_bounds-w-edge
-offset_bounds-w-edge c = omega arith
-
-pub bounds-w-edge : goal.bounds-w-edge
-bounds-w-edge c = omega arith
 
 pub loop-face-init : goal.loop-face-init
 loop-face-init c =
     let a = c.args in
     (omega arith, blocks_start (face_words (get_or a.w.now (a.edge + 2) 0) (get_or a.w.now a.edge 0) (get_or a.w.now (a.edge + 1) 0)) a.out.now a.at _ refl)
-
-pub offset_bounds-w-edge-in-loop-face : goal.offset_bounds-w-edge-in-loop-face
-offset_bounds-w-edge-in-loop-face c = omega arith
-
-pub bounds-w-edge-in-loop-face : goal.bounds-w-edge-in-loop-face
-bounds-w-edge-in-loop-face c = omega arith
-
-pub overflow_add-edge : goal.overflow_add-edge
-overflow_add-edge c = omega arith
-
-pub offset_bounds-w-edge-in-loop-face-2 : goal.offset_bounds-w-edge-in-loop-face-2
-offset_bounds-w-edge-in-loop-face-2 c = omega arith
-
-pub bounds-w-edge-in-loop-face-2 : goal.bounds-w-edge-in-loop-face-2
-bounds-w-edge-in-loop-face-2 c = omega arith
 
 pub write_face-o-requires : goal.write_face-o-requires
 write_face-o-requires c =
@@ -61,12 +37,6 @@ loop-face-preserved c =
           (c.write_face-o.ensures.1 ∙ ap (λ (f : ℕ). sets c.loop-face.out c.loop-face.o (words f)) e)
           (c.write_face-o.ensures.0 ∙ ap (λ (f : ℕ). c.loop-face.o + length (words f)) e),
     )
-
-pub shape_of-out : goal.shape_of-out
-shape_of-out c =
-    let a = c.args in
-    blocks_long (face_words (get_or a.w.now (a.edge + 2) 0) (get_or a.w.now a.edge 0) (get_or a.w.now (a.edge + 1) 0)) a.out.now c.loop-face.out a.at
-    c.loop-face.face-index c.loop-face.o c.loop-face.invariant.1
 
 pub returns : goal.returns
 returns c =

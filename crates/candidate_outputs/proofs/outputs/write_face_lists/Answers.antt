@@ -75,12 +75,6 @@ loop-face-preserved c =
           (omega (arith, ends s)),
     )
 
-pub shape_of-out : goal.shape_of-out
-shape_of-out c =
-    let a = c.args in
-    blocks_long (list_block a.room.n a.w.now) c.write_words.new.out c.loop-face.out 6 c.loop-face.face-index c.loop-face.at c.loop-face.invariant.1
-    ∙ c.write_words.auto.out
-
 pub returns : goal.returns
 returns c =
     let a = c.args in

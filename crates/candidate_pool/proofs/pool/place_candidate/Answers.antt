@@ -20,16 +20,15 @@ word_none None e = refl
 
 pub invariant_of-table-clause-some : goal.invariant_of-table-clause-some
 invariant_of-table-clause-some c =
-    let a = c.args in some_room a.eps a.room.n a.w.now c.requires.holds (candidate a.p (mesh_word a.mesh) []) c.requires.room_for
+    let a = c.args in some_room a.eps a.room.n a.w.now c.requires.holds (candidate a.entry.p (mesh_word a.entry.mesh) []) c.requires.room_for
 
-pub push_candidate-requires-clause-point_in : goal.push_candidate-requires-clause-point_in
-push_candidate-requires-clause-point_in c =
+pub push_candidate-requires-clause-bounds : goal.push_candidate-requires-clause-bounds
+push_candidate-requires-clause-bounds c =
     let a = c.args in
     let k = c.cell_of-key in
     let b = c.bucket-b in
     let f = c.find_key in (
-      c.requires.point_in.0,
-      miss_room a.eps a.room.n a.w.now c.requires.holds a.p (mesh_word a.mesh) k.result b.result f.result k.ensures b.ensures f.ensures c.in-None.is
+      miss_room a.eps a.room.n a.w.now c.requires.holds a.entry.p (mesh_word a.entry.mesh) k.result b.result f.result k.ensures b.ensures f.ensures c.in-None.is
           c.requires.room_for,
       b.ensures.low,
     )
@@ -41,21 +40,19 @@ returns-in-None c =
     let b = c.bucket-b in
     let f = c.find_key in
     let u = c.push_candidate in (
-      placed_new a.eps a.room.n a.w.now c.requires.holds a.p (mesh_word a.mesh) k.result b.result f.result k.ensures b.ensures f.ensures
-          u.new.w c.in-None.is c.requires.room_for c.requires.point_in.0 u.ensures.2 u.ensures.1,
+      placed_new a.eps a.room.n a.w.now c.requires.holds a.entry.p (mesh_word a.entry.mesh) k.result b.result f.result k.ensures b.ensures f.ensures
+          u.new.w c.in-None.is c.requires.room_for a.entry.fits.0 u.ensures.2 u.ensures.1,
       u.ensures.0
-          ∙ number_miss a.eps a.room.n a.w.now c.requires.holds a.p (mesh_word a.mesh) k.result b.result f.result k.ensures b.ensures f.ensures c.in-None.is,
+          ∙ number_miss a.eps a.room.n a.w.now c.requires.holds a.entry.p (mesh_word a.entry.mesh) k.result b.result f.result k.ensures b.ensures f.ensures c.in-None.is,
     )
 
-pub put_point-requires-clause-point_in : goal.put_point-requires-clause-point_in
-put_point-requires-clause-point_in c =
+pub put_point-requires : goal.put_point-requires
+put_point-requires c =
     let a = c.args in
     let k = c.cell_of-key in
     let b = c.bucket-b in
-    let f = c.find_key in (
-      c.requires.point_in.0,
-      hit_room a.eps a.room.n a.w.now c.requires.holds a.p (mesh_word a.mesh) k.result b.result f.result k.ensures b.ensures f.ensures c.in-Some.i c.in-Some.is,
-    )
+    let f = c.find_key in
+    hit_room a.eps a.room.n a.w.now c.requires.holds a.entry.p (mesh_word a.entry.mesh) k.result b.result f.result k.ensures b.ensures f.ensures c.in-Some.i c.in-Some.is
 
 pub returns-then-is_some : goal.returns-then-is_some
 returns-then-is_some c =
@@ -65,9 +62,9 @@ returns-then-is_some c =
     let f = c.find_key in
     let u = c.put_point in
     let s = c.in-Some in (
-      placed_moved a.eps a.room.n a.w.now c.requires.holds a.p (mesh_word a.mesh) k.result b.result f.result k.ensures b.ensures f.ensures
-          u.new.w s.i s.is (word_some a.mesh (sym c.is_some.ensures ∙ c.if-is_some.true)) c.requires.point_in.0 u.ensures.1 u.ensures.0,
-      number_hit a.eps a.room.n a.w.now c.requires.holds a.p (mesh_word a.mesh) k.result b.result f.result k.ensures b.ensures f.ensures s.i s.is,
+      placed_moved a.eps a.room.n a.w.now c.requires.holds a.entry.p (mesh_word a.entry.mesh) k.result b.result f.result k.ensures b.ensures f.ensures
+          u.new.w s.i s.is (word_some a.entry.mesh (sym c.is_some.ensures ∙ c.if-is_some.true)) a.entry.fits.0 u.ensures.1 u.ensures.0,
+      number_hit a.eps a.room.n a.w.now c.requires.holds a.entry.p (mesh_word a.entry.mesh) k.result b.result f.result k.ensures b.ensures f.ensures s.i s.is,
     )
 
 pub returns-else-is_some : goal.returns-else-is_some
@@ -77,7 +74,7 @@ returns-else-is_some c =
     let b = c.bucket-b in
     let f = c.find_key in
     let s = c.in-Some in (
-      placed_kept a.eps a.room.n a.w.now c.requires.holds a.p (mesh_word a.mesh) k.result b.result f.result k.ensures b.ensures f.ensures
-          s.i s.is (word_none a.mesh (sym c.is_some.ensures ∙ c.if-is_some.false)),
-      number_hit a.eps a.room.n a.w.now c.requires.holds a.p (mesh_word a.mesh) k.result b.result f.result k.ensures b.ensures f.ensures s.i s.is,
+      placed_kept a.eps a.room.n a.w.now c.requires.holds a.entry.p (mesh_word a.entry.mesh) k.result b.result f.result k.ensures b.ensures f.ensures
+          s.i s.is (word_none a.entry.mesh (sym c.is_some.ensures ∙ c.if-is_some.false)),
+      number_hit a.eps a.room.n a.w.now c.requires.holds a.entry.p (mesh_word a.entry.mesh) k.result b.result f.result k.ensures b.ensures f.ensures s.i s.is,
     )

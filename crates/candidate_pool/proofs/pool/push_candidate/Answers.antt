@@ -16,10 +16,10 @@ enter-requires-clause-b_bound c =
     let entry-at' = c.entry_at in
     let keys-at' = c.keys_at in
     let chain-at' = c.chain_at in
-    (enter_asks s.args.w.now s.args.room.n (get_or s.args.w.now 6 0) s.args.p (mesh_word s.args.mesh) s.args.key s.requires.key_table.1 s.requires.point_in.1
+    (enter_asks s.args.w.now s.args.room.n (get_or s.args.w.now 6 0) s.args.entry.p (mesh_word s.args.entry.mesh) s.args.key s.requires.key_table.1 s.requires.bounds.0
     put-point'.new.w put-point'.new.w entry-at'.result keys-at'.result chain-at'.result s.args.b
     put-point'.ensures.0 entry-at'.ensures keys-at'.ensures chain-at'.ensures
-    (λ i. key_bucket s.args.room.n (cell_at s.args.w.now (keys_at s.args.room.n + 3 * i))) s.requires.point_in.2 s.requires.key_table.0.linked).1.1
+    (λ i. key_bucket s.args.room.n (cell_at s.args.w.now (keys_at s.args.room.n + 3 * i))) s.requires.bounds.1 s.requires.key_table.0.linked).1.1
 
 pub returns : goal.returns
 returns c =
@@ -30,7 +30,7 @@ returns c =
     let keys-at' = c.keys_at in
     let chain-at' = c.chain_at in (
       refl,
-      put_all s.args.w.now s.args.room.n (get_or s.args.w.now 6 0) s.args.p (mesh_word s.args.mesh) s.args.key s.requires.key_table.1 s.requires.point_in.1
+      put_all s.args.w.now s.args.room.n (get_or s.args.w.now 6 0) s.args.entry.p (mesh_word s.args.entry.mesh) s.args.key s.requires.key_table.1 s.requires.bounds.0
           put-point'.new.w enter'.new.m entry-at'.result keys-at'.result chain-at'.result s.args.b
           put-point'.ensures.0 entry-at'.ensures keys-at'.ensures chain-at'.ensures enter'.ensures,
       put-point'.ensures.1,

@@ -21,7 +21,7 @@ enter_grids-requires c =
     a.w.now c.enter_corners.new.w c.requires.mesh_fits.0
     c.requires.mesh_fits.1 c.requires.mesh_fits.2
     c.requires.surfaced c.enter_corners.auto.w
-    c.enter_corners.ensures c.grid.result c.grid.ensures _
+    c.enter_corners.ensures c.cuts.result.grid c.cuts.ensures _
     (skip_within a.asked.resolution _ c.requires.sound.resolution_in (record { is_finite = tt; size = lit≤ tt })))
 
 pub returns : goal.returns
@@ -34,5 +34,5 @@ returns c =
     c.requires.mesh_fits.1
     c.requires.mesh_fits.2
     c.requires.surfaced
-    c.enter_corners.auto.w c.enter_corners.ensures c.grid.result c.grid.ensures _ refl _
+    c.enter_corners.auto.w c.enter_corners.ensures c.cuts.result.grid c.cuts.ensures _ refl _
     c.enter_grids.ensures

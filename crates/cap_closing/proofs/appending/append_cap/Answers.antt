@@ -1,56 +1,13 @@
 use Prim.Native.Nat.{ℕ}
 use mathlib.Core.Path.{sym, subst, ◌∙◌}
-use native.Mathlib.Omega.{arith}
 use Rattle.geometry.specs.Numbers.{candidates_of, mesh_vertices_of}
 use Rattle.geometry.specs.Triangles.{Triangle}
 use Rattle.mesh_filter.specs.Room.{Below}
 use Rattle.candidate_pool.specs.Standing.{count_at}
 use Rattle.cap_triangles.specs.Room.{closing_at}
 use Rattle.cap_closing.specs.Steps.{put_left, cap_at_room, Appended}
-use Rattle.cap_closing.proofs.Turns.{shaped_kept}
-use Rattle.cap_closing.proofs.Remaining.{append_below, append_small, appended_large, appended_small}
+use Rattle.cap_closing.proofs.Remaining.{append_small, appended_large, appended_small}
 use Rattle.cap_closing.proofs.appending.append_cap.Goals as goal
-
--- `append_cap` meets its contract: by whether the facet is large (`appended_large`, `appended_small`). Assumes nothing.
-pub turned_cap-t-requires : goal.turned_cap-t-requires
-turned_cap-t-requires c =
-    let s = c in
-    let a = s.args in
-    let E = s.requires.names_entering in
-    let R = s.requires.left_below in
-    let x = E.small in
-    let z = E.size in
-    let i = R.0 in
-    omega arith
-
-pub materialize_triangle-ids-requires : goal.materialize_triangle-ids-requires
-materialize_triangle-ids-requires c =
-    let s = c in
-    let a = s.args in
-    let E = s.requires.names_entering in
-    let K = s.requires.taking in
-    let R = s.requires.left_below in
-    let low = subst (Below (count_at a.w.now)) (sym c.turned_cap-t.ensures) (K.corners a.i R.0) in record { below = low; names_entering = E }
-
-pub is_large-requires : goal.is_large-requires
-is_large-requires c =
-    let s = c in
-    let a = s.args in
-    let b = closing_at a.room.n a.room.nf a.room.nc in
-    let E = s.requires.names_entering in
-    let H = s.requires.shaped in
-    let K = s.requires.taking in
-    let R = s.requires.left_below in
-    let low = subst (Below (count_at a.w.now)) (sym c.turned_cap-t.ensures) (K.corners a.i R.0) in
-    let e = c.materialize_triangle-ids.ensures.0 in
-    let N = c.materialize_triangle-ids.ensures.1 in
-    let t = candidates_of c.turned_cap-t.result in
-    let r = mesh_vertices_of c.materialize_triangle-ids.result in
-    let w₁ = c.materialize_triangle-ids.new.w in record {
-      below = (append_below a.vertices.now b a.room.n a.room.nc a.left t r a.w.now w₁ R.1 low e N);
-      names_entering = e.entering;
-      shaped = shaped_kept a.room.n a.room.nf a.room.nc a.w.now w₁ (record { long = e.long; below = e.below }) a.vertices.now E.count H;
-    }
 
 pub put_left-requires : goal.put_left-requires
 put_left-requires c =

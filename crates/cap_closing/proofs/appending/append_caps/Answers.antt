@@ -1,11 +1,10 @@
-use Prim.Native.Nat.{ℕ, ◌≤◌}
+use Prim.Native.Nat.{ℕ}
 use mathlib.Core.Bool.{Bool, true, false}
-use mathlib.Core.Path.{◌≡◌, subst}
 use mir.Val.{bool_byte}
 use native.Mathlib.Omega.{arith}
 use Rattle.cap_triangles.specs.Room.{closing_at}
-use Rattle.cap_closing.specs.Steps.{Turned, Appending, bit}
-use Rattle.cap_closing.proofs.Turns.{appending_none, appending_turn, taking_kept, shaped_kept}
+use Rattle.cap_closing.specs.Steps.{Turned, bit}
+use Rattle.cap_closing.proofs.Turns.{appending_none, appending_turn}
 use Rattle.cap_closing.proofs.appending.append_caps.Goals as goal
 
 -- a truth value counted, as the code has it

@@ -1,33 +1,8 @@
-use mathlib.Core.List.{[], ◌∷◌}
-use native.Mathlib.Omega.{arith}
 use Rattle.geometry.specs.Triangles.{tri}
 use Rattle.geometry.specs.Numbers.{candidates_of}
 use Rattle.cap_triangles.specs.Room.{closing_at}
-use Rattle.cap_closing.proofs.Corners.{entered_count, entered_three, numbers_three}
+use Rattle.cap_closing.proofs.Corners.{entered_three, numbers_three}
 use Rattle.cap_closing.proofs.appending.materialize_triangle.Goals as goal
-
-pub materialize_candidate-b-requires : goal.materialize_candidate-b-requires
-materialize_candidate-b-requires c =
-    let s = c in
-    let a = s.args in
-    let b = closing_at a.room.n a.room.nf a.room.nc in
-    let E = s.requires.names_entering in
-    let e = c.materialize_candidate-a.ensures.0 in
-    let k = entered_count b a.room.n a.room.nc a.nv (a.t.a.0 ∷ []) a.w.now c.materialize_candidate-a.new.w e in
-    let l = s.requires.below.b in record { low = omega arith; names_entering = e.entering }
-
-pub materialize_candidate-c-requires : goal.materialize_candidate-c-requires
-materialize_candidate-c-requires c =
-    let s = c in
-    let a = s.args in
-    let b = closing_at a.room.n a.room.nf a.room.nc in
-    let E = s.requires.names_entering in
-    let e = c.materialize_candidate-a.ensures.0 in
-    let f = c.materialize_candidate-b.ensures.0 in
-    let k = entered_count b a.room.n a.room.nc a.nv (a.t.a.0 ∷ []) a.w.now c.materialize_candidate-a.new.w e in
-    let m = entered_count b a.room.n a.room.nc a.nv (a.t.b.0 ∷ []) c.materialize_candidate-a.new.w
-    c.materialize_candidate-b.new.w f in
-    let l = s.requires.below.c in record { low = omega arith; names_entering = f.entering }
 
 pub returns : goal.returns
 returns c =

@@ -7,20 +7,6 @@ use Rattle.cap_closing.proofs.Turns.{shaped_kept, taking_kept}
 use Rattle.cap_closing.proofs.Beginning.{entering_first}
 use Rattle.cap_closing.proofs.closing.close_caps.Goals as goal
 
--- `close_caps` meets its contract: the three steps together (`closed`). Assumes nothing.
-pub start_entering-requires : goal.start_entering-requires
-start_entering-requires c =
-    let s = c in
-    let a = s.args in
-    let D = s.requires.turned_ready in
-    let P = D.supplied in
-    let x = P.small in
-    let y = P.few in
-    let z = P.caps in
-    let q = P.size in
-    let k = P.pooled.few in
-    (omega arith, omega arith)
-
 pub append_caps-left-requires : goal.append_caps-left-requires
 append_caps-left-requires c =
     let s = c in
@@ -44,21 +30,6 @@ append_caps-left-requires c =
       taking = taking_kept a.caps.n a.caps.nf nc a.w.now w₁ S.above
           (taking_first a.caps.n a.caps.nf a.caps.list.now a.w.now D s.requires.by_index);
     }
-
-pub find_firsts-firsts-requires : goal.find_firsts-firsts-requires
-find_firsts-firsts-requires c =
-    let s = c in
-    let a = s.args in
-    let D = s.requires.turned_ready in
-    let P = D.supplied in
-    let x = P.small in
-    let y = P.few in
-    let z = P.caps in
-    let q = P.size in
-    let k = P.pooled.few in
-    let A = c.append_caps-left.ensures in
-    let f = A.few in
-    let e = A.entering.size in record { left_below = (f, omega arith); by_index = A.facets.places }
 
 pub returns : goal.returns
 returns c =

@@ -1,7 +1,4 @@
-use Prim.Native.Nat.{ℕ, ◌+◌, ◌-◌}
-use mathlib.Core.Path.{ap}
 use native.Mathlib.Omega.{arith}
-use lib.ListN.{get_or}
 use Rattle.cap_triangles.specs.Room.{closing_at}
 use Rattle.cap_closing.proofs.Numbering.{most_vertices}
 use Rattle.cap_closing.proofs.entering.candidate_of_vertex.Goals as goal
@@ -26,8 +23,3 @@ bounds-w-fresh_at c =
     let a = s.args in
     let m = most_vertices (closing_at a.room.n a.room.nf a.room.nc) a.room.n a.room.nc a.nv a.w.now s.requires.names_entering in
     omega (arith, s.requires.own.1, s.requires.names_entering.size, s.requires.names_entering.count, c.fresh_at.ensures)
-
-pub returns : goal.returns
-returns c =
-    let a = c.args in
-    ap (λ (x : ℕ). get_or a.w.now (x + (a.v.0 - a.nv)) 0) c.fresh_at.ensures

@@ -1,4 +1,4 @@
-use Rattle.cap_pairs.proofs.Adding.{added_there, added_new}
+use Rattle.cap_pairs.proofs.Adding.{added_new}
 use Prim.Native.Nat.{ℕ, ◌+◌, ◌*◌, ◌^◌, ◌%◌}
 use lib.ListN.{get_or}
 use mathlib.Core.Path.{sym, ap, ◌∙◌}

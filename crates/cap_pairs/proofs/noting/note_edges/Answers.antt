@@ -1,11 +1,11 @@
-use Rattle.cap_pairs.proofs.Targets.{edge_in_lem, edge_in_1, note_edge_asks, note_edge_turn}
+use Rattle.cap_pairs.proofs.Targets.{note_edge_asks, note_edge_turn}
 use Rattle.cap_pairs.proofs.Adding.{noted_start}
-use Rattle.cap_pairs.specs.Steps.{Noted, edge_mask, edge_target}
+use Rattle.cap_pairs.specs.Steps.{edge_mask, edge_target}
 use Rattle.box_faces.specs.Faces.{has_bit}
 use native.Mathlib.Omega.{arith}
 use lib.ListN.{get_or}
-use mathlib.Core.Path.{refl, subst}
-use Prim.Native.Nat.{ℕ, ◌+◌}
+use mathlib.Core.Path.{refl}
+use Prim.Native.Nat.{◌+◌}
 use Rattle.cap_pairs.proofs.noting.note_edges.Goals as goal
 
 pub loop-i-init : goal.loop-i-init

@@ -1,5 +1,4 @@
-use Rattle.cap_pairs.proofs.Tables.{up_room, down_room, held_room, tables_cleared, numbers_cleared, zeros_cleared, tables_noted, numbers_noted, zeros_noted, sides_faces, above_all, known}
-use mathlib.Core.Path.{refl, ◌∙◌}
+use Rattle.cap_pairs.proofs.Tables.{tables_noted, numbers_noted, zeros_noted, sides_faces, above_all, known}
 use Rattle.cap_pairs.proofs.noting.note_faces.Goals as goal
 
 pub note_sides-requires : goal.note_sides-requires

@@ -1,11 +1,11 @@
-use Rattle.cap_pairs.proofs.Targets.{note_side_asks, note_side_turn}
+use Rattle.cap_pairs.proofs.Targets.{note_side_turn}
 use Rattle.cap_pairs.proofs.Adding.{noted_start}
-use Rattle.cap_pairs.specs.Steps.{Added, Noted, side_target, side_face}
+use Rattle.cap_pairs.specs.Steps.{Added, side_target, side_face}
 use native.Mathlib.Omega.{arith}
 use lib.ListN.{length, get_or}
 use lib.Dec.{eqb}
 use mathlib.Core.Path.{refl, ap, subst, ◌∙◌}
-use Prim.Native.Nat.{ℕ, ◌+◌, ◌/◌, ◌<◌}
+use Prim.Native.Nat.{ℕ, ◌+◌, ◌/◌}
 use Rattle.cap_pairs.proofs.noting.note_sides.Goals as goal
 
 pub loop-s-init : goal.loop-s-init

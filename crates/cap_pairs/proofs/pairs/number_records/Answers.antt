@@ -1,5 +1,4 @@
-use native.Mathlib.Omega.{arith}
-use Rattle.cap_pairs.proofs.Recording.{numbering_start, which_room, numbering_turn, numbering_end}
+use Rattle.cap_pairs.proofs.Recording.{numbering_turn}
 use Rattle.cap_pairs.proofs.pairs.number_records.Goals as goal
 
 pub loop-i-preserved : goal.loop-i-preserved

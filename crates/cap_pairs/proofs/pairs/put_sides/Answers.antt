@@ -1,6 +1,4 @@
-use Rattle.cap_pairs.proofs.Writing.{side_asks, side_turn, side_end}
-use Rattle.cap_pairs.proofs.Recording.{recording_start}
-use Rattle.cap_pairs.specs.Steps.{side_words}
+use Rattle.cap_pairs.proofs.Writing.{side_turn}
 use native.Mathlib.Omega.{arith}
 use mathlib.Core.Path.{refl}
 use Prim.Native.Nat.{◌+◌, ◌*◌}

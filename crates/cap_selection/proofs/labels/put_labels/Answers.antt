@@ -2,10 +2,10 @@ use Prim.Native.Nat.{ℕ, ◌+◌}
 use mathlib.Core.Path.{sym, subst, ◌∙◌}
 use native.Mathlib.Omega.{arith}
 use lib.ListN.{set}
-use Rattle.lists.proofs.Regions.{Filled, filled_none, filled_more}
+use Rattle.lists.proofs.Regions.{Filled, filled_more}
 use Rattle.cap_selection.specs.Steps.{label_in}
-use Rattle.cap_selection.proofs.Same.{label_same, numbered_same}
-use Rattle.cap_selection.proofs.Tabling.{labels_above, labelled_end}
+use Rattle.cap_selection.proofs.Same.{label_same}
+use Rattle.cap_selection.proofs.Tabling.{labels_above}
 use Rattle.cap_selection.proofs.labels.put_labels.Goals as goal
 
 pub loop-s-preserved : goal.loop-s-preserved

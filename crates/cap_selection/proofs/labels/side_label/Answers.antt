@@ -1,8 +1,3 @@
-use Prim.Native.Nat.{ℕ, ◌+◌}
-use mathlib.Core.Path.{ap}
-use native.Mathlib.Omega.{arith}
-use lib.ListN.{get_or}
-use Rattle.cap_selection.proofs.Same.{up_in, down_in}
 use Rattle.cap_selection.proofs.Reading.{label_open, label_shared}
 use Rattle.cap_selection.proofs.labels.side_label.Goals as goal
 

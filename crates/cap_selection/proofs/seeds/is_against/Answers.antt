@@ -1,9 +1,4 @@
-use Prim.Native.Nat.{ℕ, ◌+◌}
-use mathlib.Core.Path.{ap}
-use native.Mathlib.Omega.{arith}
-use lib.ListN.{get_or}
 use Rattle.geometry.specs.Boxes.{face_of}
-use Rattle.cap_selection.proofs.Same.{number_in, up_in, down_in, next_low}
 use Rattle.cap_selection.proofs.Reading.{against_down, against_up}
 use Rattle.cap_selection.proofs.seeds.is_against.Goals as goal
 

@@ -3,7 +3,7 @@ use native.Mathlib.Omega.{arith}
 use lib.ListN.{length}
 use mathlib.Core.Path.{ap, ◌∙◌}
 use Rattle.cap_selection.specs.Steps.{marked_seed}
-use Rattle.cap_selection.proofs.Marking.{mark_start, marking_numbered, component_low, mark_turn, mark_end}
+use Rattle.cap_selection.proofs.Marking.{mark_start, mark_turn}
 use Rattle.cap_selection.proofs.seeds.mark_seeds.Goals as goal
 
 pub loop-i-init : goal.loop-i-init

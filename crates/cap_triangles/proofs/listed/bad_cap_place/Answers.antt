@@ -4,7 +4,7 @@ use lib.ListN.{get_or}
 use native.Mathlib.Omega.{arith}
 use Rattle.geometry.specs.Triangles.{Triangle}
 use Rattle.cap_triangles.specs.Steps.{bad_words}
-use Rattle.cap_triangles.proofs.Passing.{passed_start, passed_stop, passed_more, passed_end}
+use Rattle.cap_triangles.proofs.Passing.{passed_stop, passed_more, passed_end}
 use Rattle.cap_triangles.proofs.listed.bad_cap_place.Goals.{After-is_bad_cap}
 use Rattle.cap_triangles.proofs.listed.bad_cap_place.Goals as goal
 

@@ -1,4 +1,4 @@
-use Rattle.cap_triangles.proofs.Turns.{turning_start, turning_face, turning_asks, turning_more, turning_end}
+use Rattle.cap_triangles.proofs.Turns.{turning_face, turning_asks, turning_more, turning_end}
 use Rattle.geometry.specs.Numbers.{candidates_of}
 use mathlib.Core.Path.{ap, ◌∙◌}
 use Prim.Native.Nat.{ℕ}

@@ -1,7 +1,6 @@
 use Prim.Native.Nat.{ℕ}
 use mathlib.Core.List.{List, []}
 use mathlib.Core.Path.{ap}
-use lib.Ieee.{Float}
 use Rattle.root.specs.Doubles.{bits, one_f}
 use Rattle.geometry.specs.declared.aabb.AABB.{AABB}
 use Rattle.candidate_surface.specs.Asked.{asked}

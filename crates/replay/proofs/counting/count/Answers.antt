@@ -6,7 +6,7 @@ use Rattle.lists.proofs.Bools.{is_true, yes}
 use Rattle.replay.specs.Operations.{number_of}
 use Rattle.replay.specs.Counting.{Agreeing}
 use Rattle.replay.proofs.Deciding.{clash, refuted, ends}
-use Rattle.replay.proofs.Tallying.{one_if, tally_more, tally_end, shorter}
+use Rattle.replay.proofs.Tallying.{one_if, tally_more, tally_end}
 use Rattle.replay.proofs.counting.count.Goals as goal
 use Rattle.replay.proofs.counting.count.Goals.{then-requested, else-requested}
 
@@ -23,9 +23,6 @@ loop-record-preserved c =
           (refuted (λ p. clash (is_true _ (r.complete p.0)) w.if-requested.false))
     ] in
     tally_more _ _ _ _ _ c.loop-record.invariant _ _ _ _ c.in-Some.ensures (one_if r) (one_if a) (omega arith)
-
-pub loop-record-smaller : goal.loop-record-smaller
-loop-record-smaller c = shorter (number_of c.args.operation) c.args.records.now _ _ _ c.loop-record.invariant _ _ c.in-Some.ensures (omega arith)
 
 pub returns : goal.returns
 returns c = tally_end _ _ _ _ _ c.loop-record.invariant c.in_default.ensures
