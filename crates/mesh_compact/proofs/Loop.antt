@@ -6,7 +6,7 @@ use native.Mathlib.Omega.{arith}
 use mathlib.Core.Path.{◌≡◌, refl, sym, ap, subst, ◌∙◌}
 use mathlib.Core.Bool.{Bool, true, false, cond}
 use mathlib.Core.List.Memᴰ
-use mathlib.Core.List.{List, [], ◌∷◌, ◌++◌, append-nil, map, map-append, flat_map, Memᴰ}
+use mathlib.Core.List.{List, [], ◌∷◌, ◌++◌, map, map-append, flat_map, Memᴰ}
 use lib.Dec.{leb}
 use lib.ListN.{length, get_or, take, length-append, replicate, length-replicate, get_or-replicate}
 use lib.Seq.{ext_get_or}
@@ -16,7 +16,7 @@ use Rattle.lists.proofs.Regions.{view_length, view_at}
 use Rattle.lists.proofs.Counts.{keep_append}
 use Rattle.lists.proofs.Sequences.{up_snoc}
 use Rattle.geometry.specs.declared.point.Point.{Point}
-use Rattle.geometry.specs.Triangles.{Triangle, tri, vertices, flat, corners_at}
+use Rattle.geometry.specs.Triangles.{tri, vertices, flat, corners_at}
 use Rattle.geometry.proofs.Threes.{flat_append}
 use Rattle.mesh_compact.specs.declared.numbered.Numbered.{Numbered}
 use Rattle.mesh_compact.specs.Room.{numbering, is_large_at, kept_corners, Pointed, Naming, Cornered, Faceted, RenumberRoom, FacetNumbered, NumberedSoFar}
@@ -26,14 +26,6 @@ use Rattle.mesh_compact.specs.Room.{numbering, is_large_at, kept_corners, Pointe
 pub pointed_same : (point : ℕ → Point) (points : List Point) (top kept u : ℕ) (m v : List ℕ) → get_or v (kept + u) 0 ≡ get_or m (kept + u) 0 → Pointed point points top kept u m →
     Pointed point points top kept u v
 pointed_same point points top kept u m v e P = record { is = P.is ∙ ap point (sym e); low = rw e P.low }
-
-pub none_yet : (kept at n k : ℕ) (w : Numbered) (m : List ℕ) → Faceted kept at n k [] w w m m
-none_yet kept at n k w m =
-    record {
-      corners = omega arith;
-      rest = λ i q. refl;
-      naming = λ point points top cs P N. rw (append-nil cs) N;
-    }
 
 one_corner : (kept at n k v : ℕ) (l : List ℕ) (w x y : Numbered) (m m₁ m₂ : List ℕ) → kept + n ≤ at → v < n
     → Faceted kept at n k l w x m m₁ → Cornered kept at n k v x y m₁ m₂ → Faceted kept at n k (l ++ (v ∷ [])) w y m m₂
@@ -64,41 +56,14 @@ module _ (kept facets parts k at n : ℕ) (m v : List ℕ) (R : RenumberRoom kep
       let z : facets + 3 * i + j ≡ facets + (3 * i + j) = omega arith in
       rw (same_corner, z) (R.corner (3 * i + j) (omega arith))
 
-  pub corners_so_far : x.corners ≡ w.corners + j
-  corners_so_far = F.corners ∙ ap (λ (d : ℕ). w.corners + d) (three_long j jk)
-    where
-      three_long : (j : ℕ) → j < 3 → length (take j (vertices (corners_at m (facets + 3 * i)))) ≡ j
-      three_long zero h = refl
-      three_long (suc zero) h = refl
-      three_long (suc (suc zero)) h = refl
-      three_long (suc (suc (suc j))) h = absurd (omega arith)
-
   pub facet_more : (y : Numbered) (t : List ℕ) → Cornered kept at n k u x y v t → Faceted kept at n k (take (j + 1) (vertices (corners_at m (facets + 3 * i)))) w y m t
   facet_more y t C =
       subst (λ (l : List ℕ). Faceted kept at n k l w y m t) (ap (λ (q : ℕ). take j (vertices (corners_at m (facets + 3 * i))) ++ (q ∷ [])) same_corner ∙ next_corner m (facets + 3 * i) j jk)
       (one_corner kept at n k u (take j (vertices (corners_at m (facets + 3 * i)))) w x y m v t R.kept_in corner_low F C)
 
-pub three_done : (kept at n k : ℕ) (t : Triangle ℕ) (j : ℕ) (w x : Numbered) (m v : List ℕ) → j ≡ 3 → Faceted kept at n k (take j (vertices t)) w x m v
-    → Faceted kept at n k (vertices t) w x m v
-three_done kept at n k t j w x m v e F = subst (λ (i : ℕ). Faceted kept at n k (take i (vertices t)) w x m v) e F
-
 -- ---- a facet dropped, or numbered
 
 module _ (kept facets parts k at n least i : ℕ) (w : Numbered) (m : List ℕ) (within : w.corners ≤ 3 * i) where
-  pub passed_over_lem : is_large_at m parts k least i ≡ false → FacetNumbered kept facets parts k at n least i w w m m
-  passed_over_lem e =
-      record {
-        within = omega arith;
-        rest = λ x q. refl;
-        naming = λ point points top cs P N.
-            subst (λ (b : Bool). Naming point points top at n k w.vertices w.corners (cs ++ cond b (vertices (corners_at m (facets + 3 * i))) []) m) (sym e)
-            (subst (λ (l : List ℕ). Naming point points top at n k w.vertices w.corners l m) (sym (append_nil cs)) N);
-      }
-    where
-      append_nil : (l : List ℕ) → l ++ [] ≡ l
-      append_nil [] = refl
-      append_nil (x ∷ l) = ap (λ (r : List ℕ). x ∷ r) (append_nil l)
-
   pub numbered : is_large_at m parts k least i ≡ true → (r : Numbered) (v : List ℕ) → Faceted kept at n k (vertices (corners_at m (facets + 3 * i))) w r m v
       → FacetNumbered kept facets parts k at n least i w r m v
   numbered e r v F =
@@ -133,18 +98,6 @@ module _ (facets parts k least : ℕ) (m : List ℕ) where
 
 module _ (kept facets parts k at n : ℕ) (m v : List ℕ) (R : RenumberRoom kept facets parts k at n m) (len : length v ≡ length m) (rest : (x : ℕ) → x < at → get_or v x 0 ≡ get_or m x 0)
   where
-    pub still_room : RenumberRoom kept facets parts k at n v
-    still_room = record {
-      few = R.few;
-      small = R.small;
-      kept_in = R.kept_in;
-      facets_in = R.facets_in;
-      parts_in = R.parts_in;
-      all_in = let q = R.all_in in omega arith;
-      corner = λ j h. rw (rest (facets + j) (let q = R.facets_in in omega arith)) (R.corner j h);
-      part = λ i h. rw (rest (parts + i) (let q = R.parts_in in omega arith)) (R.part i h);
-    }
-
     large_same : (least i : ℕ) → i < k → is_large_at v parts k least i ≡ is_large_at m parts k least i
     large_same least i h =
         ap (λ (x : ℕ). leb least (get_or v (parts + k + x) 0)) (rest (parts + i) (let q = R.parts_in in omega arith))
@@ -231,7 +184,3 @@ going_start kept facets parts k at n least w m v ea ec room z =
     zeros =
         ext_get_or 0 (view v at n) (replicate n 0) (long ∙ sym (length-replicate {A = ℕ} n 0))
         (λ i h. let h' : i < n = omega (arith, long) in view_at v at n i h' ∙ z.zero i h' ∙ sym (get_or-replicate n i 0 0 h'))
-
-pub going_end : (kept facets parts k at n least i : ℕ) (w : Numbered) (m u : List ℕ) → NumberedSoFar kept facets parts k at n least i w m u → k ≤ i → NumberedSoFar kept facets
-    parts k at n least k w m u
-going_end kept facets parts k at n least i w m u G h = let e : i ≡ k = omega (arith, G.done) in subst (λ (j : ℕ). NumberedSoFar kept facets parts k at n least j w m u) e G

@@ -264,9 +264,6 @@ module _ (kept at n k v : ℕ) (w : Numbered) (m m₁ : List ℕ) (r : ℕ) (U :
       go (yes h) = rw (after_new m kept at n w.vertices v h).1 (omega arith)
       go (no h) = rw (after_old m kept at n w.vertices v h).1 (omega arith)
 
-  pub few_more : r ≤ w.corners + 1
-  few_more = let f = few₁ in let g = ac in omega arith
-
   pub cornered : (few : r ≤ w.corners + 1)
       → Cornered kept at n k v w (record { vertices = r; corners = w.corners + 1; few = few }) m (set m₁ (at + n + 3 * k + w.corners) (get_or m₁ (at + v) 0 - 1))
   cornered few =

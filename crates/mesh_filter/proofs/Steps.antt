@@ -266,19 +266,6 @@ module _ (w : WeldedAt) (vs : List Float) (fs : List ℕ) (at n : ℕ) (m v : Li
   same_numbers =
       view_same m v w.numbers (length vs / 3) (let k = N.numbers_in in let r = N.room in omega arith) e (λ i h. rest (w.numbers + i) (let k = N.numbers_in in omega arith))
 
-  pub still_numbered : CornersNumbered w vs fs at n v
-  still_numbered = record {
-    kept_in = N.kept_in;
-    numbers_in = N.numbers_in;
-    room = let r = N.room in omega arith;
-    facets = N.facets;
-    small = N.small;
-    few = N.few;
-    corner = N.corner;
-    new = λ i h. rw (rest (w.numbers + i) (let k = N.numbers_in in omega arith)) (N.new i h);
-    old = λ k h. rw (rest (w.kept + k) (let q = N.kept_in in omega arith)) (N.old k h);
-  }
-
   module _ (eps : Float) (f count : ℕ) where
     pub turn_same : (u : List ℕ) → FilteredSoFar eps (points_in_room w vs m) (facets_in_room w vs fs m) at n f count u → FilteredSoFar eps (points_in_room w vs v)
         (facets_in_room w vs fs v) at n f count u

@@ -1,5 +1,5 @@
 use Rattle.mesh_compact.proofs.Compacting.{none_passed, none_small, labels_low, room, compacted_is}
-use Rattle.components.proofs.Lent.{labels_read, labels_asked, table_fits, table_left}
+use Rattle.components.proofs.Lent.{labels_read, table_left}
 use Rattle.components.specs.Table.{ComponentTable}
 use Rattle.lists.specs.Regions.{view}
 use lib.ListN.{take, drop}
@@ -27,17 +27,6 @@ found c =
     c.split_at_mut-front.result.0.now (3 * a.k) c.split_at_mut-front.ensures.front (omega arith) in
     table_left a.m.now a.facets a.k 3 a.n a.at (omega arith) (omega (arith, c.requires.facets_in)) (omega (arith, c.requires.all_in)) low _ e _ _ _
     c.split_at_mut-front.ensures.front c.split_at_mut-front.ensures.back c.components.ensures
-
-pub components-requires : goal.components-requires
-components-requires c =
-    let a = c.args in
-    let p = (goal.at.components-requires c).After-split_at_mut-front in
-    let low = labels_low a.kept a.n a.facets a.k a.at a.least a.m.now c.requires in
-    record {
-      item_labels = labels_asked a.m.now a.facets a.k 3 a.n a.at (omega arith) (omega (arith, c.requires.facets_in)) (omega (arith, c.requires.all_in)) low _ (read p);
-      room = table_fits a.m.now a.facets a.k 3 a.n a.at (omega arith) (omega (arith, c.requires.facets_in)) (omega (arith, c.requires.all_in)) low _ (read p) _
-          c.split_at_mut-front.ensures.back;
-    }
 
 pub renumber-used-requires : goal.renumber-used-requires
 renumber-used-requires c =

@@ -1,21 +1,12 @@
 use Rattle.mesh_weld.proofs.Steps.{taken, tail_low, kept_new}
-use Rattle.mesh_weld.specs.Room.{kept_points, words_of, KeyIn, WeldedSoFar}
+use Rattle.mesh_weld.specs.Room.{kept_points, words_of, WeldedSoFar}
 use Rattle.mesh_weld.specs.Cells.{key_of, cells}
 use Rattle.geometry.specs.declared.point.Point.{Point}
 use lib.ListN.{set}
-use native.Mathlib.Omega.{arith}
 use Prim.Native.Nat.{ℕ, ◌+◌, ◌*◌}
 use mathlib.Core.List.{List}
 use mathlib.Core.Path.{sym, ap, ◌∙◌, subst}
 use Rattle.mesh_weld.proofs.weld.weld_vertex.Goals as goal
-
-pub search-requires : goal.search-requires
-search-requires c =
-    let a = c.args in
-    record {
-      key_in = subst (λ (q : Point). KeyIn a.eps q) (sym c.vertex_at-p.ensures) (c.requires.keys_in a.v.0 c.requires.v_lt_n);
-      cell_of = c.cell_of-c.ensures;
-    }
 
 pub returns-in-Some : goal.returns-in-Some
 returns-in-Some c =
@@ -23,15 +14,10 @@ returns-in-Some c =
     taken a.vs.now a.eps a.n a.v.0 a.count a.m.now c.requires.welded_so_far c.requires.v_lt_n c.in-Some.k
     (sym c.in-Some.is ∙ c.search.ensures ∙ ap (λ (q : Point). (cells a.eps).find q (kept_points a.vs.now a.n a.count a.m.now)) c.vertex_at-p.ensures)
 
-pub enter-requires : goal.enter-requires
-enter-requires c =
-    let s = c in
-    let a = s.args in record {
-      b_lt_nb = c.bucket-b.ensures.low;
-      id_in_bounds = omega (arith, s.requires.welded_so_far.index.room, s.requires.welded_so_far.within, s.requires.v_lt_n);
-      b_bound = tail_low a.vs.now a.eps a.n a.v.0 a.count a.m.now
-          s.requires.welded_so_far s.requires.v_lt_n c.bucket-b.result c.bucket-b.ensures.low;
-    }
+pub enter-requires-clause-b_bound : goal.enter-requires-clause-b_bound
+enter-requires-clause-b_bound c =
+    let a = c.args in
+    tail_low a.vs.now a.eps a.n a.v.0 a.count a.m.now c.requires.welded_so_far c.requires.v_lt_n c.bucket-b.result c.bucket-b.ensures.low
 
 pub returns : goal.returns
 returns c =

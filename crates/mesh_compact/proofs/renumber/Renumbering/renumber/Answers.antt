@@ -1,4 +1,4 @@
-use Rattle.mesh_compact.proofs.Loop.{still_room, going_on, going_from, going_start, going_end}
+use Rattle.mesh_compact.proofs.Loop.{going_on, going_from, going_start}
 use native.Mathlib.Omega.{arith}
 use mathlib.Core.Path.{◌∙◌}
 use Rattle.mesh_compact.proofs.renumber.Renumbering.renumber.Goals as goal
@@ -13,15 +13,6 @@ loop-i-init c =
       z.long,
     )
 
-pub number_if_kept-w-requires : goal.number_if_kept-w-requires
-number_if_kept-w-requires c =
-    let s = c.args.self.now in
-    let i = c.loop-i.invariant in record {
-      i_lt_k = c.loop-i-test.true;
-      room = still_room s.kept s.facets s.parts s.k s.at s.n c.args.m.now c.loop-i.m c.requires i.1 i.0.rest;
-      corners_bound = i.0.within;
-    }
-
 pub loop-i-preserved : goal.loop-i-preserved
 loop-i-preserved c =
     let s = c.args.self.now in
@@ -30,8 +21,3 @@ loop-i-preserved c =
           s.least c.loop-i.i c.loop-i.w c.number_if_kept-w.result c.number_if_kept-w.new.m c.loop-i-test.true i.0 c.number_if_kept-w.ensures,
       c.number_if_kept-w.auto.m ∙ i.1,
     )
-
-pub returns : goal.returns
-returns c =
-    let s = c.args.self.now in
-    going_end s.kept s.facets s.parts s.k s.at s.n s.least c.loop-i.i c.loop-i.w c.args.m.now c.loop-i.m c.loop-i.invariant.0 c.loop-i-test.false

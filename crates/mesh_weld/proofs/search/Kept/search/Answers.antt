@@ -2,7 +2,7 @@ use Rattle.mesh_weld.proofs.Words.{inside, corner_of}
 use Rattle.mesh_weld.proofs.Searching.{found_hit, found_miss, found_from, found_end, found_cell}
 use native.Mathlib.Omega.{arith}
 use Prim.Native.Nat.{◌+◌, ◌*◌}
-use mathlib.Core.Path.{refl, sym, ◌∙◌}
+use mathlib.Core.Path.{sym, ◌∙◌}
 use Rattle.mesh_weld.proofs.search.Kept.search.Goals as goal
 
 pub overflow_sub-corner : goal.overflow_sub-corner
@@ -14,20 +14,6 @@ overflow_sub-corner-2 c = omega (arith, inside c.args.self.now.eps c.args.p c.ar
 pub overflow_sub-corner-3 : goal.overflow_sub-corner-3
 overflow_sub-corner-3 c = omega (arith, inside c.args.self.now.eps c.args.p c.args.c c.requires.key_in c.requires.cell_of)
 
-pub loop-x-init : goal.loop-x-init
-loop-x-init c = refl
-
-pub loop-y-init : goal.loop-y-init
-loop-y-init c =
-    let k = c.args.self.now in
-    found_from k.vertices.now k.eps k.n k.count k.room.now k.index c.args.p (corner_of c.args.c) (9 * c.loop-x.x) (9 * c.loop-x.x + 3 * 0) (omega arith) c.loop-x.invariant
-
-pub loop-z-init : goal.loop-z-init
-loop-z-init c =
-    let k = c.args.self.now in
-    found_from k.vertices.now k.eps k.n k.count k.room.now k.index c.args.p (corner_of c.args.c) (9 * c.loop-x.x + 3 * c.loop-y.y) (9 * c.loop-x.x + 3 * c.loop-y.y + 0)
-    (omega arith) c.loop-y.invariant
-
 pub overflow_add-cell : goal.overflow_add-cell
 overflow_add-cell c = omega (arith, inside c.args.self.now.eps c.args.p c.args.c c.requires.key_in c.requires.cell_of)
 
@@ -36,18 +22,6 @@ overflow_add-cell-in-loop-z c = omega (arith, inside c.args.self.now.eps c.args.
 
 pub overflow_add-cell-in-loop-z-2 : goal.overflow_add-cell-in-loop-z-2
 overflow_add-cell-in-loop-z-2 c = omega (arith, inside c.args.self.now.eps c.args.p c.args.c c.requires.key_in c.requires.cell_of)
-
-pub loop-y-preserved : goal.loop-y-preserved
-loop-y-preserved c =
-    let k = c.args.self.now in
-    found_from k.vertices.now k.eps k.n k.count k.room.now k.index c.args.p (corner_of c.args.c) (9 * c.loop-x.x + 3 * c.loop-y.y + c.loop-z.z)
-    (9 * c.loop-x.x + 3 * (c.loop-y.y + 1)) (omega arith) c.loop-z.invariant
-
-pub loop-x-preserved : goal.loop-x-preserved
-loop-x-preserved c =
-    let k = c.args.self.now in
-    found_from k.vertices.now k.eps k.n k.count k.room.now k.index c.args.p (corner_of c.args.c) (9 * c.loop-x.x + 3 * c.loop-y.y)
-    (9 * (c.loop-x.x + 1)) (omega arith) c.loop-y.invariant
 
 pub returns : goal.returns
 returns c =
