@@ -17,29 +17,18 @@ const HALF: u64 = 1 << 27;
 // and the words of a wide number of 2^54
 const WORD: u64 = 1 << 54;
 
-// high * 2^54 + low, and a part of one
-#[derive(Clone, Copy)]
-struct Parted {
-    high: u64,
-    low: u64,
-    part: u64,
-}
-
-// 4^d
-// Stays (plainer), point 5: d is how far two exponents are apart, a number that is handed on; as a type with its bound it would be made once and read in each of the four.
-#[tactic(auto, using(crate::proofs::Products::shifted))]
-fn power(d: u64) -> u64
-    requires { d < 27 }
-    ensures { result ≡ 4 ^ d }
-{
-    1 << (2 * d)
-}
-
 // high * 2^54 + low
 #[derive(Clone, Copy)]
 struct Wide {
     high: u64,
     low: u64,
+}
+
+// A wide number and a part of one.
+#[derive(Clone, Copy)]
+struct Parted {
+    whole: Wide,
+    part: u64,
 }
 
 impl Wide {
@@ -60,33 +49,19 @@ impl Wide {
     }
 
     // The number divided by 4^d, and the part that is left. 4^d divides 2^54.
-    #[tactic(auto, using(crate::proofs::Products::four_pos, crate::proofs::Products::divided))]
+    #[tactic(auto, using(crate::proofs::Products::shifted, crate::proofs::Products::four_pos, crate::proofs::Products::divided))]
     fn divided(self, d: u64) -> Parted
         requires { (self.high < 2 ^ 54) × (self.low < 2 ^ 54) × (d < 27) }
-        ensures { Divided self.high self.low d result.high result.low result.part }
+        ensures { Divided self.high self.low d result.whole.high result.whole.low result.part }
     {
-        let p: u64 = power(d);
+        let p: u64 = 1 << (2 * d);
         Parted {
-            high: self.high / p,
-            low: self.high % p * (WORD / p) + self.low / p,
+            whole: Wide {
+                high: self.high / p,
+                low: self.high % p * (WORD / p) + self.low / p,
+            },
             part: self.low % p,
         }
-    }
-}
-
-// Four times m * m + l * l / 4^d.
-fn sum_squares(m: u64, l: u64, d: u64) -> Parted
-    requires { (m < 2 ^ 53) × (l < 2 ^ 53) × (d < 27) }
-    ensures { Summed m l d result.high result.low result.part }
-{
-    let a: Wide = Wide::square(2 * m);
-    let b: Wide = Wide::square(2 * l);
-    let c: Parted = b.divided(d);
-    let low: u64 = a.low + c.low;
-    Parted {
-        high: a.high + c.high + low / WORD,
-        low: low % WORD,
-        part: c.part,
     }
 }
 
@@ -128,17 +103,44 @@ impl Halves {
     }
 }
 
-// Twice the root of m * m + l * l / 4^d: 28 and 27 digits are drawn, and there is more if something is left.
-fn drawn_root(m: u64, l: u64, d: u64) -> Halves
-    requires { (m < 2 ^ 53) × (l < 2 ^ 53) × (d < 27) }
-    ensures { RootOf m l d result.root result.more }
-{
-    let t: Parted = sum_squares(m, l, d);
-    let upper: Drawing = Drawing { root: 0, rest: 0 }.bring_down(t.high, 28);
-    let lower: Drawing = upper.bring_down(t.low, 27);
-    Halves {
-        root: lower.root,
-        more: (lower.rest != 0) | (t.part != 0),
+// The digits of two patterns whose exponents are d apart: the square of l counts 4^d times less.
+#[derive(Clone, Copy)]
+struct Squares {
+    m: u64,
+    l: u64,
+    d: u64,
+    ghost small: { (m < 2 ^ 53) × (l < 2 ^ 53) × (d < 27) },
+}
+
+impl Squares {
+    // Four times m * m + l * l / 4^d.
+    fn sum(self) -> Parted
+        ensures { Summed self.m self.l self.d result.whole.high result.whole.low result.part }
+    {
+        let a: Wide = Wide::square(2 * self.m);
+        let b: Wide = Wide::square(2 * self.l);
+        let c: Parted = b.divided(self.d);
+        let low: u64 = a.low + c.whole.low;
+        Parted {
+            whole: Wide {
+                high: a.high + c.whole.high + low / WORD,
+                low: low % WORD,
+            },
+            part: c.part,
+        }
+    }
+
+    // Twice the root of m * m + l * l / 4^d: 28 and 27 digits are drawn, and there is more if something is left.
+    fn root(self) -> Halves
+        ensures { RootOf self.m self.l self.d result.root result.more }
+    {
+        let t: Parted = self.sum();
+        let upper: Drawing = Drawing { root: 0, rest: 0 }.bring_down(t.whole.high, 28);
+        let lower: Drawing = upper.bring_down(t.whole.low, 27);
+        Halves {
+            root: lower.root,
+            more: (lower.rest != 0) | (t.part != 0),
+        }
     }
 }
 
@@ -165,10 +167,16 @@ fn hypot_bits(a: u64, b: u64) -> u64
     if 26 < d {
         return a;
     }
-    drawn_root(a - j * LEAD, b - k * LEAD, d).settled(j)
+    let squares = Squares {
+        m: a - j * LEAD,
+        l: b - k * LEAD,
+        d,
+    };
+    squares.root().settled(j)
 }
 
 // The length of a segment with the extents x and y.
+// Stays (proof): document 02, E3, asks for this very length, proved; the library's `hypot` is the system's, with no contract.
 #[tactic(auto, using(root::proofs::Patterns::no_nan, crate::proofs::Computed::hypot_asks))]
 pub fn hypot(x: f64, y: f64) -> f64
     requires { Within (2 ^ 1021) x × Within (2 ^ 1021) y }

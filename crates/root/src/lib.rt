@@ -103,6 +103,7 @@ fn root_of_bits(b: u64) -> u64
 }
 
 // The double nearest to the square root of x; -0.0 of -0.0. Serves the tolerance and the cap area.
+// Stays (proof): document 02, E6, asks for a root that is drawn digit by digit, proved after each; the library's `sqrt` says its result alone.
 #[tactic(auto, using(crate::proofs::RootAt::number, crate::proofs::RootAt::asked))]
 pub fn sqrt(x: f64) -> f64
     requires { T (rootable x) }

@@ -8,10 +8,10 @@ pub settled-requires : goal.settled-requires
 settled-requires c =
     let p = c.exponent-j.ensures.0 in
     let q = c.exponent-k.ensures.0 in
-    (c.exponent-j.ensures.1, c.drawn_root.ensures.few, root_lead p q (order p q c.requires.0) c.drawn_root.ensures)
+    (c.exponent-j.ensures.1, c.root.ensures.few, root_lead p q (order p q c.requires.0) c.root.ensures)
 
 pub returns : goal.returns
 returns c =
     let p = c.exponent-j.ensures.0 in
     let q = c.exponent-k.ensures.0 in
-    near_length p q (order p q c.requires.0) c.drawn_root.ensures c.settled.ensures
+    near_length p q (order p q c.requires.0) c.root.ensures c.settled.ensures

@@ -1,5 +1,0 @@
-use Rattle.hypot.proofs.Sums.{root_of}
-use Rattle.hypot.proofs.drawn_root.Goals as goal
-
-pub returns : goal.returns
-returns c = root_of c.sum_squares-t.ensures c.bring_down-upper.ensures c.bring_down-lower.ensures
