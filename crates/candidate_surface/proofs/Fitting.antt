@@ -3,16 +3,19 @@
 --   vertices_in      every vertex is a point of no NaN and no infinity
 --   grid_small, most_small   how many grid points and how many candidates there may be at most
 --   mesh_fits        the mesh and the room that the functions ask for      room_for   the room for it, of what was lent
---   size_of, fine_of   the number of grid points and the test of the grid, as the methods of `Grid` answer them
+--   cut_some, cut_grid   a grid that is not too fine is cut; what is cut is the grid
+--   size_of, fine_of   the number of grid points and the test of the grid, as they stand of the grid of what is asked
 use Prim.Native.Nat.{ℕ, zero, suc, ◌+◌, ◌*◌, ◌/◌, ◌≤◌, ◌<◌, ◌^◌}
 use native.Mathlib.Omega.{arith}
 use mathlib.Core.Bool.{Bool, true, false, not}
-use mathlib.Core.Path.{◌≡◌, sym, ap, subst, ◌∙◌}
+use mathlib.Core.Path.{◌≡◌, refl, sym, ap, subst, ◌∙◌}
 use mathlib.Core.List.{List}
 use borrow.Author.Tests.{ltb-true, lt-ltb, not-false}
 use lib.Dec.{T, ltb}
 use lib.ListN.{length, get_or}
 use lib.Ieee.{Float, nan, inf, fin, of_bits, neg, up, down, lt, le, eq}
+use Rattle.std.specs.Prelude.{Option, None, Some}
+use Rattle.std.specs.Option.{IsSome}
 use Rattle.lists.proofs.Bools.{and_left, and_right, or_stop}
 use Rattle.lists.proofs.Every.{every_at, none_at}
 use Rattle.root.specs.Doubles.{◌⊗◌, zero_f, 2^30}
@@ -21,6 +24,8 @@ use Rattle.root.proofs.Powers.{in_range_lem, within_pow, mul_pow}
 use Rattle.geometry.specs.declared.aabb.AABB.{AABB}
 use Rattle.geometry.specs.Axes.{segments, grid_size}
 use Rattle.geometry.proofs.Meshes.{vertex_at}
+use Rattle.input_tests.specs.declared.cuts.Cuts.{Cuts}
+use Rattle.input_tests.specs.Cutting.{IsCut}
 use Rattle.input_tests.specs.Front.{by_axis, bad_index, in_range, resolution_in_range, grid_too_fine}
 use Rattle.input_tests.proofs.Ranges.{in_range_within}
 use Rattle.input_tests.proofs.Grids.{not_too_fine, small_product}
@@ -115,6 +120,13 @@ module _ (vs : List Float) (fs : List ℕ) (q : Asked) (S : Sound vs fs q) where
   room_for caps lent h = omega arith
 
 -- ---- the grid of what is asked
+
+pub cut_some : (g : Grid) (r : Option Cuts) → IsCut g r → grid_too_fine g.extents g.eps (by_axis g.resolution) ≡ false → IsSome r
+cut_some g None h e = false_true (sym e ∙ h)
+cut_some g (Some c) h e = refl
+
+pub cut_grid : (g : Grid) (r : Option Cuts) (c : Cuts) → IsCut g r → r ≡ Some c → c.grid ≡ g
+cut_grid g r c h e = (subst (IsCut g) e h).0
 
 module _ (q : Asked) (g : Grid) where
   pub size_of : (m : ℕ) → g ≡ grid_of q → m ≡ grid_size g.extents g.eps (by_axis g.resolution) → m ≡ grid_size q.extents q.eps (one_resolution q.resolution)

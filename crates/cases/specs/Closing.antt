@@ -4,8 +4,9 @@
 --   facet_reply    the reply to facet (0,0,0), (1,0,0), (0,1,0)
 --   candidates_in  the candidates' words, as the operation leaves them in n zeros
 --   is_later       the words of a list in which the later point alone comes from mesh vertices 0 and 1        is_too_fine   a reply is refusal 6
+--   cut_in         a grid is not too fine, and has so many segments along x
 --   c3b_holds, c10_holds, c13_holds   the stated results
-use Rattle.std.specs.Prelude.{ℕ, ◌+◌, ◌*◌, ◌/◌, min, Bool, false, ◌&&◌, List, [], ◌∷◌, eqb, length, get_or, replicate, Option, None, Some, is_none, Float, ◌≡◌}
+use Rattle.std.specs.Prelude.{ℕ, ◌+◌, ◌*◌, ◌/◌, Bool, false, not, ◌&&◌, List, [], ◌∷◌, eqb, length, get_or, replicate, Option, None, Some, is_none, Float, ◌≡◌}
 use Rattle.std.specs.Float.Ieee.{neg}
 use Rattle.root.specs.Doubles.{bits, zero_f, one_f, 1e-10}
 use Rattle.geometry.specs.declared.aabb.AABB.{AABB}
@@ -13,10 +14,11 @@ use Rattle.geometry.specs.Axes.{segments}
 use Rattle.lists.specs.Lists.{every, up_to}
 use Rattle.refusals.specs.Refusals.{settle}
 use Rattle.refusals.specs.Answers.{reply_in}
-use Rattle.input_tests.specs.Front.{mesh_ceiling, limits, by_axis}
+use Rattle.input_tests.specs.Front.{mesh_ceiling, limits, by_axis, grid_too_fine}
+use Rattle.input_tests.specs.declared.grid.Grid.{Grid}
 use Rattle.candidate_outputs.specs.Outputs.{candidate_words, candidate_lengths}
 use Rattle.candidate_surface.specs.declared.asked.Asked.{Asked}
-use Rattle.candidate_surface.specs.Asked.{asked}
+use Rattle.candidate_surface.specs.Asked.{asked, grid_of}
 use Rattle.boundary_closure.specs.Operation.{candidates_tests, candidates_result}
 use Rattle.cases.specs.Comparing.{place_of, free, has_lengths}
 
@@ -51,6 +53,10 @@ is_one words (Some at) = eqb (get_or words (5 * at + 3) 0) 2 && every (free word
 unfoldable pub is_later : List ℕ → Bool
 is_later words = is_none (place_of words earlier) && is_one words (place_of words later)
 
+-- the grid is not too fine, and has n segments along x
+unfoldable pub cut_in : Grid → ℕ → Bool
+cut_in g n = not (grid_too_fine g.extents g.eps (by_axis g.resolution)) && eqb (segments g.extents g.eps (by_axis g.resolution) 0) n
+
 -- 6
 abbrev pub is_too_fine : List ℕ → Bool
 is_too_fine reply = eqb (get_or reply 0 0) 6
@@ -83,6 +89,6 @@ c10_holds = has_lengths (facet_reply (asked (box_to two two two) 1e-10 two) 8192
 -- 257 places along the axis, four points at each, five words a point
 abbrev pub c13_holds : Bool
 c13_holds =
-    eqb (min (segments (box_to most one_f one_f) zero_f (by_axis (one_f ∷ one_f ∷ one_f ∷ [])) 0) 257) 256
+    cut_in (grid_of (asked (box_to most one_f one_f) zero_f one_f)) 256
     && (has_lengths (facet_reply (asked (box_to most one_f one_f) zero_f one_f) 265728) (5140 ∷ [])
     && is_too_fine (facet_reply (asked (box_to more one_f one_f) zero_f one_f) 1024))

@@ -1,7 +1,7 @@
 // C3b, C10 and C13: the operation candidates.
 ghost use Rattle.std.specs.Prelude.{◌≡◌, length};
 ghost use Rattle.refusals.specs.Refusals.{documented_reply};
-ghost use Rattle.cases.specs.Closing.{box_to, Listing, facet_reply, is_later, is_too_fine, c3b_holds, c10_holds, c13_holds};
+ghost use Rattle.cases.specs.Closing.{box_to, Listing, facet_reply, is_later, cut_in, is_too_fine, c3b_holds, c10_holds, c13_holds};
 
 use crate::listed::{is_alone, place_of};
 use crate::replies::has_lengths;
@@ -10,6 +10,7 @@ use candidate_surface::asked::Asked;
 use geometry::aabb::AABB;
 use geometry::face::Axis;
 use geometry::mesh::MeshLists;
+use input_tests::grid::Grid;
 use refusals::refusal::Refusal;
 use refusals::reply::Reply;
 
@@ -129,6 +130,17 @@ pub fn c10() -> bool
     has_lengths(reply_to_facet(asked, &mut work), &[])
 }
 
+// The grid is not too fine, and has n segments along x.
+#[tactic(auto, unfolding(crate::specs::Closing::cut_in))]
+fn is_cut_in(grid: Grid, n: usize) -> bool
+    ensures { result ≡ cut_in grid n }
+{
+    match grid.cut() {
+        Some(cuts) => cuts.along(Axis::X) == n,
+        None => false,
+    }
+}
+
 // 6
 // Stays (plainer): as `is_key_range`.
 #[tactic(auto, unfolding(refusals::specs::Refusals::documented_reply, refusals::specs::Refusals::documented))]
@@ -155,7 +167,7 @@ pub fn c13() -> bool
         extents: box_to(257.0, 1.0, 1.0),
         ..asked
     };
-    asked.grid().segments_of(Axis::X) == 256
+    is_cut_in(asked.grid(), 256)
         && has_lengths(reply_to_facet(asked, &mut work), &[WORDS_OF_257])
         && is_too_fine(reply_to_facet(finer, &mut little))
 }

@@ -45,11 +45,10 @@ pub fn check_closure(
     if is_bad_box(asked.extents) {
         return Err(Refusal::BadBox);
     }
-    let grid = asked.grid();
-    if grid.is_too_fine() {
+    let Some(cuts) = asked.grid().cut() else {
         return Err(Refusal::GridTooFine);
-    }
-    let points = grid.size();
+    };
+    let points = cuts.size();
     let need = work_need(
         mesh.vertices.len() / 3,
         mesh.facets.len() / 3,

@@ -51,7 +51,7 @@ pub fn facet_at(facets: &[u32], f: usize) -> MeshTriangle
 }
 
 // The vertex whose number stands at the place k of a work room.
-// Stays (plainer): `corner_at` for words of 64 bits; one function for both would need a trait of our own, since neither u32 nor u64 is `Into<usize>`.
+// Stays (plainer): `corner_at` for words of 64 bits; one function over `Into<MeshVertexId>` would say its vertex by what each conversion gives, and each caller unfold that to the number.
 pub fn vertex_in(room: &[u64], k: usize) -> MeshVertexId
     requires { k < length room.now }
     ensures { result.0 ≡ get_or room.now k 0 }
@@ -59,19 +59,8 @@ pub fn vertex_in(room: &[u64], k: usize) -> MeshVertexId
     MeshVertexId(room[k] as usize)
 }
 
-// The facet whose corners stand in a work room from the place k on.
-pub fn facet_in(room: &[u64], k: usize) -> MeshTriangle
-    requires { k + 2 < length room.now }
-    ensures { mesh_vertices_of result ≡ corners_at room.now k }
-{
-    MeshTriangle {
-        a: vertex_in(room, k),
-        b: vertex_in(room, k + 1),
-        c: vertex_in(room, k + 2),
-    }
-}
-
-// The three coordinates of p, from the place `at` on.
+// The three coordinates of p, from the place `at` on, where `point_at` reads them.
+// Stays (plainer): `words::write_three` stores any three; over it each caller would take the point apart, and this crate uses none of words.
 pub fn write_point(out: &mut [f64], at: usize, p: Point)
     requires { at + 2 < length out.old }
     ensures { out.new ≡ sets out.old at (p.x ∷ p.y ∷ p.z ∷ []) }

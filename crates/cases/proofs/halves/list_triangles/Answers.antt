@@ -1,22 +1,14 @@
 use Prim.Native.Nat.{ℕ}
-use borrow.Author.Rules.{rules}
-use borrow.Author.Count.{below_none}
 use mathlib.Core.Path.{◌∙◌}
-use lib.ListN.{length-replicate, length-set}
+use lib.ListN.{length-set}
 use Rattle.cases.proofs.Turned.{turned_more, turned_all}
 use Rattle.cases.proofs.halves.list_triangles.Goals as goal
 
-pub loop-i-init : goal.loop-i-init
-loop-i-init c = (search rules, length-replicate {A = ℕ} 80 0, below_none _)
-
 pub loop-i-preserved : goal.loop-i-preserved
 loop-i-preserved c = (
-  search rules,
-  length-set {A = ℕ} c.loop-i.list c.loop-i.i c.cap_word.result ∙ c.loop-i.invariant.1,
-  turned_more _
-      c.loop-i.list c.loop-i.i c.loop-i.invariant.1 c.loop-i.invariant.2 c.cap_word.result
-      c.loop-i-test.true c.cap_word.ensures,
+  length-set {A = ℕ} c.loop-i.list c.loop-i.i c.cap_word.result ∙ c.loop-i.invariant.0,
+  turned_more _ c.loop-i.list c.loop-i.i c.loop-i.invariant.0 c.loop-i.invariant.1 c.cap_word.result c.loop-i-test.true c.cap_word.ensures,
 )
 
 pub returns : goal.returns
-returns c = turned_all _ _ _ c.loop-i.invariant.1 c.loop-i.invariant.2 c.loop-i-test.false
+returns c = turned_all _ _ _ c.loop-i.invariant.0 c.loop-i.invariant.1 c.loop-i-test.false
