@@ -42,7 +42,8 @@ fn list_candidates(
         face_lists.old face_lists.new constraints.old constraints.new open_edges.old open_edges.new)
         (documented_reply result) }
 {
-    let listed = enter_surface(mesh, asked.extents, asked.eps, w, n, k);
+    let clip = asked.clip();
+    let listed = enter_surface(mesh, clip, w, n, k);
     if listed == 0 {
         return Ok([0; 4]);
     }
@@ -51,7 +52,7 @@ fn list_candidates(
         n,
         nf: mesh.facets.len() / 3,
     };
-    let total = all_constraints(w, room, k, asked.extents, asked.eps);
+    let total = all_constraints(w, room, k, clip);
     deliver(
         w,
         room,

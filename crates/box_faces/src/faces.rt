@@ -5,7 +5,7 @@ ghost use Rattle.box_faces.specs.Faces as defined;
 ghost use Rattle.box_faces.specs.Faces.{u_axis, v_axis, on_face, faces_of, face_bits, has_bit, bit_count, ccw_is_outward};
 
 use crate::uv::Uv;
-use geometry::aabb::AABB;
+use aabb_planes::clip::Clip;
 use geometry::face::{Axis, BOX_FACES, BoxFace};
 use geometry::point::Point;
 use rounding::within;
@@ -36,25 +36,25 @@ pub fn project(face: BoxFace, p: Point) -> Uv
 
 // `point_on`
 #[tactic(auto, unfolding(crate::specs::Faces::on_face))]
-fn point_on(face: BoxFace, p: Point, extents: AABB, eps: f64) -> bool
-    ensures { result ≡ on_face extents eps (face_of face) p }
+fn point_on(face: BoxFace, p: Point, clip: Clip) -> bool
+    ensures { result ≡ on_face clip.extents clip.eps (face_of face) p }
 {
-    within(p.along(face.axis()) - face.place(extents), eps)
+    within(p.along(face.axis()) - face.place(clip.extents), clip.eps)
 }
 
-fn both_on(face: BoxFace, a: Point, b: Point, extents: AABB, eps: f64) -> bool
-    ensures { result ≡ (on_face extents eps (face_of face) a && on_face extents eps (face_of face) b) }
+fn both_on(face: BoxFace, a: Point, b: Point, clip: Clip) -> bool
+    ensures { result ≡ (on_face clip.extents clip.eps (face_of face) a && on_face clip.extents clip.eps (face_of face) b) }
 {
-    point_on(face, a, extents, eps) && point_on(face, b, extents, eps)
+    point_on(face, a, clip) && point_on(face, b, clip)
 }
 
 // `aabb_face_mask`: bit f for each face f that both points lie on.
-pub fn aabb_face_mask(a: Point, b: Point, extents: AABB, eps: f64) -> u64
-    ensures { result ≡ face_bits (faces_of extents eps a b) }
+pub fn aabb_face_mask(a: Point, b: Point, clip: Clip) -> u64
+    ensures { result ≡ face_bits (faces_of clip.extents clip.eps a b) }
 {
     let mut mask = 0;
     for face in BOX_FACES {
-        if both_on(face, a, b, extents, eps) {
+        if both_on(face, a, b, clip) {
             mask += 1 << face.index();
         }
     }

@@ -10,21 +10,21 @@ use crate::distinct::keep_distinct;
 use crate::pairs::{EdgedRoom, push_open_edges};
 use crate::places::note_places;
 use crate::side::push_sides;
+use aabb_planes::clip::Clip;
 use candidate_pool::room::Room;
-use geometry::aabb::AABB;
 use geometry::face::{BOX_FACES, BoxFace};
 use sorting::sort_records;
 
 // All pairs of a face, in the order of the definition; how many they are.
-fn list_pairs(w: &mut [u64], edged: EdgedRoom, face: BoxFace, extents: AABB, eps: f64) -> usize
+fn list_pairs(w: &mut [u64], edged: EdgedRoom, face: BoxFace, clip: Clip) -> usize
     requires shown { Shown edged.room.n w.old }
     requires roomy { Roomy edged.room.n edged.room.nf w.old }
     requires edges_held { EdgesHeld (pool_at edged.room.n w.old) w.old (open_edges_at edged.room.n edged.room.nf) edged.k }
     ensures { Pushed edged.room.n (face_of face) (places_at edged.room.n) (4 * edged.room.n + 3 * edged.room.nf)
-        (all_pairs extents eps (pool_at edged.room.n w.old) (face_of face) (edges_at w.old (open_edges_at edged.room.n edged.room.nf) edged.k)) 0 result w.old w.new }
+        (all_pairs clip.extents clip.eps (pool_at edged.room.n w.old) (face_of face) (edges_at w.old (open_edges_at edged.room.n edged.room.nf) edged.k)) 0 result w.old w.new }
 {
     note_places(w, edged.room, face);
-    let c = push_sides(w, edged.room, face, extents, eps);
+    let c = push_sides(w, edged.room, face, clip);
     push_open_edges(w, edged, face, c)
 }
 
@@ -33,37 +33,36 @@ fn face_constraints(
     w: &mut [u64],
     edged: EdgedRoom,
     face: BoxFace,
-    extents: AABB,
-    eps: f64,
+    clip: Clip,
     total: usize,
 ) -> usize
     requires shown { Shown edged.room.n w.old }
     requires roomy { Roomy edged.room.n edged.room.nf w.old }
     requires edges_held { EdgesHeld (pool_at edged.room.n w.old) w.old (open_edges_at edged.room.n edged.room.nf) edged.k }
     requires fits { total + (4 * edged.room.n + 3 * edged.room.nf) ≤ 24 * edged.room.n + 18 * edged.room.nf }
-    ensures { FaceListed extents eps edged.room.n edged.room.nf edged.k (face_of face) total result w.old w.new }
+    ensures { FaceListed clip.extents clip.eps edged.room.n edged.room.nf edged.k (face_of face) total result w.old w.new }
 {
     let few = w[face.index()] < 3;
     if few {
         return total;
     }
-    let c = list_pairs(w, edged, face, extents, eps);
+    let c = list_pairs(w, edged, face, clip);
     let pairs = edged.room.pairs_at();
     sort_records(&mut w[pairs..pairs + 4 * c], c);
     keep_distinct(w, edged.room, c, total)
 }
 
 // The constraints of all six faces; how many they are.
-pub fn all_constraints(w: &mut [u64], room: Room, k: usize, extents: AABB, eps: f64) -> usize
-    requires holds { Holds eps room.n w.old }
+pub fn all_constraints(w: &mut [u64], room: Room, k: usize, clip: Clip) -> usize
+    requires holds { Holds clip.eps room.n w.old }
     requires edges_held { EdgesHeld (pool_at room.n w.old) w.old (open_edges_at room.n room.nf) k }
     requires n_bound { (room.n < 2097152) × (k ≤ 3 * room.nf) × (room_end room.n room.nf ≤ length w.old) }
-    ensures { Constrained extents eps room.n room.nf k result w.old w.new }
+    ensures { Constrained clip.extents clip.eps room.n room.nf k result w.old w.new }
 {
     let edged = EdgedRoom { room, k };
     let mut total = 0;
     for face in BOX_FACES {
-        total = face_constraints(w, edged, face, extents, eps, total);
+        total = face_constraints(w, edged, face, clip, total);
     }
     total
 }

@@ -13,12 +13,12 @@ ghost use Rattle.candidate_constraints.specs.Steps.{Shown, side_places, side_pai
 
 use crate::pairs::put_pair;
 use crate::places::candidate_of_place;
+use aabb_planes::clip::Clip;
 use box_faces::faces::project;
 use box_faces::sides::{candidate_on_face_side, face_boundary_sides};
 use box_faces::uv::Side;
 use candidate_pool::pool::point_of;
 use candidate_pool::room::Room;
-use geometry::aabb::AABB;
 use geometry::face::BoxFace;
 use geometry::numbers::FacePlace;
 use rounding::order_key;
@@ -85,14 +85,14 @@ fn push_side(w: &mut [u64], room: Room, face: BoxFace, side: Side, eps: f64, cou
 }
 
 // The neighbours along all four sides; how many pairs they are.
-pub fn push_sides(w: &mut [u64], room: Room, face: BoxFace, extents: AABB, eps: f64) -> usize
+pub fn push_sides(w: &mut [u64], room: Room, face: BoxFace, clip: Clip) -> usize
     requires shown { Shown room.n w.old }
     requires n_bound { (room.n < 2097152) × (pairs_at room.n + 16 * room.n ≤ length w.old) }
-    ensures { Pushed room.n (face_of face) (side_at room.n) (4 * room.n) (side_pairs extents eps (pool_at room.n w.old) (face_of face)) 0 result w.old w.new }
+    ensures { Pushed room.n (face_of face) (side_at room.n) (4 * room.n) (side_pairs clip.extents clip.eps (pool_at room.n w.old) (face_of face)) 0 result w.old w.new }
 {
     let mut c = 0;
-    for side in face_boundary_sides(face, extents) {
-        c = push_side(w, room, face, side, eps, c);
+    for side in face_boundary_sides(face, clip.extents) {
+        c = push_side(w, room, face, side, clip.eps, c);
     }
     c
 }

@@ -5,42 +5,34 @@ ghost use Rattle.candidate_pool.specs.Standing.{joined_in, pool_at, Holds};
 ghost use Rattle.candidate_edges.specs.Steps.{VerticesIn, Sourced, SourcesReady, CornerEntered, CornersEntered};
 
 use crate::open::enter_vertex;
+use aabb_planes::clip::Clip;
 use box_faces::faces::{aabb_face_mask, count_faces};
 use candidate_pool::room::Room;
-use geometry::aabb::AABB;
 use geometry::numbers::MeshVertexId;
 use geometry::vertices::vertex_at;
 
 // The vertex v, if it is on two faces or more.
-// Stays (plainer), point 5: box and eps go on to `aabb_face_mask` and stand apart in the definitions (`edge_faces extents eps`); `Clip`, the same two, has the methods of another operation.
-fn enter_corner(
-    w: &mut [u64],
-    vertices: &[f64],
-    room: Room,
-    v: MeshVertexId,
-    extents: AABB,
-    eps: f64,
-)
-    requires sources_ready { SourcesReady vertices.now eps room.n w.old }
+fn enter_corner(w: &mut [u64], vertices: &[f64], room: Room, v: MeshVertexId, clip: Clip)
+    requires sources_ready { SourcesReady vertices.now clip.eps room.n w.old }
     requires v_in_bounds { v.0 < length vertices.now / 3 }
-    ensures { CornerEntered vertices.now extents eps room.n v.0 w.old w.new }
+    ensures { CornerEntered vertices.now clip.extents clip.eps room.n v.0 w.old w.new }
 {
     let p = vertex_at(vertices, v);
-    let mask = aabb_face_mask(p, p, extents, eps);
+    let mask = aabb_face_mask(p, p, clip);
     if count_faces(mask) >= 2 {
-        enter_vertex(w, vertices, room, v, mask, eps);
+        enter_vertex(w, vertices, room, v, mask, clip.eps);
     }
 }
 
 // All vertices.
-pub fn enter_corners(w: &mut [u64], vertices: &[f64], room: Room, extents: AABB, eps: f64)
-    requires holds { Holds eps room.n w.old × (length vertices.now / 3 ≤ room.n) }
+pub fn enter_corners(w: &mut [u64], vertices: &[f64], room: Room, clip: Clip)
+    requires holds { Holds clip.eps room.n w.old × (length vertices.now / 3 ≤ room.n) }
     requires vertices_in { VerticesIn vertices.now }
-    requires sourced { Sourced (points_of vertices.now) eps (pool_at room.n w.old) (joined_in room.n w.old) }
-    ensures { CornersEntered vertices.now extents eps room.n w.old w.new }
+    requires sourced { Sourced (points_of vertices.now) clip.eps (pool_at room.n w.old) (joined_in room.n w.old) }
+    ensures { CornersEntered vertices.now clip.extents clip.eps room.n w.old w.new }
 {
     let count = vertices.len() / 3;
     for v in 0..count {
-        enter_corner(w, vertices, room, MeshVertexId(v), extents, eps);
+        enter_corner(w, vertices, room, MeshVertexId(v), clip);
     }
 }

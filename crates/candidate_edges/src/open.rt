@@ -12,22 +12,21 @@ ghost use Rattle.candidate_pool.specs.Standing.{joined_in, pool_at, Holds};
 ghost use Rattle.candidate_edges.specs.Surface.{edge_faces};
 ghost use Rattle.candidate_edges.specs.Steps.{TableAt, VerticesIn, MeshFits, SourcesReady, VertexEntered, EdgesEntering, EdgeEntered, EdgesEntered};
 
+use aabb_planes::clip::Clip;
 use box_faces::faces::{aabb_face_mask, count_faces};
 use candidate_pool::pool::insert_candidate;
 use candidate_pool::room::Room;
 use edges::{edge_from, edge_to};
-use geometry::aabb::AABB;
 use geometry::mesh::MeshLists;
 use geometry::numbers::{CandidateVertexId, MeshVertexId};
 use geometry::vertices::vertex_at;
 use words::write_three;
 
 // The faces that both ends of a side lie on.
-// Stays (plainer), point 5: box and eps go on to `aabb_face_mask` and stand apart in the definitions (`edge_faces extents eps`); `Clip`, the same two, has the methods of another operation.
-fn side_mask(mesh: MeshLists<'_>, side: usize, extents: AABB, eps: f64) -> u64
+fn side_mask(mesh: MeshLists<'_>, side: usize, clip: Clip) -> u64
     requires facets_len { (length mesh.facets.now % 3 ≡ 0) × (side < length mesh.facets.now) }
     requires by_index { (i : ℕ) → i < length mesh.facets.now → get_or mesh.facets.now i 0 < length mesh.vertices.now / 3 }
-    ensures { result ≡ face_bits (edge_faces extents eps (mesh_of mesh.entry.vertices.now mesh.entry.facets.now) (get_or (sides (threes mesh.entry.facets.now)) side (0, 0))) }
+    ensures { result ≡ face_bits (edge_faces clip.extents clip.eps (mesh_of mesh.entry.vertices.now mesh.entry.facets.now) (get_or (sides (threes mesh.entry.facets.now)) side (0, 0))) }
 {
     let a = vertex_at(
         mesh.vertices,
@@ -37,21 +36,14 @@ fn side_mask(mesh: MeshLists<'_>, side: usize, extents: AABB, eps: f64) -> u64
         mesh.vertices,
         MeshVertexId(edge_to(mesh.facets, side) as usize),
     );
-    aabb_face_mask(a, b, extents, eps)
+    aabb_face_mask(a, b, clip)
 }
 
 // The first of the k open edges that lies on no face.
-pub fn stray_edge(
-    w: &[u64],
-    mesh: MeshLists<'_>,
-    n: usize,
-    k: usize,
-    extents: AABB,
-    eps: f64,
-) -> Option<usize>
+pub fn stray_edge(w: &[u64], mesh: MeshLists<'_>, n: usize, k: usize, clip: Clip) -> Option<usize>
     requires mesh_fits { MeshFits mesh.vertices.now mesh.facets.now n w.now }
     requires table_at { TableAt mesh.facets.now w.now (edge_table_at n (length mesh.facets.now / 3)) k }
-    ensures { result ≡ found (λ e. eqb (length (edge_faces extents eps (mesh_of mesh.entry.vertices.now mesh.entry.facets.now) e)) 0) (open_edges (threes mesh.entry.facets.now)) }
+    ensures { result ≡ found (λ e. eqb (length (edge_faces clip.extents clip.eps (mesh_of mesh.entry.vertices.now mesh.entry.facets.now) e)) 0) (open_edges (threes mesh.entry.facets.now)) }
 {
     let room = Room {
         n,
@@ -60,7 +52,7 @@ pub fn stray_edge(
     let table = room.edge_table_at();
     for i in 0..k {
         let side = w[table + 2 * i + 1] as usize;
-        if side_mask(mesh, side, extents, eps) == 0 {
+        if side_mask(mesh, side, clip) == 0 {
             return Some(i);
         }
     }
@@ -102,49 +94,35 @@ fn put_edge(
 }
 
 // Inserts the ends of one open edge, the first before the second; how often it is listed.
-fn enter_edge(
-    w: &mut [u64],
-    mesh: MeshLists<'_>,
-    n: usize,
-    i: usize,
-    extents: AABB,
-    eps: f64,
-) -> usize
-    requires edges_entering { EdgesEntering mesh.vertices.now mesh.facets.now eps n i w.old }
+fn enter_edge(w: &mut [u64], mesh: MeshLists<'_>, n: usize, i: usize, clip: Clip) -> usize
+    requires edges_entering { EdgesEntering mesh.vertices.now mesh.facets.now clip.eps n i w.old }
     requires i_in_bounds { i < length (open_edges (threes mesh.facets.now)) }
-    ensures { EdgeEntered mesh.entry.vertices.now mesh.entry.facets.now extents eps n i result w.old w.new }
+    ensures { EdgeEntered mesh.entry.vertices.now mesh.entry.facets.now clip.extents clip.eps n i result w.old w.new }
 {
     let room = Room {
         n,
         nf: mesh.facets.len() / 3,
     };
     let side = w[room.edge_table_at() + 2 * i + 1] as usize;
-    let mask = side_mask(mesh, side, extents, eps);
+    let mask = side_mask(mesh, side, clip);
     let from = MeshVertexId(edge_from(mesh.facets, side) as usize);
     let to = MeshVertexId(edge_to(mesh.facets, side) as usize);
-    let a = enter_vertex(w, mesh.vertices, room, from, mask, eps);
-    let b = enter_vertex(w, mesh.vertices, room, to, mask, eps);
+    let a = enter_vertex(w, mesh.vertices, room, from, mask, clip.eps);
+    let b = enter_vertex(w, mesh.vertices, room, to, mask, clip.eps);
     put_edge(w, room.open_edges_at() + 3 * i, a, b, mask)
 }
 
 // The ends of all k open edges; how many entries the open-edge list has.
-pub fn enter_edges(
-    w: &mut [u64],
-    mesh: MeshLists<'_>,
-    n: usize,
-    k: usize,
-    extents: AABB,
-    eps: f64,
-) -> usize
+pub fn enter_edges(w: &mut [u64], mesh: MeshLists<'_>, n: usize, k: usize, clip: Clip) -> usize
     requires mesh_fits { MeshFits mesh.vertices.now mesh.facets.now n w.old }
     requires table_at { TableAt mesh.facets.now w.old (edge_table_at n (length mesh.facets.now / 3)) k }
     requires vertices_in { VerticesIn mesh.vertices.now }
-    requires holds { Holds eps n w.old × (pool_at n w.old ≡ no_pool) × ((v : ℕ) → v < n → joined_in n w.old v ≡ 0) }
-    ensures { EdgesEntered mesh.entry.vertices.now mesh.entry.facets.now extents eps n k result w.old w.new }
+    requires holds { Holds clip.eps n w.old × (pool_at n w.old ≡ no_pool) × ((v : ℕ) → v < n → joined_in n w.old v ≡ 0) }
+    ensures { EdgesEntered mesh.entry.vertices.now mesh.entry.facets.now clip.extents clip.eps n k result w.old w.new }
 {
     let mut listed = 0;
     for i in 0..k {
-        listed += enter_edge(w, mesh, n, i, extents, eps);
+        listed += enter_edge(w, mesh, n, i, clip);
     }
     listed
 }

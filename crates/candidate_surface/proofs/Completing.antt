@@ -1,7 +1,7 @@
 -- Laws of the steps that fill the pool: what one leaves is what the next asks for. Assumes nothing.
 --   fits_same               a room of the same length serves a mesh as well
 --   table_left              the table of open edges is left by the clearing of the pool
---   surfaced                what stands in the room once the ends of open edges are in
+--   surfaced                what stands in the room once the ends of open edges are in     entered   the same, of the box that is asked
 --   grids_ready, completed  grids, once the corner vertices are in too
 use Prim.Native.Nat.{ℕ, ◌*◌, ◌/◌, ◌≤◌, ◌^◌}
 use native.Mathlib.Omega.{arith}
@@ -14,6 +14,7 @@ use Rattle.root.specs.Doubles.{◌⊗◌, 1e-9}
 use Rattle.root.specs.Bounds.{Within}
 use Rattle.geometry.specs.declared.aabb.AABB.{AABB}
 use Rattle.geometry.specs.Meshes.{mesh_of}
+use Rattle.aabb_planes.specs.declared.clip.Clip.{Clip}
 use Rattle.input_tests.specs.declared.grid.Grid.{Grid}
 use Rattle.candidate_pool.specs.Offsets.{open_edges_at, edge_table_at}
 use Rattle.candidate_pool.specs.Pool.{Pool, face_list, by_key, insert}
@@ -23,9 +24,10 @@ use Rattle.candidate_edges.specs.Surface.{edge_surface, corner_vertices, mesh_po
 use Rattle.candidate_edges.specs.Steps.{TableAt, MeshFits, EdgesEntered, CornersEntered}
 use Rattle.candidate_grids.specs.Grid.{grid}
 use Rattle.candidate_grids.specs.Steps.{by_axes, GridReady, Gridded}
-use Rattle.candidate_surface.specs.Asked.{asked, grid_of}
+use Rattle.candidate_surface.specs.declared.asked.Asked.{Asked}
+use Rattle.candidate_surface.specs.Asked.{asked, clip_of, grid_of}
 use Rattle.candidate_surface.specs.Steps.{Sound, most_candidates, Tabled, Surfaced, Completed}
-use Rattle.candidate_surface.proofs.Fitting.{each_within}
+use Rattle.candidate_surface.proofs.Fitting.{each_within, of_clip}
 use Rattle.candidate_surface.proofs.Frames.{table_kept, all_grown}
 
 pub fits_same : (vs : List Float) (fs : List ℕ) (n : ℕ) (w w' : List ℕ) → length w' ≡ length w → MeshFits vs fs n w → MeshFits vs fs n w'
@@ -100,3 +102,10 @@ module _ (vs : List Float) (fs : List ℕ) (box : AABB) (eps : Float) (n k : ℕ
           holds = G.holds;
           held = G.held;
         }
+
+module _ (vs : List Float) (fs : List ℕ) where
+  abbrev pub Entered : AABB → Float → ℕ → ℕ → ℕ → List ℕ → Type 0
+  Entered box eps n k r w = Surfaced vs fs box eps n k w × (r ≡ length (edge_surface box eps (by_key eps) (mesh_of vs fs)).edges)
+
+  pub entered : (q : Asked) (l : Clip) (n k r : ℕ) (w : List ℕ) → l ≡ clip_of q → Entered l.extents l.eps n k r w → Entered q.extents q.eps n k r w
+  entered q l n k r w = of_clip q l (λ box eps. Entered box eps n k r w)

@@ -3,6 +3,7 @@
 --   vertices_in      every vertex is a point of no NaN and no infinity
 --   grid_small, most_small   how many grid points and how many candidates there may be at most
 --   mesh_fits        the mesh and the room that the functions ask for      room_for   the room for it, of what was lent
+--   of_clip, to_clip   what holds of the box and eps that `clip` answers holds of those that are asked, and back
 --   cut_some, cut_grid   a grid that is not too fine is cut; what is cut is the grid
 --   size_of, fine_of   the number of grid points and the test of the grid, as they stand of the grid of what is asked
 use Prim.Native.Nat.{ℕ, zero, suc, ◌+◌, ◌*◌, ◌/◌, ◌≤◌, ◌<◌, ◌^◌}
@@ -32,9 +33,10 @@ use Rattle.input_tests.proofs.Grids.{not_too_fine, small_product}
 use Rattle.candidate_pool.specs.Offsets.{room_end}
 use Rattle.candidate_pool.specs.Standing.{PointIn}
 use Rattle.candidate_edges.specs.Steps.{VerticesIn, MeshFits}
+use Rattle.aabb_planes.specs.declared.clip.Clip.{Clip}
 use Rattle.input_tests.specs.declared.grid.Grid.{Grid}
 use Rattle.candidate_surface.specs.declared.asked.Asked.{Asked}
-use Rattle.candidate_surface.specs.Asked.{on_each, one_resolution, grid_of}
+use Rattle.candidate_surface.specs.Asked.{on_each, one_resolution, clip_of, grid_of}
 use Rattle.candidate_surface.specs.Steps.{Sound, most_candidates}
 
 -- ---- numbers
@@ -134,3 +136,10 @@ module _ (q : Asked) (g : Grid) where
 
   pub fine_of : (b : Bool) → g ≡ grid_of q → b ≡ grid_too_fine g.extents g.eps (by_axis g.resolution) → b ≡ grid_too_fine q.extents q.eps (one_resolution q.resolution)
   fine_of b e h = h ∙ ap (λ (x : Grid). grid_too_fine x.extents x.eps (by_axis x.resolution)) e
+
+module _ (q : Asked) (l : Clip) (p : AABB → Float → Type 0) where
+  pub of_clip : l ≡ clip_of q → p l.extents l.eps → p q.extents q.eps
+  of_clip e = subst (λ (x : Clip). p x.extents x.eps) e
+
+  pub to_clip : l ≡ clip_of q → p q.extents q.eps → p l.extents l.eps
+  to_clip e = subst (λ (x : Clip). p x.extents x.eps) (sym e)

@@ -11,12 +11,12 @@ ghost use Rattle.candidate_surface.specs.Asked.{one_resolution};
 ghost use Rattle.candidate_surface.specs.Steps.{Sound, most_candidates, Tabled, Surfaced, Completed};
 
 use crate::asked::Asked;
+use aabb_planes::clip::Clip;
 use candidate_edges::corners::enter_corners;
 use candidate_edges::open::enter_edges;
 use candidate_grids::grids::enter_grids;
 use candidate_pool::pool::clear_pool;
 use candidate_pool::room::Room;
-use geometry::aabb::AABB;
 use geometry::mesh::MeshLists;
 
 // Each vertex and each grid point is at most one candidate.
@@ -41,24 +41,16 @@ pub fn table_edges(facets: &[u32], w: &mut [u64], n: usize) -> usize
 }
 
 // How many faces the k open edges are listed with in all. Their ends are then the candidates.
-// Stays (plainer), point 5: box and eps go on to `aabb_face_mask` and stand apart in the definitions (`edge_faces extents eps`); `Clip`, the same two, has the methods of another operation.
-pub fn enter_surface(
-    mesh: MeshLists<'_>,
-    extents: AABB,
-    eps: f64,
-    w: &mut [u64],
-    n: usize,
-    k: usize,
-) -> usize
+pub fn enter_surface(mesh: MeshLists<'_>, clip: Clip, w: &mut [u64], n: usize, k: usize) -> usize
     requires mesh_fits { MeshFits mesh.vertices.now mesh.facets.now n w.old }
     requires tabled { Tabled mesh.facets.now n k w.old }
     requires vertices_in { VerticesIn mesh.vertices.now }
-    ensures { Surfaced mesh.entry.vertices.now mesh.entry.facets.now extents eps n k w.new ×
-        (result ≡ length (edge_surface extents eps (by_key eps) (mesh_of mesh.entry.vertices.now mesh.entry.facets.now)).edges) }
+    ensures { Surfaced mesh.entry.vertices.now mesh.entry.facets.now clip.extents clip.eps n k w.new ×
+        (result ≡ length (edge_surface clip.extents clip.eps (by_key clip.eps) (mesh_of mesh.entry.vertices.now mesh.entry.facets.now)).edges) }
 {
     let nf = mesh.facets.len() / 3;
     clear_pool(w, Room { n, nf });
-    enter_edges(w, mesh, n, k, extents, eps)
+    enter_edges(w, mesh, n, k, clip)
 }
 
 // Corner vertices and grids, once the ends of the k open edges are in.
@@ -71,7 +63,7 @@ pub fn complete(mesh: MeshLists<'_>, asked: Asked, w: &mut [u64], n: usize, k: u
 {
     let nf = mesh.facets.len() / 3;
     let room = Room { n, nf };
-    enter_corners(w, mesh.vertices, room, asked.extents, asked.eps);
+    enter_corners(w, mesh.vertices, room, asked.clip());
     let skip = asked.resolution * 1.0e-9;
     enter_grids(w, room, k, asked.cuts(), [skip; 3]);
 }

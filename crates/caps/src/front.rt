@@ -45,7 +45,7 @@ fn cap_edges(
         (mesh_outputs (surface_mesh mesh.entry.vertices.now mesh.entry.facets.now cap_list.now asked mode) out_vertices.old
         out_vertices.new out_facets.old out_facets.new) (documented_reply result) }
 {
-    let listed = enter_surface(mesh, asked.extents, asked.eps, w, n, k);
+    let listed = enter_surface(mesh, asked.clip(), w, n, k);
     if listed == 0 {
         return deliver_mesh(mesh, out_vertices, out_facets);
     }

@@ -76,7 +76,7 @@ pub fn check_edges(
     if has_far_key(mesh.vertices, asked.eps) || box_has_far_key(asked.extents, asked.eps) {
         return Err(Refusal::KeyRange);
     }
-    if let Some(stray) = stray_edge(w, mesh, n, k, asked.extents, asked.eps) {
+    if let Some(stray) = stray_edge(w, mesh, n, k, asked.clip()) {
         let room = Room {
             n,
             nf: mesh.facets.len() / 3,

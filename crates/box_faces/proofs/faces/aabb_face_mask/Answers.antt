@@ -15,7 +15,7 @@ loop-face-init c = none_so_far _
 
 pub loop-face-preserved : goal.loop-face-preserved
 loop-face-preserved c =
-    let both : ℕ → Bool = λ f. on_face c.args.extents c.args.eps f c.args.a && on_face c.args.extents c.args.eps f c.args.b in
+    let both : ℕ → Bool = λ f. on_face c.args.clip.extents c.args.clip.eps f c.args.a && on_face c.args.clip.extents c.args.clip.eps f c.args.b in
     let e = face_at c.loop-face.face-index _ c.loop-face-test.true in
     elim c.if-both_on.branch [
       | then-both_on w ↦ passes_too _ _ _ _ c.loop-face.invariant (ap both (sym e) ∙ sym c.both_on.ensures ∙ w.if-both_on.true)
@@ -28,4 +28,4 @@ unfolding faces_of up_from
 returns c =
     let e : c.loop-face.face-index ≡ 6 = omega arith in
     c.loop-face.invariant.word
-    ∙ ap (λ (n : ℕ). face_bits (keep (λ f. on_face c.args.extents c.args.eps f c.args.a && on_face c.args.extents c.args.eps f c.args.b) (up_to n))) e
+    ∙ ap (λ (n : ℕ). face_bits (keep (λ f. on_face c.args.clip.extents c.args.clip.eps f c.args.a && on_face c.args.clip.extents c.args.clip.eps f c.args.b) (up_to n))) e

@@ -7,21 +7,21 @@ use Rattle.candidate_constraints.proofs.Showing.{holds_shown}
 use Rattle.candidate_constraints.proofs.constraints.all_constraints.Goals as goal
 
 pub loop-face-init : goal.loop-face-init
-loop-face-init c = faced_start c.args.extents c.args.eps c.args.room.n c.args.room.nf c.args.k c.args.w.now
+loop-face-init c = faced_start c.args.clip.extents c.args.clip.eps c.args.room.n c.args.room.nf c.args.k c.args.w.now
 
 pub face_constraints-total-requires : goal.face_constraints-total-requires
 face_constraints-total-requires c =
     let s = c in
     let a = s.args in
     let l = c.loop-face in record {
-      shown = faced_shown a.extents a.eps a.room.n a.room.nf a.k a.w.now (holds_shown a.eps a.room.n a.w.now s.requires.holds) s.requires.edges_held s.requires.n_bound.0 s.args.room.small.1
+      shown = faced_shown a.clip.extents a.clip.eps a.room.n a.room.nf a.k a.w.now (holds_shown a.clip.eps a.room.n a.w.now s.requires.holds) s.requires.edges_held s.requires.n_bound.0 s.args.room.small.1
           s.requires.n_bound.2 l.w l.total l.face-index l.invariant;
-      roomy = faced_roomy a.extents a.eps a.room.n a.room.nf a.k a.w.now
-          (holds_shown a.eps a.room.n a.w.now s.requires.holds) s.requires.edges_held s.requires.n_bound.0 s.args.room.small.1 s.requires.n_bound.2 l.w l.total l.face-index l.invariant;
-      edges_held = faced_held a.extents a.eps a.room.n a.room.nf a.k a.w.now (holds_shown a.eps a.room.n a.w.now s.requires.holds) s.requires.edges_held s.requires.n_bound.0 s.args.room.small.1
+      roomy = faced_roomy a.clip.extents a.clip.eps a.room.n a.room.nf a.k a.w.now
+          (holds_shown a.clip.eps a.room.n a.w.now s.requires.holds) s.requires.edges_held s.requires.n_bound.0 s.args.room.small.1 s.requires.n_bound.2 l.w l.total l.face-index l.invariant;
+      edges_held = faced_held a.clip.extents a.clip.eps a.room.n a.room.nf a.k a.w.now (holds_shown a.clip.eps a.room.n a.w.now s.requires.holds) s.requires.edges_held s.requires.n_bound.0 s.args.room.small.1
           s.requires.n_bound.2 l.w l.total l.face-index l.invariant;
-      fits = faced_few a.extents a.eps a.room.n a.room.nf a.k a.w.now
-          (holds_shown a.eps a.room.n a.w.now s.requires.holds) s.requires.edges_held s.requires.n_bound.0 s.args.room.small.1 s.requires.n_bound.2 l.w l.total l.face-index l.invariant
+      fits = faced_few a.clip.extents a.clip.eps a.room.n a.room.nf a.k a.w.now
+          (holds_shown a.clip.eps a.room.n a.w.now s.requires.holds) s.requires.edges_held s.requires.n_bound.0 s.args.room.small.1 s.requires.n_bound.2 l.w l.total l.face-index l.invariant
           c.loop-face-test.true;
     }
 
@@ -31,9 +31,9 @@ loop-face-preserved c =
     let a = s.args in
     let l = c.loop-face in
     let face-constraints' = c.face_constraints-total in
-    faced_turn a.extents a.eps a.room.n a.room.nf a.k a.w.now (holds_shown a.eps a.room.n a.w.now s.requires.holds) s.requires.edges_held s.requires.n_bound.0 s.args.room.small.1
+    faced_turn a.clip.extents a.clip.eps a.room.n a.room.nf a.k a.w.now (holds_shown a.clip.eps a.room.n a.w.now s.requires.holds) s.requires.edges_held s.requires.n_bound.0 s.args.room.small.1
     s.requires.n_bound.2 l.w l.total l.face-index l.invariant face-constraints'.new.w face-constraints'.result c.loop-face-test.true
-    (subst (λ (f : ℕ). FaceListed a.extents a.eps a.room.n a.room.nf a.k f l.total face-constraints'.result l.w face-constraints'.new.w)
+    (subst (λ (f : ℕ). FaceListed a.clip.extents a.clip.eps a.room.n a.room.nf a.k f l.total face-constraints'.result l.w face-constraints'.new.w)
     (face_at l.face-index _ c.loop-face-test.true) face-constraints'.ensures)
 
 pub shape_of-w : goal.shape_of-w
@@ -43,5 +43,5 @@ pub returns : goal.returns
 returns c =
     let s = c in
     let a = s.args in
-    faced_end a.extents a.eps a.room.n a.room.nf a.k a.w.now (holds_shown a.eps a.room.n a.w.now s.requires.holds) s.requires.edges_held s.requires.n_bound.0 s.args.room.small.1
+    faced_end a.clip.extents a.clip.eps a.room.n a.room.nf a.k a.w.now (holds_shown a.clip.eps a.room.n a.w.now s.requires.holds) s.requires.edges_held s.requires.n_bound.0 s.args.room.small.1
     s.requires.n_bound.2 c.loop-face.w c.loop-face.total c.loop-face.face-index c.loop-face.invariant c.loop-face-test.false

@@ -13,7 +13,7 @@ pub returns-then-few : goal.returns-then-few
 returns-then-few c =
     let s = c in
     let a = s.args in
-    face_none a.extents a.eps a.edged.room.n a.edged.room.nf a.edged.k (face_of a.face) a.total a.w.now s.requires.shown s.requires.roomy (face_in s.args.face) s.requires.fits
+    face_none a.clip.extents a.clip.eps a.edged.room.n a.edged.room.nf a.edged.k (face_of a.face) a.total a.w.now s.requires.shown s.requires.roomy (face_in s.args.face) s.requires.fits
     (subst (λ (f : ℕ). get_or a.w.now f 0 < 3) c.index.ensures.value (omega (arith, c.if-few.true)))
 
 pub returns : goal.returns
@@ -24,7 +24,7 @@ returns c =
     let pairs-at' = c.pairs_at-pairs in
     let sort-records' = c.sort_records in
     let keep-distinct' = c.keep_distinct in
-    face_listed a.extents a.eps a.edged.room.n a.edged.room.nf a.edged.k (face_of a.face) a.total a.w.now s.requires.shown s.requires.roomy (face_in s.args.face) s.requires.fits
+    face_listed a.clip.extents a.clip.eps a.edged.room.n a.edged.room.nf a.edged.k (face_of a.face) a.total a.w.now s.requires.shown s.requires.roomy (face_in s.args.face) s.requires.fits
     list-pairs'.new.w (put_mid pairs-at'.result (pairs-at'.result + 4 * list-pairs'.result - pairs-at'.result) list-pairs'.new.w sort-records'.new.m)
     keep-distinct'.new.w list-pairs'.result keep-distinct'.result pairs-at'.result list-pairs'.ensures pairs-at'.ensures
     (sorted_part list-pairs'.new.w sort-records'.new.m pairs-at'.result list-pairs'.result

@@ -4,4 +4,4 @@ use Rattle.candidate_constraints.proofs.side.push_sides.Given as goal
 
 -- `push_sides` meets its contract: after k turns the pairs are those of the first k sides. Assumes nothing.
 abbrev pub invariant-loop-side : goal.invariant-loop-side
-invariant-loop-side l = Siding l.fn.extents l.eps l.room.n (face_of l.face) l.initial.w l.w l.c l.side-index
+invariant-loop-side l = Siding l.fn.clip.extents l.clip.eps l.room.n (face_of l.face) l.initial.w l.w l.c l.side-index

@@ -6,7 +6,7 @@ pub loop-v-init : goal.loop-v-init
 loop-v-init c =
     let s = c in
     let a = s.args in
-    corners_start a.vertices.now a.extents a.eps a.room.n a.w.now s.requires.holds s.requires.vertices_in s.requires.sourced
+    corners_start a.vertices.now a.clip.extents a.clip.eps a.room.n a.w.now s.requires.holds s.requires.vertices_in s.requires.sourced
 
 pub enter_corner-requires : goal.enter_corner-requires
 enter_corner-requires c = record { sources_ready = c.loop-v.invariant.ready; v_in_bounds = c.loop-v-test.true }
@@ -17,7 +17,7 @@ loop-v-preserved c =
     let a = s.args in
     let l = c.loop-v in
     let e = c.enter_corner in
-    corners_turn a.vertices.now a.extents a.eps a.room.n l.v a.w.now l.w e.new.w c.loop-v-test.true l.invariant e.ensures
+    corners_turn a.vertices.now a.clip.extents a.clip.eps a.room.n l.v a.w.now l.w e.new.w c.loop-v-test.true l.invariant e.ensures
 
 pub shape_of-w : goal.shape_of-w
 shape_of-w c = c.loop-v.invariant.long
@@ -27,4 +27,4 @@ returns c =
     let s = c in
     let a = s.args in
     let l = c.loop-v in
-    corners_end a.vertices.now a.extents a.eps a.room.n l.v a.w.now l.w (omega (arith, c.loop-v-test.false)) l.invariant
+    corners_end a.vertices.now a.clip.extents a.clip.eps a.room.n l.v a.w.now l.w (omega (arith, c.loop-v-test.false)) l.invariant

@@ -37,7 +37,7 @@ entering c low =
       omega (arith, c.edge_from.ensures, from_low a.mesh.facets.now (length a.mesh.vertices.now / 3) j f.threes f.numbers low),
       omega (arith, c.edge_to.ensures, to_low a.mesh.facets.now (length a.mesh.vertices.now / 3) j f.threes f.numbers low),
       subst (λ (x : ℕ). x < 64) (sym c.side_mask-mask.ensures)
-          (mask_small a.extents a.eps (vertex (points_of a.mesh.vertices.now) e.0) (vertex (points_of a.mesh.vertices.now) e.1)),
+          (mask_small a.clip.extents a.clip.eps (vertex (points_of a.mesh.vertices.now) e.0) (vertex (points_of a.mesh.vertices.now) e.1)),
     )
 
 -- the three words of the open edge
@@ -111,7 +111,7 @@ returns c =
     let u = c.enter_vertex-b in
     let e = c.open_edges_at in
     let p = c.put_edge in
-    edge_done a.mesh.vertices.now a.mesh.facets.now a.extents a.eps a.n a.i (side a.w.now t.result a.i) e.result from.result to.result
+    edge_done a.mesh.vertices.now a.mesh.facets.now a.clip.extents a.clip.eps a.n a.i (side a.w.now t.result a.i) e.result from.result to.result
     m.result v.result.0 u.result.0 p.result
     a.w.now v.new.w u.new.w p.new.w s.requires.edges_entering s.requires.i_in_bounds
     (side_is a.mesh.facets.now a.w.now (edge_table_at a.n (length a.mesh.facets.now / 3)) t.result (length (open_edges (threes a.mesh.facets.now))) a.i s.requires.edges_entering.table

@@ -6,7 +6,7 @@ pub loop-i-init : goal.loop-i-init
 loop-i-init c =
     let s = c in
     let a = s.args in
-    edges_start a.mesh.vertices.now a.mesh.facets.now a.extents a.eps a.n a.k a.w.now s.requires.mesh_fits s.requires.table_at s.requires.vertices_in s.requires.holds
+    edges_start a.mesh.vertices.now a.mesh.facets.now a.clip.extents a.clip.eps a.n a.k a.w.now s.requires.mesh_fits s.requires.table_at s.requires.vertices_in s.requires.holds
 
 pub enter_edge-listed-requires : goal.enter_edge-listed-requires
 enter_edge-listed-requires c =
@@ -25,7 +25,7 @@ loop-i-preserved c =
     let a = s.args in
     let l = c.loop-i in
     let e = c.enter_edge-listed in
-    edges_turn a.mesh.vertices.now a.mesh.facets.now a.extents a.eps a.n l.i l.listed e.result a.w.now l.w e.new.w
+    edges_turn a.mesh.vertices.now a.mesh.facets.now a.clip.extents a.clip.eps a.n l.i l.listed e.result a.w.now l.w e.new.w
     (omega (arith, c.loop-i-test.true, s.requires.table_at.count)) l.invariant e.ensures
 
 pub shape_of-w : goal.shape_of-w
@@ -36,5 +36,5 @@ returns c =
     let s = c in
     let a = s.args in
     let l = c.loop-i in
-    edges_end a.mesh.vertices.now a.mesh.facets.now a.extents a.eps a.n l.i a.k l.listed a.w.now l.w s.requires.table_at.count
+    edges_end a.mesh.vertices.now a.mesh.facets.now a.clip.extents a.clip.eps a.n l.i a.k l.listed a.w.now l.w s.requires.table_at.count
     (omega (arith, c.loop-i-test.false)) l.invariant

@@ -26,4 +26,4 @@ returns c =
     let at = vertex (points_of a.mesh.vertices.now) in
     let from = c.vertex_at-a.ensures ∙ ap at c.edge_from.ensures in
     let to = c.vertex_at-b.ensures ∙ ap at c.edge_to.ensures in
-    c.aabb_face_mask.ensures ∙ (λ i. face_bits (faces_of a.extents a.eps (from i) (to i)))
+    c.aabb_face_mask.ensures ∙ (λ i. face_bits (faces_of a.clip.extents a.clip.eps (from i) (to i)))

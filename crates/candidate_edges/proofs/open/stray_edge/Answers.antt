@@ -20,13 +20,13 @@ turn_in c = omega (arith, c.requires.mesh_fits.size, c.requires.mesh_fits.threes
 
 -- the mask answers whether the open edge is on no face
 tested : (c : After-side_mask) → let a = c.args in
-    stray a.mesh.vertices.now a.mesh.facets.now a.extents a.eps (get_or (open_edges (threes a.mesh.facets.now)) c.loop-i.i (0, 0)) ≡ eqb c.side_mask.result 0
+    stray a.mesh.vertices.now a.mesh.facets.now a.clip.extents a.clip.eps (get_or (open_edges (threes a.mesh.facets.now)) c.loop-i.i (0, 0)) ≡ eqb c.side_mask.result 0
 tested c =
     let a = c.args in
     let t = c.edge_table_at-table in
     let l = c.loop-i in
     let side = get_or (sides (threes a.mesh.facets.now)) (get_or a.w.now (t.result + 2 * l.i + 1) 0) (0, 0) in
-    stray_test a.mesh.vertices.now a.mesh.facets.now a.extents a.eps c.side_mask.result (get_or (open_edges (threes a.mesh.facets.now)) l.i (0, 0)) side
+    stray_test a.mesh.vertices.now a.mesh.facets.now a.clip.extents a.clip.eps c.side_mask.result (get_or (open_edges (threes a.mesh.facets.now)) l.i (0, 0)) side
     (side_is a.mesh.facets.now a.w.now (edge_table_at a.n (length a.mesh.facets.now / 3)) t.result a.k l.i c.requires.table_at t.ensures
     c.loop-i-test.true)
     c.side_mask.ensures
@@ -72,8 +72,8 @@ returns-then-side_mask-eq0 c =
     let a = c.args in
     let l = c.loop-i in
     let low : l.i < length (open_edges (threes a.mesh.facets.now)) = omega (arith, c.requires.table_at.count, c.loop-i-test.true) in
-    sym (found_some (stray a.mesh.vertices.now a.mesh.facets.now a.extents a.eps) (open_edges (threes a.mesh.facets.now)) l.i
-    (sym (place_stop (stray a.mesh.vertices.now a.mesh.facets.now a.extents a.eps) (open_edges (threes a.mesh.facets.now)) l.i l.invariant.1 (0, 0) low
+    sym (found_some (stray a.mesh.vertices.now a.mesh.facets.now a.clip.extents a.clip.eps) (open_edges (threes a.mesh.facets.now)) l.i
+    (sym (place_stop (stray a.mesh.vertices.now a.mesh.facets.now a.clip.extents a.clip.eps) (open_edges (threes a.mesh.facets.now)) l.i l.invariant.1 (0, 0) low
     (t ∙ eq-eqb c.side_mask.result 0 c.if-side_mask-eq0.true)))
     low)
 
@@ -84,7 +84,7 @@ loop-i-preserved c =
     let s = c in
     let loop' = c.loop-i in (
       omega (arith, loop-test'.true),
-      place_more (stray s.args.mesh.vertices.now s.args.mesh.facets.now s.args.extents s.args.eps) (open_edges (threes s.args.mesh.facets.now)) loop'.i
+      place_more (stray s.args.mesh.vertices.now s.args.mesh.facets.now s.args.clip.extents s.args.clip.eps) (open_edges (threes s.args.mesh.facets.now)) loop'.i
           loop'.invariant.1 (0, 0)
           (omega (arith, s.requires.table_at.count, loop-test'.true)) (t ∙ ne_eqb c.side_mask.result 0 c.if-side_mask-eq0.false),
     )
@@ -93,7 +93,7 @@ pub returns : goal.returns
 returns c =
     let a = c.args in
     let l = c.loop-i in
-    let end = place_end (stray a.mesh.vertices.now a.mesh.facets.now a.extents a.eps) (open_edges (threes a.mesh.facets.now)) l.i l.invariant.1
+    let end = place_end (stray a.mesh.vertices.now a.mesh.facets.now a.clip.extents a.clip.eps) (open_edges (threes a.mesh.facets.now)) l.i l.invariant.1
     (omega (arith, c.loop-i-test.false, l.invariant.0, c.requires.table_at.count)) in
-    sym (found_none (stray a.mesh.vertices.now a.mesh.facets.now a.extents a.eps) (open_edges (threes a.mesh.facets.now))
+    sym (found_none (stray a.mesh.vertices.now a.mesh.facets.now a.clip.extents a.clip.eps) (open_edges (threes a.mesh.facets.now))
     (sym end ∙ (let same : l.i ≡ length (open_edges (threes a.mesh.facets.now)) = omega (arith, c.loop-i-test.false, l.invariant.0, c.requires.table_at.count) in same)))

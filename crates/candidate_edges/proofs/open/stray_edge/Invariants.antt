@@ -10,5 +10,5 @@ use Rattle.candidate_edges.proofs.open.stray_edge.Given as goal
 -- `stray_edge` meets its contract. The invariant: none of the first i open edges is on no face. Assumes nothing.
 abbrev pub invariant-loop-i : goal.invariant-loop-i
 invariant-loop-i l =
-    (l.i ≤ l.k) × (place (stray l.mesh.vertices.now l.mesh.facets.now l.extents l.eps) (open_edges (threes l.mesh.facets.now))
-    ≡ l.i + place (stray l.mesh.vertices.now l.mesh.facets.now l.extents l.eps) (drop l.i (open_edges (threes l.mesh.facets.now))))
+    (l.i ≤ l.k) × (place (stray l.mesh.vertices.now l.mesh.facets.now l.clip.extents l.clip.eps) (open_edges (threes l.mesh.facets.now))
+    ≡ l.i + place (stray l.mesh.vertices.now l.mesh.facets.now l.clip.extents l.clip.eps) (drop l.i (open_edges (threes l.mesh.facets.now))))

@@ -3,12 +3,18 @@ use Rattle.caps.specs.Steps.{closed_mesh}
 use Rattle.caps.proofs.Ordering.{no_ends_left, ends_left, tests_are, closed_is, no_ends, ends_refused, ends_closed}
 use Rattle.caps.proofs.Fitting.{closable}
 use Rattle.caps.proofs.Listing.{pooled, supplied}
-use Rattle.candidate_surface.proofs.Completing.{fits_same}
+use Rattle.candidate_surface.proofs.Completing.{fits_same, Entered, entered}
 use Rattle.candidate_surface.proofs.Fitting.{vertices_in, most_small}
 use Rattle.refusals.specs.Refusals.{first_refusal}
 use native.Mathlib.Omega.{arith}
 use mathlib.Core.Path.{sym, ap, ◌∙◌}
+use Rattle.caps.proofs.front.cap_edges.Goals.{After-enter_surface-listed}
 use Rattle.caps.proofs.front.cap_edges.Goals as goal
+
+-- the open edges' ends, of the box that is asked
+entered_in : (c : After-enter_surface-listed) → let a = c.args in
+    Entered a.mesh.vertices.now a.mesh.facets.now a.asked.extents a.asked.eps a.n a.k c.enter_surface-listed.result c.enter_surface-listed.new.w
+entered_in c = entered c.args.mesh.vertices.now c.args.mesh.facets.now c.args.asked _ c.args.n c.args.k _ _ c.clip.ensures c.enter_surface-listed.ensures
 
 pub enter_surface-listed-requires : goal.enter_surface-listed-requires
 enter_surface-listed-requires c =
@@ -31,7 +37,7 @@ returns-then-listed-eq0 c =
     no_ends a.mesh.vertices.now a.mesh.facets.now a.cap_list.now a.asked a.mode a.out_vertices.now _ a.out_facets.now _ _
     (no_ends_left a.mesh.vertices.now a.mesh.facets.now a.cap_list.now a.asked a.mode
     c.enter_surface-listed.result
-    c.enter_surface-listed.ensures.1
+    (entered_in (goal.at.returns-then-listed-eq0 c).After-enter_surface-listed).1
     c.if-listed-eq0.true) c.deliver_mesh.ensures
 
 pub complete-requires : goal.complete-requires
@@ -45,7 +51,7 @@ complete-requires c =
         c.requires.mesh_fits.1,
         c.requires.tabled.table.within,
       );
-      surfaced = c.enter_surface-listed.ensures.0;
+      surfaced = (entered_in (goal.at.complete-requires c).After-enter_surface-listed).0;
     }
 
 pub check_caps-requires : goal.check_caps-requires
@@ -74,7 +80,7 @@ close_mesh-requires c =
     c.enter_surface-listed.new.w
     c.complete.new.w
     c.check_caps.new.w _
-    c.requires.sound c.enter_surface-listed.ensures.0 c.complete.ensures
+    c.requires.sound (entered_in (goal.at.close_mesh-requires c).After-enter_surface-listed).0 c.complete.ensures
     c.check_caps.ensures c.in_ok-check_caps.was
 
 pub returns : goal.returns
@@ -82,7 +88,7 @@ returns c =
     let a = c.args in
     ends_closed a.mesh.vertices.now a.mesh.facets.now a.cap_list.now a.asked a.mode a.out_vertices.now _ a.out_facets.now _ _
     (ends_left a.mesh.vertices.now a.mesh.facets.now a.cap_list.now a.asked a.mode
-    c.enter_surface-listed.result c.enter_surface-listed.ensures.1
+    c.enter_surface-listed.result (entered_in (goal.at.returns c).After-enter_surface-listed).1
     (omega arith)) (ap first_refusal (sym (tests_are a.mesh.vertices.now a.mesh.facets.now a.cap_list.now a.asked a.mode a.n a.k
     c.complete.new.w c.complete.ensures)) ∙ sym c.check_caps.ensures.found ∙ c.in_ok-check_caps.was)
     (closed_mesh a.mesh.vertices.now a.mesh.facets.now a.cap_list.now a.n a.k
@@ -105,7 +111,7 @@ returns-in_err-check_caps c =
     (ends_refused a.mesh.vertices.now a.mesh.facets.now a.cap_list.now a.asked a.mode a.out_vertices.now a.out_facets.now _
     (ends_left a.mesh.vertices.now a.mesh.facets.now a.cap_list.now a.asked a.mode
     c.enter_surface-listed.result
-    c.enter_surface-listed.ensures.1
+    (entered_in (goal.at.returns-in_err-check_caps c).After-enter_surface-listed).1
     (omega arith))
     (ap first_refusal (sym (tests_are a.mesh.vertices.now a.mesh.facets.now a.cap_list.now a.asked a.mode a.n a.k
     c.complete.new.w

@@ -1,12 +1,28 @@
 use Prim.Native.Nat.{ℕ, ◌+◌, ◌*◌, ◌<◌}
 use native.Mathlib.Omega.{arith}
 use lib.ListN.{length, get_or}
-use mathlib.Core.Path.{sym, ap, ◌∙◌}
+use lib.Dec.{eqb}
+use mathlib.Core.Path.{◌≡◌, sym, ap, ◌∙◌}
 use Rattle.lists.proofs.Bools.{or_next, or_stop}
 use Rattle.lists.proofs.Found.{some_found, none_found}
+use Rattle.lists.specs.Found.{found}
+use Rattle.geometry.specs.Triangles.{threes}
+use Rattle.geometry.specs.Meshes.{mesh_of}
+use Rattle.edges.specs.Edges.{open_edges}
+use Rattle.candidate_edges.specs.Surface.{edge_faces}
+use Rattle.candidate_surface.proofs.Fitting.{of_clip}
 use Rattle.closure_tests.proofs.Checking.{key_refused, edge_refused, edges_passed, ends_of}
 use Rattle.closure_tests.proofs.tests.check_edges.Goals as goal
-use Rattle.closure_tests.proofs.tests.check_edges.Goals.{After-edge_table_at, then-has_far_key-via-then-has_far_key, then-has_far_key-via-else-has_far_key+then-box_has_far_key}
+use Rattle.closure_tests.proofs.tests.check_edges.Goals.{After-stray_edge, After-edge_table_at, then-has_far_key-via-then-has_far_key, then-has_far_key-via-else-has_far_key+then-box_has_far_key}
+
+-- the first open edge on no face of the box that is asked
+stray_is : (c : After-stray_edge) → let a = c.args in
+    c.stray_edge.result ≡ found (λ e. eqb (length (edge_faces a.asked.extents a.asked.eps (mesh_of a.mesh.vertices.now a.mesh.facets.now) e)) 0)
+    (open_edges (threes a.mesh.facets.now))
+stray_is c =
+    let a = c.args in
+    of_clip a.asked _ (λ box eps. c.stray_edge.result ≡ found (λ e. eqb (length (edge_faces box eps (mesh_of a.mesh.vertices.now a.mesh.facets.now) e)) 0)
+    (open_edges (threes a.mesh.facets.now))) c.clip.ensures c.stray_edge.ensures
 
 -- the word that the key is read from
 stray_in : (c : After-edge_table_at) → (c.in-Some.stray < c.args.k) × (c.edge_table_at.result + 2 * c.in-Some.stray + 1 < length c.args.w.now)
@@ -40,7 +56,7 @@ bounds-w-edge_table_at c = omega (arith, (stray_in (goal.at.bounds-w-edge_table_
 pub returns-in-Some : goal.returns-in-Some
 returns-in-Some c =
     let a = c.args in
-    let f = some_found _ _ _ (sym c.stray_edge.ensures ∙ c.in-Some.is) in
+    let f = some_found _ _ _ (sym (stray_is (goal.at.returns-in-Some c).After-stray_edge) ∙ c.in-Some.is) in
     let l = (stray_in (goal.at.returns-in-Some c).After-edge_table_at).0 in
     let q = ends_of a.mesh.vertices.now a.mesh.facets.now a.n a.k a.w.now c.requires.mesh_fits c.requires.tabled _ l _
     (ap (λ (x : ℕ). get_or a.w.now (x + 2 * c.in-Some.stray) 0) c.edge_table_at.ensures) in
@@ -52,7 +68,7 @@ returns-in-Some c =
 pub returns : goal.returns
 returns c =
     let a = c.args in
-    let e = none_found _ _ (sym c.stray_edge.ensures ∙ c.in_default.is) in
+    let e = none_found _ _ (sym (stray_is (goal.at.returns c).After-stray_edge) ∙ c.in_default.is) in
     edges_passed a.mesh.vertices.now a.mesh.facets.now a.asked
     (or_next _ _ _ (sym c.has_far_key.ensures ∙ c.if-has_far_key.false) (sym c.box_has_far_key.ensures ∙ c.if-box_has_far_key.false)) _ (sym e) a.k
     c.requires.tabled.table.count (omega (arith, c.requires.tabled.table.count))
