@@ -37,7 +37,7 @@ fn number_records(numbers: &[u64], records: &mut [u64])
 // The ends of the edges in the order of the records.
 fn put_grouped(records: &[u64], ends: &[u64], edges: &mut [u64])
     requires by_index { (j : ℕ) → j < length edges.old / 2 → get_or records.now (2 * j + 1) 0 < length ends.now / 2 }
-    requires long { length edges.old ≤ length records.now }
+    requires long { (length edges.old ≤ length records.now) × (length edges.old ≤ length ends.now) }
     ensures { PairsPut (λ (j : ℕ). pair_at ends.now (get_or records.now (2 * j + 1) 0)) edges.new (length edges.old / 2) }
 {
     for j in 0..edges.len() / 2 {
