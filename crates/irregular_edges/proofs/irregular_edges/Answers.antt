@@ -1,5 +1,4 @@
 use Rattle.irregular_edges.proofs.Walking.{walk_start, walk_room, walk_yes, walk_no, walk_end, table_kept}
-use lib.ListN.{length-set}
 use native.Mathlib.Omega.{arith}
 use Rattle.irregular_edges.proofs.irregular_edges.Goals as goal
 
