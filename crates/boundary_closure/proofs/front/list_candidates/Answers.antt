@@ -14,7 +14,7 @@ use Rattle.boundary_closure.proofs.front.list_candidates.Goals as goal
 -- the open edges' ends, of the box that is asked
 entered_in : (c : After-enter_surface-listed) → let a = c.args in
     Entered a.mesh.vertices.now a.mesh.facets.now a.asked.extents a.asked.eps a.n a.k c.enter_surface-listed.result c.enter_surface-listed.new.w
-entered_in c = entered c.args.mesh.vertices.now c.args.mesh.facets.now c.args.asked _ c.args.n c.args.k _ _ c.clip.ensures c.enter_surface-listed.ensures
+entered_in c = entered c.args.mesh.vertices.now c.args.mesh.facets.now c.args.asked _ c.args.n c.args.k _ _ c.clip-clip.ensures c.enter_surface-listed.ensures
 
 pub enter_surface-listed-requires : goal.enter_surface-listed-requires
 enter_surface-listed-requires c =
@@ -55,7 +55,7 @@ all_constraints-total-requires c =
     let a = s.args in
     let M = s.requires.mesh_fits.0 in
     let m = most_small a.mesh.vertices.now a.mesh.facets.now a.asked s.requires.sound in record {
-      holds = to_clip a.asked _ (λ box eps. Holds eps a.n c.complete.new.w) c.clip.ensures c.complete.ensures.holds;
+      holds = to_clip a.asked _ (λ box eps. Holds eps a.n c.complete.new.w) c.clip-clip.ensures c.complete.ensures.holds;
       edges_held = c.complete.ensures.held;
       n_bound = (
         omega (arith, s.requires.mesh_fits.1, m),
@@ -75,7 +75,7 @@ deliver-requires c =
     (fits_same a.mesh.vertices.now a.mesh.facets.now a.n a.w.now w
     (completed.complete.auto.w ∙ c.enter_surface-listed.auto.w) c.requires.mesh_fits.0) c.requires.tabled.table.within
     completed.complete.ensures
-    (of_clip a.asked _ (λ box eps. Constrained box eps a.n (length a.mesh.facets.now / 3) a.k c.all_constraints-total.result w c.all_constraints-total.new.w) c.clip.ensures
+    (of_clip a.asked _ (λ box eps. Constrained box eps a.n (length a.mesh.facets.now / 3) a.k c.all_constraints-total.result w c.all_constraints-total.new.w) c.clip-clip.ensures
     c.all_constraints-total.ensures) in
     made.readable
 
@@ -90,7 +90,7 @@ returns c =
     (fits_same a.mesh.vertices.now a.mesh.facets.now a.n a.w.now w
     (completed.complete.auto.w ∙ c.enter_surface-listed.auto.w) c.requires.mesh_fits.0) c.requires.tabled.table.within
     completed.complete.ensures
-    (of_clip a.asked _ (λ box eps. Constrained box eps a.n (length a.mesh.facets.now / 3) a.k c.all_constraints-total.result w c.all_constraints-total.new.w) c.clip.ensures
+    (of_clip a.asked _ (λ box eps. Constrained box eps a.n (length a.mesh.facets.now / 3) a.k c.all_constraints-total.result w c.all_constraints-total.new.w) c.clip-clip.ensures
     c.all_constraints-total.ensures) in
     let m = c in
     let a = c.args in
