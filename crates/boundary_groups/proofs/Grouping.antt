@@ -4,7 +4,7 @@
 --   numbers_sorted                the records once they are sorted
 --   payload_low, edges_words, counts_words, groups_counted   what the steps behind the sort ask and leave
 --   in_room                       the tables in the room that was lent
-use Prim.Native.Nat.{ℕ, zero, suc, ◌+◌, ◌*◌, ◌-◌, ◌/◌, ◌≤◌, ◌<◌}
+use Prim.Native.Nat.{ℕ, ◌+◌, ◌*◌, ◌-◌, ◌/◌, ◌≤◌, ◌<◌}
 use native.Mathlib.Omega.{arith}
 use mathlib.Core.Path.{◌≡◌, refl, sym, ap, ◌∙◌, subst}
 use mathlib.Core.Bool.{Bool, cond, not, ◌&&◌}
@@ -12,7 +12,7 @@ use mathlib.Core.List.Memᴰ
 use mathlib.Core.List.{List, [], ◌∷◌, ◌++◌, map, flat_map, Memᴰ}
 use mathlib.Core.Logic.{◌⊎◌, inl, inr, ⊎_elim}
 use lib.Dec.{eqb}
-use lib.ListN.{get_or, length, take, drop, length-map, length-append, length-drop, get_or-append}
+use lib.ListN.{get_or, length, take, drop, length-map, length-append, get_or-append}
 use lib.Seq.{ext_get_or, get_or-drop, get_or-take, take_all, take_at, drop_at, drop-drop, take-append-le, length-take-le}
 use Rattle.std.proofs.lemmas.List.{get_or-append_right}
 use Rattle.lists.specs.Lists.{every, count, up_to}
@@ -29,7 +29,7 @@ use Rattle.records.specs.Runs.{runs}
 use Rattle.records.proofs.Records.{le_or_lt, length_records_at, records_at_get, records_take}
 use Rattle.sorting.specs.Sorting.{SortedRecords}
 use Rattle.boundary_groups.specs.Groups.{nth_edge, groups, is_ring, component_words}
-use Rattle.boundary_groups.specs.Staged.{edge_in, keyed_edges, grouped, GroupRoom, Grouped, pair_at, PairsPut, turns_of, run_words, ComponentsPut}
+use Rattle.boundary_groups.specs.Staged.{edge_in, keyed_edges, grouped, GroupRoom, pair_at, PairsPut, turns_of, run_words, ComponentsPut}
 use Rattle.boundary_groups.proofs.Stores.{pairs_words}
 use Rattle.boundary_groups.proofs.Together.{of_groups, group_told}
 use Rattle.boundary_groups.proofs.Rings.{every_same, two_ends_lem, ends_twice, ring_degrees}

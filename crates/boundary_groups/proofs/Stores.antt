@@ -7,7 +7,7 @@ use native.Mathlib.Decide.{ℕ_discrete}
 use mathlib.Core.Path.{◌≡◌, refl, sym, ap, ◌∙◌}
 use mathlib.Core.List.{List, [], ◌∷◌, ◌++◌, map, flat_map}
 use lib.ListN.{get_or, set, length, take, length-set}
-use lib.Seq.{get_or-set_same, get_or-set_other, take-suc, take_all}
+use lib.Seq.{get_or-set_same, get_or-set_other, take-suc}
 use Rattle.lists.specs.Lists.{up_from, up_to}
 use Rattle.lists.proofs.Sequences.{flat_map_lem, flat_up, map_below}
 use Rattle.edges.specs.Edges.{pair_words}

@@ -7,8 +7,8 @@ use mathlib.Core.Path.{◌≡◌, refl, sym, ap, ◌∙◌}
 use mathlib.Core.Bool.{Bool, true, false, cond, ◌&&◌}
 use mathlib.Core.List.{List, [], ◌∷◌, ◌++◌, flat_map}
 use mir.Val.{bool_byte}
-use lib.ListN.{get_or, set, length, take, length-set}
-use lib.Seq.{take-suc-set, take-set-le}
+use lib.ListN.{set, length, take, length-set}
+use lib.Seq.{take-suc-set}
 use Rattle.std.specs.List.{range_with_len}
 use Rattle.lists.specs.Lists.{every}
 use Rattle.records.specs.Buffer.{record_of, records_at, put_record}

@@ -12,7 +12,7 @@ ghost use Rattle.boundary_groups.specs.Staged.{edge_in, keyed_edges, GroupRoom, 
 use components::{components, tally};
 use records::{put_record, run_end};
 use sorting::sort_records;
-use words::{pair_first, pair_second, zero};
+use words::{unpack_pair, zero};
 
 // The ends of the open edges, smaller first, by their records.
 fn put_ends(records: &[u64], ends: &mut [u64])
@@ -20,8 +20,7 @@ fn put_ends(records: &[u64], ends: &mut [u64])
     ensures { PairsPut (edge_in records.now) ends.new (length ends.old / 2) }
 {
     for i in 0..ends.len() / 2 {
-        let key = records[2 * i];
-        put_record(ends, 2 * i, (pair_first(key), pair_second(key)));
+        put_record(ends, 2 * i, unpack_pair(records[2 * i]));
     }
 }
 
@@ -38,7 +37,7 @@ fn number_records(numbers: &[u64], records: &mut [u64])
 // The ends of the edges in the order of the records.
 fn put_grouped(records: &[u64], ends: &[u64], edges: &mut [u64])
     requires by_index { (j : ℕ) → j < length edges.old / 2 → get_or records.now (2 * j + 1) 0 < length ends.now / 2 }
-    requires long { length edges.old ≤ length records.now }
+    requires long { (length edges.old ≤ length records.now) × (length edges.old ≤ length ends.now) }
     ensures { PairsPut (λ (j : ℕ). pair_at ends.now (get_or records.now (2 * j + 1) 0)) edges.new (length edges.old / 2) }
 {
     for j in 0..edges.len() / 2 {

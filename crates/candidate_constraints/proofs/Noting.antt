@@ -1,5 +1,5 @@
 -- `note_places`: what its loop keeps, as it starts, one turn, and its end; and that later stores leave the places. Assumes nothing.
---   Noting, noting_named, noting_end; noted_low
+--   Noting, noting_named, noting_end; noted_low   the loop
 --   member_low, place_low, noted_place, placed_same          after it
 use Prim.Native.Nat.{ℕ, ◌+◌, ◌≤◌, ◌<◌}
 use mathlib.Core.Bool.{true}

@@ -8,6 +8,9 @@ ghost use Rattle.candidate_grids.specs.Steps.{
   Gridded,
   SegmentIn,
   SegmentAt,
+  start_at,
+  end_at,
+  double,
   hit_at,
   skips_near,
   SegmentPut,
@@ -32,7 +35,7 @@ ghost use Rattle.candidate_grids.specs.Steps.{
 use box_faces::faces::{FaceMask, project, uv_axes};
 use box_faces::lines::{axis_grid_coordinate, point_on_face};
 use box_faces::segments::{point_on_segment2, segment_bound};
-use box_faces::uv::Uv;
+use box_faces::uv::{Side, Uv};
 use candidate_pool::pool::{insert_grid_point, point_of};
 use candidate_pool::room::Room;
 use geometry::face::{Axis, BOX_FACES, BoxFace};
@@ -56,15 +59,45 @@ pub struct Row {
     pub inner: bool,
 }
 
-fn put_segment(w: &mut [u64], at: usize, a: Uv, b: Uv, bound: f64)
-    requires { (at + 5 ≤ length w.old) × SegmentIn a b bound }
-    ensures { SegmentPut at a b bound w.old w.new }
-{
-    w[at] = f64::to_bits(a.u);
-    w[at + 1] = f64::to_bits(a.v);
-    w[at + 2] = f64::to_bits(b.u);
-    w[at + 3] = f64::to_bits(b.v);
-    w[at + 4] = f64::to_bits(bound);
+// An open edge in a face's plane, and the bound that its length gives (`segment_bound`).
+#[derive(Clone, Copy)]
+struct Segment {
+    side: Side,
+    bound: f64,
+}
+
+impl Segment {
+    // As five words from `at` on.
+    fn write(self, w: &mut [u64], at: usize)
+        requires { (at + 5 ≤ length w.old) × SegmentIn self.side.start self.side.end self.bound }
+        ensures { SegmentPut at self.side.start self.side.end self.bound w.old w.new }
+    {
+        w[at] = f64::to_bits(self.side.start.u);
+        w[at + 1] = f64::to_bits(self.side.start.v);
+        w[at + 2] = f64::to_bits(self.side.end.u);
+        w[at + 3] = f64::to_bits(self.side.end.v);
+        w[at + 4] = f64::to_bits(self.bound);
+    }
+
+    // Stays (plainer), point 5: that a segment's five words stand in the room is a fact of a place, which is read once in each of the three.
+    fn read(w: &[u64], at: usize) -> Segment
+        requires { (at + 5 ≤ length w.now) × SegmentAt w.now at }
+        ensures { (result.side.start ≡ start_at w.now at) × (result.side.end ≡ end_at w.now at) × (result.bound ≡ double w.now (at + 4)) }
+    {
+        Segment {
+            side: Side {
+                start: Uv {
+                    u: f64::from_bits(w[at]),
+                    v: f64::from_bits(w[at + 1]),
+                },
+                end: Uv {
+                    u: f64::from_bits(w[at + 2]),
+                    v: f64::from_bits(w[at + 3]),
+                },
+            },
+            bound: f64::from_bits(w[at + 4]),
+        }
+    }
 }
 
 // Stores the open edge at `edge`, projected to the face, with its bound.
@@ -75,7 +108,11 @@ fn gather_segment(w: &mut [u64], at: usize, edge: usize, face: BoxFace, toleranc
     let a = project(face, point_of(w, CandidateVertexId(w[edge] as usize)));
     let b = project(face, point_of(w, CandidateVertexId(w[edge + 1] as usize)));
     let bound = segment_bound(tolerance, a, b);
-    put_segment(w, at, a, b, bound);
+    let segment = Segment {
+        side: Side { start: a, end: b },
+        bound,
+    };
+    segment.write(w, at);
 }
 
 // The open edges of a face; how many they are.
@@ -99,15 +136,8 @@ fn is_on_segment(w: &[u64], at: usize, p: Uv, tolerance: f64) -> bool
     requires { (at + 5 ≤ length w.now) × SegmentAt w.now at }
     ensures { result ≡ hit_at w.now at tolerance p }
 {
-    let a = Uv {
-        u: f64::from_bits(w[at]),
-        v: f64::from_bits(w[at + 1]),
-    };
-    let b = Uv {
-        u: f64::from_bits(w[at + 2]),
-        v: f64::from_bits(w[at + 3]),
-    };
-    point_on_segment2(p, a, b, f64::from_bits(w[at + 4]), tolerance)
+    let s = Segment::read(w, at);
+    point_on_segment2(p, s.side.start, s.side.end, s.bound, tolerance)
 }
 
 // "lies on an open edge there"

@@ -1,5 +1,5 @@
 -- The room before any corner is entered. Assumes nothing.
---   copy_more   the loop that copies the candidates' mesh vertices
+--   copy_more   one more turn of the loop that copies the candidates' mesh vertices
 --   entering_first          the numbers given out then
 --   named_first             those of the definition
 --   point_of_is             the point of a candidate

@@ -1,6 +1,6 @@
 -- The loop from run to run that marks the first record of each key. Assumes nothing.
 --   Marking, marking_start, marking_turn, marking_end   the records before i are marked
---   put_long, put_below                     what the stores ask, and leave
+--   put_long, put_below                     what the stores leave
 use Prim.Native.Nat.{ℕ, zero, suc, ◌+◌, ◌*◌, ◌-◌, ◌≤◌, ◌<◌}
 use mathlib.Core.Path.{◌≡◌, refl, sym, ap, ◌∙◌}
 use mathlib.Core.Bool.{Bool, true, false, cond}

@@ -1,5 +1,5 @@
 -- Words of faces to which faces are added: one face, those of a word, and one word after another. Assumes nothing.
---   added_new          add_face: the face was there, or its bit is added
+--   added_new          add_face: the bit of a new face is added
 --   adding_start, adding_skip, adding_turn, adding_end     add_faces: those below `face` are added
 --   noted_start, noted_turn         note_edges, note_sides: the first i are noted
 use Prim.Native.Nat.{ℕ, ◌+◌, ◌*◌, ◌^◌, ◌%◌, ◌≤◌, ◌<◌}

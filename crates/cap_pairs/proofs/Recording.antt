@@ -1,5 +1,5 @@
 -- Records of pairs, written one after the other; and the numbers that number_records gives out. Assumes nothing.
---   recording_turn       put_edges and put_sides: the first i records are written
+--   recording_turn       put_sides: one more record is written
 --   Numbering, numbering_turn     number_records: the records before i have their number
 use Prim.Native.Nat.{ℕ, ◌+◌, ◌*◌, ◌≤◌, ◌<◌}
 use mathlib.Core.List.{List}

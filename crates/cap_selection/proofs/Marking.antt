@@ -1,6 +1,6 @@
 -- The loop that marks the components of seeds. Assumes nothing.
 --   Marking        of the first i triangles the seeds' components are marked
---   mark_start, mark_turn   no triangle, one more, all of them
+--   mark_start, mark_turn   no triangle, and one more
 use Prim.Native.Nat.{ℕ, ◌+◌, ◌*◌, ◌≤◌, ◌<◌}
 use native.Mathlib.Omega.{arith}
 use mathlib.Core.Path.{◌≡◌, refl, sym, ap, ◌∙◌, subst}

@@ -2,7 +2,7 @@
 --   GoodCap        a face of the box; three different candidates, each in the face's list
 --   not_bad        no triangle of such a list is one that 10 names
 --   good_cap       each is a GoodCap
---   good_face   its face, which is not below the one before it
+--   good_face      its face
 --   good_outward   and so is one turned outward
 --   turned_corners, good_turned, turned_low   the same of the triangles that stand turned in the room
 use Prim.Native.Nat.{ℕ, ◌+◌, ◌-◌, ◌*◌, ◌/◌, ◌<◌}

@@ -5,7 +5,7 @@
 --   ItemLabels           what the finder asks of the labels: k of each item, all below m
 --   FirstWith            v is the first item with the label q, plus one; 0 if none has it
 --   ComponentTable       what the finder leaves in the buffer: numbers, sizes, first items; and all else as it was
-use Rattle.std.specs.Prelude.{ℕ, ◌+◌, ◌*◌, ◌/◌, ◌≤◌, ◌<◌, ◌≡◌, List, eqb, get_or, length}
+use Rattle.std.specs.Prelude.{ℕ, ◌+◌, ◌*◌, ◌/◌, ◌<◌, ◌≡◌, List, eqb, get_or, length}
 use Rattle.lists.specs.Lists.{count}
 use Rattle.lists.specs.Regions.{view, Outside}
 use Rattle.components.specs.Joined.{SharedLabel, LeastJoined}

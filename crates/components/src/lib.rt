@@ -11,8 +11,7 @@ ghost use Rattle.components.specs.Table.{ItemLabels, ComponentTable};
 ghost use Rattle.components.specs.Forest.{Forest, RootFound, RootOf, Flattened, LabelEntered, Swept, SizesTallied};
 
 // The root of x's tree, with the path to it halved.
-// Stays (plainer), point 5: `Forest links (length links)` of enter and flatten, ItemLabels of join_item, join and components too: a struct of the links lent for writing would be made
-// anew for each call, and says no more than the slice.
+// Stays (plainer), point 5: `Forest links (length links)` of enter and flatten too: a struct of the links, which are lent for writing, would be made anew for each call.
 fn find(links: &mut [u64], x: usize) -> usize
     requires x_in { x < length links.old }
     requires forest { Forest links.old (length links.old) }
@@ -88,6 +87,7 @@ pub fn tally(numbers: &[u64], sizes: &mut [u64])
 }
 
 // Enters the labels of item i, of the k an item.
+// Stays (plainer), point 5: ItemLabels of join and components too: it says of labels that they fit the table's first items, which are lent for writing beside them.
 fn join_item(labels: &[u64], k: usize, links: &mut [u64], firsts: &mut [u64], i: usize)
     requires item_labels { ItemLabels labels.now (length links.old) k (length firsts.old) }
     requires i_in { i < length links.old }

@@ -16,13 +16,13 @@ use Rattle.lists.specs.Lists.{some, keep, count, sort_by}
 use Rattle.lists.specs.Order.{AtMost}
 use Rattle.lists.proofs.Counts.{keep_same}
 use Rattle.lists.proofs.Mapped.{Pairwise, Agree, each_of, pairwise_of, pairwise_at, pairwise_map, pairwise_keep, pairwise_sort_by, map_sort_by, mem_sort_by, sort_by_mem}
-use Rattle.lists.proofs.Members.{keep_of, of_keep, some_of, of_some, get_d_mem, mem_get_d}
+use Rattle.lists.proofs.Members.{keep_of, of_keep, some_of, get_d_mem, mem_get_d}
 use Rattle.lists.proofs.Multiplicity.{more, count_cons}
-use Rattle.lists.proofs.Orders.{cases, never, ascending_before}
+use Rattle.lists.proofs.Orders.{cases, ascending_before}
 use Rattle.lists.proofs.SortBy.{ascending_sort_by}
 use Rattle.lists.proofs.Bools.{yes, both_ways}
 use Rattle.records.specs.Records.{record_before}
-use Rattle.records.proofs.Comparing.{Lex, record_cases, record_order, lex_before}
+use Rattle.records.proofs.Comparing.{record_order}
 use Rattle.geometry.specs.Triangles.{Triangle, threes}
 use Rattle.edges.specs.Edges.{sides, sorted_pair, same_pair, bearers, is_open, pair_before, open_edges}
 use Rattle.edges.proofs.Sides.{Small, sides_small}

@@ -20,7 +20,7 @@ use Rattle.lists.proofs.Counts.{keep_same}
 use Rattle.lists.proofs.Mapped.{Each, Pairwise, Agree, each_of, each_map, each_sort_by, each_keep, pairwise_keep, map_keep, map_sort_by}
 use Rattle.lists.proofs.Members.{of_keep}
 use Rattle.lists.proofs.Multiplicity.{count_sort_by, keep_sort_by}
-use Rattle.lists.proofs.SortBy.{length_sort_by, ascending_sort_by, sort_by_ascending}
+use Rattle.lists.proofs.SortBy.{ascending_sort_by, sort_by_ascending}
 use Rattle.lists.proofs.Bools.{last_false}
 use Rattle.records.specs.Records.{record_before}
 use Rattle.records.proofs.Comparing.{record_order}

@@ -11,9 +11,9 @@ use mathlib.Core.Path.{◌≡◌, refl, sym, ap, subst, ◌∙◌}
 use native.Mathlib.Omega.{arith}
 use borrow.Author.Tests.{eq-eqb, ne_eqb}
 use lib.Dec.{eqb}
-use lib.ListN.{length, get_or, take, drop, length-take, length-drop, length-map, take-append-drop}
+use lib.ListN.{length, get_or, take, drop, length-take, length-drop, take-append-drop}
 use lib.Seq.{ext_get_or, get_or-take, get_or-drop, length-take-le}
-use Rattle.lists.specs.Lists.{keep, sort_by, up_to}
+use Rattle.lists.specs.Lists.{keep, up_to}
 use Rattle.lists.specs.Order.{Ascending}
 use Rattle.lists.proofs.Counts.{keep_append, count_places}
 use Rattle.lists.proofs.Mapped.{Each, each_places, each_at, keep_all, keep_none}
@@ -24,10 +24,10 @@ use Rattle.records.specs.Records.{records, record_before}
 use Rattle.records.proofs.Comparing.{record_order, at_most_key}
 use Rattle.records.proofs.Records.{length_records_at, records_at_get, length_records, records_get}
 use Rattle.geometry.specs.Triangles.{threes}
-use Rattle.edges.specs.Edges.{sides, same_pair, bearers, pair_before}
-use Rattle.edges.specs.Table.{edge_key, side_of, bearing, EdgeTable}
-use Rattle.edges.proofs.Sides.{Small, length_sides, sides_small}
-use Rattle.edges.proofs.Rows.{Row, table_rows, table_ascends, table_sides, table_bearing}
+use Rattle.edges.specs.Edges.{sides, same_pair, bearers}
+use Rattle.edges.specs.Table.{edge_key, bearing, EdgeTable}
+use Rattle.edges.proofs.Sides.{Small, sides_small}
+use Rattle.edges.proofs.Rows.{Row, table_rows, table_ascends, table_bearing}
 
 pub length_bearing : (l : List (ℕ × ℕ)) (s : ℕ × ℕ) → length (bearing l s) ≡ bearers l s
 length_bearing l s =

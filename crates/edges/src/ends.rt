@@ -13,6 +13,7 @@ pub fn next_side(side: usize) -> usize
     if side % 3 == 2 { side - 2 } else { side + 1 }
 }
 
+// Stays (plainer), point 5: `side < length facets` of edge_to and side_key too: each is of one side.
 pub fn edge_from(facets: &[u32], side: usize) -> u32
     requires { (length facets.now % 3 ≡ 0) × (side < length facets.now) }
     ensures { result ≡ (get_or (sides (threes facets.now)) side (0, 0)).0 }

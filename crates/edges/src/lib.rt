@@ -1,7 +1,6 @@
 // The sides of facets: the edge table, which is all sides sorted by their pair of ends, and the open edges in ascending order of their pair.
 // Side s of a list of facets runs from the corner facets[s] to the next corner of its facet.
-// Stays (plainer), point 5: `length facets % 3 ≡ 0` of the functions over facets, and `side < length facets` of those over a side: C lends the facets as numbers, and a struct
-// with that fact would be made and opened again at each of the operations.
+// Stays (plainer), point 5: `length facets % 3 ≡ 0` of the functions over facets: C lends the facets as numbers, and a struct with that fact would be made at each of the operations.
 #![tactic(auto)]
 
 mod ends;

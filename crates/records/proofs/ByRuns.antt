@@ -10,12 +10,10 @@ use mathlib.Core.Bool.{Bool, true, false, cond, ◌||◌}
 use mathlib.Core.List.{List, [], ◌∷◌, ◌++◌, map}
 use mathlib.Core.Logic.{◌⊎◌, inl, inr, ⊎_elim}
 use mathlib.Core.Path.{◌≡◌, refl, sym, ap, subst, ◌∙◌}
-use native.Mathlib.Decide.{ℕ_discrete}
 use native.Mathlib.Omega.{arith}
 use borrow.Author.Tests.{eqb-true, eqb-false, eq-eqb, ne_eqb}
 use lib.Dec.{eqb}
-use lib.ListN.{length, get_or, set, length-set}
-use lib.Seq.{get_or-set_same, get_or-set_other}
+use lib.ListN.{length, get_or}
 use Rattle.lists.specs.Lists.{some, distinct, distinct_from}
 use Rattle.lists.specs.Order.{AtMostAll, Ascending}
 use Rattle.lists.proofs.Mapped.{Each, each_map, each_places}
@@ -175,7 +173,6 @@ module _ (m : List ℕ) (at n i e : ℕ) (r : Run m at n i e) (p : KeysPart m at
 
 -- ---- a word by the payload of each record
 module _ (m₀ : List ℕ) (at to i x : ℕ) where
-
   module _ (m : List ℕ) (e : ℕ) (r : PayloadsPut m₀ m at to i e x) (begun : i ≤ e) (behind : at + 2 * e + 1 < to) where
     -- the records stand before the words
     pub payload_now : payload_in m at e ≡ payload_in m₀ at e

@@ -5,7 +5,6 @@ ghost use Rattle.records.specs.Buffer.{payload_in};
 ghost use Rattle.records.specs.Runs.{Run, PayloadsPut};
 
 // The end of the run that record i begins: the next record with another key, or the end of all n.
-// Stays (plainer), point 5: `at + 2 * n ≤ length m` of count, ascends and greatest too: each is handed n records from `at` on, and each asks that they are there.
 pub fn run_end(m: &[u64], at: usize, n: usize, i: usize) -> usize
     requires { (i < n) × (at + 2 * n ≤ length m.now) }
     ensures { Run m.now at n i result }

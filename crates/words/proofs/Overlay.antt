@@ -19,7 +19,6 @@ use lib.Seq.{get_or-take, get_or-drop, length-take-le, take-append_seam, drop-ap
 use Rattle.words.specs.Overlay.{overlay}
 
 module _ {A : Type 0} where
-
   pub overlay_whole : (new old : List A) → length old ≤ length new → overlay new old ≡ new
   overlay_whole new old h = ap (λ (l : List A). new ++ l) (drop_of_length-le old {i = length new} h) ∙ append-nil new
 
@@ -62,7 +61,6 @@ module _ {A : Type 0} where
 
 -- ---- zeros
 module _ (n : ℕ) (w v : List ℕ) (i : ℕ) (k : Writing (replicate n 0) w v i) where
-
   pub zero_end : n ≤ i → v ≡ overlay (replicate n 0) w
   zero_end h = writing_end (replicate n 0) w v i k (rw (length-replicate {A = ℕ} n 0) h)
 

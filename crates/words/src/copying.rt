@@ -1,4 +1,4 @@
-// Copies to the front of an output, and stores that happen only where there is room.
+// Copies to the front of an output, three elements in a row, and stores that happen only where there is room.
 ghost use Rattle.std.specs.Prelude.{◌≡◌, [], ◌∷◌, ◌+◌, ◌<◌, ◌≤◌, length, set};
 ghost use Rattle.std.proofs.lemmas.List.Edits.{sets};
 ghost use Rattle.words.specs.Overlay.{overlay};

@@ -8,7 +8,5 @@ mod parts;
 
 pub use clearing::zero;
 pub use copying::{copy_front, put, write_three};
-pub use packing::{
-    pack_edge, pack_pair, pack_triple, pair_first, pair_second, unpack_pair, unpack_triple,
-};
+pub use packing::{pack_edge, pack_pair, pack_triple, unpack_pair, unpack_triple};
 pub use parts::zero_part;

@@ -11,18 +11,6 @@ pub fn pack_pair(a: u64, b: u64) -> u64
     a * 4294967296 + b
 }
 
-pub fn pair_first(key: u64) -> u64
-    ensures { result ≡ pair_first key }
-{
-    key / 4294967296
-}
-
-pub fn pair_second(key: u64) -> u64
-    ensures { result ≡ pair_second key }
-{
-    key % 4294967296
-}
-
 // The two numbers of a pair.
 pub fn unpack_pair(key: u64) -> (u64, u64)
     ensures { result ≡ (pair_first key, pair_second key) }

@@ -1,5 +1,6 @@
 // Clearing of a part of a lent buffer, for tables that share one.
-// Stays (C interface), point 6: tables stand in one lent buffer, each from a place on, since C lends one buffer and there is no heap.
+// Stays (C interface), point 6: tables stand in one lent buffer, each from a place on, since C lends one buffer and there is no heap. What a caller needs is said of the whole buffer:
+// the part is zero and the rest as it was.
 ghost use Rattle.std.specs.Prelude.{◌+◌, ◌≤◌, length};
 ghost use Rattle.lists.specs.Regions.{PartZeroed};
 

@@ -2,7 +2,7 @@ use Prim.Native.Nat.{ℕ, ◌+◌, ◌*◌, ◌/◌}
 use native.Mathlib.Omega.{arith}
 use mathlib.Core.Path.{◌≡◌, refl, sym, ap, subst, subst₂, ◌∙◌}
 use mathlib.Core.List.{List}
-use lib.ListN.{get_or, length, drop, length-replicate, get_or-replicate}
+use lib.ListN.{get_or, length, drop, get_or-replicate}
 use lib.Seq.{drop-drop, length-take-le}
 use Rattle.lists.proofs.Places.{at_up}
 use Rattle.components.specs.Table.{ItemLabels}

@@ -1,6 +1,5 @@
-use Prim.Native.Nat.{ℕ, ◌≤◌}
 use native.Mathlib.Omega.{arith}
-use mathlib.Core.Path.{◌≡◌, sym, subst, ◌∙◌}
+use mathlib.Core.Path.{sym, ◌∙◌}
 use lib.ListN.{length}
 use Rattle.lists.specs.Lists.{up_to}
 use Rattle.lists.proofs.Places.{length_up, at_up}

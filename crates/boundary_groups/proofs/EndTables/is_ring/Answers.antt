@@ -1,4 +1,4 @@
-use Rattle.std.proofs.Common.{rules, tests, ◌+◌, ◌*◌, ◌-◌}
+use Rattle.std.proofs.Common.{rules, tests, ◌*◌, ◌-◌}
 use Prim.Native.Nat.{ℕ}
 use mathlib.Core.Path.{refl, ◌∙◌}
 use Rattle.std.proofs.lemmas.Iterator.{YieldsList-from_range}

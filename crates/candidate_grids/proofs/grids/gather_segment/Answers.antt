@@ -18,9 +18,9 @@ segment_bound-bound-requires c =
     let B = second-in p in
     edge_in_lem _ _ (search rules) (search rules)
 
-pub put_segment-requires : goal.put_segment-requires
-put_segment-requires c =
-    let p = (goal.at.put_segment-requires c).After-project-b in
+pub write-requires : goal.write-requires
+write-requires c =
+    let p = (goal.at.write-requires c).After-project-b in
     let A = first-in p in
     let B = second-in p in
     (c.requires.size, segment_in _ _ _ A B (bound_in _ _ (search rules) (search rules) _ _ c.segment_bound-bound.ensures c.requires.tolerance_in))
@@ -33,4 +33,4 @@ returns c =
     let e = c.segment_bound-bound.ensures in
     gathered _ _ _ _ _ _ _ _ _ _ _ c.point_of.ensures c.point_of-2.ensures c.project-a.ensures
     c.project-b.ensures e
-    (segment_in _ _ _ A B (bound_in _ _ A B _ _ e c.requires.tolerance_in)) c.put_segment.ensures
+    (segment_in _ _ _ A B (bound_in _ _ A B _ _ e c.requires.tolerance_in)) c.write.ensures

@@ -1,8 +1,7 @@
 use Prim.Native.Nat.{ℕ}
 use mathlib.Core.Path.{sym, ap, ◌∙◌}
-use native.Mathlib.Omega.{arith}
-use lib.ListN.{length, get_or}
-use Rattle.edges.proofs.Sides.{next_in, side_at_lem}
+use lib.ListN.{get_or}
+use Rattle.edges.proofs.Sides.{side_at_lem}
 use Rattle.edges.proofs.ends.edge_to.Goals as goal
 
 pub returns : goal.returns

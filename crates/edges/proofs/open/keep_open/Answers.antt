@@ -1,6 +1,4 @@
-use Rattle.edges.proofs.Running.{keeping_start, keeping_turn, keeping_end, flag_small}
-use Prim.Native.Nat.{◌+◌}
-use lib.Dec.{eqb}
+use Rattle.edges.proofs.Running.{keeping_start, keeping_turn, keeping_end}
 use native.Mathlib.Omega.{arith}
 use Rattle.edges.proofs.open.keep_open.Goals as goal
 

@@ -1,5 +1,5 @@
 use native.Mathlib.Omega.{arith}
-use Rattle.edges.proofs.Running.{listing_start, listing_turn, listing_end}
+use Rattle.edges.proofs.Running.{listing_turn, listing_end}
 use Rattle.edges.proofs.table.side_records.Goals as goal
 
 pub loop-side-preserved : goal.loop-side-preserved

@@ -1,7 +1,7 @@
 use Prim.Native.Nat.{ℕ}
 use mathlib.Core.Path.{◌≡◌, subst}
 use Rattle.records.specs.Runs.{Run}
-use Rattle.records.proofs.ByRuns.{same_start, same_more, run_cut}
+use Rattle.records.proofs.ByRuns.{run_cut}
 use native.Mathlib.Omega.{arith}
 use Rattle.records.proofs.runs.run_end.Goals as goal
 

@@ -12,7 +12,7 @@ enter-requires-clause-b_bound c =
     let l = c.loop-i in
     let s = c.args in
     words_tail s.keys.now s.self.chains.at s.self.chains.nb _ l.m l.i (omega arith) l.invariant (omega arith) _
-          c.bucket-b.ensures.low
+    c.bucket-b.ensures.low
 
 pub loop-i-preserved : goal.loop-i-preserved
 loop-i-preserved c =

@@ -1,8 +1,6 @@
-use mathlib.Core.Path.{sym, subst}
-use lib.Dec.{T}
 use Rattle.root.proofs.Patterns.{no_nan}
 use Rattle.candidate_grids.proofs.Segmenting.{segment_put}
-use Rattle.candidate_grids.proofs.grids.put_segment.Goals as goal
+use Rattle.candidate_grids.proofs.grids.Segment.write.Goals as goal
 
 pub float_to_bits-w : goal.float_to_bits-w
 float_to_bits-w c = no_nan _ c.requires.1.au
@@ -21,5 +19,5 @@ float_to_bits-w-5 c = no_nan _ c.requires.1.bound_in
 
 pub returns : goal.returns
 returns c =
-    segment_put _ _ _ _ _ c.requires.0 c.struct_known-1.given.0 c.struct_known-1.given.1.0
-    c.struct_known-4-1.given.0 c.struct_known-4-1.given.1.0 (subst T (sym c.well_formed.1.1.1.1.0.1) tt)
+    let side = c.struct_known-1.given.0 in
+    segment_put _ _ _ _ _ c.requires.0 side.0.0 side.0.1.0 side.1.0.0 side.1.0.1.0 c.struct_known-1.given.1.0
