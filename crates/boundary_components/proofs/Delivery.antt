@@ -70,6 +70,7 @@ module _ (vertices : ℕ) (fs w w' : List ℕ) (k c q : ℕ) (ready : Ready vert
             → i' ≡ overlay (view w' (4 * length fs) (2 * q)) i
             → Answer [] (boundary_outputs (threes fs) e e' p p' i i') (documented_reply (Ok (2 * k ∷ 2 * c ∷ 2 * q ∷ [])))
         written e' p' i' fi a b d =
-            done (output edges_out e e' ∷ output components_out p p' ∷ output irregular_out i i' ∷ []) (2 * k ∷ 2 * c ∷ 2 * q ∷ []) (λ t. edges_long t ∷ components_long t ∷ irregular_long t ∷ [])
+            done (output edges_out e e' ∷ output components_out p p' ∷ output irregular_out i i' ∷ []) (2 * k ∷ 2 * c ∷ 2 * q ∷ [])
+            (λ t. edges_long t ∷ components_long t ∷ irregular_long t ∷ [])
             (omega (arith, fe, edges_long), (omega (arith, fp, components_long), (omega (arith, fi, irregular_long), tt)))
             (a ∙ ap (λ (x : List ℕ). overlay x e) l.edges, (b ∙ ap (λ (x : List ℕ). overlay x p) l.groups, (d ∙ ap (λ (x : List ℕ). overlay x i) l.irregulars, tt)))

@@ -31,7 +31,8 @@ module _ (p : ℕ → Bool) where
       let b5 : r5 ≡ face_bits (keep p (5 ∷ [])) = e5 ∙ sym (add-zero (cond (p 5) 32 0)) ∙ bits_step 5 [] (p 5) in
       let b4 : r4 + r5 ≡ face_bits (keep p (4 ∷ 5 ∷ [])) = ap (λ k. k + r5) e4 ∙ ap (λ k. cond (p 4) 16 0 + k) b5 ∙ bits_step 4 (5 ∷ []) (p 4) in
       let b3 : r3 + (r4 + r5) ≡ face_bits (keep p (3 ∷ 4 ∷ 5 ∷ [])) = ap (λ k. k + (r4 + r5)) e3 ∙ ap (λ k. cond (p 3) 8 0 + k) b4 ∙ bits_step 3 (4 ∷ 5 ∷ []) (p 3) in
-      let b2 : r2 + (r3 + (r4 + r5)) ≡ face_bits (keep p (2 ∷ 3 ∷ 4 ∷ 5 ∷ [])) = ap (λ k. k + (r3 + (r4 + r5))) e2 ∙ ap (λ k. cond (p 2) 4 0 + k) b3 ∙ bits_step 2 (3 ∷ 4 ∷ 5 ∷ [])
+      let b2 : r2 + (r3 + (r4 + r5)) ≡ face_bits (keep p (2 ∷ 3 ∷ 4 ∷ 5 ∷ [])) = ap (λ k. k + (r3 + (r4 + r5))) e2 ∙ ap (λ k. cond (p 2) 4 0 + k) b3 ∙
+      bits_step 2 (3 ∷ 4 ∷ 5 ∷ [])
       (p 2) in
       let b1 : r1 + (r2 + (r3 + (r4 + r5))) ≡ face_bits (keep p (1 ∷ 2 ∷ 3 ∷ 4 ∷ 5 ∷ [])) = ap (λ k. k + (r2 + (r3 + (r4 + r5)))) e1 ∙ ap (λ k. cond (p 1) 2 0 + k) b2 ∙ bits_step 1
       (2 ∷ 3 ∷ 4 ∷ 5 ∷ []) (p 1) in

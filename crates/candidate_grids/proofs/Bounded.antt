@@ -46,7 +46,8 @@ parts_at_least : (n : ℕ) → 1 ≤ n → n ≤ 256 → AtLeast (2 ^ 0) (of_int
 unfolding of_int
 parts_at_least n a b = whole_at_least _ n (held_small binary64 n (le_trans b (lit≤ tt))) a
 
-pub line_in : (box : AABB) (k parts i : ℕ) → box_in_range box ≡ true → k < 3 → 1 ≤ parts → parts ≤ 256 → i ≤ 256 → Within (2 ^ 48) (line_at (lowest box k) (highest box k) parts i)
+pub line_in : (box : AABB) (k parts i : ℕ) → box_in_range box ≡ true → k < 3 → 1 ≤ parts → parts ≤ 256 → i ≤ 256 →
+    Within (2 ^ 48) (line_at (lowest box k) (highest box k) parts i)
 unfolding line_at
 line_in box k parts i e h some few j = go (eqb i parts)
   where

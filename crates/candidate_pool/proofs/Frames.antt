@@ -23,7 +23,8 @@ use Rattle.candidate_pool.proofs.Putting.{key_same}
 use Rattle.candidate_pool.proofs.Placing.{table_kept, point_same, stored_same}
 
 -- it may end before its n-th word
-pub view_kept : (u w : List ℕ) (o n m : ℕ) → length w ≡ length u → length (view u o n) ≤ m → ((i : ℕ) → i < m → get_or w (o + i) 0 ≡ get_or u (o + i) 0) → view w o n ≡ view u o n
+pub view_kept : (u w : List ℕ) (o n m : ℕ) → length w ≡ length u → length (view u o n) ≤ m → ((i : ℕ) → i < m → get_or w (o + i) 0 ≡ get_or u (o + i) 0) →
+    view w o n ≡ view u o n
 view_kept u w o n m long few same =
     let e : length (view w o n) ≡ length (view u o n) = cut w ∙ ap (λ (x : ℕ). min n (x - o)) long ∙ sym (cut u) in
     ext_get_or 0 (view w o n) (view u o n) e

@@ -57,7 +57,8 @@ pub pool_list : (n : ℕ) (w : List ℕ) (f : ℕ) → f < 6 → face_list (pool
 unfolding pool_at
 pool_list n w f h = at_faces (λ f. view w (list_at n f) (get_or w f 0)) [] f h
 
-pub all_is : (w : List ℕ) (l : List Candidate) → length l ≡ count_at w → ((c : ℕ) → c < count_at w → candidate_at w c ≡ get_or l c no_candidate) → map (candidate_at w) (up_to (count_at w))
+pub all_is : (w : List ℕ) (l : List Candidate) → length l ≡ count_at w → ((c : ℕ) → c < count_at w → candidate_at w c ≡ get_or l c no_candidate) →
+    map (candidate_at w) (up_to (count_at w))
     ≡ l
 all_is w l long same =
     ext_get_or no_candidate (map (candidate_at w) (up_to (count_at w))) l (count ∙ sym long)

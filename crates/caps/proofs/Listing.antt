@@ -33,7 +33,8 @@ use Rattle.caps.specs.Steps.{edges_in, CapsChecked, Listable}
 pub pooled : (eps : Float) (n : ℕ) (w : List ℕ) → Holds eps n w → Pooled n w
 pooled eps n w H = record { size = H.size; few = H.table.few; stored = H.stored; masks = H.masks; tidy = H.tidy }
 
-pub supplied : (eps : Float) (vs : List Float) (fs cap_list : List ℕ) (n : ℕ) (w w' : List ℕ) → n ≤ 464920 → length fs / 3 ≤ 65536 → Listable vs fs cap_list n w → length w' ≡ length
+pub supplied : (eps : Float) (vs : List Float) (fs cap_list : List ℕ) (n : ℕ) (w w' : List ℕ) → n ≤ 464920 → length fs / 3 ≤ 65536 → Listable vs fs cap_list n w →
+    length w' ≡ length
     w → Holds eps n w'
     → Supplied n (length fs / 3) cap_list w'
 supplied eps vs fs cap_list n w w' small few L e H =

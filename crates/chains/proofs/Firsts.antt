@@ -128,7 +128,8 @@ pub first_link_to : {A : Type 0} (p : A → Bool) (d : A) (l : List A) (v : ℕ)
 first_link_to p d l v f = first_unique (λ k. T (p (get_or l k d))) 0 (length l) v (link_to p l) f (link_to_first p d l)
 
 -- the first of l that passes is the first place whose element passes
-pub link_to_places : {A : Type 0} (p : A → Bool) (d : A) (l : List A) (t : ℕ → Bool) → ((i : ℕ) → i < length l → t i ≡ p (get_or l i d)) → link_to t (up_to (length l)) ≡ link_to p l
+pub link_to_places : {A : Type 0} (p : A → Bool) (d : A) (l : List A) (t : ℕ → Bool) → ((i : ℕ) → i < length l → t i ≡ p (get_or l i d)) →
+    link_to t (up_to (length l)) ≡ link_to p l
 link_to_places p d l t same = first_link_to p d l (link_to t (up_to (length l)))
     (first_cong (λ k. T (t (get_or (up_to (length l)) k 0))) (λ k. T (p (get_or l k d))) 0 (length l) _
     (λ k h x. subst T (ap t (at_up 0 (length l) k h ∙ omega arith) ∙ same k h) x)

@@ -141,7 +141,8 @@ module _ (fs : List (Triangle ℕ)) where
         ∙ ascending_before record_before (map sorted_pair (open_edges fs)) i j (0, 0)
         (rw e (ascending_sort_by record_before record_order (map sorted_pair (keep (is_open S) S)))) h (omega (arith, length-map (open_edges fs) sorted_pair))
 
-pub open_small : (f : List ℕ) → length f % 3 ≡ 0 → ((i : ℕ) → get_or f i 0 < 4294967296) → (i : ℕ) → i < length (open_edges (threes f)) → Small (get_or (open_edges (threes f)) i (0, 0))
+pub open_small : (f : List ℕ) → length f % 3 ≡ 0 → ((i : ℕ) → get_or f i 0 < 4294967296) → (i : ℕ) → i < length (open_edges (threes f)) →
+    Small (get_or (open_edges (threes f)) i (0, 0))
 open_small f whole bound i h =
     let s = mem_get_d (0, 0) (open_is_side (threes f) (get_d_mem (open_edges (threes f)) i (0, 0) h)) in
     subst Small s.2 (sides_small f whole bound s.0)

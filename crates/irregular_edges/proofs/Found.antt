@@ -56,7 +56,8 @@ module _ (S : List (ℕ × ℕ)) (small : (i : ℕ) → Small (get_or S i (0, 0)
   irregular_row : (r : ℕ × ℕ) → Row S small 0 r → irregular_in S table r ≡ is_irregular S (side_of S r)
   unfolding irregular_in is_irregular
   irregular_row r u =
-      λ t. ltb 2 (counts (same_record_key r) (same_pair (side_of S r)) (each_map (Row S small 0) (λ q. same_record_key r q ≡ same_pair (side_of S r) (side_of S q)) pair table (table_rows S small)) t)
+      λ t. ltb 2 (counts (same_record_key r) (same_pair (side_of S r))
+      (each_map (Row S small 0) (λ q. same_record_key r q ≡ same_pair (side_of S r) (side_of S q)) pair table (table_rows S small)) t)
       || ltb 1 (counts (same_way S r) (same_side (side_of S r)) (each_map (Row S small 0) (λ q. same_way S r q ≡ same_side (side_of S r) (side_of S q)) way table (table_rows S small)) t)
     where
       pair : (q : ℕ × ℕ) → Row S small 0 q → same_record_key r q ≡ same_pair (side_of S r) (side_of S q)

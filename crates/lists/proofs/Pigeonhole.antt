@@ -55,5 +55,6 @@ below (suc m) l h e =
     lower : (x : ℕ) → T (is_not m x) → x < suc m → x < m
     lower x t a = let d : (m ≡ x → ⊥) = λ q. T_not (eqb m x) t (rw q (eqb_refl x)) in omega arith
 
-pub pigeonhole : (n : ℕ) (l : List ℕ) → ((i j : ℕ) → i < j → j < length l → get_or l i 0 ≡ get_or l j 0 → ⊥) → ((i : ℕ) → i < length l → get_or l i 0 < n) → length l ≤ n
+pub pigeonhole : (n : ℕ) (l : List ℕ) → ((i j : ℕ) → i < j → j < length l → get_or l i 0 ≡ get_or l j 0 → ⊥) →
+    ((i : ℕ) → i < length l → get_or l i 0 < n) → length l ≤ n
 pigeonhole n l once low = below n l (pairwise_places Differ 0 l once) (each_places (λ x. x < n) 0 l low)

@@ -35,7 +35,8 @@ key_parts t u h k e =
 
 -- ---- the same three corners, sorted
 
-sorted_parts : (t : Triangle ℕ) → (get_or (sorted_vertices t) 0 0 ≡ (in_order t).a) × ((get_or (sorted_vertices t) 1 0 ≡ (in_order t).b) × (get_or (sorted_vertices t) 2 0 ≡ (in_order t).c))
+sorted_parts : (t : Triangle ℕ) →
+    (get_or (sorted_vertices t) 0 0 ≡ (in_order t).a) × ((get_or (sorted_vertices t) 1 0 ≡ (in_order t).b) × (get_or (sorted_vertices t) 2 0 ≡ (in_order t).c))
 sorted_parts t =
     let e = sym (sorted_three t.a t.b t.c) in
     (ap (λ (l : List ℕ). get_or l 0 0) e, (ap (λ (l : List ℕ). get_or l 1 0) e, ap (λ (l : List ℕ). get_or l 2 0) e))

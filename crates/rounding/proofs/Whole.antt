@@ -52,7 +52,8 @@ half_few n d h = div-le_of_le-mul (2 * d) (bound n d h)
 
 pub few : (b : ℕ) → b < 1075 * 2 ^ 52 → half_up (pattern_units b) one ≤ 2 ^ 53
 unfolding one
-few b h = half_few (pattern_units b) (2 ^ 1074) (lt_of_le_of_lt (le_of_eq (pattern_is b)) (lt_of_lt_of_le (light (b / 2 ^ 52) (b % 2 ^ 52) (mod-lt b (lit< tt)) (low b h)) (le_of_eq (pow-add 2 52 1074))))
+few b h = half_few (pattern_units b) (2 ^ 1074)
+    (lt_of_le_of_lt (le_of_eq (pattern_is b)) (lt_of_lt_of_le (light (b / 2 ^ 52) (b % 2 ^ 52) (mod-lt b (lit< tt)) (low b h)) (le_of_eq (pow-add 2 52 1074))))
   where
     low : (b : ℕ) → b < 1075 * 2 ^ 52 → b / 2 ^ 52 < 1075
     low b h = omega arith

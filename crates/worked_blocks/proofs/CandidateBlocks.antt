@@ -132,7 +132,8 @@ pub record WorkedBlocks : Type 0 where
   few : reply points_few lone (box_to 0·1 0·1 0·1) +1 +1 ≡ 0 ∷ 10 ∷ 18 ∷ 0 ∷ 36 ∷ []
   -- "the Rust's order puts -0.0 before 0.0": on the side that runs downward the box's corner, place 6, with t -0.0, stands before
   -- place 0, whose t was below 0 and became 0.0: 6 0 2 in that order
-  downward : z_min_pairs (get_or (outputs points_beyond lone (box_to +1 +1 +1) 1e-10 +1) 2 []) ≡ tri 4 0 1 ∷ tri 4 0 2 ∷ tri 4 0 5 ∷ tri 4 0 6 ∷ tri 4 1 2 ∷ tri 4 2 4 ∷ tri 4 3 4 ∷ tri 4
+  downward : z_min_pairs (get_or (outputs points_beyond lone (box_to +1 +1 +1) 1e-10 +1) 2 []) ≡
+      tri 4 0 1 ∷ tri 4 0 2 ∷ tri 4 0 5 ∷ tri 4 0 6 ∷ tri 4 1 2 ∷ tri 4 2 4 ∷ tri 4 3 4 ∷ tri 4
       3 5 ∷ []
   -- "12 candidates"
   c15 : reply points15 (0 ∷ 1 ∷ 2 ∷ 0 ∷ 2 ∷ 3 ∷ []) (box_to +1 +1 +1) 1e-10 +1 ≡ 0 ∷ 60 ∷ 38 ∷ 108 ∷ 12 ∷ []

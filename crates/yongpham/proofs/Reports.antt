@@ -36,7 +36,8 @@ pub tolerance_done : (b : AABB) (t : Result Float Refusal) (eps : Float) (r : �
 tolerance_done b t eps r ws h e k =
     same_reply (0 ∷ to_bits binary64 eps ∷ []) (tolerance_reply b) r ws (sym (ap documented_tolerance e) ∙ h.replied) (record { number = k.0; words = k.1 })
 
-pub tolerance_refused : (b : AABB) (t : Result Float Refusal) (q : Refusal) (r : ℕ) (ws : List ℕ) → Tolerated b t → t ≡ Err q → Reported (documented q) r ws → Reported (tolerance_reply b)
+pub tolerance_refused : (b : AABB) (t : Result Float Refusal) (q : Refusal) (r : ℕ) (ws : List ℕ) → Tolerated b t → t ≡ Err q → Reported (documented q) r ws →
+    Reported (tolerance_reply b)
     r ws
 tolerance_refused b t q r ws h e k = same_reply (documented q) (tolerance_reply b) r ws (sym (ap documented_tolerance e) ∙ h.replied) k
 
@@ -102,9 +103,11 @@ module _ (vs : List Float) (fs cap_list : List ℕ) (q : Asked) (mode ceiling : 
       let x = answered tests outs w w w' (documented n.0) (refused tests outs n.0 e (a, (b, tt))) refl z in
       caps_called (documented n.0) x (same_reply _ (documented n.0) r ws (ap (λ (c : Result (Unit {0}) Refusal). numbered c []) n.1) g)
 
-  pub caps_reported : (x : BoundaryClosure) (m : Result (List ℕ) Refusal) → mode ≤ 2 → x ≡ mode_of mode → Capped vs fs cap_list q x ceiling m w w' v v' f f' → Reported (documented_reply m) r ws
+  pub caps_reported : (x : BoundaryClosure) (m : Result (List ℕ) Refusal) → mode ≤ 2 → x ≡ mode_of mode → Capped vs fs cap_list q x ceiling m w w' v v' f f' →
+      Reported (documented_reply m) r ws
       → CapsCalled vs fs cap_list q mode ceiling r ws w w' v v' f f'
   caps_reported x m h e c g =
       let k = subst (λ (y : BoundaryClosure). Capped vs fs cap_list q y ceiling m w w' v v' f f') e c in
-      let t : caps_tests vs fs cap_list q (mode_of mode) (limits ceiling (length w)) ≡ tests = sym (cond_false (ltb 2 mode) (no_mode_tests vs fs cap_list q mode ceiling) _ _ (le-ltb 2 mode h) refl) in
+      let t : caps_tests vs fs cap_list q (mode_of mode) (limits ceiling (length w)) ≡ tests =
+      sym (cond_false (ltb 2 mode) (no_mode_tests vs fs cap_list q mode ceiling) _ _ (le-ltb 2 mode h) refl) in
       caps_called (documented_reply m) (subst (λ (ts : List Test). Answered ts outs w w' (documented_reply m)) t k.answered) g

@@ -155,7 +155,8 @@ returns c =
     simp (length-append, length-drop) (omega (arith, few p, out, e.front_len)) in
     let counts = c.put_components.auto.counts in
     record {
-      long = simp (length-append, length-drop) (omega (arith, before, few p, all_ends p, s.front_len, table, degrees, out, counts, f.front_len, f.back_len, s.back_len, t.back_len, d.back_len, e.front_len, e.back_len, c.requires.room));
+      long = simp (length-append, length-drop) (omega
+          (arith, before, few p, all_ends p, s.front_len, table, degrees, out, counts, f.front_len, f.back_len, s.back_len, t.back_len, d.back_len, e.front_len, e.back_len, c.requires.room));
       count = groups_counted a.k a.n a.m a.at a.w.now c.requires c.put_ends.new.ends (all_ends p) (ends_by_edge p) (numbers p) (numbers_of p) c.tally.new.sizes (tallied p) _
           (records_long p) (ordered p) c.put_components.new.counts c.put_components.result c.put_components.ensures
           (omega (arith, counts, few p, f.back_len, s.back_len, t.back_len, d.back_len, e.back_len, c.requires.room));

@@ -17,8 +17,11 @@ returns c =
 
 pub edge_from-first-requires : goal.edge_from-first-requires
 edge_from-first-requires c =
-    let s = c in
-    (s.requires.facets_len.0, number s.args.facets.now s.args.w.now s.requires.facets_len.0 (λ i. omega (arith, c.type_inv.facets i)) s.requires.facets_len.3 s.requires.w_value s.args.i (omega arith))
+    let s = c in (
+      s.requires.facets_len.0,
+      number s.args.facets.now s.args.w.now s.requires.facets_len.0
+          (λ i. omega (arith, c.type_inv.facets i)) s.requires.facets_len.3 s.requires.w_value s.args.i (omega arith),
+    )
 
 pub edge_from-second-requires : goal.edge_from-second-requires
 edge_from-second-requires c =

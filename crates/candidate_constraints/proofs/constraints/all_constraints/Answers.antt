@@ -14,11 +14,13 @@ face_constraints-total-requires c =
     let s = c in
     let a = s.args in
     let l = c.loop-face in record {
-      shown = faced_shown a.clip.extents a.clip.eps a.room.n a.room.nf a.k a.w.now (holds_shown a.clip.eps a.room.n a.w.now s.requires.holds) s.requires.edges_held s.requires.n_bound.0 s.args.room.small.1
+      shown = faced_shown a.clip.extents a.clip.eps a.room.n a.room.nf a.k a.w.now
+          (holds_shown a.clip.eps a.room.n a.w.now s.requires.holds) s.requires.edges_held s.requires.n_bound.0 s.args.room.small.1
           s.requires.n_bound.2 l.w l.total l.face-index l.invariant;
       roomy = faced_roomy a.clip.extents a.clip.eps a.room.n a.room.nf a.k a.w.now
           (holds_shown a.clip.eps a.room.n a.w.now s.requires.holds) s.requires.edges_held s.requires.n_bound.0 s.args.room.small.1 s.requires.n_bound.2 l.w l.total l.face-index l.invariant;
-      edges_held = faced_held a.clip.extents a.clip.eps a.room.n a.room.nf a.k a.w.now (holds_shown a.clip.eps a.room.n a.w.now s.requires.holds) s.requires.edges_held s.requires.n_bound.0 s.args.room.small.1
+      edges_held = faced_held a.clip.extents a.clip.eps a.room.n a.room.nf a.k a.w.now
+          (holds_shown a.clip.eps a.room.n a.w.now s.requires.holds) s.requires.edges_held s.requires.n_bound.0 s.args.room.small.1
           s.requires.n_bound.2 l.w l.total l.face-index l.invariant;
       fits = faced_few a.clip.extents a.clip.eps a.room.n a.room.nf a.k a.w.now
           (holds_shown a.clip.eps a.room.n a.w.now s.requires.holds) s.requires.edges_held s.requires.n_bound.0 s.args.room.small.1 s.requires.n_bound.2 l.w l.total l.face-index l.invariant

@@ -40,6 +40,7 @@ returns c =
     let note-places' = c.note_places in
     let push-sides' = c.push_sides-c in
     let push-open-edges' = c.push_open_edges in
-    pairs_listed a.clip.extents a.clip.eps a.edged.room.n a.edged.room.nf a.edged.k (face_of a.face) a.w.now note-places'.new.w s.requires.shown s.requires.roomy s.requires.edges_held (face_in s.args.face)
+    pairs_listed a.clip.extents a.clip.eps a.edged.room.n a.edged.room.nf a.edged.k (face_of a.face) a.w.now note-places'.new.w s.requires.shown s.requires.roomy s.requires.edges_held
+    (face_in s.args.face)
     a.edged.few note-places'.ensures.0 note-places'.ensures.1 push-sides'.new.w push-sides'.result push-sides'.ensures push-open-edges'.new.w
     push-open-edges'.result push-open-edges'.ensures
