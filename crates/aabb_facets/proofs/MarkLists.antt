@@ -3,6 +3,7 @@
 --   words_length, words_low     how many, and how large before any is shared
 --   mark_byte                   the word of a vertex, by the test alone
 --   MarkedTo, marking-..        the loop that makes the words;   by_places   a test of each point, place by place
+--   mark_a, mark_b, mark_c      the three tests of a facet
 --   all_below                   facet numbers are below the count of vertices
 use Prim.Native.Nat.{ℕ, zero, suc, ◌+◌, ◌*◌, ◌-◌, ◌/◌, ◌≤◌, ◌<◌}
 use mathlib.Core.Bool.{Bool, true, false, cond, not, ◌&&◌}
@@ -23,6 +24,7 @@ use Rattle.lists.proofs.Every.{none_at}
 use Rattle.lists.proofs.Places.{of_up, length_up, at_map_up}
 use Rattle.lists.proofs.Sequences.{up_snoc, map_same}
 use Rattle.input_tests.specs.Front.{bad_index}
+use Rattle.lists.proofs.Bools.{and_next, and_stop}
 use Rattle.geometry.specs.declared.point.Point.{Point}
 use Rattle.geometry.specs.Points.{origin}
 use Rattle.geometry.specs.Meshes.{vertex, vertex_of}
@@ -124,6 +126,23 @@ module _ (vs : List Float) (box : AABB) (eps : Float) (w : List ℕ) where
       let n : i ≡ length w = omega (arith, marking_same v i e h) in
       e ∙ ap (λ (l : List ℕ). mark_words vs box eps i [] ++ l) (drop_of_length-le w {i = i} (omega arith))
       ∙ append-nil (mark_words vs box eps i []) ∙ ap (λ (k : ℕ). mark_words vs box eps k []) n
+
+-- ---- the three tests
+module _ (l : List ℕ) (a b c : ℕ) where
+  abbrev three_marked : Bool
+  three_marked = marked l a && (marked l b && marked l c)
+
+  pub mark_a : get_or l a 0 ≡ 0 → false ≡ three_marked
+  mark_a h = sym (and_stop (marked l a) (marked l b && marked l c) (ap not (eq-eqb (get_or l a 0) 0 h)))
+
+  pub mark_b : (get_or l a 0 ≡ 0 → ⊥) → get_or l b 0 ≡ 0 → false ≡ three_marked
+  mark_b g h =
+      sym (and_next (marked l a) (marked l b && marked l c) false (ap not (ne_eqb (get_or l a 0) 0 g)) (and_stop (marked l b) (marked l c) (ap not (eq-eqb (get_or l b 0) 0 h))))
+
+  pub mark_c : (get_or l a 0 ≡ 0 → ⊥) → (get_or l b 0 ≡ 0 → ⊥) → marked l c ≡ three_marked
+  mark_c g h =
+      sym (and_next (marked l a) (marked l b && marked l c) (marked l c) (ap not (ne_eqb (get_or l a 0) 0 g)) (and_next (marked l b) (marked l c) (marked l c) (ap not (ne_eqb
+      (get_or l b 0) 0 h)) refl))
 
 pub marking_none : (vs : List Float) (box : AABB) (eps : Float) (w : List ℕ) → MarkedTo vs box eps w w 0
 unfolding up_from

@@ -18,6 +18,7 @@ pub struct Clip {
 
 impl Clip {
     // `point_inside_plane`
+    #[tactic(auto, unfolding(crate::specs::Planes::inside))]
     pub fn point_inside_plane(self, p: Point, plane: BoxFace) -> bool
         ensures { result ≡ inside self.extents self.eps (face_of plane) p }
     {

@@ -4,7 +4,7 @@
 --   unsnapped_snapped             clipped unsnapped, then snapped
 --   unsnapped_same                corners that are snapped already
 --   clip_snapped                  what a plane leaves is snapped
---   whole, gone                   a polygon wholly inside a plane, and one wholly outside
+--   whole, whole_first, gone      a polygon wholly inside a plane, and one wholly outside
 use Prim.Native.Nat.{ℕ, ◌+◌, ◌*◌, ◌-◌, ◌≤◌, ◌<◌}
 use mathlib.Core.Bool.{Bool, true, false, cond, beq}
 use mathlib.Core.List.{List, [], ◌∷◌, ◌++◌, map}
@@ -150,6 +150,10 @@ module _ (box : AABB) (eps : Float) where
     pub whole : (l : List Point) → 0 < length l → every within l ≡ true → l ≡ clip_unsnapped box eps k l
     unfolding clip_unsnapped
     whole l z g = sym (walk_whole (get_or l (length l - 1) origin) l (every_at within l (length l - 1) origin g (omega arith)) g)
+
+    -- where every corner is inside, and they are snapped then
+    pub whole_first : (l : List Point) → 0 < length l → every within l ≡ true → map (snapped box eps) l ≡ clip_to_plane box eps l k
+    whole_first l z g = ap (map (snapped box eps)) (whole l z g) ∙ unsnapped_snapped l
 
     side_none : (prev curr : Point) → within prev ≡ false → within curr ≡ false → side_unsnapped box eps k prev curr ≡ []
     unfolding side_unsnapped

@@ -2,6 +2,7 @@
 --   first, side_room, side_more, side_in, side_out, differ, agree   one side, in its two parts
 --   Walked, walked-..     the loop over the corners: start, turn, end, and that there is room
 --   most                  how many corners a facet can have after the plane k
+--   all_stop, all_go, all_last   one plane before others, "stopping under three corners"
 --   Cut, cut-..           the loop over the planes: start, turn, the two ends, and that there is room
 --   few                   no more than 28 corners
 use Prim.Native.Nat.{ℕ, zero, suc, ◌+◌, ◌*◌, ◌-◌, ◌/◌, ◌≤◌, ◌<◌}
@@ -131,6 +132,25 @@ most_few (suc (suc (suc (suc (suc k))))) n h g = absurd (omega arith)
 same_both : (b : Bool) (x : List Point) → x ≡ cond b x x
 same_both true x = refl
 same_both false x = refl
+
+-- one plane before others, of any polygon
+module _ (box : AABB) (eps : Float) (k : ℕ) (ks : List ℕ) (l m : List Point) (h : m ≡ clip_to_plane box eps l k) where
+  pub all_stop : length m < 3 → m ≡ clip_polygon box eps (k ∷ ks) l
+  unfolding clip_polygon
+  all_stop s =
+      h ∙ sym (ap (λ (b : Bool). cond b (clip_to_plane box eps l k) (clip_polygon box eps ks (clip_to_plane box eps l k)))
+      (ap (λ (n : ℕ). ltb n 3) (sym (ap length h)) ∙ lt-ltb (length m) 3 s))
+
+  pub all_go : (c : List Point) → 3 ≤ length m → c ≡ clip_polygon box eps ks m → c ≡ clip_polygon box eps (k ∷ ks) l
+  unfolding clip_polygon
+  all_go c s g =
+      g ∙ ap (λ (x : List Point). clip_polygon box eps ks x) h
+      ∙ sym (ap (λ (b : Bool). cond b (clip_to_plane box eps l k) (clip_polygon box eps ks (clip_to_plane box eps l k)))
+      (ap (λ (n : ℕ). ltb n 3) (sym (ap length h)) ∙ le-ltb (length m) 3 s))
+
+pub all_last : (box : AABB) (eps : Float) (k : ℕ) (l c : List Point) → c ≡ clip_to_plane box eps l k → c ≡ clip_polygon box eps (k ∷ []) l
+unfolding clip_polygon
+all_last box eps k l c h = h ∙ same_both (ltb (length (clip_to_plane box eps l k)) 3) (clip_to_plane box eps l k)
 
 module _ (box : AABB) (eps : Float) where
   -- the planes that are left, "stopping under three corners"

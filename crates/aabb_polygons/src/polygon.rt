@@ -63,7 +63,8 @@ impl Polygon {
         self.count = 0;
     }
 
-    fn push(&mut self, p: Point)
+    // Public, so that a polygon of any corners can be built.
+    pub fn push(&mut self, p: Point)
         requires { length self.old < 28 }
         ensures { self.new ≡ self.old ++ p ∷ [] }
     {
@@ -72,13 +73,16 @@ impl Polygon {
     }
 
     // Not inlined, so that `clip_to_plane` stays small enough to be.
+    // Stays (C interface): corner by corner, and not by the library's `copy_from_slice`, which calls `memmove`: the archive for C asks for nothing from outside but `memset`.
     #[inline(never)]
     fn copy_from(&mut self, other: &Polygon)
         ensures { self.new ≡ other.now }
     {
-        let n = other.count;
-        self.corners[..n].copy_from_slice(&other.corners[..n]);
-        self.count = n;
+        self.clear();
+        let corners = other.corners();
+        for p in corners {
+            self.push(*p);
+        }
     }
 
     // `snap_near_bbox` of each corner
@@ -167,7 +171,8 @@ impl Polygon {
 
     // A facet against all six planes, "in face order, stopping under three corners".
     pub fn clip_triangle(&mut self, facet: Triangle3, clip: Clip, spare: &mut Polygon)
-        ensures { self.new ≡ clip_polygon clip.extents clip.eps faces (facet.a ∷ facet.b ∷ facet.c ∷ []) }
+        ensures clipped { self.new ≡ clip_polygon clip.extents clip.eps faces (facet.a ∷ facet.b ∷ facet.c ∷ []) }
+        ensures at_most { length self.new ≤ 28 }
     {
         self.clear();
         self.push(facet.a);

@@ -1,4 +1,5 @@
 -- The steps of `group_edges` together, each table a list of its own. Assumes nothing.
+--   records_up                    words as records
 --   edges_length, edges_at        the edges that the keys hold
 --   ends_words, ends_low, ends_asked   the ends as words; what the finder of components asks of them
 --   numbers_sorted                the records once they are sorted
@@ -36,7 +37,7 @@ use Rattle.boundary_groups.proofs.Rings.{every_same, two_ends_lem, ends_twice, r
 use Rattle.boundary_groups.proofs.Numbered.{EndsOf}
 use Rattle.boundary_groups.proofs.Listed.{numbered, unsorted, sorted_runs, sorted_list, map_map}
 
-records_up : (w : List ℕ) (k : ℕ) → records_at w 0 k ≡ map (λ j. record_of w (2 * j)) (up_to k)
+pub records_up : (w : List ℕ) (k : ℕ) → records_at w 0 k ≡ map (λ j. record_of w (2 * j)) (up_to k)
 records_up w k =
     ext_get_or (0, 0) (records_at w 0 k) (map (λ j. record_of w (2 * j)) (up_to k)) (long ∙ sym (length-map (up_to k) (λ j. record_of w (2 * j)) ∙ length_up 0 k)) (λ i h.
     let l : i < k = omega (arith, long) in

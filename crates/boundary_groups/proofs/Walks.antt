@@ -1,16 +1,21 @@
 -- Laws of the loops over records. Assumes nothing.
 --   records_by_places   all records from a place on pass
+--   every_records_stop, every_records_more, every_records_end   of records from a place on, all pass
+--   turns_loop, turns_first, turns_second   an edge with one end, or with an end whose degree is not two, doesn't turn; any other does
 --   Putting, putting_start, putting_turn, putting_end     two words for each run
 use Prim.Native.Nat.{ℕ, zero, suc, ◌+◌, ◌*◌, ◌-◌, ◌/◌, ◌≤◌, ◌<◌}
 use native.Mathlib.Omega.{arith}
 use mathlib.Core.Path.{◌≡◌, refl, sym, ap, ◌∙◌}
-use mathlib.Core.Bool.{Bool, true, false, cond, ◌&&◌}
+use mathlib.Core.Bool.{Bool, true, false, cond, not, ◌&&◌}
 use mathlib.Core.List.{List, [], ◌∷◌, ◌++◌, flat_map}
 use mir.Val.{bool_byte}
-use lib.ListN.{set, length, take, length-set}
+use lib.Dec.{eqb}
+use borrow.Author.Tests.{eq-eqb, ne_eqb}
+use lib.ListN.{get_or, set, length, take, length-set}
 use lib.Seq.{take-suc-set}
 use Rattle.std.specs.List.{range_with_len}
 use Rattle.lists.specs.Lists.{every}
+use Rattle.lists.proofs.Bools.{and_stop, and_next}
 use Rattle.records.specs.Buffer.{record_of, records_at, put_record}
 use Rattle.records.specs.Runs.{runs, Run}
 use Rattle.records.proofs.Records.{length_records_at}
@@ -24,6 +29,60 @@ records_by_places p w zero i = refl
 records_by_places p w (suc n) i =
     let next : 2 * (i + 1) ≡ 2 * i + 2 = omega arith in
     ap (λ (b : Bool). p (record_of w (2 * i)) && b) (records_by_places p w n (i + 1) ∙ ap (λ (x : ℕ). every p (records_at w x n)) next)
+
+-- ---- all of the records from place j up to e
+
+records_cons : (w : List ℕ) (j e : ℕ) → j < e → records_at w (2 * j) (e - j) ≡ record_of w (2 * j) ∷ records_at w (2 * (j + 1)) (e - (j + 1))
+unfolding records_at
+records_cons w j e h =
+    ap (records_at w (2 * j)) (one_less j e h) ∙ ap (λ (a : ℕ). record_of w (2 * j) ∷ records_at w a (e - (j + 1))) (next j)
+  where
+    one_less : (j e : ℕ) → j < e → e - j ≡ suc (e - (j + 1))
+    one_less j e h = omega arith
+
+    next : (j : ℕ) → 2 * j + 2 ≡ 2 * (j + 1)
+    next j = omega arith
+
+module _ (p : ℕ × ℕ → Bool) (w : List ℕ) (b : Bool) (j e : ℕ) (h : j < e) (s : b ≡ every p (records_at w (2 * j) (e - j))) where
+  pub every_records_stop : p (record_of w (2 * j)) ≡ false → b ≡ false
+  every_records_stop q = s ∙ ap (every p) (records_cons w j e h) ∙ and_stop (p (record_of w (2 * j))) (every p (records_at w (2 * (j + 1)) (e - (j + 1)))) q
+
+  pub every_records_more : p (record_of w (2 * j)) ≡ true → b ≡ every p (records_at w (2 * (j + 1)) (e - (j + 1)))
+  every_records_more q =
+      s ∙ ap (every p) (records_cons w j e h)
+      ∙ and_next (p (record_of w (2 * j))) (every p (records_at w (2 * (j + 1)) (e - (j + 1)))) (every p (records_at w (2 * (j + 1)) (e - (j + 1)))) q refl
+
+pub every_records_end : (p : ℕ × ℕ → Bool) (w : List ℕ) (at k : ℕ) → k ≡ 0 → every p (records_at w at k) ≡ true
+unfolding records_at
+every_records_end p w at zero e = refl
+every_records_end p w at (suc k) e = absurd (omega arith)
+
+-- ---- the edge of a record
+
+module _ (ends degrees : List ℕ) (r : ℕ × ℕ) where
+  abbrev from : ℕ
+  from = get_or ends (2 * r.1) 0
+
+  abbrev other : ℕ
+  other = get_or ends (2 * r.1 + 1) 0
+
+  pub turns_loop : from ≡ other → false ≡ turns_of ends degrees r
+  unfolding turns_of
+  turns_loop e =
+      sym (and_stop (not (eqb from other)) (eqb (get_or degrees from 0) 2 && eqb (get_or degrees other 0) 2) (ap not (eq-eqb from other e)))
+
+  pub turns_first : (from ≡ other → ⊥) → (get_or degrees from 0 ≡ 2 → ⊥) → false ≡ turns_of ends degrees r
+  unfolding turns_of
+  turns_first e f =
+      sym (and_next (not (eqb from other)) (eqb (get_or degrees from 0) 2 && eqb (get_or degrees other 0) 2) false (ap not (ne_eqb from other e))
+      (and_stop (eqb (get_or degrees from 0) 2) (eqb (get_or degrees other 0) 2) (ne_eqb (get_or degrees from 0) 2 f)))
+
+  pub turns_second : (from ≡ other → ⊥) → get_or degrees from 0 ≡ 2 → eqb (get_or degrees other 0) 2 ≡ turns_of ends degrees r
+  unfolding turns_of
+  turns_second e f =
+      sym (and_next (not (eqb from other)) (eqb (get_or degrees from 0) 2 && eqb (get_or degrees other 0) 2) (eqb (get_or degrees other 0) 2)
+      (ap not (ne_eqb from other e))
+      (and_next (eqb (get_or degrees from 0) 2) (eqb (get_or degrees other 0) 2) (eqb (get_or degrees other 0) 2) (eq-eqb (get_or degrees from 0) 2 f) refl))
 
 -- ---- two words for each run
 

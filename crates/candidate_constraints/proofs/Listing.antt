@@ -1,7 +1,7 @@
 -- `list_pairs`, `face_constraints` and `all_constraints`: the steps put together. Assumes nothing.
 --   shown1, shown2, roomy2, placed2, held2, few2, pairs_listed   `list_pairs`
 --   pairs_low                                the places of all pairs are below 2^21
---   face_none, face_listed     `face_constraints`
+--   face_none, sorted_roomy, face_listed     `face_constraints`
 --   Faced, faced_start, -turn, -end          `all_constraints`
 use Prim.Native.Nat.{ℕ, ◌+◌, ◌*◌, ◌≤◌, ◌<◌}
 use mathlib.Core.Bool.{Bool, cond}
@@ -137,6 +137,9 @@ module _ (box : AABB) (eps : Float) (n nf k f total : ℕ) (w : List ℕ) (o : S
 
   module _ (w1 w2 w3 : List ℕ) (c r at : ℕ) (p : Pushed n f (places_at n) (4 * n + 3 * nf) (all_pairs box eps (pool_at n w) f E) 0 c w w1) (ea : at ≡ pairs_at n)
       (s : SortedPart w1 w2 at c) where
+    pub sorted_roomy : Roomy n nf w2
+    sorted_roomy = record { small = room.small; facets = room.facets; room = omega (arith, room.room, p.kept.long, s.same) }
+
     kept1 : Kept (places_at n) (constraints_at n nf) w w2
     kept1 =
         kept_then (places_at n) (constraints_at n nf) w w1 w2

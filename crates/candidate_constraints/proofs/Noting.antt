@@ -1,5 +1,5 @@
 -- `note_places`: what its loop keeps, as it starts, one turn, and its end; and that later stores leave the places. Assumes nothing.
---   Noting, noting_named, noting_end; noted_low   the loop
+--   Noting, noting_start, noting_named, noting_end; noted_low   the loop
 --   member_low, place_low, noted_place, placed_same          after it
 use Prim.Native.Nat.{ℕ, ◌+◌, ◌≤◌, ◌<◌}
 use mathlib.Core.Bool.{true}
@@ -17,7 +17,7 @@ use Rattle.candidate_pool.specs.Pool.{Pool, face_list}
 use Rattle.candidate_pool.specs.Standing.{pool_at}
 use Rattle.candidate_pool.proofs.Reading.{pool_count, list_in, list_at_lem, list_length}
 use Rattle.candidate_constraints.specs.Steps.{Kept, Shown, Placed}
-use Rattle.candidate_constraints.proofs.Frames.{kept_set, kept_then}
+use Rattle.candidate_constraints.proofs.Frames.{kept_same, kept_set, kept_then}
 use Rattle.candidate_constraints.proofs.Showing.{list_low, pool_same}
 
 module _ (n f : ℕ) (w₀ : List ℕ) where
@@ -28,6 +28,9 @@ module _ (n f : ℕ) (w₀ : List ℕ) where
     pub within : i ≤ get_or w₀ f 0
     pub kept : Kept (places_at n) (side_at n) w₀ w
     pub at : (j : ℕ) → j < i → get_or w (places_at n + id_at j) 0 ≡ j
+
+  pub noting_start : Noting w₀ 0
+  noting_start = record { within = omega arith; kept = kept_same (places_at n) (side_at n) w₀; at = λ j h. absurd (omega arith) }
 
   module _ (s : Shown n w₀) (hf : f < 6) (room : side_at n ≤ length w₀) (w : List ℕ) (i : ℕ) (o : Noting w i) where
     -- candidate i of the list, as the loop reads it

@@ -1,8 +1,9 @@
 -- "listed ascending, once": the keys of the runs of sorted pairs are what the definition asks. Assumes nothing.
 --   Keeping, keeping_start, -turn, -end          `keep_distinct`: of the runs before i the keys are listed
+--   key_ascending, key_descending                `pair_key`
 --   Low, key_same, key_before, key_unpacked      the packed pair says all that the definition asks of a pair, where the places are below 2^21
 --   listed_once                                  all of it
-use Prim.Native.Nat.{ℕ, ◌+◌, ◌*◌, ◌-◌, ◌≤◌, ◌<◌}
+use Prim.Native.Nat.{ℕ, ◌+◌, ◌*◌, ◌-◌, ◌≤◌, ◌<◌, min, max}
 use mathlib.Core.Bool.{Bool, true, false, cond, ◌&&◌, ◌||◌}
 use mathlib.Core.List.{List, [], ◌∷◌, ◌++◌, map, append_assoc, append-nil}
 use mathlib.Core.Logic.{inl, inr, ⊎_elim}
@@ -105,6 +106,12 @@ module _ (n nf c total : ℕ) (w₀ : List ℕ) where
         }
 
 -- ---- packed pairs
+pub key_ascending : (f a b : ℕ) → a ≤ b → triple f a b ≡ pair_key f (a, b)
+key_ascending f a b h = let e : a ≡ min a b = omega arith in let g : b ≡ max a b = omega arith in λ t. triple f (e t) (g t)
+
+pub key_descending : (f a b : ℕ) → b < a → triple f b a ≡ pair_key f (a, b)
+key_descending f a b h = let e : b ≡ min a b = omega arith in let g : a ≡ max a b = omega arith in λ t. triple f (e t) (g t)
+
 abbrev pub Low : ℕ × ℕ → Type 0
 Low q = (q.0 < 2097152) × (q.1 < 2097152)
 

@@ -2,7 +2,7 @@
 --   pushed_none, pushed_one, pushed_then, pushed_grows     none, one, and some more behind others
 --   pushed_as                                              the same pairs by another name
 --   neighbours_more; Nearing, nearing_start, -named, -end  `push_neighbours`; near_named   what it reads
---   Edging, edging_start, -next, -end; edge_yes, edge_ends, edge_pushed   `push_open_edges`, `push_open_edge`
+--   Edging, edging_start, -next, -end; edge_yes, edge_no, edge_ends, edge_pushed, edge_skipped   `push_open_edges`, `push_open_edge`
 use Prim.Native.Nat.{ℕ, zero, suc, ◌+◌, ◌*◌, ◌≤◌, ◌<◌}
 use mathlib.Core.Bool.{Bool, true, false, cond, ◌&&◌}
 use mathlib.Core.List.{List, [], ◌∷◌, ◌++◌, map, flat_map, append_assoc, append-nil, map-append}
@@ -215,6 +215,9 @@ module _ (p : Pool) (f : ℕ) (hf : f < 6) (w : List ℕ) (at : ℕ) where
       → edge_pairs p f (edge_at w at) ≡ (place (eqb (get_or w at 0)) (face_list p f), place (eqb (get_or w (at + 1) 0)) (face_list p f)) ∷ []
   edge_yes e = edge_by true e
 
+  pub edge_no : has_bit (get_or w (at + 2) 0) f ≡ false → edge_pairs p f (edge_at w at) ≡ []
+  edge_no e = edge_by false e
+
 -- an open edge of the face has its two candidates in the face's list
 pub edge_ends : (n nf i f : ℕ) (w : List ℕ) → EdgesHeld (pool_at n w) w (open_edges_at n nf) (i + 1) → f < 6 → (edges : ℕ) → edges ≡ open_edges_at n nf
     → has_bit (get_or w (edges + 3 * i + 2) 0) f ≡ true
@@ -241,6 +244,12 @@ edge_pushed n nf i f c w room noted held hf hc edges ee bit a b pairs w' ea eb e
   where
     ends : (has (face_list (pool_at n w) f) (get_or w (edges + 3 * i) 0) ≡ true) × (has (face_list (pool_at n w) f) (get_or w (edges + 3 * i + 1) 0) ≡ true)
     ends = edge_ends n nf i f w held hf edges ee bit
+
+pub edge_skipped : (n nf i f c : ℕ) (w : List ℕ) → f < 6 → (edges : ℕ) → edges ≡ open_edges_at n nf → has_bit (get_or w (edges + 3 * i + 2) 0) f ≡ false
+    → Pushed n f (pairs_at n + 2 * c) 1 (edge_pairs (pool_at n w) f (edge_at w (open_edges_at n nf + 3 * i))) c c w w
+edge_skipped n nf i f c w hf edges ee bit =
+    pushed_as n f (pairs_at n + 2 * c) 0 1 [] (edge_pairs (pool_at n w) f (edge_at w (open_edges_at n nf + 3 * i))) c c w w (omega arith)
+    (sym (edge_no (pool_at n w) f hf w (edges + 3 * i) bit) ∙ ap (λ (k : ℕ). edge_pairs (pool_at n w) f (edge_at w (k + 3 * i))) ee) (pushed_none n f (pairs_at n + 2 * c) c w)
 
 -- ---- push_open_edges
 pub edges_more : (p : Pool) (f : ℕ) (w : List ℕ) (at i : ℕ) → edge_pairs p f (edges_at w at (i + 1)) ≡ edge_pairs p f (edges_at w at i) ++ edge_pairs p f (edge_at w (at + 3 * i))
@@ -305,3 +314,11 @@ module _ (n f at count : ℕ) (w₀ : List ℕ) where
         let e1 = high (at + 3 * i + 1) (omega arith) in
         let e2 = high (at + 3 * i + 2) (omega arith) in
         edging_turn k w w' c r i e h edging_same (λ t. map (λ g. open_edge g (e0 t) (e1 t)) (faces_in (e2 t))) p
+
+  pub edging_end : (k : ℕ) (w : List ℕ) (c i : ℕ) → Edging k w c i → k ≤ i → Pushed n f (pairs_at n + 2 * count) k (edge_pairs (pool_at n w₀) f (edges_at w₀ at k)) count c w₀ w
+  edging_end k w c i o h =
+      pushed_as n f (pairs_at n + 2 * count) i k (edge_pairs (pool_at n w₀) f (edges_at w₀ at i)) (edge_pairs (pool_at n w₀) f (edges_at w₀ at k)) count c w₀ w o.within
+      (ap (λ (j : ℕ). edge_pairs (pool_at n w₀) f (edges_at w₀ at j)) (last i k o.within h)) o.pushed
+    where
+      last : (i k : ℕ) → i ≤ k → k ≤ i → i ≡ k
+      last i k a b = omega arith

@@ -1,7 +1,7 @@
 -- A face's grid: its rows as the code walks them are the definition's. Assumes nothing.
 --   point_is          a point of a row is the grid's point
 --   u_low, v_low      a face's axes
---   parts_some, parts_few     an axis has 1 to 256 segments
+--   parts_some, parts_few     an axis has 1 to 256 segments      parts_is, parts_in    and so has it by the lesser of their number and 257
 --   face_room         there is room for a face's grid
 --   face_is           the rows of a face, one after another, are its grid
 --   near_ready        the gathered segments stand in the room
@@ -11,7 +11,7 @@
 --   turn_size         one row more
 --   face_line_in      a face's own line is bounded
 --   face_end          the grid of a face was entered
-use Prim.Native.Nat.{ℕ, zero, suc, ◌+◌, ◌*◌, ◌^◌, ◌≤◌, ◌<◌}
+use Prim.Native.Nat.{ℕ, zero, suc, ◌+◌, ◌*◌, ◌^◌, ◌≤◌, ◌<◌, min}
 use native.Mathlib.Omega.{arith}
 use native.Mathlib.Nat.{add-mul, one-mul, mul-le-mul_right}
 use mathlib.Core.Path.{◌≡◌, refl, sym, ap, ◌∙◌}
@@ -28,7 +28,8 @@ use Rattle.geometry.specs.declared.point.Point.{Point}
 use Rattle.geometry.specs.declared.aabb.AABB.{AABB}
 use Rattle.geometry.specs.Boxes.{lowest, highest, axis, is_min}
 use Rattle.geometry.specs.Axes.{segments, grid_line}
-use Rattle.input_tests.specs.Front.{box_in_range, by_axis, CutsOf}
+use Rattle.input_tests.specs.Front.{box_in_range, by_axis, grid_too_fine, CutsOf}
+use Rattle.input_tests.proofs.Grids.{not_too_fine}
 use Rattle.box_faces.specs.declared.uv.Uv.{Uv}
 use Rattle.box_faces.specs.Faces.{u_axis, v_axis, project}
 use Rattle.box_faces.specs.Lines.{line_at, point_on_face}
@@ -99,6 +100,25 @@ module _ (box : AABB) (eps : Float) (resolution : List Float) where
       let e = c.counts k h in
       let m = c.few k h in
       omega arith
+
+  parts_low : (k : ℕ) → k < 3 → grid_too_fine box eps (by_axis resolution) ≡ false → segs k ≤ 256
+  parts_low zero h e = (not_too_fine box eps (by_axis resolution) e).x
+  parts_low (suc zero) h e = (not_too_fine box eps (by_axis resolution) e).y
+  parts_low (suc (suc zero)) h e = (not_too_fine box eps (by_axis resolution) e).z
+  parts_low (suc (suc (suc k))) h e = absurd (omega arith)
+
+  cut_is : (n s : ℕ) → n ≡ min s 257 → s ≤ 256 → n ≡ s
+  cut_is n s e h = e ∙ omega arith
+
+  pub parts_is : (k n : ℕ) → k < 3 → grid_too_fine box eps (by_axis resolution) ≡ false → n ≡ min (segs k) 257 → n ≡ segs k
+  parts_is k n h e q = cut_is n (segs k) q (parts_low k h e)
+
+  pub parts_in : (k n : ℕ) → k < 3 → grid_too_fine box eps (by_axis resolution) ≡ false → n ≡ min (segs k) 257 → (1 ≤ n) × (n ≤ 256)
+  parts_in k n h e q =
+      let a = parts_some k in
+      let b = parts_low k h e in
+      let c = parts_is k n h e q in
+      (omega arith, omega arith)
 
   pub face_room : (n f last last-v : ℕ) (w v : List ℕ) → last ≡ segs (u_axis f) → last-v ≡ segs (v_axis f) → count_at v ≡ count_at w
       → count_at w + face_size box eps resolution f ≤ n

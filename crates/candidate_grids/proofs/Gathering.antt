@@ -1,6 +1,7 @@
 -- The loop that gathers the open edges of a face as segments. Assumes nothing.
 --   Gathering                   its invariant
---   gather_start, gather_pass, gather_one   its start, a turn at an edge of other faces, a turn at one of the face
+--   gather_start, gather_pass, gather_one, gather_end   its start, a turn at an edge of other faces, a turn at one of the face, its end
+--   edge_ready                  what storing an edge asks
 use Prim.Native.Nat.{ℕ, ◌+◌, ◌*◌, ◌≤◌, ◌<◌}
 use native.Mathlib.Omega.{arith}
 use native.Mathlib.Decide.{ℕ_discrete}
@@ -18,10 +19,10 @@ use Rattle.box_faces.specs.Faces.{project, has_bit}
 use Rattle.box_faces.specs.Segments.{on_segment}
 use Rattle.candidate_pool.specs.Offsets.{entry_at, open_edges_at, segments_at}
 use Rattle.candidate_pool.specs.Pool.{point_of}
-use Rattle.candidate_pool.specs.Standing.{count_at, point_at, pool_at}
-use Rattle.candidate_pool.proofs.Placing.{point_same}
+use Rattle.candidate_pool.specs.Standing.{count_at, point_at, pool_at, PointStored}
+use Rattle.candidate_pool.proofs.Placing.{point_same, stored_same}
 use Rattle.candidate_pool.proofs.Reading.{pool_point}
-use Rattle.candidate_grids.specs.Steps.{SegmentAt, hit_at, skips_at, SegmentGathered, edge_hit, EdgesReady}
+use Rattle.candidate_grids.specs.Steps.{SegmentAt, hit_at, skips_at, EdgeReady, SegmentGathered, edge_hit, EdgesReady, Gathered}
 use Rattle.candidate_grids.proofs.Frames.{segment_same, skips_same}
 
 pub record Gathering (n nf k face : ℕ) (tolerance : Float) (w v : List ℕ) (count i : ℕ) : Type 0 where
@@ -81,6 +82,25 @@ module _ (n nf k face : ℕ) (tolerance : Float) (w : List ℕ) where
       same_at : (c : ℕ) → c < count_at w → (x : ℕ) → x < 5 → get_or v (entry_at c + x) 0 ≡ get_or w (entry_at c + x) 0
       same_at c h x l = G.rest (entry_at c + x) (let f = R.few in omega arith)
 
+      stored : (c d : ℕ) → d ≡ c → c < count_at w → PointStored v (entry_at d)
+      stored c d q h =
+          subst (λ (x : ℕ). PointStored v (entry_at x)) (sym q) (stored_same w v (entry_at c) (λ x l. same_at c h x (omega arith)) (R.stored c h))
+
+      in_room : (c d : ℕ) → d ≡ c → c < count_at w → entry_at d + 2 < length v
+      in_room c d q h = let f = R.few in let s = R.size in let l = G.long in omega arith
+
+      pub edge_ready : EdgeReady (S + 5 * count) (E + 3 * i) tolerance v
+      edge_ready =
+          record {
+            size = let s = R.size in let l = G.long in let f = G.few in let m = edges_few in omega arith;
+            before = let m = edges_few in omega arith;
+            from = stored (get_or w (E + 3 * i) 0) (get_or v (E + 3 * i) 0) first from_in;
+            from_in = in_room (get_or w (E + 3 * i) 0) (get_or v (E + 3 * i) 0) first from_in;
+            to = stored (get_or w (E + 3 * i + 1) 0) (get_or v (E + 3 * i + 1) 0) (word 1 (omega arith)) to_in;
+            to_in = in_room (get_or w (E + 3 * i + 1) 0) (get_or v (E + 3 * i + 1) 0) (word 1 (omega arith)) to_in;
+            tolerance_in = R.tolerance_in;
+          }
+
       point : (c d : ℕ) → d ≡ c → c < count_at w → project face (point_at v (entry_at d)) ≡ project face (point_of (pool_at n w) c)
       point c d q h =
           ap (project face)
@@ -119,3 +139,15 @@ module _ (n nf k face : ℕ) (tolerance : Float) (w : List ℕ) where
               ∙ ap (λ (x : Uv). on_segment tolerance p (project face (point_of (pool_at n w) (get_or w (E + 3 * i) 0))) x)
               (point (get_or w (E + 3 * i + 1) 0) (get_or v (E + 3 * i + 1) 0) (word 1 (omega arith)) to_in)
               ∙ sym (and_next (has_bit (get_or w (E + 3 * i + 2) 0) face) _ _ (bit b e ∙ t) refl)
+
+  pub gather_end : (v : List ℕ) (count i : ℕ) → Gathering n nf k face tolerance w v count i → k ≤ i → Gathered n nf k face tolerance w v count
+  gather_end v count i G h =
+      let m = G.most in
+      let q : i ≡ k = omega arith in
+      record {
+        few = let f = G.few in omega arith;
+        segments = G.segments;
+        skips = λ p. G.skips p ∙ ap (λ (x : ℕ). some (edge_hit (pool_at n w) w E face tolerance p) (up_to x)) q;
+        long = G.long;
+        rest = G.rest;
+      }

@@ -2,7 +2,7 @@
 --   rounded_fits   a key is a number of 64 bits, with sign, whatever the double
 --   same_is, same_self   two whole numbers are one exactly if the test says so
 --   words_keys     two keys of points have the same words exactly if they are the same
---   found_is       what the search finds is what "One key, one candidate" finds among the points
+--   link_to_is, found_is       what the search finds is what "One key, one candidate" finds among the points
 use Prim.Native.Nat.{ℕ, zero, suc, ◌+◌, ◌*◌, ◌-◌, ◌^◌, ◌≤◌, ◌<◌, min}
 use mathlib.Core.Path.{◌≡◌, refl, ap, subst, ◌∙◌, sym}
 use mathlib.Core.Bool.{Bool, true, false, not, ◌&&◌, true≢false}
@@ -21,7 +21,7 @@ use Rattle.rounding.specs.Rounding.{half_up, rounded, key, key_word}
 use Rattle.rounding.proofs.Keys.{same_word}
 use Rattle.geometry.specs.declared.point.Point.{Point}
 use Rattle.geometry.specs.Points.{origin}
-use Rattle.chains.specs.Links.{id_in}
+use Rattle.chains.specs.Links.{link_of, link_to, id_in}
 use Rattle.chains.proofs.Firsts.{link_to_places, places_link, ids_first, id_link}
 use Rattle.mesh_weld.specs.Cells.{key_of, same, same_key}
 use Rattle.candidate_pool.specs.Offsets.{keys_at}
@@ -81,6 +81,14 @@ words_keys eps p q =
     λ i. x i && (y i && z i)
 
 -- ---- the search
+
+pub link_to_is : (eps : Float) (p : Point) (l : List Point) (w : List ℕ) (n : ℕ) → ((i : ℕ) → i < length l → cell_at w (keys_at n + 3 * i) ≡ words_of (key_of eps (get_or l i origin))) →
+    link_to (key_is w n (words_of (key_of eps p))) (up_to (length l)) ≡ link_of ((by_key eps).find p l)
+unfolding by_key
+link_to_is eps p l w n stands =
+    link_to_places (λ q. same_key (key_of eps q) (key_of eps p)) origin l (key_is w n (words_of (key_of eps p)))
+    (λ i h. ap (λ k. same_cell k (words_of (key_of eps p))) (stands i h) ∙ words_keys eps (get_or l i origin) p)
+    ∙ places_link (λ q. same_key (key_of eps q) (key_of eps p)) origin l
 
 pub found_is : (eps : Float) (p : Point) (l : List Point) (w : List ℕ) (n : ℕ) → ((i : ℕ) → i < length l → cell_at w (keys_at n + 3 * i) ≡ words_of (key_of eps (get_or l i origin))) →
     first (key_is w n (words_of (key_of eps p))) (up_to (length l)) ≡ (by_key eps).find p l

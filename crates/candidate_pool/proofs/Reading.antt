@@ -7,7 +7,7 @@
 --   list_length, list_long a list has the length that stands in the room
 --   list_few               it has at most n candidates
 --   lists_same             stores elsewhere leave the lists
---   first_is               what the search by words finds is what the definition finds
+--   link_is, first_is      what the search by words finds is what the definition finds
 --   link_low, link_key     what is found is a candidate, and has the key
 --   some_room              there is room for a candidate at all
 use Prim.Native.Nat.{ℕ, suc, ◌+◌, ◌*◌, ◌≤◌, ◌<◌}
@@ -28,7 +28,7 @@ use Rattle.lists.proofs.Pigeonhole.{pigeonhole}
 use Rattle.geometry.specs.declared.point.Point.{Point}
 use Rattle.geometry.specs.Points.{pt, origin}
 use Rattle.geometry.specs.Boxes.{faces}
-use Rattle.chains.specs.Links.{link_of}
+use Rattle.chains.specs.Links.{link_of, link_to}
 use Rattle.chains.proofs.Firsts.{places_link, link_found}
 use Rattle.mesh_weld.specs.Cells.{key_of, same_key}
 use Rattle.candidate_pool.specs.Offsets.{entry_at, keys_at, lists_at, list_at, joined_at, pool_end}
@@ -38,7 +38,7 @@ use Rattle.candidate_pool.specs.Standing.{faces_in, count_at, point_at, candidat
 use Rattle.candidate_pool.proofs.Listing.{at_faces, faces_same}
 use Rattle.candidate_pool.proofs.Searching.{key_is, words_same}
 use Rattle.candidate_pool.proofs.Rule.{key_lawful}
-use Rattle.candidate_pool.proofs.KeyWords.{words_keys, found_is}
+use Rattle.candidate_pool.proofs.KeyWords.{words_keys, link_to_is, found_is}
 
 -- ---- the pool by its parts
 
@@ -127,6 +127,12 @@ module _ (eps : Float) (n : ℕ) (w : List ℕ) (h : Holds eps n w) where
 
   point_is : (c : ℕ) → c < count_at w → get_or points c origin ≡ point_at w (entry_at c)
   point_is c k = get_or-map (λ c. c.point) (pool_at n w).all c no_candidate ∙ ap (λ (x : Candidate). x.point) (pool_at_lem n w c k)
+
+  pub link_is : (e : Candidate) → link_to (key_is w n (words_of (key_of eps e.point))) (up_to (count_at w)) ≡ link_of (place_for (by_key eps) (pool_at n w) e)
+  link_is e =
+      ap (λ (k : ℕ). link_to (key_is w n (words_of (key_of eps e.point))) (up_to k)) (sym points_long)
+      ∙ link_to_is eps e.point points w n
+      (λ i k. let r : i < count_at w = omega (arith, points_long) in h.keys i r ∙ ap (λ (p : Point). words_of (key_of eps p)) (sym (point_is i r)))
 
   pub first_is : (e : Candidate) → first (key_is w n (words_of (key_of eps e.point))) (up_to (count_at w)) ≡ place_for (by_key eps) (pool_at n w) e
   first_is e =

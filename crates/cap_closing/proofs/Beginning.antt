@@ -1,5 +1,5 @@
 -- The room before any corner is entered. Assumes nothing.
---   copy_more   one more turn of the loop that copies the candidates' mesh vertices
+--   copy_none, copy_more, started   the loop that copies the candidates' mesh vertices
 --   entering_first          the numbers given out then
 --   named_first             those of the definition
 --   point_of_is             the point of a candidate
@@ -7,10 +7,11 @@ use Prim.Native.Nat.{ℕ, ◌+◌, ◌*◌, ◌-◌, ◌≤◌, ◌<◌}
 use mathlib.Core.Path.{◌≡◌, sym, ap, ◌∙◌, subst}
 use mathlib.Core.List.{List, ◌++◌, map, append-nil, map-map}
 use native.Mathlib.Omega.{arith}
-use lib.ListN.{length, get_or, set}
+use lib.ListN.{length, get_or, set, length-set}
+use lib.Seq.{get_or-set_same, get_or-set_other}
 use Rattle.lists.specs.Lists.{up_to}
 use Rattle.lists.specs.Regions.{view}
-use Rattle.lists.proofs.Regions.{Filled, filled_more, view_map}
+use Rattle.lists.proofs.Regions.{Filled, filled_none, filled_more, view_map}
 use Rattle.lists.proofs.Sequences.{map_below}
 use Rattle.geometry.specs.declared.point.Point.{Point}
 use Rattle.candidate_pool.specs.Offsets.{entry_at, keys_at}
@@ -27,6 +28,9 @@ module _ (b n : ℕ) (w₁ : List ℕ) (pool : keys_at n ≤ b) where
   abbrev mesh_of : ℕ → ℕ
   mesh_of c = get_or w₁ (entry_at c + 3) 0
 
+  pub copy_none : Filled mesh_of w₁ w₁ b 0
+  copy_none = filled_none mesh_of w₁ b
+
   module _ (v : List ℕ) (c : ℕ) (h : c < n) (size : b + n ≤ length w₁) (f : Filled mesh_of w₁ v b c) where
     given_read : get_or v (entry_at c + 3) 0 ≡ mesh_of c
     given_read = f.rest (entry_at c + 3) (λ i l e. omega arith)
@@ -35,6 +39,17 @@ module _ (b n : ℕ) (w₁ : List ℕ) (pool : keys_at n ≤ b) where
     copy_more g e =
         subst (λ (x : ℕ). Filled mesh_of w₁ (set v (x + c) (get_or v (entry_at c + 3) 0)) b (c + 1)) (sym e)
         (subst (λ (x : ℕ). Filled mesh_of w₁ (set v (b + c) x) b (c + 1)) (sym given_read) (filled_more mesh_of w₁ v b c (let l = f.long in omega arith) f))
+
+-- behind the store of how many vertices there are
+pub started : (b n nc nv : ℕ) (w : List ℕ) → keys_at n ≤ b → count_at w ≤ n → b + 2 * n + 8 * nc < length w → (u : ℕ) → u ≡ b + 2 * n + 8 * nc
+    → (v : List ℕ) (c : ℕ) → count_at w ≤ c → c ≤ count_at w → Filled (λ j. get_or (set w u nv) (entry_at j + 3) 0) (set w u nv) v b c → Started b n nc nv w v
+started b n nc nv w pool count size u e v c h l f =
+    let s = length-set w u nv in
+    record {
+      above = record { long = f.long ∙ s; below = λ x q. f.rest x (λ i k d. omega arith) ∙ get_or-set_other w u x nv 0 (λ d. omega arith) };
+      own = ap (λ (x : ℕ). get_or v x 0) (sym e) ∙ f.rest u (λ i k d. omega arith) ∙ get_or-set_same w u nv 0 (omega arith);
+      given = λ j q. f.at j (omega arith) ∙ get_or-set_other w u (entry_at j + 3) nv 0 (λ d. omega arith);
+    }
 
 -- ---- and what it says
 

@@ -1,6 +1,6 @@
 -- The loop from run to run that marks the first record of each key. Assumes nothing.
 --   Marking, marking_start, marking_turn, marking_end   the records before i are marked
---   put_long, put_below                     what the stores leave
+--   place_room, put_long, put_below                     what the stores ask, and leave
 use Prim.Native.Nat.{ℕ, zero, suc, ◌+◌, ◌*◌, ◌-◌, ◌≤◌, ◌<◌}
 use mathlib.Core.Path.{◌≡◌, refl, sym, ap, ◌∙◌}
 use mathlib.Core.Bool.{Bool, true, false, cond}
@@ -61,6 +61,9 @@ module _ (w₀ : List ℕ) (records firsts left : ℕ) (behind : records + 2 * l
   module _ (w : List ℕ) (long : length w ≡ length w₀) (same : (x : ℕ) → x < firsts → get_or w x 0 ≡ get_or w₀ x 0) where
     place_same : (j : ℕ) → j < left → payload_in w records j ≡ payload_in w₀ records j
     place_same j h = same (records + 2 * j + 1) (omega arith)
+
+    pub place_room : (j : ℕ) → j < left → firsts + payload_in w records j < length w
+    place_room j h = let e = place_same j h in let l = s.low j h in omega arith
 
     module _ (v : List ℕ) (i e x : ℕ) (le : e ≤ left) (P : PayloadsPut w v records firsts i e x) where
       put_here : (j : ℕ) → i ≤ j → j < e → get_or v (firsts + payload_in w₀ records j) 0 ≡ x

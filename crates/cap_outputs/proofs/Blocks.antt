@@ -3,17 +3,20 @@
 --   fresh_block, fresh_are         the points of candidates that became new vertices       fresh_long   how many numbers they are
 --   reversed_block, reversed_are   facets with their last two corners swapped
 --   own_positive, own_negative, own_long   the mesh's own facets, as the mode writes them
+--   cap_taken, cap_left           a facet left, by its word
 --   cap_block, caps_are            those that are the first of their three corners
 use Prim.Native.Nat.{ℕ, ◌+◌, ◌*◌, ◌/◌, ◌%◌, ◌<◌}
 use native.Mathlib.Omega.{arith}
 use mathlib.Core.Bool.{Bool, true, false, cond}
-use mathlib.Core.Path.{◌≡◌, sym, ap, ◌∙◌}
+use mathlib.Core.Path.{◌≡◌, refl, sym, ap, ◌∙◌}
 use mathlib.Core.List.{List, [], ◌∷◌, map, flat_map}
+use borrow.Author.Tests.{eq-eqb, ne_eqb}
 use lib.Dec.{eqb}
 use lib.ListN.{length, get_or, length-map}
 use lib.Seq.{ext_get_or}
 use lib.Ieee.{Float}
 use Rattle.lists.specs.Lists.{keep, up_to}
+use Rattle.lists.proofs.Bools.{cond_true, cond_false}
 use Rattle.lists.proofs.Places.{length_up, at_map_up}
 use Rattle.lists.proofs.Sequences.{flat_map_lem, flat_keep}
 use Rattle.geometry.specs.declared.point.Point.{Point}
@@ -95,6 +98,13 @@ module _ (l : List ℕ) (whole : length l % 3 ≡ 0) where
       omega (arith, a, c, d, whole)
 
 -- ---- caps
+
+module _ (w : List ℕ) (facet first : ℕ) where
+  pub cap_taken : get_or w first 0 ≡ 1 → cap_words w facet first ≡ get_or w facet 0 ∷ get_or w (facet + 1) 0 ∷ get_or w (facet + 2) 0 ∷ []
+  cap_taken e = cond_true (eqb (get_or w first 0) 1) _ _ _ (eq-eqb (get_or w first 0) 1 e) refl
+
+  pub cap_left : (get_or w first 0 ≡ 1 → ⊥) → cap_words w facet first ≡ []
+  cap_left e = cond_false (eqb (get_or w first 0) 1) _ _ _ (ne_eqb (get_or w first 0) 1 e) refl
 
 abbrev pub cap_block : List ℕ → ℕ → ℕ → ℕ → List ℕ
 cap_block w facets firsts i = cap_words w (facets + 3 * i) (firsts + i)

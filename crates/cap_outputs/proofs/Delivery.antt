@@ -109,7 +109,7 @@ module _ (vs : List Float) (fs : List ℕ) (n nc left caps : ℕ) (positive : Bo
     pub fresh_room : (fa : ℕ) → fa ≡ fresh_at n nf nc → fa + (many - nv) ≤ length w
     fresh_room fa e = let a = many_is in omega (arith, e, a, D.size, D.most, D.own)
 
-    fresh_stored : (fa : ℕ) → fa ≡ fresh_at n nf nc → (i : ℕ) → i < many - nv → PointStored w (entry_at (get_or w (fa + i) 0)) × (entry_at (get_or w (fa + i) 0) + 2 < length w)
+    pub fresh_stored : (fa : ℕ) → fa ≡ fresh_at n nf nc → (i : ℕ) → i < many - nv → PointStored w (entry_at (get_or w (fa + i) 0)) × (entry_at (get_or w (fa + i) 0) + 2 < length w)
     fresh_stored fa e i h =
         let a = many_is in
         let b : get_or w (fa + i) 0 ≡ get_or w (fresh_at n nf nc + i) 0 = ap (λ (x : ℕ). get_or w (x + i) 0) e in

@@ -1,5 +1,5 @@
 -- Words of faces to which faces are added: one face, those of a word, and one word after another. Assumes nothing.
---   added_new          add_face: the bit of a new face is added
+--   added_there, added_new          add_face: the face was there, or its bit is added
 --   adding_start, adding_skip, adding_turn, adding_end     add_faces: those below `face` are added
 --   noted_start, noted_turn         note_edges, note_sides: the first i are noted
 use Prim.Native.Nat.{ℕ, ◌+◌, ◌*◌, ◌^◌, ◌%◌, ◌≤◌, ◌<◌}
@@ -24,6 +24,15 @@ use Rattle.cap_pairs.proofs.Sums.{some_none}
 
 -- ---- add_face
 module _ (w : List ℕ) (at face : ℕ) (room : at < length w) (low : get_or w at 0 < 64) (k : face < 6) where
+  pub added_there : has_bit (get_or w at 0) face ≡ true → Added w w at (eqb face)
+  added_there on = record { long = refl; bits = λ f h. go f (eqb face f) refl; small = low; rest = λ x h. refl }
+    where
+      go : (f : ℕ) (b : Bool) → eqb face f ≡ b → has_bit (get_or w at 0) f ≡ (has_bit (get_or w at 0) f || eqb face f)
+      go f true e =
+          let t : has_bit (get_or w at 0) f ≡ true = ap (has_bit (get_or w at 0)) (sym (eqb-true face f e)) ∙ on in
+          t ∙ sym (ap (λ (b : Bool). b || eqb face f) t)
+      go f false e = sym (ap (λ (b : Bool). has_bit (get_or w at 0) f || b) e ∙ or-false (has_bit (get_or w at 0) f))
+
   pub fits_sum : has_bit (get_or w at 0) face ≡ false → get_or w at 0 + 1 * 2 ^ face % 18446744073709551616 < 64
   fits_sum off = let a = mask_low (get_or w at 0) face low k off in let b = shifted face k in omega arith
 

@@ -116,6 +116,19 @@ module _ (n nf k : ℕ) (cap_list w : List ℕ) (ready : CapReady n nf k cap_lis
     row_long = length-map (faces_in (mask i)) (λ f. open_edge f A B)
 
   -- ---- all rows
+  pub held_in : (i helds numbers : ℕ) → i < k → helds ≡ held_at n nf nc → numbers ≡ numbers_at n nf nc → helds + get_or w (numbers + i) 0 < length w
+  held_in i helds numbers h e m =
+      let a = K.numbers.low i (omega arith) in
+      let b = ap (λ (x : ℕ). get_or w (x + i) 0) m in
+      omega (arith, ready.edges, ready.ready.supplied.size)
+
+  pub held_fits : (i helds numbers : ℕ) → i < k → helds ≡ held_at n nf nc → numbers ≡ numbers_at n nf nc → (helds + get_or w (numbers + i) 0) * 8 < 18446744073709551616
+  held_fits i helds numbers h e m =
+      let a = K.numbers.low i (omega arith) in
+      let b = ap (λ (x : ℕ). get_or w (x + i) 0) m in
+      let s = ready.ready.supplied in
+      omega (arith, ready.edges, s.small, s.few, s.caps)
+
   pub row_start : RowWalk n nf k cap_list w 0 0
   unfolding missing_place edges_at
   row_start =

@@ -1,10 +1,10 @@
 -- Laws of lists in general: `some` and `place` over lists that are made of parts. Assumes nothing.
 --   eqb_sym                          a test either way
---   some_map, some_none    `some`
+--   some_one, some_map, some_none    `some`
 --   some_threes, some_places         three at a time; by places
 --   place_stops, place_goes, place_map, place_same      `place`
 use Prim.Native.Nat.{ℕ, zero, suc, ◌+◌, ◌*◌, ◌≤◌, ◌<◌}
-use mathlib.Core.Bool.{Bool, true, false, cond, ◌||◌}
+use mathlib.Core.Bool.{Bool, true, false, cond, ◌||◌, or-false}
 use mathlib.Core.List.{List, [], ◌∷◌, ◌++◌, map, Memᴰ}
 use mathlib.Core.Path.{◌≡◌, refl, sym, ap, ◌∙◌}
 use native.Mathlib.Omega.{arith}
@@ -15,6 +15,9 @@ use Rattle.lists.proofs.Sequences.{some_up}
 
 -- ---- some
 module _ {A : Type 0} (p : A → Bool) where
+  pub some_one : (x : A) → some p (x ∷ []) ≡ p x
+  some_one x = or-false (p x)
+
   pub some_map : {B : Type 0} (g : B → A) (l : List B) → some p (map g l) ≡ some (λ x. p (g x)) l
   some_map g [] = refl
   some_map g (x ∷ l) = ap (λ (b : Bool). p (g x) || b) (some_map g l)

@@ -1,4 +1,5 @@
 -- The steps of note_faces, put together: three tables cleared, then the open edges noted, then the sides. Assumes nothing.
+--   up_room, down_room, held_room                      there is room for the three tables
 --   tables_cleared, numbers_cleared, zeros_cleared     what note_edges asks
 --   tables_noted, numbers_noted, zeros_noted, sides_faces     what note_sides asks
 --   known                                              what is known of each pair in the end
@@ -45,6 +46,15 @@ module _ (n nf nc k : ℕ) (w u : List ℕ) (above : Above (up_at n nf nc) w u) 
 module _ (n nf k : ℕ) (cap_list w : List ℕ) (ready : CapReady n nf k cap_list w) (z : List ℕ) (long : length z ≡ length w) (at : ℕ) where
   abbrev pairs : ℕ
   pairs = k + 3 * (length cap_list / 4)
+
+  pub up_room : at ≡ up_at n nf (length cap_list / 4) → at + pairs ≤ length z
+  up_room e = omega (arith, ready.ready.supplied.size, ready.edges)
+
+  pub down_room : at ≡ down_at n nf (length cap_list / 4) → at + pairs ≤ length z
+  down_room e = omega (arith, ready.ready.supplied.size, ready.edges)
+
+  pub held_room : at ≡ held_at n nf (length cap_list / 4) → at + pairs ≤ length z
+  held_room e = omega (arith, ready.ready.supplied.size, ready.edges)
 
 module _ (n nf k : ℕ) (cap_list w : List ℕ) (ready : CapReady n nf k cap_list w) (N : PairNumbers n nf k cap_list w)
     (z1 z2 z : List ℕ) (up down held : ℕ) (eu : up ≡ up_at n nf (length cap_list / 4)) (ed : down ≡ down_at n nf (length cap_list / 4)) (eh : held ≡ held_at n nf (length cap_list / 4))

@@ -3,7 +3,7 @@
 --   target_high, target_low, target_zero           the word of open edge j: in a table behind the numbers, and 0 at first
 --   edges_below                                    what stands before the tables is as it was
 --   note_edge_asks, note_edge_turn                 one open edge
---   note_side_turn                 one side
+--   note_side_asks, note_side_turn                 one side
 use Prim.Native.Nat.{ℕ, ◌+◌, ◌*◌, ◌/◌, ◌≤◌, ◌<◌}
 use mathlib.Core.Bool.{Bool, true, false, cond}
 use mathlib.Core.List.{List}
@@ -24,15 +24,33 @@ by_way P false u d x y = y
 abbrev first_at : ℕ → ℕ → ℕ → ℕ
 first_at n nf j = open_edges_at n nf + 3 * j
 
+pub small_fits : (x : ℕ) → x * 8 < 18446744073709551616 → x < 18446744073709551616
+small_fits x h = omega arith
+
 -- where open edge i and its number stand, in numbers that fit a word
 module _ (n nf nc k : ℕ) (w₀ w : List ℕ) (tables : TablesFor n nf nc w₀ k) (long : length w ≡ length w₀) (edges numbers i : ℕ) (e : edges ≡ open_edges_at n nf)
     (m : numbers ≡ numbers_at n nf nc)
     (h : i < k) where
+  pub three_fits : 3 * i < 18446744073709551616
+  three_fits = omega (arith, tables.few, tables.edges)
+
+  pub edge_fits : edges + 3 * i < 18446744073709551616
+  edge_fits = omega (arith, tables.few, tables.small, tables.edges)
+
   pub edge_in_lem : edges + 3 * i + 2 < length w
   edge_in_lem = omega (arith, tables.size, tables.edges)
 
+  pub mask_fits : (edges + 3 * i + 2) * 8 < 18446744073709551616
+  mask_fits = omega (arith, tables.few, tables.small, tables.edges)
+
+  pub edge_in_1 : edges + 3 * i + 1 < length w
+  edge_in_1 = omega (arith, tables.size, tables.edges)
+
   pub number_in : numbers + i < length w
   number_in = omega (arith, tables.size, tables.edges)
+
+  pub number_fits : (numbers + i) * 8 < 18446744073709551616
+  number_fits = omega (arith, tables.few, tables.small, tables.caps, tables.edges)
 
 module _ (n nf nc k : ℕ) (w₀ : List ℕ) (tables : TablesFor n nf nc w₀ k) (low : (i : ℕ) → i < k → get_or w₀ (numbers_at n nf nc + i) 0 < k + 3 * nc)
     (zeros : (r : ℕ) → r < k + 3 * nc → (get_or w₀ (up_at n nf nc + r) 0 ≡ 0) × (get_or w₀ (down_at n nf nc + r) 0 ≡ 0)) where
@@ -110,8 +128,14 @@ module _ (n nf k : ℕ) (cap_list w₀ : List ℕ) (tables : TablesFor n nf (len
       side_target_lem : held + pair ≡ side_target n nf nc w₀ k s
       side_target_lem = λ t. e t + side_number_lem t
 
+      pub note_side_low : held + pair < length w
+      note_side_low = let a = low s h in let b = side_number_lem in omega (arith, tables.size, tables.edges, inv.long)
+
       zero_there : get_or w₀ (side_target n nf nc w₀ k s) 0 ≡ 0
       zero_there = zeros (get_or w₀ (numbers_at n nf nc + k + s) 0) (low s h)
+
+      pub note_side_asks : ((s : ℕ) → s < 3 * nc → side_face cap_list s < 6) → (held + pair < length w) × (get_or w (held + pair) 0 < 64) × (side_face cap_list s < 6)
+      note_side_asks f = (note_side_low, subst (λ (x : ℕ). get_or w x 0 < 64) (sym side_target_lem) (inv.small (side_target n nf nc w₀ k s) zero_there), f s h)
 
       pub note_side_turn : (v : List ℕ) → Added w v (held + pair) (eqb (side_face cap_list s)) → Noted (side_target n nf nc w₀ k) (λ s. eqb (side_face cap_list s)) w₀ v (s + 1)
       note_side_turn v a =

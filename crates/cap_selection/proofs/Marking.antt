@@ -1,6 +1,6 @@
 -- The loop that marks the components of seeds. Assumes nothing.
 --   Marking        of the first i triangles the seeds' components are marked
---   mark_start, mark_turn   no triangle, and one more
+--   mark_start, mark_turn, mark_end   no triangle, one more, all of them
 use Prim.Native.Nat.{ℕ, ◌+◌, ◌*◌, ◌≤◌, ◌<◌}
 use native.Mathlib.Omega.{arith}
 use mathlib.Core.Path.{◌≡◌, refl, sym, ap, ◌∙◌, subst}
@@ -17,8 +17,8 @@ use Rattle.lists.specs.Regions.{Above}
 use Rattle.lists.proofs.Regions.{at_set}
 use Rattle.lists.proofs.Sequences.{some_up}
 use Rattle.cap_triangles.specs.Room.{labels_at, components_at, seeded_at}
-use Rattle.cap_selection.specs.Steps.{seed_in, seeded_by, marked_seed, Markable}
-use Rattle.cap_selection.proofs.Same.{seed_same}
+use Rattle.cap_selection.specs.Steps.{seed_in, seeded_by, marked_seed, SidesNumbered, Markable, SeedsMarked}
+use Rattle.cap_selection.proofs.Same.{seed_same, numbered_same}
 
 module _ (n nf nc k : ℕ) (cap_list w : List ℕ) where
   pub record Marking (v : List ℕ) (i : ℕ) : Type 0 where
@@ -49,6 +49,9 @@ module _ (n nf nc k : ℕ) (cap_list w : List ℕ) where
     -- the tables that are read stand before the marks
     pub below_marks : Above (labels_at n nf nc) w v
     below_marks = record { long = m.above.long; below = λ x h. m.above.below x (omega arith) }
+
+    pub marking_numbered : SidesNumbered n nf nc k v
+    marking_numbered = numbered_same n nf nc k w room.sides v below_marks
 
     component_same : get_or v (components_at n nf nc + i) 0 ≡ get_or w (components_at n nf nc + i) 0
     component_same = m.above.below (components_at n nf nc + i) (omega arith)
@@ -113,3 +116,9 @@ module _ (n nf nc k : ℕ) (cap_list w : List ℕ) where
         go : (b : Bool) → seed_in n nf nc k v i (get_or cap_list (4 * i) 0) ≡ b → Marking (cond b (set v (seeded_at n nf nc + c) 1) v) (i + 1)
         go true e = marks_it (sym same ∙ e)
         go false e = skips (sym same ∙ e)
+
+  pub mark_end : (v : List ℕ) (i : ℕ) → nc ≤ i → Marking v i → SeedsMarked n nf nc k cap_list w v
+  mark_end v i h m =
+      let u = m.upto in
+      let e : i ≡ nc = omega arith in
+      record { above = m.above; seeded = λ r l. m.seeded r l ∙ ap (λ (x : ℕ). cond (seeded_by n nf nc k cap_list w x r) 1 0) e }

@@ -1,4 +1,5 @@
 -- From the labels as they were put to the components' numbers. Assumes nothing.
+--   labelled_end      the loop that puts the labels put them all
 --   caps_read, caps_asked, caps_fit   the component finder can be asked
 --   joined_caps       what it leaves
 use Prim.Native.Nat.{ℕ, ◌+◌, ◌*◌, ◌-◌, ◌/◌, ◌≤◌, ◌<◌}
@@ -18,6 +19,13 @@ use Rattle.cap_triangles.specs.Room.{labels_at, components_at}
 use Rattle.cap_selection.specs.Steps.{open_in, side_number, label_in, SidesNumbered, Labelled, JoinedCaps}
 
 module _ (n nf nc k : ℕ) (w : List ℕ) (room : SidesNumbered n nf nc k w) where
+  pub labelled_end : (v : List ℕ) (labels s : ℕ) → labels ≡ labels_at n nf nc → 3 * nc ≤ s → s ≤ 3 * nc → Filled (label_in n nf nc k w) w v labels s → Labelled n nf nc k w v
+  labelled_end v labels s e h g f =
+      record {
+        above = record { long = f.long; below = λ x l. f.rest x (λ j b q. omega arith) };
+        label = λ t l. ap (λ (x : ℕ). get_or v (x + t) 0) (sym e) ∙ f.at t (omega arith);
+      }
+
   -- what was put so far stands behind what is read
   pub labels_above : (v : List ℕ) (labels s : ℕ) → labels ≡ labels_at n nf nc → Filled (label_in n nf nc k w) w v labels s → Above (labels_at n nf nc) w v
   labels_above v labels s e f = record { long = f.long; below = λ x l. f.rest x (λ j b q. omega arith) }

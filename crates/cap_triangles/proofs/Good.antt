@@ -2,10 +2,10 @@
 --   GoodCap        a face of the box; three different candidates, each in the face's list
 --   not_bad        no triangle of such a list is one that 10 names
 --   good_cap       each is a GoodCap
---   good_face      its face
+--   good_face, good_ascending   its face, which is not below the one before it
 --   good_outward   and so is one turned outward
 --   turned_corners, good_turned, turned_low   the same of the triangles that stand turned in the room
-use Prim.Native.Nat.{ℕ, ◌+◌, ◌-◌, ◌*◌, ◌/◌, ◌<◌}
+use Prim.Native.Nat.{ℕ, ◌+◌, ◌-◌, ◌*◌, ◌/◌, ◌≤◌, ◌<◌}
 use mathlib.Core.Path.{◌≡◌, sym, ap, ◌∙◌, subst}
 use mathlib.Core.Bool.{Bool, true, false, cond, not, ◌||◌, beq}
 use mathlib.Core.List.{List}
@@ -71,6 +71,9 @@ module _ (pool : Pool) (caps : List Cap) where
     not_later : (descends i || (repeats i || strays i)) ≡ false
     unfolding bad_cap
     not_later = or_none_right (ltb 5 (cap_at caps i).face) (descends i || (repeats i || strays i)) not_bad
+
+    pub good_ascending : (cap_at caps (i - 1)).face ≤ (cap_at caps i).face
+    good_ascending = ltb-false (cap_at caps i).face (cap_at caps (i - 1)).face (or_none_left (descends i) (repeats i || strays i) not_later)
 
     not_last : (repeats i || strays i) ≡ false
     not_last = or_none_right (descends i) (repeats i || strays i) not_later

@@ -1,8 +1,9 @@
 -- Turning triangles outward, as the code does it over the room. Assumes nothing.
 --   turned_as, reversed_as   one triangle, by the test that decides
+--   turned_words     the turned triangle i, by where the table begins
 --   outward_words    turned by the points in the room is turned by the pool
 --   Turning          the first i triangles stand turned in the room
---   turning_more, turning_end   the loop;   turning_face   each number of a face is one
+--   turning_start, turning_more, turning_end   the loop;   turning_face   each number of a face is one
 use Prim.Native.Nat.{ℕ, ◌+◌, ◌*◌, ◌/◌, ◌≤◌, ◌<◌}
 use mathlib.Core.Path.{◌≡◌, sym, ap, ◌∙◌, subst}
 use mathlib.Core.Bool.{Bool, true, false, cond, beq}
@@ -13,7 +14,7 @@ use lib.Ieee.{Float, lt}
 use lib.ListN.{length, get_or, set, length-set, length-map}
 use lib.Seq.{ext_get_or, get_or-set_same, get_or-set_other}
 use Rattle.lists.specs.Regions.{view, Above}
-use Rattle.lists.proofs.Regions.{view_length, view_at}
+use Rattle.lists.proofs.Regions.{view_length, view_at, above_none}
 use Rattle.lists.proofs.Sequences.{at_map}
 use Rattle.root.specs.Doubles.{zero_f}
 use Rattle.geometry.specs.declared.point.Point.{Point}
@@ -53,6 +54,12 @@ module _ (w : List ℕ) (f : ℕ) (t : Triangle ℕ) (x y z : Point) (p q r : Uv
   pub reversed_as : beq (lt zero_f area) out ≡ false → (s : Triangle ℕ) → s ≡ reversed t → s ≡ turned_by w f t
   unfolding turned_by
   reversed_as e s h = h ∙ sym (ap (λ (b : Bool). cond b t (reversed t)) (sym test_is ∙ e))
+
+-- the turned triangle i, by where the table begins
+pub turned_words : (w : List ℕ) (at n nf i : ℕ) → at ≡ turned_at n nf
+    → tri (get_or w (at + 3 * i) 0) (get_or w (at + 3 * i + 1) 0) (get_or w (at + 3 * i + 2) 0) ≡ tri (get_or w (turned_at n nf + 3 * i) 0) (get_or w (turned_at n nf + 3 * i + 1) 0)
+    (get_or w (turned_at n nf + 3 * i + 2) 0)
+turned_words w at n nf i e = ap (λ (o : ℕ). tri (get_or w (o + 3 * i) 0) (get_or w (o + 3 * i + 1) 0) (get_or w (o + 3 * i + 2) 0)) e
 
 -- ---- by the words in the room, or by the pool
 
@@ -113,6 +120,9 @@ module _ (n nf : ℕ) (cap_list w : List ℕ) (supplied : Supplied n nf cap_list
 
   abbrev word : ℕ → ℕ
   word j = get_or cap_list j 0
+
+  pub turning_start : Turning n nf cap_list w w 0
+  turning_start = record { low = omega arith; above = above_none o w; done = λ j h. absurd (omega arith) }
 
   pub turning_face : (j : ℕ) → j < length cap_list / 4 → word (4 * j) < 6
   turning_face j h =

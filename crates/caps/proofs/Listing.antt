@@ -1,6 +1,6 @@
 -- Laws of tests 10 and 11, and of what stands in the room once they have passed. Assumes nothing.
 --   supplied            what the tests ask for, of candidates that stand in the room
---   bad_refused         10 refuses
+--   bad_refused         10 refuses                     good_list      or does not
 --   turned_ready        the triangles turned           numbered_ready, noted_ready   pairs numbered, and faces noted
 --   missing_refused, all_passed   11
 use Prim.Native.Nat.{ℕ, ◌*◌, ◌/◌, ◌≤◌, ◌<◌}
@@ -11,7 +11,10 @@ use borrow.Author.Tests.{lt-ltb, le-ltb}
 use lib.Dec.{ltb}
 use lib.ListN.{length}
 use lib.Ieee.{Float}
+use Rattle.lists.specs.Lists.{up_to}
 use Rattle.lists.specs.Regions.{Above}
+use Rattle.lists.proofs.Members.{place_le}
+use Rattle.lists.proofs.Places.{length_up}
 use Rattle.lists.proofs.Regions.{above_less, above_more}
 use Rattle.refusals.specs.declared.refusal.Refusal.{Refusal}
 use Rattle.refusals.specs.declared.refusal.Refusal.TheVariants.{BadCap, MissingEdge}
@@ -23,8 +26,9 @@ use Rattle.candidate_pool.specs.Offsets.{open_edges_at}
 use Rattle.candidate_pool.specs.Pool.{Pool}
 use Rattle.candidate_pool.specs.Standing.{pool_at, Holds, EdgesHeld}
 use Rattle.cap_triangles.specs.Selection.{Cap, caps_of}
-use Rattle.cap_triangles.specs.Listed.{bad_cap_place, missing_place}
+use Rattle.cap_triangles.specs.Listed.{bad_cap, bad_cap_place, missing_place}
 use Rattle.cap_triangles.specs.Room.{turned_at, pair_records_at, up_at, Pooled, Supplied, TurnedReady, CapReady}
+use Rattle.cap_triangles.proofs.Fours.{caps_length}
 use Rattle.cap_triangles.proofs.Kept.{pool_kept, edges_kept, held_kept, ready_kept}
 use Rattle.cap_pairs.specs.Pairs.{Numbered, PairsKnown}
 use Rattle.caps.specs.Operation.{supplied_tests}
@@ -73,6 +77,14 @@ module _ (n nf k : ℕ) (cap_list w : List ℕ) (S : Supplied n nf cap_list w) (
       turned_off n nf k cap_list (BadCap bad) w w
       (ap (λ (b : ℕ). Err (BadCap b)) eb
       ∙ sym (holds (ltb (bad_cap_place p l) (length l)) (BadCap (bad_cap_place p l)) second (lt-ltb (bad_cap_place p l) (length l) (omega (arith, eb, h)))))
+
+  pub good_list : (bad : ℕ) → bad ≡ bad_cap_place p l → length cap_list / 4 ≤ bad → bad_cap_place p l ≡ length l
+  unfolding bad_cap_place
+  good_list bad eb g =
+      let a = place_le (bad_cap p l) (up_to (length l)) in
+      let b = length_up 0 (length l) in
+      let c = caps_length cap_list in
+      omega (arith, a, b, c, eb, g)
 
   module _ (g : bad_cap_place p l ≡ length l) where
     after_first : first_refusal (supplied_tests p l es) ≡ first_refusal second

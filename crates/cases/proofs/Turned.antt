@@ -1,4 +1,5 @@
--- Laws of C15's cap list and of what caps answers. Assumes nothing.
+-- Laws of C15's points, of its cap list and of what caps answers. Assumes nothing.
+--   last_point                a number above 10 is the last point
 --   turned_more, turned_all   a list filled place by place, one more, and to its end
 --   capped_to                 a test of what caps answers is the same test of its definition
 use Prim.Native.Nat.{ℕ, ◌+◌, ◌≤◌, ◌<◌}
@@ -7,7 +8,7 @@ use mathlib.Core.List.{List, [], ◌∷◌, map}
 use native.Mathlib.Omega.{arith}
 use native.Mathlib.Nat.{zero-add}
 use borrow.Author.Count.{below_more}
-use lib.ListN.{length, get_or, set, replicate, length-map}
+use lib.ListN.{length, get_or, set, replicate, length-map, get_or-eq_default}
 use lib.Seq.{get_or-set_same, get_or-set_other, ext_get_or}
 use lib.Ieee.{Float}
 use Rattle.root.specs.Doubles.{zero_f, one_f, 1e-10}
@@ -26,7 +27,19 @@ use Rattle.caps.specs.declared.mode.BoundaryClosure.{BoundaryClosure}
 use Rattle.caps.specs.Operation.{caps_tests, caps_result, Capped}
 use Rattle.cases.specs.Closing.{box_to}
 use Rattle.cases.specs.Cleaning.{two_facets}
-use Rattle.cases.specs.Halves.{cap_word, cap_list_of, square_at_half, is_half, capped, closes_to}
+use Rattle.cases.specs.Halves.{half_points, corner, half_point, cap_word, cap_list_of, square_at_half, is_half, capped, closes_to}
+
+past : (k p : ℕ) → k ≤ p → (p ≡ k → ⊥) → k + 1 ≤ p
+past k p h n = omega arith
+
+pub last_point : (p : ℕ) → (p ≡ 0 → ⊥) → (p ≡ 1 → ⊥) → (p ≡ 2 → ⊥) → (p ≡ 3 → ⊥) → (p ≡ 4 → ⊥) → (p ≡ 5 → ⊥) → (p ≡ 6 → ⊥)
+    → (p ≡ 7 → ⊥) → (p ≡ 8 → ⊥) → (p ≡ 9 → ⊥) → (p ≡ 10 → ⊥) → corner zero_f one_f one_f ≡ half_point p
+unfolding half_point
+last_point p a b c d e f g h i j k =
+    let low : 0 ≤ p = omega arith in
+    let six : 6 ≤ p = past 5 p (past 4 p (past 3 p (past 2 p (past 1 p (past 0 p low a) b) c) d) e) f in
+    let far : 11 ≤ p = past 10 p (past 9 p (past 8 p (past 7 p (past 6 p six g) h) i) j) k in
+    sym (get_or-eq_default half_points (corner zero_f one_f one_f) {n = p} far)
 
 module _ (ws l : List ℕ) (i : ℕ) (long : length l ≡ 80) (f : (k : ℕ) → k < i → get_or l k 0 ≡ cap_word ws k) where
   pub turned_more : (x : ℕ) → i < 80 → x ≡ cap_word ws i → (k : ℕ) → k < i + 1 → get_or (set l i x) k 0 ≡ cap_word ws k

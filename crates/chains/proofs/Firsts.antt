@@ -202,6 +202,21 @@ ids_link t n = sym (first_ids t n (link_of (first t (up_to n))) (subst (λ (m : 
 pub places_link : {A : Type 0} (p : A → Bool) (d : A) (l : List A) → link_to p l ≡ link_of (first (λ k. p (get_or l k d)) (up_to (length l)))
 places_link p d l = sym (link_to_places p d l (λ k. p (get_or l k d)) (λ i h. refl)) ∙ ids_link (λ k. p (get_or l k d)) (length l)
 
+-- tests that agree below n
+pub ids_same : (t u : ℕ → Bool) (n : ℕ) → ((k : ℕ) → k < n → t k ≡ u k) → link_to t (up_to n) ≡ link_to u (up_to n)
+ids_same t u n h =
+    ap (λ (m : ℕ). link_to t (up_to m)) (sym (length_up 0 n))
+    ∙ link_to_places u 0 (up_to n) t (λ i l. let g : i < n = omega (arith, length_up 0 n) in h i g ∙ ap u (sym (at_up 0 n i g ∙ omega arith)))
+
+-- what a link says of the answer
+pub link_none : (o : Option ℕ) (v : ℕ) → v ≡ link_of o → v ≡ 0 → o ≡ None
+link_none None v e z = refl
+link_none (Some k) v e z = absurd (omega arith)
+
+pub link_some : (o : Option ℕ) (v : ℕ) → v ≡ link_of o → (v ≡ 0 → ⊥) → o ≡ Some (v - 1)
+link_some None v e z = absurd (z e)
+link_some (Some k) v e z = let d : k ≡ v - 1 = omega arith in ap Some d
+
 -- a number or none, by its link and back
 pub id_link : (o : Option ℕ) → id_in (link_of o) ≡ o
 id_link None = refl

@@ -1,8 +1,9 @@
 -- Laws of open edges, for any numbers of vertices. Callers cite these, and need not look into `open_edges`. Assumes nothing.
 --   same_pair_refl, same_pair_sym, same_pair_as   `same_pair` is an equivalence: who has the pair of s is as near to any pair as s
 --   open_is_side, open_once, once_open            an open edge is a side that alone bears its pair, and each such side is an open edge
+--   open_pair                                     a pair is that of an open edge exactly if exactly one side bears it
 --   open_small                                    corners below 2^32 make open edges with ends below 2^32
---   open_distinct                                 no two have the same pair
+--   open_distinct, open_ascending                 no two have the same pair; of two places the earlier has the lesser pair
 use Prim.Native.Nat.{ℕ, ◌%◌, ◌≤◌, ◌<◌}
 use mathlib.Core.Bool.{Bool, true, false}
 use mathlib.Core.List.{List, [], ◌∷◌, map, Memᴰ}
@@ -16,13 +17,13 @@ use Rattle.lists.specs.Lists.{some, keep, count, sort_by}
 use Rattle.lists.specs.Order.{AtMost}
 use Rattle.lists.proofs.Counts.{keep_same}
 use Rattle.lists.proofs.Mapped.{Pairwise, Agree, each_of, pairwise_of, pairwise_at, pairwise_map, pairwise_keep, pairwise_sort_by, map_sort_by, mem_sort_by, sort_by_mem}
-use Rattle.lists.proofs.Members.{keep_of, of_keep, some_of, get_d_mem, mem_get_d}
+use Rattle.lists.proofs.Members.{keep_of, of_keep, some_of, of_some, get_d_mem, mem_get_d}
 use Rattle.lists.proofs.Multiplicity.{more, count_cons}
-use Rattle.lists.proofs.Orders.{cases, ascending_before}
+use Rattle.lists.proofs.Orders.{cases, never, ascending_before}
 use Rattle.lists.proofs.SortBy.{ascending_sort_by}
 use Rattle.lists.proofs.Bools.{yes, both_ways}
 use Rattle.records.specs.Records.{record_before}
-use Rattle.records.proofs.Comparing.{record_order}
+use Rattle.records.proofs.Comparing.{Lex, record_cases, record_order, lex_before}
 use Rattle.geometry.specs.Triangles.{Triangle, threes}
 use Rattle.edges.specs.Edges.{sides, sorted_pair, same_pair, bearers, is_open, pair_before, open_edges}
 use Rattle.edges.proofs.Sides.{Small, sides_small}
@@ -93,6 +94,14 @@ module _ (fs : List (Triangle ℕ)) where
   once_open {e} m h = mem_sort_by pair_before (keep (is_open S) S) (keep_of (is_open S) m (yes (eq-eqb (bearers S e) 1 h)))
 
   -- ---- pairs
+  pub open_pair : (s : ℕ × ℕ) → some (same_pair s) (open_edges fs) ≡ is_open S s
+  open_pair s =
+      both_ways (some (same_pair s) (open_edges fs)) (is_open S s)
+      (λ h. let x = of_some (same_pair s) (open_edges fs) (yes h) in
+      eq-eqb (bearers S s) 1 (bearers_as S s x.0 (yes_true x.2) ∙ open_once x.1))
+      (λ h. let one = eqb-true (bearers S s) 1 h in
+      let x = of_some (same_pair s) S (some_counted (same_pair s) S (omega arith)) in
+      yes_true (some_of (same_pair s) (once_open x.1 (sym (bearers_as S s x.0 (yes_true x.2)) ∙ one)) x.2))
 
   -- ---- no two of one pair
   alone_from : (l : List (ℕ × ℕ)) → ((x : ℕ × ℕ) → bearers l x ≤ bearers S x) → Pairwise (λ x y. is_open S x ≡ true → same_pair x y ≡ false) l
@@ -140,6 +149,14 @@ module _ (fs : List (Triangle ℕ)) where
         (λ t. record_before (sym (get_or-map sorted_pair (open_edges fs) j (0, 0)) t) (sym (get_or-map sorted_pair (open_edges fs) i (0, 0)) t))
         ∙ ascending_before record_before (map sorted_pair (open_edges fs)) i j (0, 0)
         (rw e (ascending_sort_by record_before record_order (map sorted_pair (keep (is_open S) S)))) h (omega (arith, length-map (open_edges fs) sorted_pair))
+
+    pub open_ascending : pair_before x y ≡ true
+    unfolding pair_before
+    open_ascending =
+        ⊎_elim (λ (l : Lex (sorted_pair x) (sorted_pair y)). lex_before (sorted_pair x) (sorted_pair y) l)
+        (⊎_elim (λ (e : sorted_pair x ≡ sorted_pair y). absurd (never (same_pair x y) (sorted_same x y e) open_distinct))
+        (λ (l : Lex (sorted_pair y) (sorted_pair x)). absurd (never (record_before (sorted_pair y) (sorted_pair x)) (lex_before (sorted_pair y) (sorted_pair x) l) not_later)))
+        (record_cases (sorted_pair x) (sorted_pair y))
 
 pub open_small : (f : List ℕ) → length f % 3 ≡ 0 → ((i : ℕ) → get_or f i 0 < 4294967296) → (i : ℕ) → i < length (open_edges (threes f)) →
     Small (get_or (open_edges (threes f)) i (0, 0))

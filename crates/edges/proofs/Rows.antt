@@ -2,7 +2,7 @@
 --   Row                          what a record says: which side it is of, and its key
 --   length_records_from, records_from_at, numbers_from, sides_from   of the records in the order of the sides
 --   row_order                    of two records the later is before the earlier exactly if its pair is
---   table_rows, table_ascends
+--   table_length, table_rows, table_ascends
 --   table_sides                  the edge table holds the sides in ascending order of their sorted pair, those of one pair in their order
 --   table_bearing                the records of one pair are those of the sides that bear it, in their order
 --   table_open                   the records whose key stands once are those of the open edges, in order
@@ -20,7 +20,7 @@ use Rattle.lists.proofs.Counts.{keep_same}
 use Rattle.lists.proofs.Mapped.{Each, Pairwise, Agree, each_of, each_map, each_sort_by, each_keep, pairwise_keep, map_keep, map_sort_by}
 use Rattle.lists.proofs.Members.{of_keep}
 use Rattle.lists.proofs.Multiplicity.{count_sort_by, keep_sort_by}
-use Rattle.lists.proofs.SortBy.{ascending_sort_by, sort_by_ascending}
+use Rattle.lists.proofs.SortBy.{length_sort_by, ascending_sort_by, sort_by_ascending}
 use Rattle.lists.proofs.Bools.{last_false}
 use Rattle.records.specs.Records.{record_before}
 use Rattle.records.proofs.Comparing.{record_order}
@@ -121,6 +121,8 @@ module _ (S : List (ℕ × ℕ)) (small : (i : ℕ) → Small (get_or S i (0, 0)
   agree = agree_from 0 S from_all
 
   -- ---- the table
+  pub table_length : length (edge_table S) ≡ length S
+  table_length = length_sort_by record_before (side_records S) ∙ length_records_from 0 S
 
   pub table_rows : Each (Row 0) (edge_table S)
   table_rows = each_sort_by record_before (Row 0) (side_records S) rows

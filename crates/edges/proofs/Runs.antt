@@ -2,8 +2,9 @@
 -- is the same from place i up to, not including, e, and another one just before and at e. Assumes nothing.
 --   length_bearing           as many sides bear a pair as `bearers` says
 --   keys_ascend, run_list    of any sorted list of records: the run from i to e holds all records of its key
---   row_key                  the record at place i of the table: its key is the pair of its side, which is one of the facets' sides
---   run_sides                the run from i to e holds the numbers of all sides that bear the pair, ascending
+--   row_key, row_number      the record at place i of the table: its key is the pair of its side, which is one of the facets' sides
+--   sides_in_order           the table holds all sides in ascending order of their pair, those of one pair in the order of the facets
+--   run_sides, run_long      the run from i to e holds the numbers of all sides that bear the pair, ascending, and so e - i sides bear it
 use Prim.Native.Nat.{ℕ, zero, suc, ◌+◌, ◌*◌, ◌-◌, ◌%◌, ◌≤◌, ◌<◌}
 use mathlib.Core.Bool.{Bool, true, false}
 use mathlib.Core.List.{List, [], ◌++◌, map, append-nil}
@@ -11,9 +12,9 @@ use mathlib.Core.Path.{◌≡◌, refl, sym, ap, subst, ◌∙◌}
 use native.Mathlib.Omega.{arith}
 use borrow.Author.Tests.{eq-eqb, ne_eqb}
 use lib.Dec.{eqb}
-use lib.ListN.{length, get_or, take, drop, length-take, length-drop, take-append-drop}
+use lib.ListN.{length, get_or, take, drop, length-take, length-drop, length-map, take-append-drop}
 use lib.Seq.{ext_get_or, get_or-take, get_or-drop, length-take-le}
-use Rattle.lists.specs.Lists.{keep, up_to}
+use Rattle.lists.specs.Lists.{keep, sort_by, up_to}
 use Rattle.lists.specs.Order.{Ascending}
 use Rattle.lists.proofs.Counts.{keep_append, count_places}
 use Rattle.lists.proofs.Mapped.{Each, each_places, each_at, keep_all, keep_none}
@@ -24,10 +25,10 @@ use Rattle.records.specs.Records.{records, record_before}
 use Rattle.records.proofs.Comparing.{record_order, at_most_key}
 use Rattle.records.proofs.Records.{length_records_at, records_at_get, length_records, records_get}
 use Rattle.geometry.specs.Triangles.{threes}
-use Rattle.edges.specs.Edges.{sides, same_pair, bearers}
-use Rattle.edges.specs.Table.{edge_key, bearing, EdgeTable}
-use Rattle.edges.proofs.Sides.{Small, sides_small}
-use Rattle.edges.proofs.Rows.{Row, table_rows, table_ascends, table_bearing}
+use Rattle.edges.specs.Edges.{sides, same_pair, bearers, pair_before}
+use Rattle.edges.specs.Table.{edge_key, side_of, bearing, EdgeTable}
+use Rattle.edges.proofs.Sides.{Small, length_sides, sides_small}
+use Rattle.edges.proofs.Rows.{Row, table_rows, table_ascends, table_sides, table_bearing}
 
 pub length_bearing : (l : List (ℕ × ℕ)) (s : ℕ × ℕ) → length (bearing l s) ≡ bearers l s
 length_bearing l s =
@@ -132,6 +133,12 @@ module _ (f w w' : List ℕ) (whole : length f % 3 ≡ 0) (bound : (i : ℕ) →
   pub row_key : (i : ℕ) → i < length f → get_or w' (2 * i) 0 ≡ edge_key (get_or S (get_or w' (2 * i + 1) 0) (0, 0))
   row_key i h = (row i h).key
 
+  pub row_number : (i : ℕ) → i < length f → get_or w' (2 * i + 1) 0 < length f
+  row_number i h = omega (arith, (row i h).within, length_sides f whole)
+
+  pub sides_in_order : map (side_of S) R ≡ sort_by pair_before S
+  sides_in_order = ap (map (side_of S)) t.table ∙ table_sides S small
+
   module _ (i e : ℕ) (ie : i < e) (en : e ≤ length f)
       (first : (j : ℕ) → suc j ≡ i → get_or w' (2 * j) 0 ≡ get_or w' (2 * i) 0 → ⊥)
       (within : (j : ℕ) → i ≤ j → j < e → get_or w' (2 * j) 0 ≡ get_or w' (2 * i) 0)
@@ -168,3 +175,8 @@ module _ (f w w' : List ℕ) (whole : length f % 3 ≡ 0) (bound : (i : ℕ) →
         ap (map (λ (r : ℕ × ℕ). r.1))
         (sym part ∙ run ∙ (λ u. keep (λ r. eqb (row_key i (omega arith) u) r.0) (t.table u)))
         ∙ table_bearing S small s (small (get_or w' (2 * i + 1) 0))
+
+    pub run_long : e - i ≡ bearers S s
+    run_long =
+        sym (length_records_at w' (2 * i) (e - i)) ∙ sym (length-map (records_at w' (2 * i) (e - i)) (λ (r : ℕ × ℕ). r.1))
+        ∙ ap (length {A = ℕ}) run_sides ∙ length_bearing S s

@@ -59,6 +59,18 @@ pub fn vertex_in(room: &[u64], k: usize) -> MeshVertexId
     MeshVertexId(room[k] as usize)
 }
 
+// The facet whose corners stand in a work room from the place k on.
+pub fn facet_in(room: &[u64], k: usize) -> MeshTriangle
+    requires { k + 2 < length room.now }
+    ensures { mesh_vertices_of result ≡ corners_at room.now k }
+{
+    MeshTriangle {
+        a: vertex_in(room, k),
+        b: vertex_in(room, k + 1),
+        c: vertex_in(room, k + 2),
+    }
+}
+
 // The three coordinates of p, from the place `at` on, where `point_at` reads them.
 // Stays (plainer): `words::write_three` stores any three; over it each caller would take the point apart, and this crate uses none of words.
 pub fn write_point(out: &mut [f64], at: usize, p: Point)

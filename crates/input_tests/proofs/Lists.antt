@@ -1,8 +1,8 @@
 -- What tests 1, 2 and 3 give, once they have passed. Assumes nothing.
---   admitted_most   no ceiling admits more than 65,536
+--   admitted_most, admitted_all, admitted_over   no ceiling admits more than 65,536; what a ceiling below that admits, and what another does
 --   listed, cap_listed   of the mesh, and of the cap list
 --   same_lists, same_row   where two ceilings both admit a mesh, 1, 2 and 3 are the same tests, and so is a row that begins with them
-use Prim.Native.Nat.{ℕ, ◌/◌, ◌%◌, ◌≤◌}
+use Prim.Native.Nat.{ℕ, ◌/◌, ◌%◌, ◌≤◌, ◌<◌}
 use mathlib.Core.Path.{◌≡◌, sym, ap, ◌∙◌}
 use mathlib.Core.Bool.{false, ◌||◌}
 use mathlib.Core.List.{List, [], ◌∷◌, ◌++◌}
@@ -21,6 +21,14 @@ use Rattle.input_tests.specs.Front.{ragged, too_many, mesh_ceiling, admitted, Ad
 pub admitted_most : (ceiling : ℕ) → admitted ceiling ≤ mesh_ceiling
 unfolding admitted
 admitted_most ceiling = omega arith
+
+pub admitted_all : (ceiling : ℕ) → ceiling < mesh_ceiling → ceiling ≡ admitted ceiling
+unfolding admitted
+admitted_all ceiling h = omega arith
+
+pub admitted_over : (ceiling : ℕ) → mesh_ceiling ≤ ceiling → mesh_ceiling ≡ admitted ceiling
+unfolding admitted
+admitted_over ceiling h = omega arith
 
 module _ (ceiling : ℕ) (vs : List Float) (fs : List ℕ) (caps : ℕ) where
   abbrev second : List Test

@@ -20,8 +20,9 @@ pub struct Grid {
 }
 
 impl Grid {
+    // The segments of an axis, and none where it needs more than 256, whatever the other axes need.
     #[tactic(auto, unfolding(geometry::specs::Axes::segments, rounding::specs::Rounding::few_segments))]
-    fn axis_cut(self, axis: Axis) -> Option<usize>
+    pub fn axis_cut(self, axis: Axis) -> Option<usize>
         ensures { result ≡ at_most_256 (segments self.extents self.eps (by_axis self.resolution) (axis_of axis)) }
     {
         let k = axis.index();

@@ -7,6 +7,7 @@ use lib.ListN.{length, get_or, set, take, drop, length-map}
 use lib.Seq.{sets}
 use lib.Ieee.{Float, nan}
 use Rattle.lists.specs.Regions.{view}
+use Rattle.lists.proofs.Regions.{view_length, view_at}
 use Rattle.lists.proofs.Sequences.{at_map}
 use Rattle.words.specs.Overlay.{overlay}
 use Rattle.words.proofs.Overlay.{Writing, writing_start, writing_turn, writing_end}
@@ -46,6 +47,10 @@ module _ (vs : List Float) (order : List ℕ) where
   vertices_start old h = writing_start (coordinates points) old (let e = flat_long in omega arith)
 
   module _ (old out : List Float) (k : ℕ) (R : Writing (coordinates points) old out (3 * k)) (h : k < length order) where
+    -- there is room for vertex k
+    pub vertex_room : 3 * k + 2 < length out
+    vertex_room = let a = flat_long in let b = R.room in let c = R.same in omega arith
+
     three_stores : (p : Point) → p ≡ vertex_of vs (get_or order k 0) → Writing (coordinates points) old (set (set (set out (3 * k) p.x) (3 * k + 1) p.y) (3 * k + 2) p.z) (3 * (k + 1))
     three_stores p e =
         let c = coordinates_at points k nan (let l = length-map order (vertex_of vs) in omega arith) in
@@ -64,6 +69,24 @@ module _ (vs : List Float) (order : List ℕ) where
 
   pub vertices_end : (old out : List Float) (k : ℕ) → Writing (coordinates points) old out (3 * k) → length order ≤ k → out ≡ overlay (coordinates points) old
   vertices_end old out k R h = writing_end (coordinates points) old out (3 * k) R (let a = flat_long in omega arith)
+
+-- ---- numbers that stand in the work room
+
+module _ (m : List ℕ) (at n : ℕ) (room : at + n ≤ length m) where
+  numbers_long : length (view m at n) ≡ n
+  numbers_long = view_length m at n room
+
+  pub numbers_start : (old : List ℕ) → n ≤ length old → Writing (view m at n) old old 0
+  numbers_start old h = writing_start (view m at n) old (let e = numbers_long in omega arith)
+
+  pub number_room : (old out : List ℕ) (i : ℕ) → Writing (view m at n) old out i → i < n → i < length out
+  number_room old out i R h = let a = numbers_long in let b = R.room in let c = R.same in omega arith
+
+  pub numbers_turn : (old out : List ℕ) (i : ℕ) → Writing (view m at n) old out i → i < n → Writing (view m at n) old (set out i (get_or m (at + i) 0)) (i + 1)
+  numbers_turn old out i R h = writing_turn (view m at n) old out i 0 (get_or m (at + i) 0) R (let e = numbers_long in omega arith) (sym (view_at m at n i h))
+
+  pub numbers_end : (old out : List ℕ) (i : ℕ) → Writing (view m at n) old out i → n ≤ i → out ≡ overlay (view m at n) old
+  numbers_end old out i R h = writing_end (view m at n) old out i R (let e = numbers_long in omega arith)
 
 -- a part of the work room, as the code takes it
 pub part_is : (w : List ℕ) (at n : ℕ) → take (at + n - at) (drop at w) ≡ view w at n

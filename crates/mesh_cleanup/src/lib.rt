@@ -12,7 +12,7 @@ ghost use Rattle.mesh_cleanup.specs.Clean.{clean_asked, clean_tests, clean_resul
 ghost use Rattle.mesh_cleanup.specs.Steps.{CleanReady, Staging};
 
 use geometry::mesh::MeshLists;
-use geometry::vertices::{point_at, write_point};
+use geometry::vertices::{vertex_at, vertex_in, write_point};
 use input_tests::grid::has_far_key;
 use input_tests::{all_in_range, check_lists, eps_in_range, work_need};
 use mesh_compact::compact::{Staged, remove_small_disconnected_components};
@@ -139,8 +139,9 @@ fn write_vertices(order: &[u64], vertices: &[f64], out: &mut [f64])
     requires numbers { (j : ℕ) → j < length order.now → get_or order.now j 0 < length vertices.now / 3 }
     ensures { out.new ≡ overlay (coordinates (map (vertex_of vertices.now) order.now)) out.old }
 {
-    for (k, v) in order.iter().enumerate() {
-        write_point(out, 3 * k, point_at(vertices, *v as usize));
+    for k in 0..order.len() {
+        let v = vertex_in(order, k);
+        write_point(out, 3 * k, vertex_at(vertices, v));
     }
 }
 

@@ -6,7 +6,7 @@ use native.Mathlib.Omega.{arith}
 use mathlib.Core.Path.{◌≡◌, refl, sym, ap, subst, ◌∙◌}
 use mathlib.Core.Bool.{Bool, true, false, cond}
 use mathlib.Core.List.Memᴰ
-use mathlib.Core.List.{List, [], ◌∷◌, ◌++◌, map, map-append, flat_map, Memᴰ}
+use mathlib.Core.List.{List, [], ◌∷◌, ◌++◌, map, map-append, append-nil, flat_map, Memᴰ}
 use lib.Dec.{leb}
 use lib.ListN.{length, get_or, take, length-append, replicate, length-replicate, get_or-replicate}
 use lib.Seq.{ext_get_or}
@@ -38,6 +38,22 @@ one_corner kept at n k v l w x y m m₁ m₂ below vn A B =
           (B.naming point points top (cs ++ l) (pointed_same point points top kept v m m₁ (A.rest (kept + v) (omega arith)) (P v vn)) (A.naming point points top cs P N));
     }
 
+-- no corner, and the three of a facet
+no_corner : (kept at n k : ℕ) (w : Numbered) (m : List ℕ) → Faceted kept at n k [] w w m m
+no_corner kept at n k w m =
+    record {
+      corners = omega arith;
+      rest = λ i q. refl;
+      naming = λ point points top cs P N. subst (λ (l : List ℕ). Naming point points top at n k w.vertices w.corners l m) (sym (append-nil cs)) N;
+    }
+
+module _ (kept at n k : ℕ) (a b c : ℕ) (w x y z : Numbered) (m m₁ m₂ m₃ : List ℕ) (below : kept + n ≤ at) (an : a < n) (bn : b < n) (cn : c < n)
+    (A : Cornered kept at n k a w x m m₁) (B : Cornered kept at n k b x y m₁ m₂) (C : Cornered kept at n k c y z m₂ m₃) where
+  pub faceted : Faceted kept at n k (a ∷ b ∷ c ∷ []) w z m m₃
+  faceted =
+      one_corner kept at n k c (a ∷ b ∷ []) w y z m m₂ m₃ below cn
+      (one_corner kept at n k b (a ∷ []) w x y m m₁ m₂ below bn (one_corner kept at n k a [] w w x m m m₁ below an (no_corner kept at n k w m) A) B) C
+
 -- the corners of a facet, one after the other
 next_corner : (m : List ℕ) (o j : ℕ) → j < 3 → take j (vertices (corners_at m o)) ++ (get_or m (o + j) 0 ∷ []) ≡ take (j + 1) (vertices (corners_at m o))
 next_corner m o zero h = rw (add-zero o) refl
@@ -64,6 +80,20 @@ module _ (kept facets parts k at n : ℕ) (m v : List ℕ) (R : RenumberRoom kep
 -- ---- a facet dropped, or numbered
 
 module _ (kept facets parts k at n least i : ℕ) (w : Numbered) (m : List ℕ) (within : w.corners ≤ 3 * i) where
+  pub passed_over_lem : is_large_at m parts k least i ≡ false → FacetNumbered kept facets parts k at n least i w w m m
+  passed_over_lem e =
+      record {
+        within = omega arith;
+        rest = λ x q. refl;
+        naming = λ point points top cs P N.
+            subst (λ (b : Bool). Naming point points top at n k w.vertices w.corners (cs ++ cond b (vertices (corners_at m (facets + 3 * i))) []) m) (sym e)
+            (subst (λ (l : List ℕ). Naming point points top at n k w.vertices w.corners l m) (sym (append_nil cs)) N);
+      }
+    where
+      append_nil : (l : List ℕ) → l ++ [] ≡ l
+      append_nil [] = refl
+      append_nil (x ∷ l) = ap (λ (r : List ℕ). x ∷ r) (append_nil l)
+
   pub numbered : is_large_at m parts k least i ≡ true → (r : Numbered) (v : List ℕ) → Faceted kept at n k (vertices (corners_at m (facets + 3 * i))) w r m v
       → FacetNumbered kept facets parts k at n least i w r m v
   numbered e r v F =
@@ -98,6 +128,18 @@ module _ (facets parts k least : ℕ) (m : List ℕ) where
 
 module _ (kept facets parts k at n : ℕ) (m v : List ℕ) (R : RenumberRoom kept facets parts k at n m) (len : length v ≡ length m) (rest : (x : ℕ) → x < at → get_or v x 0 ≡ get_or m x 0)
   where
+    pub still_room : RenumberRoom kept facets parts k at n v
+    still_room = record {
+      few = R.few;
+      small = R.small;
+      kept_in = R.kept_in;
+      facets_in = R.facets_in;
+      parts_in = R.parts_in;
+      all_in = let q = R.all_in in omega arith;
+      corner = λ j h. rw (rest (facets + j) (let q = R.facets_in in omega arith)) (R.corner j h);
+      part = λ i h. rw (rest (parts + i) (let q = R.parts_in in omega arith)) (R.part i h);
+    }
+
     large_same : (least i : ℕ) → i < k → is_large_at v parts k least i ≡ is_large_at m parts k least i
     large_same least i h =
         ap (λ (x : ℕ). leb least (get_or v (parts + k + x) 0)) (rest (parts + i) (let q = R.parts_in in omega arith))
@@ -184,3 +226,7 @@ going_start kept facets parts k at n least w m v ea ec room z =
     zeros =
         ext_get_or 0 (view v at n) (replicate n 0) (long ∙ sym (length-replicate {A = ℕ} n 0))
         (λ i h. let h' : i < n = omega (arith, long) in view_at v at n i h' ∙ z.zero i h' ∙ sym (get_or-replicate n i 0 0 h'))
+
+pub going_end : (kept facets parts k at n least i : ℕ) (w : Numbered) (m u : List ℕ) → NumberedSoFar kept facets parts k at n least i w m u → k ≤ i → NumberedSoFar kept facets
+    parts k at n least k w m u
+going_end kept facets parts k at n least i w m u G h = let e : i ≡ k = omega (arith, G.done) in subst (λ (j : ℕ). NumberedSoFar kept facets parts k at n least j w m u) e G

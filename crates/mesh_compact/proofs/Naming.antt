@@ -238,6 +238,19 @@ module _ (kept at n k v : ℕ) (w : Numbered) (m m₁ : List ℕ) (r : ℕ) (U :
   ac = w.few
 
   -- the number just read is there
+  pub has_number : 0 < get_or m₁ (at + v) 0
+  has_number = rw U.room (go (ℕ_discrete (get_or m (at + v) 0) 0))
+    where
+      go : Dec (get_or m (at + v) 0 ≡ 0) → 0 < get_or (after_vertex m kept at n w.vertices v) (at + v) 0
+      go (yes h) =
+          rw (
+            (after_new m kept at n w.vertices v h).0,
+            get_or-set_same (set m (at + n + w.vertices) (get_or m (kept + v) 0)) (at + v) (w.vertices + 1) 0
+                (let l = length-set m (at + n + w.vertices) (get_or m (kept + v) 0) in omega arith),
+          )
+          (omega arith)
+      go (no h) = rw (after_old m kept at n w.vertices v h).0 (omega arith)
+
   long₁ : length m₁ ≡ length m
   long₁ = ap length U.room ∙ go (ℕ_discrete (get_or m (at + v) 0) 0)
     where

@@ -4,7 +4,7 @@ ghost use Rattle.std.specs.Prelude.{◌≡◌, ◌+◌, ◌*◌, ◌≤◌, ◌<
 ghost use Rattle.geometry.specs.Triangles.{vertices, corners_at};
 ghost use Rattle.mesh_compact.specs.Room.{is_large_at, Vertexed, Cornered, Faceted, RenumberRoom, FacetNumbered, NumberedSoFar};
 
-use crate::numbered::Numbered;
+pub use crate::numbered::Numbered;
 use geometry::numbers::MeshVertexId;
 use geometry::vertices::vertex_in;
 use words::zero_part;

@@ -1,5 +1,5 @@
 -- The facets and points that the work room holds, read word by word; and what a search for a key says of duplicates. Assumes nothing.
-use Prim.Native.Nat.{ℕ, zero, suc, ◌+◌, ◌*◌, ◌/◌, ◌<◌}
+use Prim.Native.Nat.{ℕ, zero, suc, ◌+◌, ◌*◌, ◌/◌, ◌≤◌, ◌<◌}
 use native.Mathlib.Decide.{dec_lt}
 use native.Mathlib.Omega.{arith}
 use mathlib.Core.Path.{◌≡◌, refl, sym, ap, subst, ◌∙◌}
@@ -7,20 +7,23 @@ use mathlib.Core.Bool.{Bool, true, false, true≢false}
 use mathlib.Core.List.{List, [], ◌∷◌, map}
 use lib.Dec.{T, eqb}
 use lib.ListN.{length, get_or, length-map, get_or-eq_default}
-use lib.Ieee.{Float}
+use lib.Ieee.{Float, le}
 use Rattle.lists.specs.Lists.{some}
 use Rattle.lists.proofs.Bools.{is_true}
-use Rattle.lists.proofs.Regions.{view_at}
+use Rattle.lists.proofs.Regions.{view_length, view_at}
 use Rattle.lists.proofs.Members.{of_some, some_of, mem_get_d, get_d_mem}
 use Rattle.lists.proofs.Sequences.{at_map}
+use Rattle.root.specs.Doubles.{◌⊗◌}
+use Rattle.geometry.specs.Points.{origin, norm2, normal}
 use Rattle.geometry.specs.Triangles.{Triangle, tri, mapped, threes, corners_at}
+use Rattle.geometry.specs.Meshes.{vertex, vertex_of}
 use Rattle.geometry.proofs.Threes.{length_threes, threes_at_lem}
 use Rattle.std.specs.Prelude.{Option, is_some}
 use Rattle.chains.specs.Links.{link_to, id_in}
 use Rattle.chains.proofs.Firsts.{link_found, link_absent, link_map}
 use Rattle.mesh_filter.specs.declared.corners.WeldedAt.{WeldedAt}
-use Rattle.mesh_filter.specs.Filters.{facet_at, same_corners, is_duplicate}
-use Rattle.mesh_filter.specs.Room.{numbers_in_room, facets_in_room, corners_key, Below, CornersNumbered}
+use Rattle.mesh_filter.specs.Filters.{facet_at, is_flat, same_corners, is_duplicate}
+use Rattle.mesh_filter.specs.Room.{kept_in_room, numbers_in_room, points_in_room, facets_in_room, corners_key, Below, CornersNumbered}
 use Rattle.mesh_filter.proofs.Keys.{same_key_lem}
 
 none_link : (v : ℕ) → is_some (id_in v) ≡ false → v ≡ 0
@@ -30,6 +33,19 @@ none_link (suc k) e = absurd (true≢false e)
 some_link : (v : ℕ) → is_some (id_in v) ≡ true → v ≡ 0 → ⊥
 some_link zero e z = true≢false (sym e)
 some_link (suc k) e z = omega arith
+
+-- the welded points, where the kept vertices stand in the room
+module _ (w : WeldedAt) (vs : List Float) (m : List ℕ) (room : w.kept + w.count ≤ length m) where
+  pub point_is : (v : ℕ) → v < w.count → vertex (points_in_room w vs m) v ≡ vertex_of vs (get_or m (w.kept + v) 0)
+  point_is v h =
+      at_map (vertex_of vs) (kept_in_room w m) v 0 origin (let e = view_length m w.kept w.count room in omega arith)
+      ∙ ap (vertex_of vs) (view_at m w.kept w.count v h)
+
+  pub flat_at : (eps : Float) (t : Triangle ℕ) → Below w.count t
+      → le (norm2 (normal (mapped (λ v. vertex_of vs (get_or m (w.kept + v) 0)) t))) (eps ⊗ eps ⊗ (eps ⊗ eps)) ≡ is_flat eps (points_in_room w vs m) t
+  unfolding is_flat
+  flat_at eps t h = λ i.
+      le (norm2 (normal (tri (sym (point_is t.a h.a) i) (sym (point_is t.b h.b) i) (sym (point_is t.c h.c) i)))) (eps ⊗ eps ⊗ (eps ⊗ eps))
 
 module _ (w : WeldedAt) (vs : List Float) (fs : List ℕ) (at n : ℕ) (m : List ℕ) (N : CornersNumbered w vs fs at n m) where
   abbrev F : List (Triangle ℕ)
@@ -67,6 +83,10 @@ module _ (w : WeldedAt) (vs : List Float) (fs : List ℕ) (at n : ℕ) (m : List
       go (no h) =
           subst (Below 2097152) (sym (get_or-eq_default F (tri 0 0 0) {n = f} (let e = facets_long in omega arith)))
           (record { a = omega arith; b = omega arith; c = omega arith })
+
+  pub flat_is : (eps : Float) (t : Triangle ℕ) → Below w.count t
+      → le (norm2 (normal (mapped (λ v. vertex_of vs (get_or m (w.kept + v) 0)) t))) (eps ⊗ eps ⊗ (eps ⊗ eps)) ≡ is_flat eps (points_in_room w vs m) t
+  flat_is eps t h = flat_at w vs m (let k = N.kept_in in let r = N.room in omega arith) eps t h
 
   -- ---- duplicates by their keys
 

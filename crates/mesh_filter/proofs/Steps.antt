@@ -266,6 +266,19 @@ module _ (w : WeldedAt) (vs : List Float) (fs : List ℕ) (at n : ℕ) (m v : Li
   same_numbers =
       view_same m v w.numbers (length vs / 3) (let k = N.numbers_in in let r = N.room in omega arith) e (λ i h. rest (w.numbers + i) (let k = N.numbers_in in omega arith))
 
+  pub still_numbered : CornersNumbered w vs fs at n v
+  still_numbered = record {
+    kept_in = N.kept_in;
+    numbers_in = N.numbers_in;
+    room = let r = N.room in omega arith;
+    facets = N.facets;
+    small = N.small;
+    few = N.few;
+    corner = N.corner;
+    new = λ i h. rw (rest (w.numbers + i) (let k = N.numbers_in in omega arith)) (N.new i h);
+    old = λ k h. rw (rest (w.kept + k) (let q = N.kept_in in omega arith)) (N.old k h);
+  }
+
   module _ (eps : Float) (f count : ℕ) where
     pub turn_same : (u : List ℕ) → FilteredSoFar eps (points_in_room w vs m) (facets_in_room w vs fs m) at n f count u → FilteredSoFar eps (points_in_room w vs v)
         (facets_in_room w vs fs v) at n f count u
@@ -290,3 +303,8 @@ filtered eps points facets at n f count m v U e h =
     let z : f ≡ n = omega (arith, U.going.done) in
     let g = subst (λ (k : ℕ). FilteredSoFar eps points facets at n k count v) z U.going in
     record { few = g.within; numbers = g.numbers; corners = g.corners; long = e; rest = U.rest }
+
+pub none_filtered : (eps : Float) (points : List Point) (facets : List (Triangle ℕ)) (at n : ℕ) (m : List ℕ) → n ≡ 0 → Filtered eps points facets at n 0 m m
+unfolding passed flat_map
+none_filtered eps points facets at n m e =
+    subst (λ (k : ℕ). Filtered eps points facets at k 0 m m) (sym e) (record { few = omega arith; numbers = refl; corners = refl; long = refl; rest = λ x q. refl })

@@ -1,7 +1,11 @@
 // The corners of a facet among the welded vertices, and the tests of one facet by itself.
-ghost use Rattle.std.specs.Prelude.{◌≡◌, ◌<◌};
+ghost use Rattle.std.specs.Prelude.{◌≡◌, ℕ, ◌+◌, ◌*◌, ◌≤◌, ◌<◌, length, get_or};
+ghost use Rattle.std.specs.Float.Ieee.{le};
+ghost use Rattle.root.specs.Doubles.{◌⊗◌};
+ghost use Rattle.geometry.specs.Triangles.{mapped, corners_at};
 ghost use Rattle.geometry.specs.Numbers.{mesh_vertices_of};
-ghost use Rattle.geometry.specs.Meshes.{vertex};
+ghost use Rattle.geometry.specs.Points.{norm2, normal};
+ghost use Rattle.geometry.specs.Meshes.{vertex_of};
 ghost use Rattle.mesh_filter.specs.Filters.{facet_at, has_repeated_corner, is_flat};
 ghost use Rattle.mesh_filter.specs.Room.{corners_key, points_in_room, facets_in_room, Below, CornersNumbered};
 
@@ -23,9 +27,11 @@ pub struct WeldedAt {
 impl Filter<'_> {
     // The new numbers of the corners of facet f.
     pub fn corners_of(&self, m: &[u64], f: usize) -> MeshTriangle
-        requires f_lt_n { f < self.now.n }
-        requires numbered { CornersNumbered self.now.welded self.now.mesh.vertices.now self.now.mesh.facets.now self.now.at self.now.n m.now }
-        ensures { mesh_vertices_of result ≡ facet_at (facets_in_room self.now.welded self.now.mesh.vertices.now self.now.mesh.facets.now m.now) f }
+        requires f_in_bounds { 3 * f + 2 < length self.now.mesh.facets.now }
+        requires by_index { (j : ℕ) → j < length self.now.mesh.facets.now → self.now.welded.numbers + get_or self.now.mesh.facets.now j 0 < length m.now }
+        ensures numbers { mesh_vertices_of result ≡ mapped (λ v. get_or m.now (self.now.welded.numbers + v) 0) (corners_at self.now.mesh.facets.now (3 * f)) }
+        ensures in_room { f < self.now.n → CornersNumbered self.now.welded self.now.mesh.vertices.now self.now.mesh.facets.now self.now.at self.now.n m.now
+            → mesh_vertices_of result ≡ facet_at (facets_in_room self.now.welded self.now.mesh.vertices.now self.now.mesh.facets.now m.now) f }
     {
         let t = facet_at(self.mesh.facets, f);
         let numbers = self.welded.numbers;
@@ -38,18 +44,21 @@ impl Filter<'_> {
 
     // The point of the welded vertex v.
     fn welded_point(&self, m: &[u64], v: MeshVertexId) -> Point
-        requires v_lt_count { v.0 < self.now.welded.count }
-        requires numbered { CornersNumbered self.now.welded self.now.mesh.vertices.now self.now.mesh.facets.now self.now.at self.now.n m.now }
-        ensures { result ≡ vertex (points_in_room self.now.welded self.now.mesh.vertices.now m.now) v.0 }
+        requires v_in_bounds { self.now.welded.kept + v.0 < length m.now }
+        requires v_in_bounds_2 { 3 * get_or m.now (self.now.welded.kept + v.0) 0 + 2 < length self.now.mesh.vertices.now }
+        ensures { result ≡ vertex_of self.now.mesh.vertices.now (get_or m.now (self.now.welded.kept + v.0) 0) }
     {
         let old = vertex_in(m, self.welded.kept + v.0);
         vertex_at(self.mesh.vertices, old)
     }
 
     pub fn is_flat(&self, m: &[u64], t: MeshTriangle) -> bool
+        requires count_in_bounds { self.now.welded.kept + self.now.welded.count ≤ length m.now }
         requires below { Below self.now.welded.count (mesh_vertices_of t) }
-        requires numbered { CornersNumbered self.now.welded self.now.mesh.vertices.now self.now.mesh.facets.now self.now.at self.now.n m.now }
-        ensures { result ≡ is_flat self.now.eps (points_in_room self.now.welded self.now.mesh.vertices.now m.now) (mesh_vertices_of t) }
+        requires by_index { (k : ℕ) → k < self.now.welded.count → 3 * get_or m.now (self.now.welded.kept + k) 0 + 2 < length self.now.mesh.vertices.now }
+        ensures numbers { result ≡ le (norm2 (normal (mapped (λ v. vertex_of self.now.mesh.vertices.now (get_or m.now (self.now.welded.kept + v) 0)) (mesh_vertices_of t))))
+            (self.now.eps ⊗ self.now.eps ⊗ (self.now.eps ⊗ self.now.eps)) }
+        ensures in_room { result ≡ is_flat self.now.eps (points_in_room self.now.welded self.now.mesh.vertices.now m.now) (mesh_vertices_of t) }
     {
         let corners = Triangle3 {
             a: self.welded_point(m, t.a),

@@ -9,7 +9,7 @@ use Rattle.std.specs.Option.{option_or}
 use lib.Dec.{eqb}
 use lib.ListN.{length, get_or, length-map}
 use lib.Ieee.{Float}
-use borrow.Author.Tests.{eqb-true}
+use borrow.Author.Tests.{eqb-true, ne_eqb, eq-eqb}
 use Rattle.lists.specs.Lists.{first, keep, up_to}
 use Rattle.lists.specs.Regions.{view}
 use Rattle.lists.proofs.Regions.{view_length, view_at}
@@ -31,6 +31,19 @@ use Rattle.mesh_weld.specs.Room.{words_of, cell_at, same_cell, kept_points, in_c
 use Rattle.mesh_weld.proofs.Words.{same_words, FitKey, key_fits, inner_key, around_fits, corner_of, block_is, from_cell, cell_turn}
 
 -- ---- tests of cells
+
+module _ (a b : Cell) (t : Bool) where
+  pub differ_x : (a.x ≡ b.x → ⊥) → false ≡ (same_cell a b && t)
+  differ_x h = rw (ne_eqb a.x b.x h)
+
+  pub differ_y : a.x ≡ b.x → (a.y ≡ b.y → ⊥) → false ≡ (same_cell a b && t)
+  differ_y ex h = rw (eq-eqb a.x b.x ex, ne_eqb a.y b.y h)
+
+  pub differ_z : a.x ≡ b.x → a.y ≡ b.y → (a.z ≡ b.z → ⊥) → false ≡ (same_cell a b && t)
+  differ_z ex ey h = rw (eq-eqb a.x b.x ex, eq-eqb a.y b.y ey, ne_eqb a.z b.z h)
+
+  pub differ_no : a.x ≡ b.x → a.y ≡ b.y → a.z ≡ b.z → t ≡ (same_cell a b && t)
+  differ_no ex ey ez = rw (eq-eqb a.x b.x ex, eq-eqb a.y b.y ey, eq-eqb a.z b.z ez)
 
 cell_eq : (a b : Cell) → a.x ≡ b.x → a.y ≡ b.y → a.z ≡ b.z → a ≡ b
 cell_eq a b ex ey ez = λ i. record { x = ex i; y = ey i; z = ez i }

@@ -1,4 +1,4 @@
--- One vertex more: it is taken for a kept one, or kept; the first vertex. Assumes nothing.
+-- One vertex more: it is taken for a kept one, or kept; the first vertex and the last. Assumes nothing.
 use Prim.Native.Nat.{ℕ, ◌+◌, ◌*◌, ◌≤◌, ◌<◌}
 use native.Mathlib.Decide.{dec_lt}
 use native.Mathlib.Numerals.{add-one}
@@ -18,7 +18,7 @@ use Rattle.mesh_weld.specs.declared.cells.Cell.{Cell}
 use Rattle.mesh_weld.specs.Weld.{Welded, welding, weld_next, weld}
 use Rattle.mesh_weld.specs.Cells.{key_of, cells}
 use Rattle.geometry.specs.Meshes.{vertex_of}
-use Rattle.mesh_weld.specs.Room.{words_of, cell_at, kept_points, cell_bucket, Index, WeldedSoFar}
+use Rattle.mesh_weld.specs.Room.{words_of, cell_at, kept_points, cell_bucket, Index, WeldedSoFar, Welds}
 use Rattle.mesh_weld.proofs.Searching.{kept_long}
 
 pub cell_same : (m v : List ℕ) (o : ℕ) → get_or v o 0 ≡ get_or m o 0 → get_or v (o + 1) 0 ≡ get_or m (o + 1) 0 → get_or v (o + 2) 0 ≡ get_or m (o + 2) 0 → cell_at v o ≡ cell_at m o
@@ -263,7 +263,7 @@ module _ (vs : List Float) (eps : Float) (n i count : ℕ) (m : List ℕ) (G : W
             subst (λ (j : ℕ). cell_at v (11 * n + 3 * j) ≡ words_of (key_of eps (vertex_of vs (get_or v (9 * n + j) 0)))) (sym t)
             (cell_new ∙ C ∙ ap (λ (x : ℕ). words_of (key_of eps (vertex_of vs x))) (sym id_new))
 
--- ---- the first vertex
+-- ---- the first vertex and the last
 
 pub going_start : (vs : List Float) (eps : Float) (n : ℕ) (m v : List ℕ) → n < 268435456 → 3 * n ≤ length vs → 14 * n ≤ length m → PartZeroed m v 0 (8 * n)
     → WeldedSoFar vs eps n 0 0 v
@@ -285,3 +285,13 @@ going_start vs eps n m v small size room z =
       kept = refl;
       old_to_new = refl;
     }
+
+pub going_end : (vs : List Float) (eps : Float) (n i count : ℕ) (m : List ℕ) → WeldedSoFar vs eps n i count m → n ≤ i → Welds vs eps n m count
+going_end vs eps n i count m G h =
+    let e : i ≡ n = omega (arith, G.done) in
+    let g = subst (λ (k : ℕ). WeldedSoFar vs eps n k count m) e G in
+    record { few = g.within; kept = g.kept; old_to_new = g.old_to_new }
+
+pub none_welds : (vs : List Float) (eps : Float) (n : ℕ) (m : List ℕ) → n ≡ 0 → Welds vs eps n m 0
+unfolding weld
+none_welds vs eps n m e = subst (λ (k : ℕ). Welds vs eps k m 0) (sym e) (record { few = omega arith; kept = refl; old_to_new = refl })

@@ -47,7 +47,7 @@ same_words a b p q =
 
 -- ---- a key that is not beyond 2 ^ 62, and the keys beside it
 
-abs_low : (k : ℤ) → beyond k ≡ false → nat_abs k ≤ 2 ^ 62
+pub abs_low : (k : ℤ) → beyond k ≡ false → nat_abs k ≤ 2 ^ 62
 unfolding beyond
 abs_low k h = ltb-false (2 ^ 62) (nat_abs k) h
 

@@ -1,4 +1,4 @@
-// A page that a program writes on by `write!`, one text after another. The first write that fails is kept, and nothing is written after it: `finish` answers it.
+// A page that a program writes on, by `write!`, texts and numbers, one after another. The first write that fails is kept, and nothing is written after it: `finish` answers it.
 #![tactic(auto)]
 
 ghost use Rattle.std.specs.Prelude.{◌≡◌, IsOk, IfSome, OnOk};
@@ -38,8 +38,18 @@ impl<W: Write> Page<W> {
         }
     }
 
+    // Any bytes, as they are.
+    pub fn text(&mut self, text: &[u8])
+        ensures before { OnOk self.new.written (IsOk self.old.written) }
+        ensures appends { OnOk self.new.written (Appends (W.contents self.old.writer) (W.contents self.new.writer) text.now) }
+    {
+        if self.written.is_ok() {
+            self.written = self.writer.write_all(text);
+        }
+    }
+
     // A number alone, in decimal.
-    // Stays (plainer): one `write!` under a name, whose clause says the digits, for callers that write number after number.
+    // Stays (plainer): one `write!` under a name, whose clause says the digits. The programs write by it the numbers that tell what they found.
     pub fn number(&mut self, n: u64)
         ensures before { OnOk self.new.written (IsOk self.old.written) }
         ensures appends { OnOk self.new.written (Appends (W.contents self.old.writer) (W.contents self.new.writer) (decimal n)) }

@@ -3,6 +3,7 @@
 --   run_cut              what `run_end` found by comparing keys is a run
 --   runs_nil, run_at     no records; the run at a place of words that are as they were;   first_key_lem   the key of a run in words
 --   KeysPart, part_start, part_next, run_first   from run to run of ascending keys; the first of a key is where its run begins
+--   put_none, put_more   a word by the payload of each record
 --   by_runs              what holds of no records, and with one run more in front of greater keys, holds of every ascending list
 --   runs_distinct        the keys of the runs of an ascending list are its different keys
 use Prim.Native.Nat.{ℕ, zero, suc, ◌+◌, ◌*◌, ◌-◌, ◌≤◌, ◌<◌}
@@ -10,10 +11,12 @@ use mathlib.Core.Bool.{Bool, true, false, cond, ◌||◌}
 use mathlib.Core.List.{List, [], ◌∷◌, ◌++◌, map}
 use mathlib.Core.Logic.{◌⊎◌, inl, inr, ⊎_elim}
 use mathlib.Core.Path.{◌≡◌, refl, sym, ap, subst, ◌∙◌}
+use native.Mathlib.Decide.{ℕ_discrete}
 use native.Mathlib.Omega.{arith}
 use borrow.Author.Tests.{eqb-true, eqb-false, eq-eqb, ne_eqb}
 use lib.Dec.{eqb}
-use lib.ListN.{length, get_or}
+use lib.ListN.{length, get_or, set, length-set}
+use lib.Seq.{get_or-set_same, get_or-set_other}
 use Rattle.lists.specs.Lists.{some, distinct, distinct_from}
 use Rattle.lists.specs.Order.{AtMostAll, Ascending}
 use Rattle.lists.proofs.Mapped.{Each, each_map, each_places}
@@ -173,10 +176,33 @@ module _ (m : List ℕ) (at n i e : ℕ) (r : Run m at n i e) (p : KeysPart m at
 
 -- ---- a word by the payload of each record
 module _ (m₀ : List ℕ) (at to i x : ℕ) where
+  pub put_none : PayloadsPut m₀ m₀ at to i i x
+  put_none = record { long = refl; put = λ j l h. absurd (omega arith); rest = λ y f. refl }
+
   module _ (m : List ℕ) (e : ℕ) (r : PayloadsPut m₀ m at to i e x) (begun : i ≤ e) (behind : at + 2 * e + 1 < to) where
     -- the records stand before the words
     pub payload_now : payload_in m at e ≡ payload_in m₀ at e
     payload_now = r.rest (at + 2 * e + 1) (λ j l h q. omega arith)
+
+    pub put_more : to + payload_in m₀ at e < length m₀ → PayloadsPut m₀ (set m (to + payload_in m at e) x) at to i (e + 1) x
+    put_more room =
+        subst (λ (y : ℕ). PayloadsPut m₀ (set m (to + y) x) at to i (e + 1) x) (sym payload_now)
+        (record {
+          long = length-set m place x ∙ r.long;
+          put = λ j l h. each j l h (ℕ_discrete (payload_in m₀ at j) (payload_in m₀ at e));
+          rest = λ y f. get_or-set_other m place y x 0 (f e begun (omega arith)) ∙ r.rest y (λ j l h. f j l (omega arith));
+        })
+      where
+        place : ℕ
+        place = to + payload_in m₀ at e
+
+        each : (j : ℕ) → i ≤ j → j < e + 1 → Dec (payload_in m₀ at j ≡ payload_in m₀ at e) → get_or (set m place x) (to + payload_in m₀ at j) 0 ≡ x
+        each j l h (yes q) = ap (λ (y : ℕ). get_or (set m place x) (to + y) 0) q ∙ get_or-set_same m place x 0 (omega (arith, r.long))
+        each j l h (no n) =
+            get_or-set_other m place (to + payload_in m₀ at j) x 0 (λ q. n (omega arith)) ∙ r.put j l (before (λ q. n (ap (payload_in m₀ at) q)) h)
+          where
+            before : (j ≡ e → ⊥) → j < e + 1 → j < e
+            before n h = omega arith
 
 -- ---- of ascending lists
 at_most_each : (r : ℕ × ℕ) (l : List (ℕ × ℕ)) → AtMostAll record_before r l → Each (λ y. r.0 ≤ y.0) l

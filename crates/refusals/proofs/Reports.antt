@@ -1,6 +1,5 @@
 -- Laws of reports: a report of one reply is a report of every reply equal to it.
-use Rattle.std.specs.Prelude.{Result, Ok, Err}
-use native.Mathlib.Omega.{arith}
+use Rattle.std.specs.Prelude.{Result, Ok, Err, is_err}
 use mathlib.Core.Bool.{false}
 use mathlib.Core.Path.{◌≡◌, refl, sym, ap, subst}
 use lib.ListN.{get_or}
@@ -23,3 +22,9 @@ reply_done x lengths r ws e h = same_reply (0 ∷ lengths) (documented_reply x) 
 pub reply_refused : (x : Result (List ℕ) Refusal) (refusal : Refusal) (r : ℕ) (ws : List ℕ) → x ≡ Err refusal → Reported (documented refusal) r ws → Reported (documented_reply x) r ws
 unfolding documented_reply
 reply_refused x refusal r ws e h = same_reply (documented refusal) (documented_reply x) r ws (ap documented_reply (sym e)) h
+
+-- a reply that is no refusal has the number 0
+pub reply_zero : (x : Result (List ℕ) Refusal) → is_err x ≡ false → get_or (documented_reply x) 0 0 ≡ 0
+unfolding documented_reply
+reply_zero (Ok l) e = refl
+reply_zero (Err r) e = cc

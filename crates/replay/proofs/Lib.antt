@@ -5,3 +5,4 @@ pub mod Agreeing
 pub mod Listing
 pub mod Tallying
 pub mod Loading
+pub mod Further

@@ -19,13 +19,22 @@ mod requests;
 use counting::{Tally, count};
 use file::load;
 use layout::records_of;
-use operation::OPERATIONS;
+use operation::{OPERATIONS, Operation};
 use page::Page;
 use std::io::Write;
 use std::{fs, io};
 
 // The words of a file of 1 MB.
 const ROOM: usize = 131072;
+
+// The numbers go through `number`, whose clause says their digits.
+fn print_line<W: Write>(page: &mut Page<W>, operation: Operation, tally: Tally) {
+    write!(page, "{operation}\t");
+    page.number(tally.requests);
+    page.text(b"\t");
+    page.number(tally.agreeing);
+    page.text(b"\n");
+}
 
 fn main(rt: HostRuntime) -> io::Result<()> {
     let bytes = fs::read(&rt, "answers.bin")?;
@@ -35,8 +44,7 @@ fn main(rt: HostRuntime) -> io::Result<()> {
     match records_of(&words[..n]) {
         Some(records) => {
             for operation in OPERATIONS {
-                let Tally { requests, agreeing } = count(records, operation);
-                writeln!(page, "{operation}\t{requests}\t{agreeing}");
+                print_line(&mut page, operation, count(records, operation));
             }
         }
         None => writeln!(page, "malformed"),

@@ -1,5 +1,6 @@
 // The operations, by the numbers that a stored request has for them.
-ghost use Rattle.replay.specs.Operations.{Names};
+ghost use Rattle.std.specs.Prelude.{◌≡◌, Some};
+ghost use Rattle.replay.specs.Operations.{Names, name_of};
 
 use std::fmt;
 
@@ -45,16 +46,25 @@ impl TryFrom<u64> for Operation {
     }
 }
 
-impl fmt::Display for Operation {
-    fn fmt<W: fmt::Write>(&self, f: &mut fmt::Formatter<W>) -> fmt::Result {
-        let name = match self {
+impl Operation {
+    fn name(self) -> &'static str
+        ensures { result.now ≡ name_of self }
+    {
+        match self {
             Operation::Tolerance => "tolerance",
             Operation::Clip => "clip",
             Operation::Clean => "clean",
             Operation::Candidates => "candidates",
             Operation::Caps => "caps",
             Operation::BoundaryComponents => "boundary_components",
-        };
-        f.write_str(name)
+        }
+    }
+}
+
+impl fmt::Display for Operation {
+    ghost output = { λ o. Some (name_of o) };
+
+    fn fmt<W: fmt::Write>(&self, f: &mut fmt::Formatter<W>) -> fmt::Result {
+        f.write_str(self.name())
     }
 }

@@ -29,11 +29,11 @@ use native.Mathlib.Nat.{
   mul_left_comm,
 }
 use native.Mathlib.Omega.{arith}
-use lib.IntN.{pos}
+use lib.IntN.{ℤ, pos}
 use lib.Dec.{T, ltb, eqb, ltb→lt, eqb-suc-zero, eqb→eq, lit<}
 use lib.Pow.{pow_pos, pow-add, pow-lt}
 use lib.Ieee.{Float, nan, inf, fin, Format, binary64, prec, emax, low, up, down, unlike, odd, units, round, neg, sum, add, sub, mul, div, le, lt, eq, fits}
-use lib.Ieee.Fits.{round_is, down_pos}
+use lib.Ieee.Fits.{round_is, down_pos, up_pos}
 use lib.Ieee.Exact.{HasValue, round_exact, units_val, odd_sign}
 use lib.Ieee.Order.{round_mono, kept, drop}
 use lib.Ieee.Positive.{num, den, den_pos, values_of_le, positive_of_value}
@@ -288,7 +288,41 @@ ratio_bounds {A} {C} {x} {y} h k = record {
     turn : (a b c d : ℕ) → a * b * (c * d) ≡ a * c * (d * b)
     turn a b c d = simp (mul_assoc, mul_comm, mul_left_comm)
 
--- ---- a product by a number below 1
+above_zero : (n : ℕ) (d : ℤ) → T (ltb (0 * 1 * down d) (n * up d * 1)) → 0 < n
+above_zero zero d h = absurd (no (0 * 1 * down d) (0 * up d * 1) (ltb→lt (0 * 1 * down d) (0 * up d * 1) h) (ap (λ (z : ℕ). z * 1) (zero-mul (up d))))
+  where
+    no : (a b : ℕ) → a < b → b ≡ 0 → ⊥
+    no a b l e = omega arith
+above_zero (suc n) d h = zero-lt-suc n
+
+-- 0 < y, x <= y and x >= -y
+pub ratio_tests : (x y : Float) → T (finite y) → T (lt (fin false 0 (pos 0)) y) → T (le x y) → T (le (neg y) x) → Ratio 1 x y
+unfolding le lt eq neg
+ratio_tests x nan p z a b = absurd p
+ratio_tests x (inf s) p z a b = absurd p
+ratio_tests nan (fin t n d) p z a b = absurd a
+ratio_tests (inf true) (fin true n d) p z a b = absurd z
+ratio_tests (inf true) (fin false n d) p z a b = absurd b
+ratio_tests (inf false) (fin t n d) p z a b = absurd a
+ratio_tests (fin s m e) (fin true n d) p z a b = absurd z
+ratio_tests (fin false m e) (fin false n d) p z a b =
+    record {
+      left_finite = tt;
+      right_finite = tt;
+      some = mul-pos (above_zero n d z) (up_pos d);
+      size = le_trans (either (m * up e * down d) (n * up d * down e) true a)
+          (le_of_eq (sym (one-mul (n * up d * down e))));
+    }
+ratio_tests (fin true m e) (fin false n d) p z a b =
+    record {
+      left_finite = tt;
+      right_finite = tt;
+      some = mul-pos (above_zero n d z) (up_pos d);
+      size = le_trans (either_back (m * up e * down d) (n * up d * down e) true b)
+          (le_of_eq (sym (one-mul (n * up d * down e))));
+    }
+
+-- ---- a product by a number below 1, and the tests that a bounded number with no sign passes
 
 -- y is at most A, and x at most B / A
 pub mul_below : (f : Format) {A B : ℕ} (x : Float) {y : Float} → 0 < B → Held f B → T (finite x) → num x * A ≤ B * den x → Within A y → Within B (mul f x y)

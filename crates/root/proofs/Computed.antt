@@ -39,7 +39,7 @@ use Rattle.root.proofs.Patterns.{Is, units_is, finite_is, plain_pattern, written
 use Rattle.root.proofs.Nearest.{round_nearest, round_sign, nearest_same, nearest_at_least}
 use Rattle.root.proofs.Bounds.{Held, held_pow, round_within}
 use Rattle.root.proofs.WholeRoot.{whole_root_lem, whole_small, exact_above, exact_below, between_above, between_below, OnGrid, square_on_grid}
-use Rattle.root.proofs.Root.{root_unique, root_within}
+use Rattle.root.proofs.Root.{root_unique, root_le, root_ge, root_within}
 use Rattle.root.specs.Digits.{RootAt}
 use Rattle.root.specs.Patterns.{pattern_units}
 use Rattle.root.proofs.RootAt.{rootable_finite, zero_root, is_root}
@@ -239,6 +239,12 @@ module _ (x : Float) (F : T (fits binary64 x)) (p : T (rootable x)) where
   rooted r G a = record { nearest = a; computed = root_computed r G a }
 
   -- ---- the laws of proofs/Root.antt, of the computed root
+
+  pub computed_le : (y : Float) → T (fits binary64 y) → T (finite y) → n ≤ units_of y * units_of y → units_of (root x) ≤ units_of y
+  computed_le y G f h = root_le x (root x) y root_meets G f h
+
+  pub computed_ge : (y : Float) → T (fits binary64 y) → T (finite y) → units_of y * units_of y ≤ n → units_of y ≤ units_of (root x)
+  computed_ge y G f h = root_ge x (root x) y root_meets G f h
 
   pub computed_within : (B : ℕ) → Held binary64 B → Within (B * B) x → Within B (root x)
   computed_within B R h = root_within x (root x) B root_meets (root_fits x) R h

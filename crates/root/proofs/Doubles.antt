@@ -28,7 +28,7 @@ use lib.Pow.{pow_pos}
 use lib.Ieee.{Float, nan, inf, fin, binary64, up, down, below, level, fits, neg, lt, le, eq, of_bits, to_bits, size, is_nan}
 use lib.Ieee.Bits.{of_bits-to_bits, is_true, is_false}
 use lib.Ieee.Fits.{down_pos, up_pos, neg-fits, eq→eqb, and_i, and_l}
-use Rattle.root.specs.Doubles.{finite, negative, units_of, zero_f, one_f, magnitude, within, clamped}
+use Rattle.root.specs.Doubles.{finite, negative, units_of, zero_f, one_f, magnitude, within, larger, smaller, clamped}
 use Rattle.root.proofs.Patterns.{pattern_of, sign_is}
 use Rattle.root.proofs.Nearest.{own}
 
@@ -38,6 +38,25 @@ same_test true true f g = refl
 same_test true false f g = absurd (f tt)
 same_test false true f g = absurd (g tt)
 same_test false false f g = refl
+
+-- ---- of two
+
+module _ (x y : Float) where
+  pub larger_right : lt x y ≡ true → larger x y ≡ y
+  unfolding larger
+  larger_right h = ap (λ (b : Bool). cond b y x) h
+
+  pub larger_left : lt x y ≡ false → larger x y ≡ x
+  unfolding larger
+  larger_left h = ap (λ (b : Bool). cond b y x) h
+
+  pub smaller_right : lt y x ≡ true → smaller x y ≡ y
+  unfolding smaller
+  smaller_right h = ap (λ (b : Bool). cond b y x) h
+
+  pub smaller_left : lt y x ≡ false → smaller x y ≡ x
+  unfolding smaller
+  smaller_left h = ap (λ (b : Bool). cond b y x) h
 
 -- ---- the clamp
 
@@ -201,6 +220,11 @@ eq_units (inf s) y F G p q = absurd p
 eq_units (fin s m e) nan F G p q = absurd q
 eq_units (fin s m e) (inf t) F G p q = absurd q
 eq_units (fin s m e) (fin t n d) F G p q = fin_level s t m n e d F G
+
+pub le_units : (x y : Float) → T (fits binary64 x) → T (fits binary64 y) → T (finite x) → T (finite y) → le x y ≡ below (negative x) (units_of x) (negative y) (units_of y) || level
+    (negative x) (units_of x) (negative y) (units_of y)
+unfolding le
+le_units x y F G p q = ap (λ (k : Bool). k || eq x y) (lt_units x y F G p q) ∙ ap (λ (k : Bool). below (negative x) (units_of x) (negative y) (units_of y) || k) (eq_units x y F G p q)
 
 -- ---- |d| is at most eps exactly if d and -d are
 

@@ -1,13 +1,14 @@
--- The logic's `round` gives a nearest double, in the words of units. Assumes nothing.
-use mathlib.Core.Path.{◌≡◌, sym, ap, ◌∙◌, subst}
+-- The logic's `round` gives a nearest double, in the words of units, and so do the product, the quotient and the sum. Assumes nothing.
+use mathlib.Core.Path.{◌≡◌, refl, sym, ap, ◌∙◌, subst}
 use mathlib.Core.Logic.{◌⊎◌, inl, inr}
-use mathlib.Core.Bool.{Bool, true, false, not, cond}
+use mathlib.Core.Bool.{Bool, true, false, not, ◌&&◌, cond, true≢false}
 use Prim.Native.Nat.{ℕ, zero, suc, ◌+◌, ◌-◌, ◌*◌, ◌/◌, ◌%◌, ◌^◌, ◌≤◌, ◌<◌, compare, Ordering}
 use native.Mathlib.Nat.{
   mul_comm,
   mul_assoc,
   mul_left_comm,
   mul_right_comm,
+  mul-one,
   one-mul,
   add-mul,
   mul-add,
@@ -17,6 +18,7 @@ use native.Mathlib.Nat.{
   mul-le-mul_right,
   le_of_mul-le-mul_right,
   mul-lt-mul_of_pos_right,
+  mul-mul-mul_comm,
   div-add-mod',
   mod-lt,
   le-div_iff_mul-le,
@@ -28,20 +30,25 @@ use native.Mathlib.Nat.{
   lt_irrefl,
   le_antisymm,
   eq-zero-or-pos,
+  zero-lt-suc,
+  zero-mul,
+  zero-div,
+  mul-sub,
 }
 use native.Mathlib.Omega.{arith}
 use lib.IntN.{ℤ}
-use lib.Dec.{T, is_le, compare_is_eq, ltb, eqb, ltb→lt, leb→le, nleb→lt, eqb→eq, eqb_refl}
+use lib.Dec.{T, is_le, compare_is_eq, ltb, eqb, ltb→lt, leb→le, nleb→lt, eqb→eq, eqb_refl, eqb-suc-zero, nltb→le}
 use lib.Arith.{lt_of_le-ne}
 use lib.Pow.{pow_pos, pow-add}
 use lib.Ieee.{Float, nan, inf, fin, binary64, up, down, unlike, size, nearest, odd, round, add, sum, mul, div, fits}
 use lib.Ieee as Ieee
 use lib.Ieee.Digits.{size_reaches}
-use lib.Ieee.Fits.{round_is}
+use lib.Ieee.Fits.{round_is, down_pos, up_pos}
 use lib.Ieee.Exact.{units_val}
 use lib.Ieee.Nearest.{closest, nearest-ge}
 use lib.Ieee.Order.{kept, drop}
-use Rattle.root.specs.Doubles.{finite, negative, units_of}
+use lib.Ieee.Positive.{first_pos}
+use Rattle.root.specs.Doubles.{finite, negative, one, units_of}
 use Rattle.root.specs.Bounds.{Nearest}
 use Rattle.root.proofs.Grid.{lt_or_ge, next_up, next_down}
 use Rattle.root.proofs.Patterns.{Is, units_is, sign_is, on_grid, pattern_of}
@@ -308,16 +315,166 @@ nearest_same n d n' d' r D e a = record {
       (le_trans (mul-le-mul_right d' (a.below y F f l)) (le_of_eq (mul_assoc 2 n d' ∙ ap (λ (x : ℕ). 2 * x) e ∙ sym (mul_assoc 2 n' d))))) D;
 }
 
+-- ---- the operations
+
 -- a finite double as its size in units, from its own fields
 pub own : (s : Bool) (m : ℕ) (e : ℤ) → T (fits binary64 (fin s m e)) → m * up e * 2 ^ 1074 ≡ units_of (fin s m e) * down e
 own s m e F =
     let z = pattern_of (fin s m e) F tt in
     z.value.1 ∙ ap (λ (x : ℕ). x * down e) (sym (units_is (fin s m e) _ _ z.value))
 
--- ---- what follows from `Nearest` alone: a double at or below n / d is at or below r
+product : (a b X Y c d U : ℕ) → a * U ≡ X * c → b * U ≡ Y * d → a * b * U * U ≡ X * Y * (c * d)
+product a b X Y c d U p q = mul_assoc (a * b) U U ∙ mul-mul-mul_comm a b U U ∙ ap (λ (x : ℕ). x * (b * U)) p ∙ ap (λ (x : ℕ). X * c * x) q ∙ mul-mul-mul_comm X c Y d
+
+-- a product is nearest to X * Y / 2 ^ 1074 units
+pub mul_nearest : (x y : Float) → T (fits binary64 x) → T (fits binary64 y) → T (finite x) → T (finite y) → T (finite (mul binary64 x y)) → Nearest (units_of x * units_of y) one
+    (mul binary64 x y)
+unfolding mul one
+mul_nearest nan y F G p q h = absurd p
+mul_nearest (inf s) y F G p q h = absurd p
+mul_nearest (fin s m e) nan F G p q h = absurd q
+mul_nearest (fin s m e) (inf t) F G p q h = absurd q
+mul_nearest (fin s m e) (fin t n d) F G p q h =
+    nearest_same (m * up e * (n * up d) * 2 ^ 1074) (down e * down d) (units_of (fin s m e) * units_of (fin t n d)) (2 ^ 1074)
+    (round binary64 (unlike s t) (m * up e * (n * up d)) (down e * down d)) (mul-pos (down_pos e) (down_pos d))
+    (product (m * up e) (n * up d) (units_of (fin s m e)) (units_of (fin t n d)) (down e) (down d) (2 ^ 1074) (own s m e F) (own t n d G))
+    (round_nearest (unlike s t) (m * up e * (n * up d)) (down e * down d) (mul-pos (down_pos e) (down_pos d)) h)
+
+quotient : (a b X Y c d U : ℕ) → a * U ≡ X * c → b * U ≡ Y * d → a * d * U * Y ≡ X * U * (b * c)
+quotient a b X Y c d U p q =
+    let l : a * d * U * Y ≡ a * U * (Y * d) = simp (mul_assoc, mul_comm, mul_left_comm) in
+    l ∙ ap (λ (x : ℕ). x * (Y * d)) p ∙ ap (λ (x : ℕ). X * c * x) (sym q) ∙ simp (mul_assoc, mul_comm, mul_left_comm)
+
+not_zero : (s : Bool) (n : ℕ) (d : ℤ) → T (fits binary64 (fin s (suc n) d)) → 0 < units_of (fin s (suc n) d)
+not_zero s n d F = first_pos (units_of (fin s (suc n) d)) (down d) (lt_of_lt_of_le (mul-pos (mul-pos (zero-lt-suc n) (up_pos d)) (pow_pos 1074)) (le_of_eq (own s (suc n) d F)))
+
+-- a quotient is nearest to X * 2 ^ 1074 / Y units, where Y is not 0
+pub div_nearest : (x y : Float) → T (fits binary64 x) → T (fits binary64 y) → T (finite x) → T (finite y) → 0 < units_of y → T (finite (div binary64 x y)) → Nearest (units_of x * one)
+    (units_of y) (div binary64 x y)
+unfolding div units_of one
+div_nearest nan y F G p q z h = absurd p
+div_nearest (inf s) y F G p q z h = absurd p
+div_nearest (fin s m e) nan F G p q z h = absurd q
+div_nearest (fin s m e) (inf t) F G p q z h = absurd q
+div_nearest (fin s m e) (fin t zero d) F G p q z h = absurd (no (0 * up d * 2 ^ 1074 / down d) z (ap (λ (x : ℕ). x * 2 ^ 1074 / down d) (zero-mul (up d)) ∙ zero-div (down d)))
+  where
+    no : (a : ℕ) → 0 < a → a ≡ 0 → ⊥
+    no a p e = omega arith
+div_nearest (fin s m e) (fin t (suc n) d) F G p q z h =
+    let N = m * up e * down d in
+    let D = suc n * up d * down e in
+    let r = round binary64 (unlike s t) N D in
+    let pos : 0 < D = mul-pos (mul-pos (zero-lt-suc n) (up_pos d)) (down_pos e) in
+    let is : div binary64 (fin s m e) (fin t (suc n) d) ≡ r = ap (λ (b : Bool). cond b (cond (eqb m 0) nan (inf (unlike s t))) r) (eqb-suc-zero n) in
+    subst (λ (v : Float). Nearest (units_of (fin s m e) * 2 ^ 1074) (units_of (fin t (suc n) d)) v) (sym is)
+    (nearest_same (N * 2 ^ 1074) D (units_of (fin s m e) * 2 ^ 1074) (units_of (fin t (suc n) d)) r pos
+    (quotient (m * up e) (suc n * up d) (units_of (fin s m e)) (units_of (fin t (suc n) d)) (down e) (down d) (2 ^ 1074) (own s m e F) (own t (suc n) d G))
+    (round_nearest (unlike s t) N D pos (subst (λ (v : Float). T (finite v)) is h)))
+
+-- ---- the sum, of a / c and b / c, which are X and Y units
+sum_is : (s t : Bool) → s ≡ t → (a b c : ℕ) → sum binary64 s a t b c ≡ round binary64 s (a + b) c
+unfolding sum
+sum_is true true e a b c = refl
+sum_is false false e a b c = refl
+sum_is true false e a b c = absurd (true≢false e)
+sum_is false true e a b c = absurd (true≢false (sym e))
+
+-- of two signs, the difference, with the sign of the larger; +0 where there is none
+sum_not : (s : Bool) (a b c : ℕ) → sum binary64 s a (not s) b c ≡ cond (ltb a b) (round binary64 (not s) (b - a) c) (round binary64 (s && ltb b a) (a - b) c)
+unfolding sum
+sum_not true a b c = refl
+sum_not false a b c = refl
+
+module _ (s t : Bool) (a b c X Y : ℕ) (C : 0 < c) (p : a * 2 ^ 1074 ≡ X * c) (q : b * 2 ^ 1074 ≡ Y * c) where
+  same : (r : Float) (k Z : ℕ) → k * 2 ^ 1074 ≡ Z * c → Nearest (k * 2 ^ 1074) c r → Nearest Z 1 r
+  same r k Z e h = nearest_same (k * 2 ^ 1074) c Z 1 r C (mul-one (k * 2 ^ 1074) ∙ e) h
+
+  pub sum_same : s ≡ t → T (finite (sum binary64 s a t b c)) → Nearest (X + Y) 1 (sum binary64 s a t b c)
+  sum_same e f =
+      subst (λ (v : Float). Nearest (X + Y) 1 v) (sym (is s t e))
+      (same (round binary64 s (a + b) c) (a + b) (X + Y) (add-mul a b (2 ^ 1074) ∙ ap (λ (x : ℕ). x + b * 2 ^ 1074) p ∙ ap (λ (x : ℕ). X * c + x) q ∙ sym (add-mul X Y c))
+      (round_nearest s (a + b) c C (subst (λ (v : Float). T (finite v)) (is s t e) f)))
+    where
+      is : (s t : Bool) → s ≡ t → sum binary64 s a t b c ≡ round binary64 s (a + b) c
+      is s t e = sum_is s t e a b c
+
+  sub_mul : (m n k : ℕ) → (m - n) * k ≡ m * k - n * k
+  sub_mul m n k = mul_comm (m - n) k ∙ mul-sub k m n ∙ ap (λ (x : ℕ). x - k * n) (mul_comm k m) ∙ ap (λ (x : ℕ). m * k - x) (mul_comm k n)
+
+  -- one of the two differences is 0
+  pub sum_differ : t ≡ not s → T (finite (sum binary64 s a t b c)) → Nearest (X - Y + (Y - X)) 1 (sum binary64 s a t b c)
+  sum_differ e f =
+      subst (λ (v : Float). Nearest (X - Y + (Y - X)) 1 v) (sym is)
+      (go (ltb a b) (ltb→lt a b) (nltb→le a b) (subst (λ (v : Float). T (finite v)) is f))
+    where
+      is : sum binary64 s a t b c ≡ cond (ltb a b) (round binary64 (not s) (b - a) c) (round binary64 (s && ltb b a) (a - b) c)
+      is = ap (λ (k : Bool). sum binary64 s a k b c) e ∙ sum_not s a b c
+
+      -- the order of a and b is that of X and Y
+      order : (a b X Y : ℕ) → a ≤ b → a * 2 ^ 1074 ≡ X * c → b * 2 ^ 1074 ≡ Y * c → X ≤ Y
+      order a b X Y l p q = le_of_mul-le-mul_right (le_trans (le_of_eq (sym p)) (le_trans (mul-le-mul_right (2 ^ 1074) l) (le_of_eq q))) C
+
+      gone : (x y : ℕ) → x ≤ y → y - x ≡ x - y + (y - x)
+      gone x y l = omega arith
+
+      gone' : (x y : ℕ) → y ≤ x → x - y ≡ x - y + (y - x)
+      gone' x y l = omega arith
+
+      scaled : (a b X Y : ℕ) → a * 2 ^ 1074 ≡ X * c → b * 2 ^ 1074 ≡ Y * c → (b - a) * 2 ^ 1074 ≡ (Y - X) * c
+      scaled a b X Y p q = sub_mul b a (2 ^ 1074) ∙ ap (λ (x : ℕ). x - a * 2 ^ 1074) q ∙ ap (λ (x : ℕ). Y * c - x) p ∙ sym (sub_mul Y X c)
+
+      go : (k : Bool) → (T k → a < b) → (T (not k) → b ≤ a) → T (finite (cond k (round binary64 (not s) (b - a) c) (round binary64 (s && ltb b a) (a - b) c))) → Nearest
+          (X - Y + (Y - X)) 1 (cond k (round binary64 (not s) (b - a) c) (round binary64 (s && ltb b a) (a - b) c))
+      go true l m h =
+          same (round binary64 (not s) (b - a) c) (b - a) (X - Y + (Y - X)) (scaled a b X Y p q ∙ ap (λ (x : ℕ). x * c) (gone X Y (order a b X Y (le_of_lt (l tt)) p q)))
+          (round_nearest (not s) (b - a) c C h)
+      go false l m h =
+          same (round binary64 (s && ltb b a) (a - b) c) (a - b) (X - Y + (Y - X)) (scaled b a Y X q p ∙ ap (λ (x : ℕ). x * c) (gone' X Y (order b a Y X (m tt) q p)))
+          (round_nearest (s && ltb b a) (a - b) c C h)
+
+shared : (a X e d U : ℕ) → a * U ≡ X * e → a * d * U ≡ X * (e * d)
+shared a X e d U p = mul_right_comm a d U ∙ ap (λ (x : ℕ). x * d) p ∙ mul_assoc X e d
+
+shared' : (a X e d U : ℕ) → a * U ≡ X * e → a * d * U ≡ X * (d * e)
+shared' a X e d U p = shared a X e d U p ∙ ap (λ (x : ℕ). X * x) (mul_comm e d)
+
+-- a sum is nearest to X + Y units where the signs are the same, and to the difference where they are not
+pub add_same : (x y : Float) → T (fits binary64 x) → T (fits binary64 y) → T (finite x) → T (finite y) → negative x ≡ negative y → T (finite (add binary64 x y)) → Nearest
+    (units_of x + units_of y) 1 (add binary64 x y)
+unfolding add
+add_same nan y F G p q e h = absurd p
+add_same (inf s) y F G p q e h = absurd p
+add_same (fin s m a) nan F G p q e h = absurd q
+add_same (fin s m a) (inf t) F G p q e h = absurd q
+add_same (fin s m a) (fin t n d) F G p q e h =
+    sum_same s t (m * up a * down d) (n * up d * down a) (down a * down d) (units_of (fin s m a)) (units_of (fin t n d)) (mul-pos (down_pos a) (down_pos d))
+    (shared (m * up a) (units_of (fin s m a)) (down a) (down d) (2 ^ 1074) (own s m a F)) (shared' (n * up d) (units_of (fin t n d)) (down d) (down a) (2 ^ 1074) (own t n d G)) e h
+
+pub add_differ : (x y : Float) → T (fits binary64 x) → T (fits binary64 y) → T (finite x) → T (finite y) → negative y ≡ not (negative x) → T (finite (add binary64 x y)) → Nearest
+    (units_of x - units_of y + (units_of y - units_of x)) 1 (add binary64 x y)
+unfolding add
+add_differ nan y F G p q e h = absurd p
+add_differ (inf s) y F G p q e h = absurd p
+add_differ (fin s m a) nan F G p q e h = absurd q
+add_differ (fin s m a) (inf t) F G p q e h = absurd q
+add_differ (fin s m a) (fin t n d) F G p q e h =
+    sum_differ s t (m * up a * down d) (n * up d * down a) (down a * down d) (units_of (fin s m a)) (units_of (fin t n d)) (mul-pos (down_pos a) (down_pos d))
+    (shared (m * up a) (units_of (fin s m a)) (down a) (down d) (2 ^ 1074) (own s m a F)) (shared' (n * up d) (units_of (fin t n d)) (down d) (down a) (2 ^ 1074) (own t n d G)) e h
+
+-- ---- what follows from `Nearest` alone: a double at or above n / d is at or above r, one at or below is at or below, and one that is n / d is r
 
 two_times : (a d : ℕ) → 2 * (a * d) ≡ (a + a) * d
 two_times a d = simp add-mul (omega arith)
+
+pub nearest_le : (n d : ℕ) (r y : Float) → 0 < d → Nearest n d r → T (fits binary64 y) → T (finite y) → n ≤ units_of y * d → units_of r ≤ units_of y
+nearest_le n d r y D a F p h = elim (lt_or_ge (units_of y) (units_of r)) [
+  | inl l ↦ absurd (lt_irrefl (2 * n) (lt_of_le_of_lt (le_trans (mul-le-mul_left 2 h) (le_of_eq (two_times (units_of y) d)))
+      (lt_of_lt_of_le (mul-lt-mul_of_pos_right (more (units_of y) (units_of r) l) D) (a.below y F p l))))
+  | inr l ↦ l
+]
+  where
+    more : (a b : ℕ) → a < b → a + a < b + a
+    more a b l = omega arith
 
 pub nearest_at_least : (n d : ℕ) (r y : Float) → 0 < d → Nearest n d r → T (fits binary64 y) → T (finite y) → units_of y * d ≤ n → units_of y ≤ units_of r
 nearest_at_least n d r y D a F p h = elim (lt_or_ge (units_of r) (units_of y)) [
@@ -328,3 +485,6 @@ nearest_at_least n d r y D a F p h = elim (lt_or_ge (units_of r) (units_of y)) [
   where
     more : (a b : ℕ) → b < a → b + a < a + a
     more a b l = omega arith
+
+pub nearest_exact : (n d : ℕ) (r y : Float) → 0 < d → Nearest n d r → T (fits binary64 y) → T (finite y) → units_of y * d ≡ n → units_of r ≡ units_of y
+nearest_exact n d r y D a F p h = le_antisymm (nearest_le n d r y D a F p (le_of_eq (sym h))) (nearest_at_least n d r y D a F p (le_of_eq h))

@@ -2,7 +2,7 @@
 use mathlib.Core.Path.{◌≡◌, sym, ap, ◌∙◌}
 use mathlib.Core.Logic.{inl, inr}
 use Prim.Native.Nat.{ℕ, ◌+◌, ◌*◌, ◌^◌, ◌≤◌, ◌<◌}
-use native.Mathlib.Nat.{mul_assoc, mul-mul-mul_comm, mul-le-mul_left, mul-le-mul_right, le_trans, le_of_eq, le_of_lt, le_antisymm, lt_of_le_of_lt, lt_irrefl, add-mul, mul-add}
+use native.Mathlib.Nat.{mul_assoc, mul-mul-mul_comm, mul-le-mul_left, mul-le-mul_right, le_trans, le_of_eq, le_of_lt, le_antisymm, lt_of_lt_of_le, lt_of_le_of_lt, lt_irrefl, add-mul, mul-add}
 use native.Mathlib.Omega.{arith}
 use mathlib.Core.Bool.{false}
 use lib.Dec.{T}
@@ -50,6 +50,20 @@ root_le x r y a F p h = elim (lt_or_ge (units_of y) (units_of r)) [
   where
     more : (a b : ℕ) → a < b → a + a < b + a
     more a b l = omega arith
+
+-- and at least any double whose square is x or less
+pub root_ge : (x r y : Float) → IsRoot x r → T (fits binary64 y) → T (finite y) → units_of y * units_of y ≤ units_of x * one → units_of y ≤ units_of r
+root_ge x r y a F p h = elim (lt_or_ge (units_of r) (units_of y)) [
+  | inl l ↦ absurd (lt_irrefl (4 * (units_of x * one)) (lt_of_lt_of_le (a.above y F p l)
+      (le_trans (le_of_lt (sq_lt (units_of r + units_of y) (units_of y + units_of y) (more (units_of y) (units_of r) l))) (le_trans (le_of_eq (sym (four (units_of y)))) (mul-le-mul_left 4 h)))))
+  | inr l ↦ l
+]
+  where
+    more : (a b : ℕ) → b < a → b + a < a + a
+    more a b l = omega arith
+
+pub root_exact : (x r y : Float) → IsRoot x r → T (fits binary64 y) → T (finite y) → units_of y * units_of y ≡ units_of x * one → units_of r ≡ units_of y
+root_exact x r y a F p h = le_antisymm (root_le x r y a F p (le_of_eq (sym h))) (root_ge x r y a F p (le_of_eq h))
 
 -- a bound on x bounds its root
 pub root_within : (x r : Float) (B : ℕ) → IsRoot x r → T (fits binary64 r) → Held binary64 B → Within (B * B) x → Within B r

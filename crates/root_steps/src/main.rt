@@ -18,13 +18,20 @@ use std::io;
 use std::io::Write;
 use steps::print_steps;
 
-// The root of a whole number of four pairs of digits.
-// Stays (plainer): no conversion to text; it writes by `write!`, as a step of the program.
+// The root of a whole number of four pairs of digits. The numbers go through `number`, whose clause says their digits.
+// Stays (plainer): no conversion to text; it writes as a step of the program.
 fn print_whole<W: Write>(page: &mut Page<W>, n: u64)
     requires { n < 2 ^ 8 }
 {
     let Drawing { root, rest } = print_steps(page, Drawing { root: 0, rest: 0 }, n, 4, 0, 9);
-    writeln!(page, "{n} = {root} x {root} + {rest}");
+    page.number(n);
+    page.text(b" = ");
+    page.number(root);
+    page.text(b" x ");
+    page.number(root);
+    page.text(b" + ");
+    page.number(rest);
+    page.text(b"\n");
 }
 
 // The bit pattern of the root of 2 as the library answers it.

@@ -7,6 +7,16 @@ use page::Page;
 use root::Drawing;
 use std::io::Write;
 
+// The numbers go through `number` and `print_row`, whose clauses say their digits.
+fn print_heading<W: Write>(page: &mut Page<W>, step: u64, pair: u64)
+    requires { pair < 4 }
+{
+    page.text(if step < 10 { b"step  " } else { b"step " });
+    page.number(step);
+    print_row(page, "  ", pair >> 1, 1, "");
+    print_row(page, "", pair & 1, 1, "");
+}
+
 // Four lines: the rest with the pair behind it, what is tried, what is left, the root so far.
 // Stays (plainer): no conversion to text; it writes by `write!`, as a step of the program.
 fn print_step<W: Write>(
@@ -19,7 +29,7 @@ fn print_step<W: Write>(
 )
     requires { (before.root < 2 ^ 61) × (pair < 4) }
 {
-    write!(page, "step {step:>2}  {pair:02b}");
+    print_heading(page, step, pair);
     let brought_down = (before.rest << 2) + pair;
     print_row(page, " brought down       ", brought_down, width, "\n");
     let trial = (before.root << 2) + 1;

@@ -1,8 +1,8 @@
 -- Keys as words (specs/Rounding.antt), as the machine works them out. Assumes nothing.
-use mathlib.Core.Path.{◌≡◌, ap}
-use Prim.Native.Nat.{ℕ, ◌+◌, ◌-◌, ◌^◌, ◌<◌}
+use mathlib.Core.Path.{◌≡◌, refl, ap}
+use Prim.Native.Nat.{ℕ, zero, suc, ◌+◌, ◌-◌, ◌^◌, ◌<◌}
 use native.Mathlib.Omega.{arith}
-use lib.IntN.{ℤ, pos, negsuc, nat_abs, ◌-ℤ◌}
+use lib.IntN.{ℤ, pos, negsuc, nat_abs, suc_ℤ, ◌-ℤ◌}
 use Rattle.std.proofs.lemmas.Int.{ints}
 use mir.Syntax.{w64}
 use mir.Val.{SFits}
@@ -34,3 +34,13 @@ same_word (negsuc m) (negsuc n) f g e = ap negsuc (both m n f.sfits g.sfits e)
   where
     both : (m n : ℕ) → m < 2 ^ 63 → n < 2 ^ 63 → 2 ^ 63 - 1 - m ≡ 2 ^ 63 - 1 - n → m ≡ n
     both m n f g e = omega arith
+
+-- the next key's word is the next word
+pub next_word : (k : ℤ) → SFits w64 k → key_word (suc_ℤ k) ≡ suc (key_word k)
+unfolding key_word
+next_word (pos n) f = omega arith
+next_word (negsuc zero) f = refl
+next_word (negsuc (suc n)) f = step n f.sfits
+  where
+    step : (n : ℕ) → suc n < 2 ^ 63 → 2 ^ 63 - 1 - n ≡ suc (2 ^ 63 - 1 - suc n)
+    step n h = omega arith

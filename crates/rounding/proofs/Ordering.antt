@@ -1,40 +1,20 @@
 -- The total order of doubles that are no NaN: `before` is the order of their keys, and only equal doubles have equal keys. Assumes nothing.
-use mathlib.Core.Path.{◌≡◌, refl, sym, ap, ◌∙◌}
+use mathlib.Core.Path.{◌≡◌, refl, sym, ap, ◌∙◌, subst}
 use mathlib.Core.Logic.{inl, inr}
 use mathlib.Core.Bool.{Bool, true, false, not, cond, ◌&&◌, ◌||◌}
 use Prim.Native.Nat.{ℕ, zero, suc, ◌+◌, ◌-◌, ◌%◌, ◌^◌, ◌≤◌, ◌<◌}
-use native.Mathlib.Nat.{mod-lt, mod-eq_of_lt}
+use native.Mathlib.Nat.{mod-lt, mod-eq_of_lt, le_antisymm, lt_irrefl, lt_trans}
 use native.Mathlib.Omega.{arith}
-use lib.Dec.{T, leb, ltb, ltb→lt, lt→ltb, le→leb, not_T}
-use lib.Arith.{lt→nleb}
+use lib.Dec.{T, ltb, ltb→lt, lt→ltb, nltb→le, not_T}
 use lib.Pow.{pow_pos}
-use lib.Ieee.{Float, nan, inf, fin, binary64, below, level, fits, eq, of_bits, to_bits, is_nan}
+use lib.Ieee.{Float, binary64, below, level, fits, eq, of_bits, to_bits, is_nan}
 use lib.Ieee.Bits.{of_bits-to_bits, to_bits-lt, is_true, is_false}
 use Rattle.root.specs.Doubles.{negative, before}
 use Rattle.root.proofs.Grid.{lt_or_ge}
-use Rattle.root.proofs.Patterns.{pattern_of, sign_is}
 use Rattle.root.proofs.Doubles.{same_test}
 use Rattle.root.proofs.Order.{unsigned, lt_patterns, eq_patterns}
 use Rattle.rounding.specs.Ordering.{order_key}
-
--- ---- the sign is the pattern's highest bit
-
-inf_sign : (s : Bool) → leb (2 ^ 63) (to_bits binary64 (inf s)) ≡ s
-unfolding to_bits
-inf_sign true = refl
-inf_sign false = refl
-
-bit_is : (x : Float) → T (fits binary64 x) → T (not (is_nan x)) → negative x ≡ leb (2 ^ 63) (to_bits binary64 x)
-unfolding is_nan
-bit_is nan F n = absurd n
-bit_is (inf s) F n = sym (inf_sign s)
-bit_is (fin s m e) F n = sign_is (fin s m e) _ _ (pattern_of (fin s m e) F tt).value
-
-plus : (x : Float) → T (fits binary64 x) → T (not (is_nan x)) → to_bits binary64 x < 2 ^ 63 → negative x ≡ false
-plus x F n h = bit_is x F n ∙ is_false (leb (2 ^ 63) (to_bits binary64 x)) (lt→nleb (2 ^ 63) (to_bits binary64 x) h)
-
-minus : (x : Float) → T (fits binary64 x) → T (not (is_nan x)) → 2 ^ 63 ≤ to_bits binary64 x → negative x ≡ true
-minus x F n h = bit_is x F n ∙ is_true (leb (2 ^ 63) (to_bits binary64 x)) (le→leb (2 ^ 63) (to_bits binary64 x) h)
+use Rattle.rounding.proofs.Rounding.{plus, minus}
 
 -- ---- the key, by the pattern
 
@@ -149,7 +129,29 @@ module _ (x y : Float) (F : T (fits binary64 x)) (G : T (fits binary64 y)) (p : 
           rest : (a b : ℕ) → a < 2 ^ 64 → b < 2 ^ 64 → 2 ^ 64 - 1 - a ≡ 2 ^ 64 - 1 - b → a ≡ b
           rest a b h k e = omega arith
 
--- ---- a double, and no NaN
+-- ---- a strict total order of the doubles that are no NaN
+
+-- a double, and no NaN
 pub record Number (x : Float) : Type 0 where
   pub held : T (fits binary64 x)
   pub number : T (not (is_nan x))
+
+module _ {x y : Float} (a : Number x) (b : Number y) where
+  pub before_less : T (before x y) → order_key x < order_key y
+  before_less h = ltb→lt (order_key x) (order_key y) (subst T (before_keys x y a.held b.held a.number b.number) h)
+
+  pub less_before : order_key x < order_key y → T (before x y)
+  less_before h = subst T (sym (before_keys x y a.held b.held a.number b.number)) (lt→ltb (order_key x) (order_key y) h)
+
+  pub before_total : T (not (before x y)) → T (not (before y x)) → x ≡ y
+  before_total h k =
+      same_key_lem x y a.held b.held a.number b.number
+      (le_antisymm
+      (nltb→le (order_key y) (order_key x) (subst (λ (t : Bool). T (not t)) (before_keys y x b.held a.held b.number a.number) k))
+      (nltb→le (order_key x) (order_key y) (subst (λ (t : Bool). T (not t)) (before_keys x y a.held b.held a.number b.number) h)))
+
+pub before_irrefl : {x : Float} → Number x → T (before x x) → ⊥
+before_irrefl {x} a h = lt_irrefl (order_key x) (before_less a a h)
+
+pub before_trans : {x y z : Float} → Number x → Number y → Number z → T (before x y) → T (before y z) → T (before x z)
+before_trans a b c h k = less_before a c (lt_trans (before_less a b h) (before_less b c k))

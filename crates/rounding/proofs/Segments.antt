@@ -3,7 +3,12 @@ use mathlib.Core.Path.{◌≡◌, refl, sym, ap, ◌∙◌, subst}
 use mathlib.Core.Bool.{Bool, true, false, not, cond, true≢false}
 use Prim.Native.Nat.{ℕ, suc, ◌+◌, ◌-◌, ◌*◌, ◌/◌, ◌^◌, ◌≤◌, ◌<◌, min, max}
 use native.Mathlib.Nat.{
+  mul_comm,
+  mul_assoc,
   mul-one,
+  add-mul,
+  mul-le-mul_right,
+  mul-lt-mul_of_pos_right,
   mod-lt,
   div-add-mod',
   le_trans,
@@ -18,15 +23,17 @@ use native.Mathlib.Nat.{
 use native.Mathlib.Omega.{arith}
 use lib.IntN.{ℤ}
 use lib.Dec.{T, ltb, ltb→lt, lt→ltb, nltb→le, lit<, lit≤}
-use lib.Arith.{le→nltb}
-use lib.Ieee.{Float, nan, inf, fin, binary64, up, down, lt, of_bits, of_int, round, to_unsigned}
+use lib.Arith.{le→nltb, digits_div}
+use lib.Pow.{pow_pos}
+use lib.Ieee.{Float, nan, inf, fin, binary64, up, down, fits, lt, of_bits, of_int, round, to_unsigned}
 use lib.Ieee.Bits.{is_true, is_false}
 use lib.Ieee.Back.{unsigned_back}
 use lib.Ieee.Fits.{down_pos}
 use mir.Syntax.{w64}
 use Rattle.std.specs.Prelude.{Option, None, Some}
 use Rattle.std.specs.Float.{float_to_unsigned, round_with, ceil as up_to_whole}
-use Rattle.root.specs.Doubles.{◌⊘◌, one_f}
+use Rattle.root.specs.Doubles.{◌⊘◌, one, units_of, one_f}
+use Rattle.root.proofs.Nearest.{own}
 use Rattle.rounding.specs.Rounding.{at_most_256, ceil, whole_up, segments_over}
 use Rattle.rounding.proofs.Rounding.{can_cast}
 
@@ -43,6 +50,33 @@ ceil_is n d D =
     let e = div-add-mod' (n + (d - 1)) d in
     let l = mod-lt (n + (d - 1)) D in
     record { reaches = omega (arith, e, l); least = omega (arith, e, l) }
+
+pub ceil_unique : (n d c : ℕ) → Ceil n d c → ceil n d ≡ c
+unfolding ceil
+ceil_unique n d c h = ap (λ (k : ℕ). k / d) (split (c * d) n d h.reaches h.least) ∙ digits_div c (rest (c * d) n d h.reaches h.least)
+  where
+    split : (p n d : ℕ) → n ≤ p → p < n + d → n + (d - 1) ≡ p + (n + d - 1 - p)
+    split p n d a b = omega arith
+
+    rest : (p n d : ℕ) → n ≤ p → p < n + d → n + d - 1 - p < d
+    rest p n d a b = omega arith
+
+pub ceil_scaled : (n d p : ℕ) → 0 < d → 0 < p → ceil (n * p) (d * p) ≡ ceil n d
+ceil_scaled n d p D P =
+    let c = ceil n d in
+    let h = ceil_is n d D in
+    ceil_unique (n * p) (d * p) c (record {
+      reaches = le_trans (mul-le-mul_right p h.reaches) (le_of_eq (mul_assoc c d p));
+      least = lt_of_le_of_lt (le_of_eq (sym (mul_assoc c d p))) (lt_of_lt_of_le (mul-lt-mul_of_pos_right h.least P) (le_of_eq (add-mul n d p)));
+    })
+
+pub ceil_units : (s : Bool) (m : ℕ) (e : ℤ) → T (fits binary64 (fin s m e)) → ceil (m * up e) (down e) ≡ ceil (units_of (fin s m e)) one
+unfolding one
+ceil_units s m e F =
+    sym (ceil_scaled (m * up e) (down e) (2 ^ 1074) (down_pos e) (pow_pos 1074))
+    ∙ ap (λ (a : ℕ). ceil a (down e * 2 ^ 1074)) (own s m e F)
+    ∙ ap (λ (a : ℕ). ceil (units_of (fin s m e) * down e) a) (mul_comm (down e) (2 ^ 1074))
+    ∙ ceil_scaled (units_of (fin s m e)) (2 ^ 1074) (down e) (pow_pos 1074) (down_pos e)
 
 -- ---- the segments
 

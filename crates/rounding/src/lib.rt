@@ -7,9 +7,32 @@ ghost use Rattle.std.specs.Float.Ieee.{is_nan};
 ghost use Rattle.root.specs.Doubles as doubles;
 ghost use Rattle.rounding.specs.Rounding as defined;
 ghost use Rattle.rounding.specs.Ordering.{order_key};
+ghost use Rattle.rounding.specs.Whole.{WholeOf};
 
-use root::SIGN;
-use std::num::{saturating_f64_to_i64, saturating_f64_to_u64};
+use root::{LEAD, SIGN};
+use std::num::saturating_f64_to_u64;
+
+// the pattern of 2^63, from which on no double is an `i64`
+const WIDE: u64 = 1086 * LEAD;
+
+// The whole number nearest to the double with the pattern b, a half going up, for a double with no sign and below 2^63.
+fn whole_of_bits(b: u64) -> u64
+    requires { b < 1086 * 2 ^ 52 }
+    ensures { WholeOf b result }
+{
+    let e: u64 = b / LEAD;
+    let q: u64 = LEAD + b % LEAD;
+    if e < 1022 {
+        // below a half
+        0
+    } else if e < 1075 {
+        // the double is q / w
+        let w: u64 = 1 << (1075 - e);
+        (2 * q + w) >> (1076 - e)
+    } else {
+        q << (e - 1075)
+    }
+}
 
 // x to a whole number, a half going away from zero: Rust's `round`.
 // Stays (plainer): one call of the library, under the name of its definition.
@@ -21,11 +44,20 @@ pub fn round(x: f64) -> f64
 }
 
 // Rust's `round() as i64`: beyond the range the nearest end of it, and 0 of a NaN.
-#[tactic(auto, using(crate::proofs::Rounding::rounded_is))]
+// Stays (speed): a cell key by `saturating_f64_to_i64(x.round())` takes twice the time.
 pub fn rounded(x: f64) -> i64
     ensures { result ≡ defined.rounded x }
 {
-    saturating_f64_to_i64(x.round())
+    if x != x {
+        return 0;
+    }
+    let b: u64 = f64::to_bits(x);
+    let c: u64 = b % SIGN;
+    if WIDE <= c {
+        return if b < SIGN { i64::MAX } else { i64::MIN };
+    }
+    let n: u64 = whole_of_bits(c);
+    if b < SIGN { n as i64 } else { 0 - (n as i64) }
 }
 
 // The cell of a coordinate: `q` in the Rust's `quantized_point_key` (mesh_cleanup.rs, boundary_closure.rs). The quotient may be infinite.

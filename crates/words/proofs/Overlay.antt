@@ -1,7 +1,10 @@
 -- Laws of `overlay`, and of a loop that writes a list to the front of another, an element a turn. Assumes nothing.
---   overlay_whole                                all written over
+--   length_overlay, take_overlay, drop_overlay   its length, and its two parts
+--   overlay_nil, overlay_whole                   nothing written; all written over
 --   sets_overlay                                 stores one after the other from 0 on make it
---   cleared_part, part_zeroed                    a lent part that came back cleared
+--   overlay_zeros                                clearing the used front of a list that is zero beyond clears all of it
+--   take_zeros, drop_zeros                       parts of a list of zeros
+--   cleared_front, cleared_part, part_zeroed     a lent part that came back cleared
 --   Writing                                      the loop: the first i elements of `new` are written; start, turn, end
 use Prim.Native.Nat.{ℕ, zero, suc, ◌+◌, ◌-◌, ◌≤◌, ◌<◌, zero-le}
 use mathlib.Core.List.{List, [], ◌∷◌, ◌++◌, append-nil}
@@ -19,6 +22,18 @@ use lib.Seq.{get_or-take, get_or-drop, length-take-le, take-append_seam, drop-ap
 use Rattle.words.specs.Overlay.{overlay}
 
 module _ {A : Type 0} where
+  pub length_overlay : (new old : List A) → length new ≤ length old → length (overlay new old) ≡ length old
+  length_overlay new old h = simp (length-append, length-drop) (omega arith)
+
+  pub take_overlay : (new old : List A) → take (length new) (overlay new old) ≡ new
+  take_overlay new old = take-append_seam new (drop (length new) old)
+
+  pub drop_overlay : (new old : List A) → drop (length new) (overlay new old) ≡ drop (length new) old
+  drop_overlay new old = drop-append_seam new (drop (length new) old)
+
+  pub overlay_nil : (old : List A) → overlay [] old ≡ old
+  overlay_nil old = refl
+
   pub overlay_whole : (new old : List A) → length old ≤ length new → overlay new old ≡ new
   overlay_whole new old h = ap (λ (l : List A). new ++ l) (drop_of_length-le old {i = length new} h) ∙ append-nil new
 
@@ -61,10 +76,31 @@ module _ {A : Type 0} where
 
 -- ---- zeros
 module _ (n : ℕ) (w v : List ℕ) (i : ℕ) (k : Writing (replicate n 0) w v i) where
+  pub zero_turn : i < n → Writing (replicate n 0) w (set v i 0) (i + 1)
+  zero_turn h = writing_turn (replicate n 0) w v i 0 0 k (rw (length-replicate {A = ℕ} n 0) h) (sym (get_or-replicate n i 0 0 h))
+
   pub zero_end : n ≤ i → v ≡ overlay (replicate n 0) w
   zero_end h = writing_end (replicate n 0) w v i k (rw (length-replicate {A = ℕ} n 0) h)
 
+pub take_zeros : (n m : ℕ) → n ≤ m → take n (replicate m 0) ≡ replicate {A = ℕ} n 0
+take_zeros zero m h = refl
+take_zeros (suc n) zero h = absurd (not-suc-le-zero h)
+take_zeros (suc n) (suc m) h = ap (λ (l : List ℕ). 0 ∷ l) (take_zeros n m (le_of_suc-le-suc h))
+
+pub drop_zeros : (n m k : ℕ) → m ≡ n + k → drop n (replicate m 0) ≡ replicate {A = ℕ} k 0
+drop_zeros n m k e =
+    ap (λ (j : ℕ). drop n (replicate j 0)) e ∙ ap (drop n) (sym (replicate-append-replicate n k 0))
+    ∙ drop_at (replicate n 0) (replicate k 0) n (length-replicate {A = ℕ} n 0)
+
+pub overlay_zeros : (n m : ℕ) (w : List ℕ) → length w ≡ n + m → drop n w ≡ replicate m 0 → overlay (replicate n 0) w ≡ replicate (n + m) 0
+overlay_zeros n m w h e =
+    rw (length-replicate {A = ℕ} n 0) (ap (λ (l : List ℕ). replicate n 0 ++ l) e ∙ replicate-append-replicate n m 0)
+
 -- ---- a lent part that came back cleared: the front `&mut w[..n]`, and a part `&mut w[a..e]`
+pub cleared_front : (w z : List ℕ) (n : ℕ) → n ≤ length w → z ≡ replicate (length (take n w)) 0 → z ++ drop n w ≡ overlay (replicate n 0) w
+cleared_front w z n h e =
+    ap (λ (l : List ℕ). l ++ drop n w) (e ∙ ap (λ (k : ℕ). replicate k 0) (length-take-le n w h))
+    ∙ ap (λ (k : ℕ). replicate n 0 ++ drop k w) (sym (length-replicate {A = ℕ} n 0))
 
 pub cleared_part : (w z : List ℕ) (a e : ℕ) → a ≤ e → e ≤ length w → z ≡ replicate (length (take (e - a) (drop a w))) 0
     → put_mid a (e - a) w z ≡ take a w ++ (replicate (e - a) 0 ++ drop e w)

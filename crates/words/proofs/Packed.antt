@@ -2,7 +2,7 @@
 -- same of pairs, edges and triples. Assumes nothing.
 --   packed_lex, lex_packed      less as a word exactly if less by the first digit, or by the second where the first is the same
 --   packed_injective            equal words have equal digits
---   packed_high, packed_low     the digits come back
+--   packed_high, packed_low     the digits come back;   packed_back   a word is the packing of its digits
 --   pair-.., edge-.., triple-..   these, of two numbers below 2^32, two ends in either order, three numbers below 2^21
 use Prim.Native.Nat.{ℕ, zero, suc, ◌+◌, ◌*◌, ◌/◌, ◌%◌, ◌≤◌, ◌<◌, min, max}
 use mathlib.Core.Path.{◌≡◌, refl, ap, ◌∙◌}
@@ -51,6 +51,13 @@ module _ (base a b : ℕ) (h : b < base) where
   pub packed_low : packed base a b % base ≡ b
   packed_low = mul-add-mod_self_right a base b ∙ mod-eq_of_lt h
 
+  -- two digits are below the product of what they are below
+  pub packed_below : (n : ℕ) → a < n → packed base a b < n * base
+  packed_below n k = omega (arith, suc-mul a base, mul-le-mul_right base k)
+
+pub packed_back : (base n : ℕ) → packed base (n / base) (n % base) ≡ n
+packed_back base n = div-add-mod' n base
+
 -- ---- pairs
 module _ (a b : ℕ) (h : b < pair_base) where
   pub pair_first_lem : pair_first (pair a b) ≡ a
@@ -73,6 +80,9 @@ module _ (a b c d : ℕ) (hb : b < pair_base) (hd : d < pair_base) where
 pub edge_exchange : (a b : ℕ) → edge a b ≡ edge b a
 edge_exchange a b = rw (min_comm a b, max_comm a b)
 
+pub edge_ascending : (a b : ℕ) → a ≤ b → edge a b ≡ pair a b
+edge_ascending a b h = omega arith
+
 pub edge_injective : (a b c d : ℕ) → a < pair_base → b < pair_base → c < pair_base → d < pair_base → edge a b ≡ edge c d
     → ((a ≡ c) × (b ≡ d)) ⊎ ((a ≡ d) × (b ≡ c))
 edge_injective a b c d ha hb hc hd e =
@@ -91,6 +101,10 @@ module _ (a b c : ℕ) (hb : b < triple_base) (hc : c < triple_base) where
 
   pub triple_third_lem : triple_third (triple a b c) ≡ c
   triple_third_lem = packed_low triple_base (packed triple_base a b) c hc
+
+  -- a triple leaves one bit of a word free
+  pub triple_below : a < triple_base → triple a b c < 9223372036854775808
+  triple_below h = omega arith
 
 module _ (a b c d e f : ℕ) (hb : b < triple_base) (hc : c < triple_base) (he : e < triple_base) (hf : f < triple_base) where
   pub triple_injective : triple a b c ≡ triple d e f → (a ≡ d) × ((b ≡ e) × (c ≡ f))

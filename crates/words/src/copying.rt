@@ -3,11 +3,14 @@ ghost use Rattle.std.specs.Prelude.{◌≡◌, [], ◌∷◌, ◌+◌, ◌<◌, 
 ghost use Rattle.std.proofs.lemmas.List.Edits.{sets};
 ghost use Rattle.words.specs.Overlay.{overlay};
 
+// Stays (C interface): a loop, and not the library's `copy_from_slice`, which calls `memmove`: the archive for C asks for nothing from outside but `memset`.
 pub fn copy_front<T: Copy>(from: &[T], to: &mut [T])
     requires { length from.now ≤ length to.old }
     ensures { to.new ≡ overlay from.now to.old }
 {
-    to[..from.len()].copy_from_slice(from);
+    for i in 0..from.len() {
+        to[i] = from[i];
+    }
 }
 
 // `set` leaves a list alone at an index beyond its end, so one pass that stores by this serves for counting, where it is lent no room,

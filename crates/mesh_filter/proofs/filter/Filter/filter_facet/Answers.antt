@@ -18,7 +18,7 @@ use Rattle.mesh_filter.proofs.filter.Filter.filter_facet.Goals.{then-has_repeate
 pub is_flat-requires-clause-below : goal.is_flat-requires-clause-below
 is_flat-requires-clause-below c =
     let k = c.args.self.now in
-    subst (Below k.welded.count) (sym c.corners_of-t.ensures)
+    subst (Below k.welded.count) (sym (c.corners_of-t.ensures.in_room c.requires.f_lt_n c.requires.numbered))
     (facet_below k.welded k.mesh.vertices.now k.mesh.facets.now k.at k.n c.args.m.now c.requires.numbered c.args.f c.requires.f_lt_n)
 
 pub returns-then-has_repeated_corner : goal.returns-then-has_repeated_corner
@@ -32,16 +32,16 @@ returns-then-has_repeated_corner c =
     (elim c.then-has_repeated_corner.branch [
       | then-has_repeated_corner-via-then-has_repeated_corner w ↦
           repeated_stops k.eps P F (passed k.eps P F f) (facet_at F f)
-          (ap has_repeated_corner (sym c.corners_of-t.ensures) ∙ sym c.has_repeated_corner.ensures ∙ w.if-has_repeated_corner.true)
+          (ap has_repeated_corner (sym (c.corners_of-t.ensures.in_room c.requires.f_lt_n c.requires.numbered)) ∙ sym c.has_repeated_corner.ensures ∙ w.if-has_repeated_corner.true)
       | then-has_repeated_corner-via-else-has_repeated_corner+then-is_flat w ↦
           flat_stops k.eps P F (passed k.eps P F f) (facet_at F f)
-          (ap (λ (u : Triangle ℕ). is_flat k.eps P u) (sym c.corners_of-t.ensures) ∙ sym w.is_flat.ensures ∙ w.if-is_flat.true)
+          (ap (λ (u : Triangle ℕ). is_flat k.eps P u) (sym (c.corners_of-t.ensures.in_room c.requires.f_lt_n c.requires.numbered)) ∙ sym w.is_flat.ensures.in_room ∙ w.if-is_flat.true)
     ])
 
 pub corners_key-key-requires : goal.corners_key-key-requires
 corners_key-key-requires c =
     let k = c.args.self.now in
-    subst (Below 2097152) (sym c.corners_of-t.ensures) (facet_small k.welded k.mesh.vertices.now k.mesh.facets.now k.at k.n c.args.m.now c.requires.numbered c.args.f)
+    subst (Below 2097152) (sym (c.corners_of-t.ensures.in_room c.requires.f_lt_n c.requires.numbered)) (facet_small k.welded k.mesh.vertices.now k.mesh.facets.now k.at k.n c.args.m.now c.requires.numbered c.args.f)
 
 pub returns-then-is_some : goal.returns-then-is_some
 returns-then-is_some c =
@@ -57,7 +57,7 @@ returns-then-is_some c =
     (is_duplicate_lem k.welded k.mesh.vertices.now k.mesh.facets.now k.at k.n m N (facet_at F f)
     (facet_small k.welded k.mesh.vertices.now k.mesh.facets.now k.at k.n m N f) (passed k.eps P F f) _ G.keys c.find_key.result
     (c.find_key.ensures ∙ ap (λ (x : ℕ). id_in (link_to (eqb x) (view m (k.at + 9 * k.n) c.args.count)))
-    (c.corners_key-key.ensures ∙ ap corners_key c.corners_of-t.ensures)) (sym c.is_some.ensures ∙ c.if-is_some.true)))
+    (c.corners_key-key.ensures ∙ ap corners_key (c.corners_of-t.ensures.in_room c.requires.f_lt_n c.requires.numbered))) (sym c.is_some.ensures ∙ c.if-is_some.true)))
 
 pub enter-requires-clause-b_bound : goal.enter-requires-clause-b_bound
 enter-requires-clause-b_bound c =
@@ -76,7 +76,7 @@ returns c =
     let f = c.args.f in
     let n = c.args.count in
     let t = c.corners_of-t.result in
-    let e = c.corners_of-t.ensures in
+    let e = c.corners_of-t.ensures.in_room c.requires.f_lt_n c.requires.numbered in
     subst (λ (l : List ℕ). FacetFiltered k.eps P F k.at k.n (f + 1) (n + 1) m l)
     (sym (c.put_facet.ensures ∙ ap (λ (l : List ℕ). set
     (set (set (set (set l (k.at + 9 * k.n + n) c.corners_key-key.result)
@@ -87,7 +87,7 @@ returns c =
     c.corners_key-key.result (mesh_vertices_of t) e c.corners_key-key.ensures c.bucket-b.ensures
     (goes_through k.eps P F (passed k.eps P F f) (facet_at F f)
     (ap has_repeated_corner (sym e) ∙ sym c.has_repeated_corner.ensures ∙ c.if-has_repeated_corner.false)
-    (ap (λ (u : Triangle ℕ). is_flat k.eps P u) (sym e) ∙ sym c.is_flat.ensures ∙ c.if-is_flat.false)
+    (ap (λ (u : Triangle ℕ). is_flat k.eps P u) (sym e) ∙ sym c.is_flat.ensures.in_room ∙ c.if-is_flat.false)
     (no_duplicate k.welded k.mesh.vertices.now k.mesh.facets.now k.at k.n m N (facet_at F f)
     (facet_small k.welded k.mesh.vertices.now k.mesh.facets.now k.at k.n m N f) (passed k.eps P F f) _ G.keys c.find_key.result
     (c.find_key.ensures ∙ ap (λ (x : ℕ). id_in (link_to (eqb x) (view m (k.at + 9 * k.n) n)))
