@@ -2,6 +2,7 @@
 --   first, side_room, side_more, side_in, side_out, differ, agree   one side, in its two parts
 --   Walked, walked-..     the loop over the corners: start, turn, end, and that there is room
 --   most                  how many corners a facet can have after the plane k
+--   next                  what the next plane asks of a polygon that a plane has left
 --   all_stop, all_go, all_last   one plane before others, "stopping under three corners"
 --   Cut, cut-..           the loop over the planes: start, turn, the two ends, and that there is room
 --   few                   no more than 28 corners
@@ -128,6 +129,14 @@ most_few (suc (suc zero)) n h g = omega arith
 most_few (suc (suc (suc zero))) n h g = omega arith
 most_few (suc (suc (suc (suc zero)))) n h g = omega arith
 most_few (suc (suc (suc (suc (suc k))))) n h g = absurd (omega arith)
+
+-- what the next plane asks of a polygon that the plane k has left: it is snapped, and as few as `few` corners have become `more` at most
+pub next : (l m : List Point) (k : ℕ) (box : AABB) (eps : Float) (few more : ℕ) → m ≡ clip_to_plane box eps l k → length l ≤ few → 3 * few ≤ 2 * more + 1
+    → 3 ≤ length m → ((0 < length m) × (length m ≤ more)) × (map (snapped box eps) m ≡ m)
+next l m k box eps few more h g e t = (
+  (omega arith, omega (arith, ap length h, clip_short box eps k l)),
+  ap (map (snapped box eps)) h ∙ clip_snapped box eps k l ∙ sym h,
+)
 
 same_both : (b : Bool) (x : List Point) → x ≡ cond b x x
 same_both true x = refl

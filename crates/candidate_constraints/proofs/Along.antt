@@ -23,7 +23,7 @@ use Rattle.lists.proofs.Sequences.{flat_up}
 use Rattle.root.specs.Doubles.{◌⊕◌, ◌⊖◌, ◌⊘◌, zero_f, one_f, magnitude, within, larger, clamped}
 use Rattle.root.proofs.Doubles.{clamped_low, clamped_high, clamped_same}
 use Rattle.rounding.specs.Ordering.{order_key}
-use Rattle.rounding.proofs.Ordering.{before_keys}
+use Rattle.rounding.proofs.Ordering.{Number, before_keys}
 use Rattle.records.specs.Buffer.{put_record, records_at}
 use Rattle.records.specs.Records.{record_before, sorted}
 use Rattle.records.proofs.Records.{records_at_split, put_same}
@@ -43,11 +43,6 @@ use Rattle.candidate_constraints.proofs.Frames.{kept_same, kept_put, kept_wider,
 use Rattle.candidate_constraints.proofs.Showing.{list_low, shown_same}
 
 -- ---- a fraction is a number
--- a double, and no NaN
-pub record Number (x : Float) : Type 0 where
-  pub held : T (fits binary64 x)
-  pub number : T (not (is_nan x))
-
 zero_number : Number zero_f
 unfolding of_bits fits is_nan
 zero_number = record { held = tt; number = tt }

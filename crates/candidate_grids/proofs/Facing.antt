@@ -2,6 +2,7 @@
 --   point_is          a point of a row is the grid's point
 --   u_low, v_low      a face's axes
 --   parts_some, parts_few     an axis has 1 to 256 segments      parts_is, parts_in    and so has it by the lesser of their number and 257
+--   parts_cut                 and so has it by the counts of a cut
 --   face_room         there is room for a face's grid
 --   face_is           the rows of a face, one after another, are its grid
 --   near_ready        the gathered segments stand in the room
@@ -29,7 +30,7 @@ use Rattle.geometry.specs.declared.aabb.AABB.{AABB}
 use Rattle.geometry.specs.Boxes.{lowest, highest, axis, is_min}
 use Rattle.geometry.specs.Axes.{segments, grid_line}
 use Rattle.input_tests.specs.Front.{box_in_range, by_axis, grid_too_fine, CutsOf}
-use Rattle.input_tests.proofs.Grids.{not_too_fine}
+use Rattle.input_tests.proofs.Grids.{not_too_fine, cut_is}
 use Rattle.box_faces.specs.declared.uv.Uv.{Uv}
 use Rattle.box_faces.specs.Faces.{u_axis, v_axis, project}
 use Rattle.box_faces.specs.Lines.{line_at, point_on_face}
@@ -95,28 +96,25 @@ module _ (box : AABB) (eps : Float) (resolution : List Float) where
   unfolding segments
   parts_some k = segments_some (highest box k ⊖ lowest box k) (larger (by_axis resolution k) eps)
 
-  pub parts_few : (l : List ℕ) → CutsOf box eps (by_axis resolution) l → (k : ℕ) → k < 3 → segs k ≤ 256
-  parts_few l c k h =
+  pub parts_cut : (l : List ℕ) → CutsOf box eps (by_axis resolution) l → (k : ℕ) → k < 3 → segs k ≤ 256
+  parts_cut l c k h =
       let e = c.counts k h in
       let m = c.few k h in
       omega arith
 
-  parts_low : (k : ℕ) → k < 3 → grid_too_fine box eps (by_axis resolution) ≡ false → segs k ≤ 256
-  parts_low zero h e = (not_too_fine box eps (by_axis resolution) e).x
-  parts_low (suc zero) h e = (not_too_fine box eps (by_axis resolution) e).y
-  parts_low (suc (suc zero)) h e = (not_too_fine box eps (by_axis resolution) e).z
-  parts_low (suc (suc (suc k))) h e = absurd (omega arith)
-
-  cut_is : (n s : ℕ) → n ≡ min s 257 → s ≤ 256 → n ≡ s
-  cut_is n s e h = e ∙ omega arith
+  pub parts_few : (k : ℕ) → k < 3 → grid_too_fine box eps (by_axis resolution) ≡ false → segs k ≤ 256
+  parts_few zero h e = (not_too_fine box eps (by_axis resolution) e).x
+  parts_few (suc zero) h e = (not_too_fine box eps (by_axis resolution) e).y
+  parts_few (suc (suc zero)) h e = (not_too_fine box eps (by_axis resolution) e).z
+  parts_few (suc (suc (suc k))) h e = absurd (omega arith)
 
   pub parts_is : (k n : ℕ) → k < 3 → grid_too_fine box eps (by_axis resolution) ≡ false → n ≡ min (segs k) 257 → n ≡ segs k
-  parts_is k n h e q = cut_is n (segs k) q (parts_low k h e)
+  parts_is k n h e q = cut_is n (segs k) q (parts_few k h e)
 
   pub parts_in : (k n : ℕ) → k < 3 → grid_too_fine box eps (by_axis resolution) ≡ false → n ≡ min (segs k) 257 → (1 ≤ n) × (n ≤ 256)
   parts_in k n h e q =
       let a = parts_some k in
-      let b = parts_low k h e in
+      let b = parts_few k h e in
       let c = parts_is k n h e q in
       (omega arith, omega arith)
 

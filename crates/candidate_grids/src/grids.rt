@@ -217,6 +217,14 @@ fn enter_grid_row(w: &mut [u64], room: Room, near: Near, face: BoxFace, row: Row
     }
 }
 
+// The number of the axis that a face is across.
+fn across(face: BoxFace) -> usize
+    ensures value { result ≡ axis (face_of face) }
+    ensures bound { result < 3 }
+{
+    face.axis().index()
+}
+
 // A face's rows, along u. The skip tolerance goes by the axis that the face is across.
 fn enter_face_grid(w: &mut [u64], room: Room, k: usize, face: BoxFace, cuts: Cuts, skip: [f64; 3])
     requires { FaceReady cuts.grid.extents cuts.grid.eps cuts.grid.resolution skip room.n room.nf k (face_of face) w.old }
@@ -225,8 +233,7 @@ fn enter_face_grid(w: &mut [u64], room: Room, k: usize, face: BoxFace, cuts: Cut
     let axes = uv_axes(face);
     let last = cuts.along(axes.0);
     let at = face_line(cuts, face);
-    let across = face.axis();
-    let tolerance = skip[across.index()];
+    let tolerance = skip[across(face)];
     let count = gather_segments(w, room, k, face, tolerance);
     let near = Near {
         at: room.segments_at(),

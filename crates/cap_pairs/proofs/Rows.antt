@@ -202,10 +202,10 @@ module _ (n nf k : ℕ) (cap_list w : List ℕ) (ready : CapReady n nf k cap_lis
             long = let g = more_long in omega (arith, s.long);
           }
 
-    pub row_end : k ≤ i → missing_place pool caps (edges_at w at k) ≡ length (edges_at w at k)
+    pub row_end : k ≤ i → (found ≡ missing_place pool caps (edges_at w at k)) × (missing_place pool caps (edges_at w at k) ≡ length (edges_at w at k))
     unfolding place flat_map up_from
     row_end h =
         let z : k - i ≡ 0 = omega arith in
         let e : place Q (flat_map part (up_from i (k - i))) ≡ 0 = ap (λ (m : ℕ). place Q (flat_map part (up_from i m))) z in
         let l : length (flat_map part (up_from i (k - i))) ≡ 0 = ap (λ (m : ℕ). length (flat_map part (up_from i m))) z in
-        omega (arith, s.so, s.long)
+        (omega (arith, s.so), omega (arith, s.so, s.long))

@@ -2,6 +2,7 @@
 --   labelled_end      the loop that puts the labels put them all
 --   caps_read, caps_asked, caps_fit   the component finder can be asked
 --   joined_caps       what it leaves
+--   caps_joined       and of a table that was lent
 use Prim.Native.Nat.{ℕ, ◌+◌, ◌*◌, ◌-◌, ◌/◌, ◌≤◌, ◌<◌}
 use native.Mathlib.Omega.{arith}
 use mathlib.Core.Path.{◌≡◌, sym, ap, ◌∙◌, subst}
@@ -86,9 +87,16 @@ module _ (n nf nc k : ℕ) (w : List ℕ) (room : SidesNumbered n nf nc k w) whe
           numbers = subst (λ (l : List ℕ). ComponentNumbers l nc 3 (view u (components_at n nf nc) nc)) labels_are t.numbers;
         }
 
-    pub joined_caps : (labels : List ℕ) → labels ≡ view v (labels_at n nf nc) (nc * 3) → (front old u : List ℕ) (at : ℕ) → at ≡ components_at n nf nc → front ≡ take at v
+    pub joined_caps : (labels at : ℕ) → labels ≡ labels_at n nf nc → at ≡ components_at n nf nc → (u : List ℕ)
+        → ComponentTable (view v labels (nc * 3)) nc 3 (k + 6 * nc) at v u → JoinedCaps n nf nc k w u
+    joined_caps labels at e f u t =
+        joined_here u
+        (subst (λ (x : ℕ). ComponentTable (view v (labels_at n nf nc) (nc * 3)) nc 3 (k + 6 * nc) x v u) f
+        (subst (λ (x : ℕ). ComponentTable (view v x (nc * 3)) nc 3 (k + 6 * nc) at v u) e t))
+
+    pub caps_joined : (labels : List ℕ) → labels ≡ view v (labels_at n nf nc) (nc * 3) → (front old u : List ℕ) (at : ℕ) → at ≡ components_at n nf nc → front ≡ take at v
         → old ≡ drop at v → ComponentTable labels (length labels / 3) 3 (k + 6 * nc) 0 old u → JoinedCaps n nf nc k w (front ++ u)
-    joined_caps labels e front old u at d f g t =
+    caps_joined labels e front old u at d f g t =
         joined_here (front ++ u)
         (table_left v (labels_at n nf nc) nc 3 (k + 6 * nc) (components_at n nf nc) (omega arith) (omega arith) table_in labels_low labels e front old u
         (f ∙ ap (λ (x : ℕ). take x v) d) (g ∙ ap (λ (x : ℕ). drop x v) d) t)

@@ -12,16 +12,17 @@ use mathlib.Core.Bool.{Bool, true, false, cond, ◌||◌}
 use mathlib.Core.List.{List, [], ◌++◌}
 use mathlib.Core.Path.{◌≡◌, refl, sym, ap, subst, ◌∙◌}
 use borrow.Author.Tests.{eq-eqb, ne_eqb}
-use lib.ListN.{length, get_or, replicate}
+use lib.ListN.{length, replicate}
 use lib.Ieee.{Float}
 use Rattle.lists.specs.Regions.{Above}
 use Rattle.lists.proofs.Bools.{cond_true, cond_false, or_stop, or_next}
 use Rattle.geometry.specs.Meshes.{Mesh, mesh_of}
 use Rattle.refusals.specs.declared.refusal.Refusal.{Refusal}
-use Rattle.std.specs.Prelude.{Result, Ok, Err, is_err}
+use Rattle.std.specs.Prelude.{Result, Err}
 use Rattle.refusals.specs.Refusals.{documented_reply, Test, first_refusal, Passes, unless}
 use Rattle.refusals.specs.Answers.{mesh_outputs, Answer}
 use Rattle.refusals.proofs.Refusals.{none_left, row_passed, row_refused}
+use Rattle.refusals.proofs.Reports.{reply_zero}
 use Rattle.input_tests.specs.Front.{limits}
 use Rattle.candidate_pool.specs.Offsets.{open_edges_at}
 use Rattle.refusals.proofs.Answers.{refused, after, behind, answered}
@@ -39,12 +40,6 @@ use Rattle.caps.specs.declared.mode.BoundaryClosure.{BoundaryClosure}
 use Rattle.caps.specs.Operation.{leaves_open, is_positive, supplied_tests, surface, pool, cap_tests, passed_over, caps_tests, caps_result, Capped}
 use Rattle.caps.specs.Steps.{edges_in, closed_of, closed_mesh, surface_mesh}
 use Rattle.caps.proofs.Demands.{closes}
-
--- a reply that is no refusal has the number 0
-reply_zero : (x : Result (List ℕ) Refusal) → is_err x ≡ false → get_or (documented_reply x) 0 0 ≡ 0
-unfolding documented_reply
-reply_zero (Ok l) e = refl
-reply_zero (Err r) e = cc
 
 module _ (vs : List Float) (fs cap_list : List ℕ) (q : Asked) (mode : BoundaryClosure) where
   abbrev mesh : Mesh

@@ -10,9 +10,9 @@
 use Rattle.std.specs.Prelude.{ℕ, ◌*◌, ◌/◌, ◌%◌, Bool, cond, ◌&&◌, List, [], ◌∷◌, map, eqb, ltb, length, get_or, drop, replicate, Option, Float}
 use Rattle.std.specs.Float.{nan}
 use Rattle.root.specs.Doubles.{bits, zero_f, one_f, 1e-10}
-use Rattle.std.specs.List.{list_all, zip, starts_with}
+use Rattle.std.specs.List.{starts_with}
 use Rattle.std.specs.Option.{unwrap_or}
-use Rattle.lists.specs.Lists.{up_to}
+use Rattle.lists.specs.Lists.{every, up_to}
 use Rattle.geometry.specs.Triangles.{flat}
 use Rattle.geometry.specs.Meshes.{Mesh, coordinates, mesh_lengths}
 use Rattle.refusals.specs.Refusals.{settle}
@@ -64,7 +64,7 @@ unfoldable pub is_point : List Float → ℕ → List Float → Bool
 is_point vs v q = ltb v (length vs / 3) && starts_with same_bits (drop (3 * v) vs) q
 
 unfoldable pub has_facets : List Float → List ℕ → List ℕ → Bool
-has_facets vs fs stated = list_all (λ c. is_point vs c.0 (half_point c.1)) (zip fs stated)
+has_facets vs fs stated = every (λ i. is_point vs (get_or fs i 0) (half_point (get_or stated i 0))) (up_to 36)
 
 unfoldable pub is_half : List ℕ → List Float → List ℕ → List ℕ → Bool
 is_half reply vs fs stated = has_lengths reply (24 ∷ 36 ∷ []) && has_facets vs fs stated

@@ -106,7 +106,6 @@ fn is_point(vertices: &[f64], v: u32, point: [f64; 3]) -> bool
 }
 
 // Each corner of each facet is the stated point.
-#[tactic(auto, unfolding(crate::specs::Halves::has_facets))]
 fn has_facets(vertices: &[f64], facets: &[u32; 36], stated: &[usize; 36]) -> bool
     ensures { result ≡ has_facets vertices.now facets.now stated.now }
 {

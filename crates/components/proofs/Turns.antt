@@ -20,9 +20,15 @@ use Rattle.components.proofs.Forest.{link, stored_at}
 seen_more : (labels : List ℕ) (k t q f : ℕ) → Seen labels k t q f → Seen labels k (t + 1) q f
 seen_more labels k t q f h = let l = h.before in record { s = h.s; before = omega arith; item = h.item; label = h.label; first = h.first }
 
+pub swept_at : (labels : List ℕ) (n k m : ℕ) (w firsts : List ℕ) (t r : ℕ) → t ≡ r → Swept labels n k m w firsts t → Swept labels n k m w firsts r
+swept_at labels n k m w firsts t r e s = subst (λ (x : ℕ). Swept labels n k m w firsts x) e s
+
 module _ (labels : List ℕ) (n k m : ℕ) (item_labels : ItemLabels labels n k m) where
   item_in : (s : ℕ) → s < n * k → s / k < n
   item_in s h = (div-lt_iff_lt-mul item_labels.some).1 h
+
+  pub label_low : (x : ℕ) → x < n * k → get_or labels x 0 < m
+  label_low x h = item_labels.below x (omega (arith, item_labels.long))
 
   slots_share : (s t : ℕ) → s < n * k → t < n * k → get_or labels s 0 ≡ get_or labels t 0 → SharedLabel labels n k (s / k) (t / k)
   slots_share s t hs ht e = record {
@@ -63,9 +69,6 @@ module _ (labels : List ℕ) (n k m : ℕ) (item_labels : ItemLabels labels n k 
       hung = λ r h. let b = s.going.hung r h in record { f = b.f; first = b.first; tree = f.more _ _ b.tree };
     };
   }
-
-  pub swept_at : (w firsts : List ℕ) (t r : ℕ) → t ≡ r → Swept labels n k m w firsts t → Swept labels n k m w firsts r
-  swept_at w firsts t r e s = subst (λ (x : ℕ). Swept labels n k m w firsts x) e s
 
   module _ (w firsts : List ℕ) (t : ℕ) (t_in : t < length labels) (g : LabelsEntered labels w firsts n k m t) where
     abbrev q : ℕ
@@ -134,9 +137,6 @@ module _ (labels : List ℕ) (n k m : ℕ) (item_labels : ItemLabels labels n k 
     pub slot_in : i * k + j < length labels
     slot_in = omega (arith, digits_lt i_in j_in, item_labels.long)
 
-    pub label_low : get_or labels (i * k + j) 0 < m
-    label_low = item_labels.below (i * k + j) slot_in
-
     pub swept_seen : (f : ℕ) → get_or firsts (get_or labels (i * k + j) 0) 0 ≡ f + 1 → f < n
     swept_seen = seen_in w firsts (i * k + j) slot_in s.going
 
@@ -144,7 +144,7 @@ module _ (labels : List ℕ) (n k m : ℕ) (item_labels : ItemLabels labels n k 
         → Swept labels n k m v (set firsts (get_or labels (i * k + j) 0) x) (i * k + (j + 1))
     swept_turn v x r e =
         let g = turn w firsts (i * k + j) slot_in s.going v x r s.links s.labelled (rw (digits_div i j_in) e) in
-        swept_at v (set firsts (get_or labels (i * k + j) 0) x) (i * k + j + 1) (i * k + (j + 1)) (omega arith)
+        swept_at labels n k m v (set firsts (get_or labels (i * k + j) 0) x) (i * k + j + 1) (i * k + (j + 1)) (omega arith)
         (record { upto = omega (arith, digits_lt i_in j_in); links = g.0; labelled = length-set firsts (get_or labels (i * k + j) 0) x ∙ s.labelled; going = g.1 })
 
   -- all the slots are done, and the links go to the roots

@@ -1,6 +1,7 @@
 -- Laws of test 6 and of G: what the counts of a cut grid are, and that no product of two wraps. Assumes nothing.
-use Prim.Native.Nat.{ℕ, ◌+◌, ◌*◌, ◌≤◌}
-use mathlib.Core.Path.{◌≡◌, refl, sym, ap}
+use Prim.Native.Nat.{ℕ, ◌+◌, ◌*◌, ◌≤◌, min}
+use native.Mathlib.Omega.{arith}
+use mathlib.Core.Path.{◌≡◌, refl, sym, ap, ◌∙◌}
 use mathlib.Core.Bool.{Bool, true, false, cond, ◌||◌}
 use native.Mathlib.Nat.{mul-le-mul}
 use lib.Dec.{ltb}
@@ -29,6 +30,10 @@ few_none n e = go (ltb 256 n) refl e
     go : (b : Bool) → ltb 256 n ≡ b → None ≡ cond b None (Some n) → ltb 256 n ≡ true
     go true t k = t
     go false t k = absurd (none-some n k)
+
+-- and one that is cut at 257
+pub cut_is : (n s : ℕ) → n ≡ min s 257 → s ≤ 256 → n ≡ s
+cut_is n s e h = e ∙ omega arith
 
 -- no product of two counts wraps
 pub small_product : (n m : ℕ) → n ≤ 258 → m ≤ 258 → n * m ≤ 66564

@@ -155,7 +155,7 @@ module _ (vs : List Float) (eps : Float) (n count : ℕ) (m : List ℕ) (I : Ind
   found_is p K h =
       let i = inner_key eps p h in
       ap (first (λ k. near eps p (vertex (kept_points vs n count m) k)))
-      (ap (flat_map (in_cell_at n count m)) (block_is (key_of eps p) i)
+      (ap (flat_map (in_cell_at n count m)) (block_is (key_of eps p) (omega (arith, i.x.low)) (omega (arith, i.y.low)) (omega (arith, i.z.low)))
       ∙ flat_map_lem (in_cell_at n count m) words_of (around (key_of eps p))
       ∙ flat_same (λ c. in_cell_at n count m (words_of c)) (in_cell eps (kept_points vs n count m)) (around (key_of eps p))
       (λ c x. same_entries K c (of_each FitKey x (around_fits (key_of eps p) i))))

@@ -148,12 +148,27 @@ cube x₀ x₁ x₂ y₀ y₁ y₂ z₀ z₁ z₂ = layers x₀ y₀ y₁ y₂ z
 abbrev pub corner_of : Cell → Cell
 corner_of c = record { x = c.x - 1; y = c.y - 1; z = c.z - 1 }
 
-pub block_is : (k : Key) → InnerKey k → block (corner_of (words_of k)) ≡ map words_of (around k)
+word_pred : (k : ℤ) → 1 ≤ key_word k → key_word k - 1 + 0 ≡ key_word (pred_ℤ k)
+unfolding key_word
+word_pred (pos zero) h = omega arith
+word_pred (pos (suc n)) h = omega arith
+word_pred (negsuc n) h = omega arith
+
+word_self : (k : ℤ) → 1 ≤ key_word k → key_word k - 1 + 1 ≡ key_word k
+word_self k h = omega arith
+
+word_suc : (k : ℤ) → 1 ≤ key_word k → key_word k - 1 + 2 ≡ key_word (suc_ℤ k)
+unfolding key_word
+word_suc (pos n) h = omega arith
+word_suc (negsuc zero) h = omega arith
+word_suc (negsuc (suc n)) h = omega arith
+
+pub block_is : (k : Key) → 1 ≤ key_word k.x → 1 ≤ key_word k.y → 1 ≤ key_word k.z → block (corner_of (words_of k)) ≡ map words_of (around k)
 unfolding around cube layers lines flat_map block
-block_is k h = λ i.
-    cube (h.x.word_below i) (h.x.word_same i) (h.x.word_above i)
-    (h.y.word_below i) (h.y.word_same i) (h.y.word_above i)
-    (h.z.word_below i) (h.z.word_same i) (h.z.word_above i)
+block_is k hx hy hz = λ i.
+    cube (word_pred k.x hx i) (word_self k.x hx i) (word_suc k.x hx i)
+    (word_pred k.y hy i) (word_self k.y hy i) (word_suc k.y hy i)
+    (word_pred k.z hz i) (word_self k.z hz i) (word_suc k.z hz i)
 
 pub cell_is : {x y z a b c : ℕ} → x ≡ a → y ≡ b → z ≡ c → (let l : Cell = record { x = x; y = y; z = z } in l) ≡ record { x = a; y = b; z = c }
 cell_is e f g = λ i. record { x = e i; y = f i; z = g i }

@@ -109,10 +109,10 @@ down_start root rest h = record { k = 0; turns = omega arith; digits = subst (λ
 pair_is : (word left : ℕ) → bit_and (word / 2 ^ (2 * left)) 3 ≡ word / 2 ^ (2 * left) % 4
 pair_is word left = and_mask (word / 2 ^ (2 * left)) 2
 
--- what a step asks
-pub down_asks : {root rest word pairs left r y : ℕ} → Down root rest word pairs left r y → root < 2 ^ 30 → pairs ≤ 32 → 0 < left
+-- what a step asks, and without what is known of the rest
+pub down_room : {root rest word pairs left r y : ℕ} → Down root rest word pairs left r y → root < 2 ^ 30 → pairs ≤ 32 → 0 < left
     → (r < 2 ^ 61) × (bit_and (word / 2 ^ (2 * (left - 1))) 3 < 4)
-down_asks {root} {rest} {word} {pairs} {left} {r} {y} d h l m =
+down_room {root} {rest} {word} {pairs} {left} {r} {y} d h l m =
     (lt_of_lt_of_le (appended_room d.digits) (mul-le-mul up (pow_mono few)), omega (arith, pair_is word (left - 1)))
   where
     up : root + 1 ≤ 2 ^ 30
@@ -120,6 +120,12 @@ down_asks {root} {rest} {word} {pairs} {left} {r} {y} d h l m =
 
     few : d.k ≤ 31
     few = omega (arith, d.turns)
+
+pub down_asks : {root rest word pairs left r y : ℕ} → Down root rest word pairs left r y → rest ≤ 2 * root → root < 2 ^ 30 → pairs ≤ 32 → 0 < left
+    → (r < 2 ^ 61) × (y ≤ 2 * r) × (bit_and (word / 2 ^ (2 * (left - 1))) 3 < 4)
+down_asks d b h l m =
+    let a = down_room d h l m in
+    (a.0, appended_below b d.digits, a.1)
 
 pub down_step : {root rest word pairs left r y r' y' : ℕ} → Down root rest word pairs left r y → 0 < left → Appended 1 (bit_and (word / 2 ^ (2 * (left - 1))) 3) r y r' y'
     → Down root rest word pairs (left - 1) r' y'

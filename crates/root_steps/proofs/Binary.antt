@@ -1,6 +1,6 @@
 -- What `{:>width$b}` writes is spelled. Assumes nothing.
 --   in_field        it is the digits, with spaces in front
---   row_written     those of n, between two texts, are what `RowWritten` says
+--   row_written     those of n, between two texts, are what `RowWritten` says;   row_of   and those of a number that is n
 use mathlib.Core.Path.{◌≡◌, refl, sym, ap, ◌∙◌, subst}
 use mathlib.Core.List.{List, [], ◌∷◌, ◌++◌, append-nil}
 use mathlib.Core.Logic.{inl, inr}
@@ -154,3 +154,11 @@ row_written r old new o label end n width small e h =
       fits = λ positive b. omega (arith, long, no_longer n (digits 2 false n) width done_n positive b);
       written = a;
     }
+
+-- as `row_written`, of a number that is n
+pub row_of : {T E : Type 0} (r : Result T E) (old new o : Option (List ℕ)) (label end : List ℕ) (m n width : ℕ) → n < 2 ^ 64 → m ≡ n
+    → o ≡ Some (replicate (width - length (digits 2 false m)) 32 ++ digits 2 false m) → OnOk r (IfSome (Some label ++? (o ++? Some end)) (Appends old new))
+    → OnOk r (RowWritten old new label n width end)
+row_of r old new o label end m n width small is e h =
+    row_written r old new o label end n width small
+    (e ∙ ap (λ (k : ℕ). Some (replicate (width - length (digits 2 false k)) 32 ++ digits 2 false k)) is) h

@@ -5,10 +5,10 @@
 --   overlay_zeros                                clearing the used front of a list that is zero beyond clears all of it
 --   take_zeros, drop_zeros                       parts of a list of zeros
 --   cleared_front, cleared_part, part_zeroed     a lent part that came back cleared
---   Writing                                      the loop: the first i elements of `new` are written; start, turn, end
+--   Writing                                      the loop: the first i elements of `new` are written; start, turn (turn_at: by a place that is i), end
 use Prim.Native.Nat.{ℕ, zero, suc, ◌+◌, ◌-◌, ◌≤◌, ◌<◌, zero-le}
 use mathlib.Core.List.{List, [], ◌∷◌, ◌++◌, append-nil}
-use mathlib.Core.Path.{◌≡◌, refl, sym, ap, ◌∙◌}
+use mathlib.Core.Path.{◌≡◌, refl, sym, ap, subst, ◌∙◌}
 use native.Mathlib.Nat.{not-suc-le-zero, le_of_suc-le-suc}
 use native.Mathlib.Numerals.{add-one}
 use native.Mathlib.Omega.{arith}
@@ -68,6 +68,10 @@ module _ {A : Type 0} where
         same = length-set v i x ∙ w.same;
         front = rw (add-one, e) (ap (λ (l : List A). set l i (get_or new i d)) w.front ∙ written i new old d h w.room);
       }
+
+  pub writing_turn_at : (new old v : List A) (i at : ℕ) (d x : A) → Writing new old v i → i < length new → at ≡ i → x ≡ get_or new at d → Writing new old (set v at x) (i + 1)
+  writing_turn_at new old v i at d x w h e q =
+      subst (λ (k : ℕ). Writing new old (set v k x) (i + 1)) (sym e) (writing_turn new old v i d x w h (q ∙ ap (λ (k : ℕ). get_or new k d) e))
 
   pub writing_end : (new old v : List A) (i : ℕ) → Writing new old v i → length new ≤ i → v ≡ overlay new old
   writing_end new old v i w h =

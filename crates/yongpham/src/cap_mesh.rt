@@ -1,9 +1,10 @@
-ghost use Rattle.std.specs.Prelude.{true, [], ◌∷◌, ◌++◌, length};
+ghost use Rattle.std.specs.Prelude.{◌≡◌, true, [], ◌∷◌, ◌++◌, length};
 ghost use Rattle.refusals.specs.declared.refusal.Refusal.TheVariants.{BadNumber};
 ghost use Rattle.refusals.specs.Refusals.{reply_to};
 ghost use Rattle.input_tests.specs.Front.{list_tests};
 ghost use Rattle.refusals.specs.Reports.{Reported};
 ghost use Rattle.candidate_surface.specs.Asked.{asked};
+ghost use Rattle.caps.specs.Modes.{mode_from};
 ghost use Rattle.yongpham.specs.Calls.{box_of, CapsCalled};
 
 use crate::boxes::box_of;
@@ -16,6 +17,14 @@ use refusals::refusal::Refusal;
 use refusals::report::{report_refusal, report_reply};
 use words::zero;
 
+// Only numbers come from C, so that a mode is tested here.
+// Stays (C interface): what include/yongpham.h hands over is a number.
+fn mode_from(mode: u32) -> Result<BoundaryClosure, Refusal>
+    ensures { result ≡ mode_from mode }
+{
+    BoundaryClosure::try_from(mode)
+}
+
 // Of a mode that is none: 4, after 1, 2 and 3.
 fn refuse_mode(mesh: MeshLists<'_>, caps: usize, ceiling: u64, values: &mut [u64; 4]) -> u32
     ensures { Reported (reply_to (list_tests ceiling mesh.entry.vertices.now mesh.entry.facets.now caps ++ (true, BadNumber) ∷ []) []) result values.new }
@@ -26,7 +35,7 @@ fn refuse_mode(mesh: MeshLists<'_>, caps: usize, ceiling: u64, values: &mut [u64
     }
 }
 
-// `cap_mesh_to_aabb`: values[0] and values[1] get the lengths written. Only numbers come from C, so that a mode is tested here.
+// `cap_mesh_to_aabb`: values[0] and values[1] get the lengths written.
 // Stays (C interface): parameters, the mode as a number too, are those of include/yongpham.h; replay calls this crate, since no crate can use a static library (yongpham_c).
 pub fn yongpham_caps(
     vertices: &[f64],
@@ -52,7 +61,7 @@ pub fn yongpham_caps(
         out_vertices.old out_vertices.new out_facets.old out_facets.new }
 {
     let mesh = MeshLists { vertices, facets };
-    let Ok(mode) = BoundaryClosure::try_from(mode) else {
+    let Ok(mode) = mode_from(mode) else {
         zero(work);
         return refuse_mode(mesh, cap_list.len(), ceiling, values);
     };

@@ -18,7 +18,7 @@ loop-j-init c =
     let f = c.find-r in
     let t = s.i * s.k in
     rw f.ensures.kept.long (
-      swept_at s.labels.now _ s.k _ c.requires.item_labels f.new.links s.firsts.now t (t + 0) (omega arith)
+      swept_at s.labels.now _ s.k _ f.new.links s.firsts.now t (t + 0) (omega arith)
           (swept_kept s.labels.now _ s.k _ c.requires.item_labels s.links.now f.new.links s.firsts.now t c.requires.swept f.ensures.kept),
       found_rooted _ _ _ _ _ f.ensures,
     )

@@ -4,7 +4,7 @@ use mathlib.Core.Path.{◌≡◌, refl, sym, ap, subst, ◌∙◌}
 use lib.Ieee.{Float}
 use Rattle.root.specs.Bounds.{Within}
 use Rattle.geometry.specs.Boxes.{lowest, highest, axis, face_of}
-use Rattle.geometry.proofs.Faces.{axis_in, face_in}
+use Rattle.geometry.proofs.Faces.{face_in}
 use Rattle.input_tests.specs.Front.{by_axis}
 use Rattle.box_faces.specs.Faces.{u_axis, v_axis}
 use Rattle.box_faces.specs.Lines.{line_at}
@@ -15,7 +15,7 @@ use Rattle.candidate_grids.specs.declared.grids.Near.{Near}
 use Rattle.candidate_grids.specs.Steps.{parts_of, line_of, skips_near, row_cell, row_at, PointsEntered}
 use Rattle.candidate_grids.proofs.Entries.{entered_none, entered_more}
 use Rattle.candidate_grids.proofs.Edged.{edges_ready}
-use Rattle.candidate_grids.proofs.Facing.{v_low, parts_some, parts_few, face_room, near_ready, row_ready, row_is, turn_size, face_line_in, gathered_holds, gathered_count, face_end}
+use Rattle.candidate_grids.proofs.Facing.{v_low, parts_some, parts_cut, face_room, near_ready, row_ready, row_is, turn_size, face_line_in, gathered_holds, gathered_count, face_end}
 use Rattle.candidate_grids.proofs.grids.enter_face_grid.Goals.{After-segments_at, After-grid_line, After-enter_grid_row}
 use Rattle.candidate_grids.proofs.grids.enter_face_grid.Goals as goal
 
@@ -33,10 +33,10 @@ some : (c : After-segments_at) (k : ℕ) → 1 ≤ parts_of c.args.cuts k
 some c k = parts_some c.args.cuts.grid.extents c.args.cuts.grid.eps c.args.cuts.grid.resolution k
 
 few : (c : After-segments_at) (k : ℕ) → k < 3 → parts_of c.args.cuts k ≤ 256
-few c k h = parts_few c.args.cuts.grid.extents c.args.cuts.grid.eps c.args.cuts.grid.resolution _ c.args.cuts.cut k h
+few c k h = parts_cut c.args.cuts.grid.extents c.args.cuts.grid.eps c.args.cuts.grid.resolution _ c.args.cuts.cut k h
 
-across_is : (c : After-segments_at) → c.index.result ≡ axis (face c)
-across_is c = c.index.ensures.value ∙ c.axis-across.ensures
+across_is : (c : After-segments_at) → c.across.result ≡ axis (face c)
+across_is c = c.across.ensures.value
 
 -- ---- and in a turn
 along-u : (c : After-grid_line) → let f = face_of c.args.face in
@@ -51,7 +51,7 @@ along-u c =
 pub gather_segments-count-requires : goal.gather_segments-count-requires
 gather_segments-count-requires c =
     let p = c.requires in
-    edges_ready _ _ _ _ _ _ (face_in c.args.face) p.holds p.held _ p.size p.small p.edges (p.skips _ c.index.ensures.bound)
+    edges_ready _ _ _ _ _ _ (face_in c.args.face) p.holds p.held _ p.size p.small p.edges (p.skips _ c.across.ensures.bound)
 
 pub loop-i-init : goal.loop-i-init
 loop-i-init c =
@@ -67,7 +67,7 @@ enter_grid_row-requires c =
     let f-in = face_in c.args.face in
     let least : 1 ≤ last s = let a = some s (u_axis (face s)) in omega (arith, last_is s) in
     let across = axis (face s) in
-    let across-few : parts_of c.args.cuts across ≤ 256 = few s across (subst (λ (a : ℕ). a < 3) c.axis-across.ensures (axis_in c.axis-across.result)) in
+    let across-few : parts_of c.args.cuts across ≤ 256 = few s across (subst (λ (a : ℕ). a < 3) c.across.ensures.value c.across.ensures.bound) in
     let at_in : Within (2 ^ 48) c.face_line-at.result = subst (λ (x : Float). Within (2 ^ 48) x) (sym c.face_line-at.ensures)
     (face_line_in _ _ _ p.box_in f-in (some s across) across-few) in
     let room : count_at c.gather_segments-count.new.w + (last s + 1) * (parts_of c.args.cuts (v_axis (face s)) + 1) ≤ c.args.room.n
@@ -81,7 +81,7 @@ enter_grid_row-requires c =
 turned : (c : After-enter_grid_row) → c.grid_line.result
     ≡ line_at (lowest c.args.cuts.grid.extents (u_axis (face_of c.args.face))) (highest c.args.cuts.grid.extents (u_axis (face_of c.args.face))) c.along-last.result c.loop-i.i
     → let v = c.gather_segments-count.new.w in
-    let near : Near = record { at = c.segments_at.result; count = c.gather_segments-count.result; tolerance = by_axis c.args.skip c.index.result } in
+    let near : Near = record { at = c.segments_at.result; count = c.gather_segments-count.result; tolerance = by_axis c.args.skip c.across.result } in
     let f = face_of c.args.face in
     let last-v = parts_of c.args.cuts (v_axis f) in
     PointsEntered c.args.cuts.grid.eps c.args.room.n

@@ -66,4 +66,4 @@ pub returns : goal.returns
 returns c =
     let a = c.args in
     let l = c.loop-i in
-    row_end a.caps.n a.caps.nf a.caps.k a.caps.list.now a.w.now c.requires.cap_ready c.requires.pairs_known l.place l.i l.invariant (omega arith)
+    (row_end a.caps.n a.caps.nf a.caps.k a.caps.list.now a.w.now c.requires.cap_ready c.requires.pairs_known l.place l.i l.invariant (omega arith)).1

@@ -1,4 +1,4 @@
-use Rattle.cap_selection.proofs.Tabling.{caps_read, caps_asked, caps_fit, joined_caps}
+use Rattle.cap_selection.proofs.Tabling.{caps_read, caps_asked, caps_fit, caps_joined}
 use Rattle.cap_selection.proofs.labels.join_caps.Goals as goal
 
 pub components-requires : goal.components-requires
@@ -20,5 +20,5 @@ returns c =
     let split = c.split_at_mut-front in
     let read = caps_read s.room.n s.room.nf s.room.nc s.room.k s.w.now c.requires p.new.w p.ensures split.result.0.now _ _ c.labels_at-labels.ensures c.components_at.ensures
     split.ensures.front in
-    joined_caps s.room.n s.room.nf s.room.nc s.room.k s.w.now c.requires p.new.w p.ensures _ read _ _ _ _ c.components_at.ensures split.ensures.front split.ensures.back
+    caps_joined s.room.n s.room.nf s.room.nc s.room.k s.w.now c.requires p.new.w p.ensures _ read _ _ _ _ c.components_at.ensures split.ensures.front split.ensures.back
     c.components.ensures

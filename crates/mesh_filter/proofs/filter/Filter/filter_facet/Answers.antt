@@ -41,7 +41,8 @@ returns-then-has_repeated_corner c =
 pub corners_key-key-requires : goal.corners_key-key-requires
 corners_key-key-requires c =
     let k = c.args.self.now in
-    subst (Below 2097152) (sym (c.corners_of-t.ensures.in_room c.requires.f_lt_n c.requires.numbered)) (facet_small k.welded k.mesh.vertices.now k.mesh.facets.now k.at k.n c.args.m.now c.requires.numbered c.args.f)
+    subst (Below 2097152) (sym (c.corners_of-t.ensures.in_room c.requires.f_lt_n c.requires.numbered))
+    (facet_small k.welded k.mesh.vertices.now k.mesh.facets.now k.at k.n c.args.m.now c.requires.numbered c.args.f)
 
 pub returns-then-is_some : goal.returns-then-is_some
 returns-then-is_some c =
